@@ -1,0 +1,32 @@
+-- What enciphering and deciphering answer under given round keys, as functions.
+use Rattle.std.specs.Prelude.{ℕ, List, [], ◌∷◌, ◌++◌, Bool, map, take, drop, reverse}
+use Rattle.des.specs.Bits.{bits_of_word, select, xor_bits}
+use Rattle.des.specs.Tables.{initial_permutation, final_permutation}
+use Rattle.des.specs.CipherFunction.{cipher_function}
+
+-- the two halves after a round for each round key, in the order of the list
+unfoldable pub after_rounds : List (List Bool) → List Bool → List Bool → List Bool × List Bool
+after_rounds [] left right = (left, right)
+after_rounds (key ∷ keys) left right = after_rounds keys right (xor_bits left (cipher_function right key))
+
+-- two halves joined, the second first
+abbrev pub swapped : List Bool × List Bool → List Bool
+swapped halves = halves.1 ++ halves.0
+
+-- the block that the rounds make of a block: the initial permutation, a round for each round key, the halves
+-- swapped, the final permutation
+unfoldable pub through_rounds : List (List Bool) → List Bool → List Bool
+through_rounds keys block =
+    let permuted = select initial_permutation block in
+    select final_permutation (swapped (after_rounds keys (take 32 permuted) (drop 32 permuted)))
+
+-- deciphering runs the same rounds with the round keys in the opposite order
+abbrev pub enciphered : List (List Bool) → List Bool → List Bool
+enciphered round_keys block = through_rounds round_keys block
+
+abbrev pub deciphered : List (List Bool) → List Bool → List Bool
+deciphered round_keys block = through_rounds (reverse round_keys) block
+
+-- the round keys that words hold in their first 48 bits
+unfoldable pub round_keys_of : List ℕ → List (List Bool)
+round_keys_of words = map (λ word. take 48 (bits_of_word word)) words

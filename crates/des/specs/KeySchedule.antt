@@ -1,0 +1,36 @@
+-- The key schedule of FIPS 46-3 ("Key schedule KS"): each round key, taken from the key.
+use Rattle.std.specs.Prelude.{◌≡◌, ℕ, List, [], ◌∷◌, ◌++◌, Bool, map, length, take, drop, sum}
+use Rattle.des.specs.Bits.{bits_of_word, select, zeros}
+use Rattle.des.specs.Tables.{permuted_choice_1, permuted_choice_2, left_shifts}
+
+-- C and D: the first and the second 28 bits that permuted choice 1 takes from the key
+unfoldable pub c_half : List Bool → List Bool
+c_half key = take 28 (select permuted_choice_1 key)
+
+unfoldable pub d_half : List Bool → List Bool
+d_half key = drop 28 (select permuted_choice_1 key)
+
+-- a half rotated left by n places, of at most its length
+unfoldable pub rotate : List Bool → ℕ → List Bool
+rotate half n = drop n half ++ take n half
+
+-- the left shifts before round key i, together
+unfoldable pub shifts_through : ℕ → ℕ
+shifts_through i = sum (take i left_shifts)
+
+-- K(i), for i from 1 to 16
+unfoldable pub round_key : List Bool → ℕ → List Bool
+round_key key i =
+    select permuted_choice_2 (rotate (c_half key) (shifts_through i) ++ rotate (d_half key) (shifts_through i))
+
+-- K(1) to K(16)
+unfoldable pub key_schedule : List Bool → List (List Bool)
+key_schedule key = map (round_key key) (1 ∷ 2 ∷ 3 ∷ 4 ∷ 5 ∷ 6 ∷ 7 ∷ 8 ∷ 9 ∷ 10 ∷ 11 ∷ 12 ∷ 13 ∷ 14 ∷ 15 ∷ 16 ∷ [])
+
+-- the words hold K(1) to K(16) of the key, each in its first 48 bits, with zeros after it
+abbrev pub HoldRoundKeys : List ℕ → List Bool → Type 0
+HoldRoundKeys words key = map bits_of_word words ≡ map (λ round_key. round_key ++ zeros 16) (key_schedule key)
+
+-- the words hold the round keys of some key of 64 bits
+abbrev pub HoldSomeRoundKeys : List ℕ → Type 0
+HoldSomeRoundKeys words = (key : List Bool) × (length key ≡ 64) × HoldRoundKeys words key
