@@ -6,3 +6,4 @@ pub mod Enciphering
 pub mod Answers
 pub mod Blocks
 pub mod Des
+pub mod Positions

@@ -1,0 +1,217 @@
+//! The permutations, the cipher function and the key schedule of DES on words (FIPS 46-3).
+//!
+//! A word stands for 64 bits, bit 1 the most significant. A shorter list of bits stands in the first bits of a
+//! word, with zeros after it.
+
+ghost use Rattle.std.specs.Prelude.{◌≡◌, ◌-◌, ◌%◌, ◌^◌, ◌<◌, ◌≤◌, ◌++◌, ℕ, map, length, take, drop, IsTrue, Bool, false, Contains};
+ghost use Rattle.des.specs.Bits.{bits_of, bits_of_word, bit, select, zeros, xor_bits};
+ghost use Rattle.des.specs.Tables.{initial_permutation, permuted_choice_1, permuted_choice_2, expansion, permutation};
+ghost use Rattle.des.specs.CipherFunction.{substitute, cipher_function};
+ghost use Rattle.des.specs.KeySchedule.{HoldRoundKeys, rotate};
+ghost use Rattle.des.specs.Positions.{are_positions, are_distinct};
+
+use crate::consts::{SBOX_ROWS, SHIFTS};
+
+// The initial permutation IP (FIPS 46-3, "Enciphering").
+#[rattlefmt::skip]
+const IP: [u8; 64] = [
+    58, 50, 42, 34, 26, 18, 10, 2,
+    60, 52, 44, 36, 28, 20, 12, 4,
+    62, 54, 46, 38, 30, 22, 14, 6,
+    64, 56, 48, 40, 32, 24, 16, 8,
+    57, 49, 41, 33, 25, 17, 9, 1,
+    59, 51, 43, 35, 27, 19, 11, 3,
+    61, 53, 45, 37, 29, 21, 13, 5,
+    63, 55, 47, 39, 31, 23, 15, 7,
+];
+
+// The bit selection table E (FIPS 46-3, "The Cipher Function f").
+#[rattlefmt::skip]
+const E: [u8; 48] = [
+    32, 1, 2, 3, 4, 5,
+    4, 5, 6, 7, 8, 9,
+    8, 9, 10, 11, 12, 13,
+    12, 13, 14, 15, 16, 17,
+    16, 17, 18, 19, 20, 21,
+    20, 21, 22, 23, 24, 25,
+    24, 25, 26, 27, 28, 29,
+    28, 29, 30, 31, 32, 1,
+];
+
+// The permutation P (FIPS 46-3, "The Cipher Function f").
+#[rattlefmt::skip]
+const P: [u8; 32] = [
+    16, 7, 20, 21, 29, 12, 28, 17,
+    1, 15, 23, 26, 5, 18, 31, 10,
+    2, 8, 24, 14, 32, 27, 3, 9,
+    19, 13, 30, 6, 22, 11, 4, 25,
+];
+
+// Permuted choice 1 (FIPS 46-3, "Key schedule KS").
+#[rattlefmt::skip]
+const PC1: [u8; 56] = [
+    57, 49, 41, 33, 25, 17, 9,
+    1, 58, 50, 42, 34, 26, 18,
+    10, 2, 59, 51, 43, 35, 27,
+    19, 11, 3, 60, 52, 44, 36,
+    63, 55, 47, 39, 31, 23, 15,
+    7, 62, 54, 46, 38, 30, 22,
+    14, 6, 61, 53, 45, 37, 29,
+    21, 13, 5, 28, 20, 12, 4,
+];
+
+// Permuted choice 2 (FIPS 46-3, "Key schedule KS").
+#[rattlefmt::skip]
+const PC2: [u8; 48] = [
+    14, 17, 11, 24, 1, 5,
+    3, 28, 15, 6, 21, 10,
+    23, 19, 12, 4, 26, 8,
+    16, 7, 27, 20, 13, 2,
+    41, 52, 31, 37, 47, 55,
+    30, 40, 51, 45, 33, 48,
+    44, 49, 39, 56, 34, 53,
+    46, 42, 50, 36, 29, 32,
+];
+
+// The positions of a word's bits, in order.
+#[rattlefmt::skip]
+const PLACES: [u8; 64] = [
+    1, 2, 3, 4, 5, 6, 7, 8,
+    9, 10, 11, 12, 13, 14, 15, 16,
+    17, 18, 19, 20, 21, 22, 23, 24,
+    25, 26, 27, 28, 29, 30, 31, 32,
+    33, 34, 35, 36, 37, 38, 39, 40,
+    41, 42, 43, 44, 45, 46, 47, 48,
+    49, 50, 51, 52, 53, 54, 55, 56,
+    57, 58, 59, 60, 61, 62, 63, 64,
+];
+
+// The word whose bit `targets[i]` is bit `sources[i]` of `word`, for each i, and whose other bits are zero.
+fn permute(word: u64, sources: &[u8], targets: &[u8]) -> u64
+    requires same_length { length sources.now ≡ length targets.now }
+    requires sources_in_word { IsTrue (are_positions sources.now) }
+    requires targets_in_word { IsTrue (are_positions targets.now) }
+    requires targets_distinct { IsTrue (are_distinct targets.now) }
+    ensures moved { select targets.now (bits_of_word result) ≡ select sources.now (bits_of_word word) }
+    ensures zero_elsewhere { (i : ℕ) → 1 ≤ i → i ≤ 64 → ¬ Contains targets.now i → bit (bits_of_word result) i ≡ false }
+{
+    let mut permuted = 0;
+    for (&source, &target) in sources.iter().zip(targets) {
+        permuted |= ((word >> (64 - source)) & 1) << (64 - target);
+    }
+    permuted
+}
+
+/// The initial permutation IP of the 64 bits of `input` (FIPS 46-3, "Enciphering").
+pub fn ip(input: u64) -> u64
+    ensures { bits_of_word result ≡ select initial_permutation (bits_of_word input) }
+{
+    permute(input, &IP, &PLACES)
+}
+
+/// The final permutation: the word whose initial permutation is `input` (FIPS 46-3, "Enciphering").
+pub fn fp(input: u64) -> u64
+    ensures { select initial_permutation (bits_of_word result) ≡ bits_of_word input }
+{
+    permute(input, &PLACES, &IP)
+}
+
+/// The permuted choice 1 of a key of 64 bits (FIPS 46-3, "Key schedule KS"): the halves C and D, of 28 bits
+/// each, in the first 56 bits. No parity bit of the key (bits 8, 16, .., 64) is chosen.
+pub fn pc1(key: u64) -> u64
+    ensures { bits_of_word result ≡ select permuted_choice_1 (bits_of_word key) ++ zeros 8 }
+{
+    permute(key, &PC1, &PLACES[..56])
+}
+
+/// The permuted choice 2 of the halves C and D in the first 56 bits of `halves` (FIPS 46-3, "Key schedule
+/// KS"): a round key, in the first 48 bits.
+pub fn pc2(halves: u64) -> u64
+    requires { halves % 2 ^ 8 ≡ 0 }
+    ensures { bits_of_word result ≡ select permuted_choice_2 (take 56 (bits_of_word halves)) ++ zeros 16 }
+{
+    permute(halves, &PC2, &PLACES[..48])
+}
+
+/// The expansion E of the half block in the first 32 bits of `half_block` (FIPS 46-3, "The Cipher Function
+/// f"), in the first 48 bits.
+pub fn e(half_block: u64) -> u64
+    requires { half_block % 2 ^ 32 ≡ 0 }
+    ensures { bits_of_word result ≡ select expansion (take 32 (bits_of_word half_block)) ++ zeros 16 }
+{
+    permute(half_block, &E, &PLACES[..48])
+}
+
+/// The permutation P of the first 32 bits of `input` (FIPS 46-3, "The Cipher Function f").
+pub fn p(input: u64) -> u64
+    requires { input % 2 ^ 32 ≡ 0 }
+    ensures { bits_of_word result ≡ select permutation (take 32 (bits_of_word input)) ++ zeros 32 }
+{
+    permute(input, &P, &PLACES[..32])
+}
+
+/// The substitution of the first 48 bits of `input` by the boxes S1 to S8 (FIPS 46-3, "Selection functions"),
+/// in the first 32 bits. The low 16 bits of `input` do not count.
+pub fn apply_sboxes(input: u64) -> u64
+    ensures { bits_of_word result ≡ substitute (take 48 (bits_of_word input)) ++ zeros 32 }
+{
+    let mut output = 0;
+    for (i, sbox) in SBOX_ROWS.iter().enumerate() {
+        let group = (input >> (58 - 6 * i)) & 0x3f;
+        let row = ((group >> 4) & 2) | (group & 1);
+        let column = (group >> 1) & 0xf;
+        output = (output << 4) | u64::from(sbox[row as usize][column as usize]);
+    }
+    output << 32
+}
+
+// The cipher function f of the half block in the first 32 bits of `half_block` and the round key in the first
+// 48 bits of `key` (FIPS 46-3, "The Cipher Function f"), in the first 32 bits.
+fn f(half_block: u64, key: u64) -> u64
+    requires { half_block % 2 ^ 32 ≡ 0 }
+    ensures { bits_of_word result ≡ cipher_function (take 32 (bits_of_word half_block)) (take 48 (bits_of_word key)) ++ zeros 32 }
+{
+    p(apply_sboxes(e(half_block) ^ key))
+}
+
+/// One round (FIPS 46-3, "Enciphering"): of the halves L and R of `input` and the round key K in the first 48
+/// bits of `key`, the halves R and L xor f(R, K).
+pub fn round(input: u64, key: u64) -> u64
+    ensures { let left = take 32 (bits_of_word input) in
+        let right = drop 32 (bits_of_word input) in
+        bits_of_word result ≡ right ++ xor_bits left (cipher_function right (take 48 (bits_of_word key))) }
+{
+    let left = input & 0xffffffff00000000;
+    let right = input << 32;
+    right | ((left ^ f(right, key)) >> 32)
+}
+
+// A half of 28 bits, as a number, rotated left.
+fn rotate(half: u64, shift: u8) -> u64
+    requires half { half < 2 ^ 28 }
+    requires shift { shift ≤ 28 }
+    ensures half { result < 2 ^ 28 }
+    ensures rotated { bits_of 28 result ≡ rotate (bits_of 28 half) shift }
+{
+    ((half << shift) & 0x000000000fffffff) | (half >> (28 - shift))
+}
+
+/// The round keys K(1) to K(16) of a key of 64 bits (FIPS 46-3, "Key schedule KS"), each in the first 48 bits
+/// of its word.
+pub fn gen_keys(key: u64) -> [u64; 16]
+    ensures { HoldRoundKeys result (bits_of_word key) }
+{
+    let halves = pc1(key);
+    let mut c = halves >> 36;
+    let mut d = (halves >> 8) & 0x000000000fffffff;
+    let mut keys = [0; 16];
+    for (i, &shift) in SHIFTS.iter().enumerate() {
+        c = rotate(c, shift);
+        d = rotate(d, shift);
+        keys[i] = pc2((c << 36) | (d << 8));
+    }
+    keys
+}
+
+#[cfg(test)]
+mod tests;

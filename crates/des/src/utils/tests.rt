@@ -1,0 +1,25 @@
+use super::*;
+
+// The worked key and block of the classic published walk through DES: the key 133457799bbcdff1 and the block
+// 0123456789abcdef, step by step.
+#[test]
+fn first_steps(rt: HostRuntime) {
+    assert_eq!(rt; ip(0x0123456789abcdef), 0xcc00ccfff0aaf0aa);
+    assert_eq!(rt; pc1(0x133457799bbcdff1), 0xf0ccaaf556678f00);
+    assert_eq!(rt; pc2(0xe19955faaccf1e00), 0x1b02effc70720000);
+    assert_eq!(rt; e(0xf0aaf0aa00000000), 0x7a15557a15550000);
+    assert_eq!(rt; apply_sboxes(0x6117ba8665270000), 0x5c82b59700000000);
+    assert_eq!(rt; p(0x5c82b59700000000), 0x234aa9bb00000000);
+    assert_eq!(rt;
+        round(0xcc00ccfff0aaf0aa, 0x1b02effc70720000),
+        0xf0aaf0aaef4a6544
+    );
+    assert_eq!(rt; fp(0x0a4cd99543423234), 0x85e813540f0ab405);
+}
+
+#[test]
+fn round_keys(rt: HostRuntime) {
+    let keys = gen_keys(0x133457799bbcdff1);
+    assert_eq!(rt; keys[0], 0x1b02effc70720000);
+    assert_eq!(rt; keys[15], 0xcb3d8b0e17f50000);
+}
