@@ -1,1 +1,7 @@
 mod KnownAnswers
+pub mod BitLists
+pub mod Selections
+pub mod Rounds
+pub mod Traces
+pub mod OneAnswer
+pub mod Permuting

@@ -3,12 +3,12 @@
 //! A word stands for 64 bits, bit 1 the most significant. A shorter list of bits stands in the first bits of a
 //! word, with zeros after it.
 
-ghost use Rattle.std.specs.Prelude.{◌≡◌, ◌-◌, ◌%◌, ◌^◌, ◌<◌, ◌≤◌, ◌++◌, ℕ, map, length, take, drop, IsTrue, Bool, false, Contains};
+ghost use Rattle.std.specs.Prelude.{◌≡◌, ◌%◌, ◌^◌, ◌<◌, ◌≤◌, ◌++◌, ℕ, length, take, drop, IsTrue, IsFalse, false};
 ghost use Rattle.des.specs.Bits.{bits_of, bits_of_word, bit, select, zeros, xor_bits};
 ghost use Rattle.des.specs.Tables.{initial_permutation, permuted_choice_1, permuted_choice_2, expansion, permutation};
 ghost use Rattle.des.specs.CipherFunction.{substitute, cipher_function};
 ghost use Rattle.des.specs.KeySchedule.{HoldRoundKeys, rotate};
-ghost use Rattle.des.specs.Positions.{are_positions, are_distinct};
+ghost use Rattle.des.specs.Positions.{are_positions, are_distinct, is_among};
 
 use crate::consts::{SBOX_ROWS, SHIFTS};
 
@@ -93,7 +93,7 @@ fn permute(word: u64, sources: &[u8], targets: &[u8]) -> u64
     requires targets_in_word { IsTrue (are_positions targets.now) }
     requires targets_distinct { IsTrue (are_distinct targets.now) }
     ensures moved { select targets.now (bits_of_word result) ≡ select sources.now (bits_of_word word) }
-    ensures zero_elsewhere { (i : ℕ) → 1 ≤ i → i ≤ 64 → ¬ Contains targets.now i → bit (bits_of_word result) i ≡ false }
+    ensures zero_elsewhere { (i : ℕ) → 1 ≤ i → i ≤ 64 → IsFalse (is_among targets.now i) → bit (bits_of_word result) i ≡ false }
 {
     let mut permuted = 0;
     for (&source, &target) in sources.iter().zip(targets) {
