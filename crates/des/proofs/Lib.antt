@@ -5,3 +5,4 @@ pub mod Rounds
 pub mod Traces
 pub mod OneAnswer
 pub mod Permuting
+pub mod Places

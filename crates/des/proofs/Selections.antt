@@ -1,6 +1,6 @@
 -- Selections of bits by position, and lists combined bit by bit.
-use Rattle.std.proofs.Common.{◌≡◌, ℕ, zero, suc, ◌+◌, ◌-◌, ◌<◌, List, [], ◌∷◌, Bool, true, false, map, length, drop, slice_index_or, refl, sym, ap, ap₂, ◌∙◌, sub-one, drop-cons, arith}
-use Rattle.std.proofs.lemmas.List.{length-map, get_or_past, drop_all}
+use Rattle.std.proofs.Common.{◌≡◌, ℕ, zero, suc, ◌+◌, ◌-◌, ◌<◌, ◌≤◌, List, [], ◌∷◌, Bool, true, false, map, length, take, drop, slice_index_or, refl, sym, ap, ap₂, ◌∙◌, sub-one, drop-cons, arith}
+use Rattle.std.proofs.lemmas.List.{length-map, get_or_past, take_all}
 use Rattle.des.specs.Bits.{bit, select, combine, xor, xor_bits}
 use Rattle.des.specs.Tables.{initial_permutation, final_permutation, permutation}
 use Rattle.des.specs.CipherFunction.{cipher_function}
@@ -74,15 +74,15 @@ slice_index_or-counting first (suc n) (suc i) d below =
     let rest : slice_index_or (counting (suc first) n) i d ≡ suc first + i = slice_index_or-counting (suc first) n i d (omega arith) in
     omega arith
 
--- the positions from k + 1 to the end select what is left after k bits
-select-counting : (k n : ℕ) (bits : List Bool) → length bits ≡ k + n → select (counting (suc k) n) bits ≡ drop k bits
+-- n positions after the first k select n bits after the first k
+pub select-counting : (k n : ℕ) (bits : List Bool) → k + n ≤ length bits → select (counting (suc k) n) bits ≡ take n (drop k bits)
 unfolding select counting
-select-counting k zero bits size = sym (drop_all k bits (omega arith))
-select-counting k (suc n) bits size =
+select-counting k zero bits within = refl
+select-counting k (suc n) bits within =
     let inside : k < length bits = omega arith in
-    let first : bit bits (suc k) ≡ slice_index_or bits k false = rw sub-one in
-    let rest = select-counting (suc k) n bits (omega arith) in
-    ap₂ (λ (b : Bool) (bs : List Bool). b ∷ bs) first rest ∙ sym (drop-cons bits k false inside)
+    let first : bit bits (suc k) ≡ slice_index_or bits k false = rw sub-one refl in
+    ap₂ (λ (b : Bool) (bs : List Bool). b ∷ bs) first (select-counting (suc k) n bits (omega arith))
+    ∙ sym (ap (take (suc n)) (drop-cons bits k false inside))
 
 -- a selection from a selection whose composed positions count up from 1 is the list of bits
 select-composed : (outer inner : List ℕ) (n : ℕ) (bits : List Bool) → length bits ≡ n → composed (suc n) outer inner ≡ counting 1 n → select outer (select inner bits) ≡ bits
@@ -90,6 +90,7 @@ select-composed outer inner n bits size counts =
     select-select (suc n) outer inner bits (omega arith)
     ∙ ap (λ positions. select positions bits) counts
     ∙ select-counting 0 n bits (omega arith)
+    ∙ take_all n bits (omega arith)
 
 -- the initial permutation undoes the final one
 pub select-initial_permutation : (bits : List Bool) → length bits ≡ 64 → select initial_permutation (select final_permutation bits) ≡ bits

@@ -1,0 +1,8 @@
+use Rattle.std.proofs.Common.{◌∙◌}
+use Rattle.des.proofs.Selections.{counting}
+use Rattle.des.proofs.Places.{select-all_places}
+use Rattle.des.proofs.utils.fp.Goals as goal
+
+pub returns : goal.returns
+unfolding counting
+returns c = c.permute.ensures.moved ∙ select-all_places c.args.input
