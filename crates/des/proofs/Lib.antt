@@ -6,3 +6,7 @@ pub mod Traces
 pub mod OneAnswer
 pub mod Permuting
 pub mod Places
+pub mod Substitution
+pub mod Rotation
+pub mod RoundKeys
+pub mod HalfWords

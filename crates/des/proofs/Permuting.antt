@@ -86,7 +86,6 @@ bit_at-put_all word (source ∷ sources) (target ∷ targets) held i low high in
 pub AreClear : ℕ → List ℕ → Type 0
 AreClear held targets = (i : ℕ) → 1 ≤ i → i ≤ 64 → is_among targets i ≡ true → bit_at held (64 - i) ≡ 0
 
-
 -- what is put at another position leaves clear positions clear
 AreClear-put : (word held source target : ℕ) (targets : List ℕ) → 1 ≤ target → target ≤ 64 → is_among targets target ≡ false → AreClear held (target ∷ targets) → AreClear (put word held source target) targets
 unfolding AreClear
@@ -120,11 +119,11 @@ select-put_all word (source ∷ sources) (target ∷ targets) held same from int
     let answer : ℕ = put_all word sources targets (put word held source target) in
     let none = clear target t.0 t.1 (or_left (target == target) (is_among targets target) (eq-eqb target target refl)) in
     let first : bit (bits_of_word answer) target ≡ bit (bits_of_word word) source =
-      bit-bits_of 64 answer target t.0 t.1
-      ∙ ap (λ (b : ℕ). b == 1) (bit_at-put_first word source target sources targets held t.0 t.1 t.2 apart none)
-      ∙ sym (bit-bits_of 64 word source s.0 s.1) in
+    bit-bits_of 64 answer target t.0 t.1
+    ∙ ap (λ (b : ℕ). b == 1) (bit_at-put_first word source target sources targets held t.0 t.1 t.2 apart none)
+    ∙ sym (bit-bits_of 64 word source s.0 s.1) in
     ap₂ (λ (b : Bool) (bs : List Bool). b ∷ bs) first
-      (select-put_all word sources targets (put word held source target) (omega arith) s.2 t.2 d.1 (AreClear-put word held source target targets t.0 t.1 apart clear))
+    (select-put_all word sources targets (put word held source target) (omega arith) s.2 t.2 d.1 (AreClear-put word held source target targets t.0 t.1 apart clear))
 
 -- at the start no bit is set
 pub AreClear-zero : (targets : List ℕ) → AreClear 0 targets

@@ -32,7 +32,7 @@ bits_of_word_placed n word chosen within moved clear =
     let width : length (bits_of_word word) ≡ 64 = length-bits_of 64 word in
     let front : take n (bits_of_word word) ≡ chosen = sym (select-counting 0 n (bits_of_word word) (omega arith)) ∙ moved in
     let rest : drop n (bits_of_word word) ≡ zeros (64 - n) =
-      zeros_after n (64 - n) (bits_of_word word) (omega arith) (λ i low high. clear i (omega arith) (omega arith) (is_among-counting 1 n i (omega arith))) in
+    zeros_after n (64 - n) (bits_of_word word) (omega arith) (λ i low high. clear i (omega arith) (omega arith) (is_among-counting 1 n i (omega arith))) in
     sym (take-append-drop n (bits_of_word word)) ∙ ap₂ (λ (a b : List Bool). a ++ b) front rest
 
 -- all 64 positions select the whole word

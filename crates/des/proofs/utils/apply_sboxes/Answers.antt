@@ -1,0 +1,29 @@
+use Rattle.std.proofs.Common.{◌≡◌, ◌-◌, ◌^◌, ◌/◌, ◌*◌, List, ◌++◌, Bool, refl, ap, ◌∙◌, arith}
+use Rattle.des.specs.Bits.{bits_of, zeros}
+use Rattle.des.specs.CipherFunction.{substitute_by}
+use Rattle.des.proofs.BitLists.{bits_of-mod, bits_of-shifted}
+use Rattle.des.proofs.Substitution.{row_of-lt, group_of, entry_for, with_entry-lt, bits_of-with_entry}
+use Rattle.des.proofs.utils.apply_sboxes.Goals as goal
+
+pub loop-i-init : goal.loop-i-init
+unfolding bits_of substitute_by
+loop-i-init c = record { below = omega arith; substituted = refl }
+
+pub bounds-sbox-row : goal.bounds-sbox-row
+bounds-sbox-row c = row_of-lt (group_of (c.args.input / 2 ^ (58 - 6 * c.loop-i.i)))
+
+pub loop-i-preserved : goal.loop-i-preserved
+loop-i-preserved c =
+    let entry : c.from.result ≡ entry_for c.loop-i.i c.args.input = c.from.ensures in
+    let before = c.loop-i.invariant in
+    record {
+      below = rw entry (with_entry-lt c.loop-i.i c.args.input c.loop-i.output c.loop-i-test.true before.below);
+      substituted = rw entry (bits_of-with_entry c.loop-i.i c.args.input c.loop-i.output c.loop-i-test.true before.below before.substituted);
+    }
+
+pub returns : goal.returns
+returns c =
+    let last : c.loop-i.i ≡ 8 = omega arith in
+    bits_of-mod 64 64 (c.loop-i.output * 2 ^ 32) (omega arith)
+    ∙ bits_of-shifted 32 32 c.loop-i.output
+    ∙ ap (λ (bits : List Bool). bits ++ zeros 32) (rw last at c.loop-i.invariant.substituted)

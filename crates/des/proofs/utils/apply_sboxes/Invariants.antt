@@ -1,0 +1,11 @@
+use Rattle.std.proofs.Common.{◌≡◌, ◌*◌, ◌^◌, ◌<◌, take}
+use Rattle.des.specs.Bits.{bits_of, bits_of_word}
+use Rattle.des.specs.Tables.{selection_functions}
+use Rattle.des.specs.CipherFunction.{substitute_by}
+use Rattle.des.proofs.utils.apply_sboxes.Given as goal
+
+abbrev pub invariant-loop-i : goal.invariant-loop-i
+invariant-loop-i l = record {
+  below : l.output < 2 ^ (4 * l.i);
+  substituted : bits_of (4 * l.i) l.output ≡ substitute_by (take l.i selection_functions) (take 48 (bits_of_word l.input));
+}
