@@ -10,3 +10,4 @@ pub mod Substitution
 pub mod Rotation
 pub mod RoundKeys
 pub mod HalfWords
+pub mod CipherRounds
