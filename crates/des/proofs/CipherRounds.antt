@@ -1,23 +1,19 @@
--- The rounds of the cipher on words: the steps from a block to the block that its rounds make of it.
-use Rattle.std.proofs.Common.{◌≡◌, ℕ, suc, ◌+◌, ◌-◌, ◌*◌, ◌/◌, ◌%◌, ◌^◌, ◌<◌, List, [], ◌∷◌, ◌++◌, Bool, length, map, take, drop, slice_index, refl, ap, ap₂, sym, ◌∙◌, arith, bit_or, add-one, drop-cons, take_at, drop_at, length-append, length-drop, take-append-drop, add-zero, pow_pos, le_refl}
+-- The rounds of the cipher on words: the steps from a block to the block that the rounds make of it.
+use Rattle.std.proofs.Common.{◌≡◌, ℕ, suc, ◌+◌, ◌-◌, ◌*◌, ◌/◌, ◌%◌, ◌^◌, ◌<◌, List, [], ◌∷◌, ◌++◌, Bool, length, take, drop, slice_index, ap, ap₂, sym, ◌∙◌, bit_or, add-one, drop-cons, take_at, drop_at, length-drop, add-zero, pow_pos, le_refl}
 use Rattle.std.specs.Int.{w64, rotate_left, from_be_bytes, to_be_bytes}
 use Rattle.std.proofs.lemmas.Nat.{mod-pow-add, or_shifted, shl-shr, shr_below, mod_low}
-use Rattle.std.proofs.lemmas.Simd.{map-map}
-use Rattle.des.specs.Bits.{bits_of_word, bits_of_bytes, select, zeros, xor_bits}
-use Rattle.des.specs.Tables.{initial_permutation, final_permutation, permuted_choice_2}
+use Rattle.des.specs.Bits.{bits_of_word, bits_of_bytes, select, xor_bits}
+use Rattle.des.specs.Tables.{initial_permutation, final_permutation}
 use Rattle.des.specs.CipherFunction.{cipher_function}
-use Rattle.des.specs.KeySchedule.{HoldRoundKeys, key_schedule, round_key}
-use Rattle.des.specs.Enciphering.{IsDes}
 use Rattle.des.specs.Answers.{after_rounds, swapped, through_rounds, round_keys_of}
-use Rattle.des.proofs.BitLists.{length-bits_of, bits_of-cat, bits_of-mod, take-bits_of, drop-bits_of, length-bits_of_bytes, bits_of_bytes-be, bits_of_bytes-to_be}
-use Rattle.des.proofs.Selections.{counting, length-select, select-final_permutation}
-use Rattle.des.proofs.OneAnswer.{IsDes-enciphered}
+use Rattle.des.proofs.BitLists.{length-bits_of, bits_of-cat, bits_of-mod, take-bits_of, drop-bits_of, bits_of_bytes-be, bits_of_bytes-to_be}
+use Rattle.des.proofs.Selections.{select-final_permutation}
 
 -- the halves that the rounds of the words' round keys make of the halves of a word
 abbrev pub halves_after : List ℕ → ℕ → List Bool × List Bool
 halves_after words word = after_rounds (round_keys_of words) (take 32 (bits_of_word word)) (drop 32 (bits_of_word word))
 
--- the bits of a word after one round
+-- one round under the round key in a word makes one word of another
 abbrev pub IsRound : ℕ → ℕ → ℕ → Type 0
 IsRound word key next =
     let left = take 32 (bits_of_word word) in
@@ -90,30 +86,3 @@ through_rounds-blocks words block permuted last final eight small last_fits fina
     bits_of_bytes-to_be final final_fits
     ∙ through_rounds-words words (from_be_bytes w64 block) permuted last final last_fits begins rounds ends
     ∙ ap (through_rounds (round_keys_of words)) (sym (bits_of_bytes-be block eight small))
-
--- a round key has 48 bits
-length-round_key : (key : List Bool) (i : ℕ) → length (round_key key i) ≡ 48
-unfolding round_key
-length-round_key key i = length-select permuted_choice_2 _
-
--- the first 48 bits of round keys with zeros after them are the round keys
-take-round_keys : (key : List Bool) (numbers : List ℕ) → map (take 48) (map (λ bits. bits ++ zeros 16) (map (round_key key) numbers)) ≡ map (round_key key) numbers
-take-round_keys key [] = refl
-take-round_keys key (i ∷ numbers) =
-    ap₂ (λ (k : List Bool) (ks : List (List Bool)). k ∷ ks) (take_at (round_key key i) (zeros 16) 48 (length-round_key key i)) (take-round_keys key numbers)
-
--- words that hold the round keys of a key have them in their first 48 bits
-pub round_keys_of-HoldRoundKeys : (words : List ℕ) (key : List Bool) → HoldRoundKeys words key → round_keys_of words ≡ key_schedule key
-unfolding round_keys_of key_schedule counting
-round_keys_of-HoldRoundKeys words key held =
-    sym (map-map (take 48) (λ word. bits_of_word word) words) ∙ ap (map (take 48)) held ∙ take-round_keys key (counting 1 16)
-
--- DES of the key takes a block to what the rounds of the words that hold its round keys make of it
-pub IsDes-through_rounds : (words : List ℕ) (key x y : List Bool) → length key ≡ 64 → HoldRoundKeys words key → length x ≡ 64 → y ≡ through_rounds (round_keys_of words) x → IsDes key x y
-IsDes-through_rounds words key x y key_width held width made =
-    rw (made, round_keys_of-HoldRoundKeys words key held) (IsDes-enciphered key x key_width width)
-
--- words that hold the round keys of a word hold those of its eight bytes, a key of 64 bits
-pub HoldRoundKeys-bytes : (words bytes : List ℕ) (word : ℕ) → length bytes ≡ 8 → ((i : ℕ) → slice_index bytes i < 256) → word ≡ from_be_bytes w64 bytes → HoldRoundKeys words (bits_of_word word) → (length (bits_of_bytes bytes) ≡ 64) × HoldRoundKeys words (bits_of_bytes bytes)
-HoldRoundKeys-bytes words bytes word eight small same held =
-    (length-bits_of_bytes bytes ∙ omega arith, rw (bits_of_bytes-be bytes eight small, ← same) held)

@@ -11,3 +11,7 @@ pub mod Rotation
 pub mod RoundKeys
 pub mod HalfWords
 pub mod CipherRounds
+pub mod HeldRoundKeys
+pub mod BlockLists
+pub mod BlockBits
+pub mod DesAnswers

@@ -27,3 +27,12 @@ pub record IsDes (key x y : List Bool) : Type 0 where
   pub is_trace : IsTrace key trace
   pub begins : select initial_permutation x ≡ half_block trace 0 ++ half_block trace 1
   pub ends : select initial_permutation y ≡ half_block trace 17 ++ half_block trace 16
+
+-- one list of bits has the property, and no other
+abbrev pub HoldsOfOne : (List Bool → Type 0) → Type 0
+HoldsOfOne P = (one : List Bool) × (P one × ((other : List Bool) → P other → other ≡ one))
+
+-- DES under the key takes each block of 64 bits to exactly one, and takes exactly one to each
+pub record HasOneAnswerEachWay (key : List Bool) : Type 0 where
+  pub enciphering : (x : List Bool) → length x ≡ 64 → HoldsOfOne (λ y. IsDes key x y)
+  pub deciphering : (y : List Bool) → length y ≡ 64 → HoldsOfOne (λ x. IsDes key x y)

@@ -3,39 +3,135 @@
 ghost use Rattle.std.specs.Prelude.{◌≡◌, List, Bool};
 ghost use Rattle.des.specs.KeySchedule.{HoldSomeRoundKeys};
 
+use crate::cipher::{
+    AlgorithmName, BlockCipher, BlockCipherDecrypt, BlockCipherEncrypt, BlockSizeUser, KeyInit,
+    KeySizeUser, KeyedCipher, ParBlocksSizeUser,
+};
 use crate::utils;
+use std::alloc::AllocError;
+use std::fmt;
 
-/// DES under one key: the sixteen round keys of the key.
+/// DES under one key: the key's sixteen round keys.
+///
+/// A key has 8 bytes, bit 1 the most significant bit of the first. Every key is taken, weak ones included; its
+/// parity bits (bits 8, 16, .., 64) are neither tested nor used.
 #[derive(Drop)]
 pub struct Des {
     round_keys: [u64; 16],
     ghost scheduled: { ∥ HoldSomeRoundKeys round_keys ∥₁ },
 }
 
-impl Des {
+impl KeySizeUser for Des {
+    ghost use Rattle.std.specs.Prelude.{refl};
+
+    type Key = [u8; 8];
+
+    const KEY_SIZE: usize = 8;
+
+    ghost KEY_SIZE = { 8 };
+
+    ghost key_size_is_len = { refl };
+}
+
+impl KeyInit for Des {
     ghost use Rattle.des.specs.Bits.{bits_of_bytes};
-    ghost use Rattle.des.specs.Enciphering.{IsDes};
+    ghost use Rattle.des.specs.Enciphering.{HasOneAnswerEachWay};
     ghost use Rattle.des.specs.Des.{IsDesOf};
 
-    /// The cipher of a key of 8 bytes, bit 1 the most significant bit of the first byte. Every key is taken,
-    /// weak ones included; its parity bits (bits 8, 16, .., 64) are neither tested nor used.
-    pub fn new(key: &[u8; 8]) -> Des
-        ensures { IsDesOf result (bits_of_bytes key.now) }
+    ghost is_made_from = { λ cipher key. IsDesOf cipher (bits_of_bytes key) };
+
+    /// The cipher of the key.
+    fn new(key: &[u8; 8]) -> Des
+        ensures made { IsDesOf result (bits_of_bytes key.now) }
+        ensures one_answer_each_way { HasOneAnswerEachWay (bits_of_bytes key.now) }
     {
         Des {
             round_keys: utils::gen_keys(u64::from_be_bytes(*key)),
         }
     }
+}
 
-    /// Enciphers a block of 8 bytes in place (FIPS 46-3, "Enciphering").
-    pub fn encrypt_block(&self, block: &mut [u8; 8])
-        ensures { (key : List Bool) → IsDesOf self.now key → IsDes key (bits_of_bytes block.old) (bits_of_bytes block.new) }
+impl BlockSizeUser for Des {
+    ghost use Rattle.std.specs.Prelude.{refl};
+
+    const BLOCK_SIZE: usize = 8;
+
+    ghost BLOCK_SIZE = { 8 };
+
+    ghost block_size_is_eight = { refl };
+}
+
+impl ParBlocksSizeUser for Des {
+    const PAR_BLOCKS: usize = 1;
+
+    ghost PAR_BLOCKS = { 1 };
+}
+
+impl AlgorithmName for Des {
+    const NAME: &'static str = "Des";
+}
+
+impl BlockCipherEncrypt for Des {
+    ghost use Rattle.des.specs.Bits.{bits_of_bytes};
+    ghost use Rattle.des.specs.Enciphering.{IsDes};
+    ghost use Rattle.des.specs.Des.{IsDesOf, encrypted as encrypted_by};
+
+    ghost encrypted = { encrypted_by };
+
+    /// Enciphers a block in place (FIPS 46-3, "Enciphering").
+    fn encrypt_block(&self, block: &mut [u8; 8])
+        ensures encrypted { block.new ≡ encrypted_by self.now block.old }
+        ensures enciphers { (key : List Bool) → IsDesOf self.now key → IsDes key (bits_of_bytes block.old) (bits_of_bytes block.new) }
+        ensures alone { (key other : List Bool) → IsDesOf self.now key → IsDes key (bits_of_bytes block.old) other → other ≡ bits_of_bytes block.new }
     {
         let mut halves = utils::ip(u64::from_be_bytes(*block));
         for &round_key in &self.round_keys {
             halves = utils::round(halves, round_key);
         }
         *block = utils::fp(halves.rotate_left(32)).to_be_bytes();
+    }
+}
+
+impl BlockCipherDecrypt for Des {
+    ghost use Rattle.des.specs.Bits.{bits_of_bytes};
+    ghost use Rattle.des.specs.Enciphering.{IsDes};
+    ghost use Rattle.des.specs.Des.{IsDesOf, decrypted as decrypted_by};
+
+    ghost decrypted = { decrypted_by };
+
+    /// Deciphers a block in place: the rounds of enciphering, with the round keys from the last to the first
+    /// (FIPS 46-3, "Deciphering").
+    fn decrypt_block(&self, block: &mut [u8; 8])
+        ensures decrypted { block.new ≡ decrypted_by self.now block.old }
+        ensures deciphers { (key : List Bool) → IsDesOf self.now key → IsDes key (bits_of_bytes block.new) (bits_of_bytes block.old) }
+        ensures alone { (key other : List Bool) → IsDesOf self.now key → IsDes key other (bits_of_bytes block.old) → other ≡ bits_of_bytes block.new }
+    {
+        let mut halves = utils::ip(u64::from_be_bytes(*block));
+        for &round_key in self.round_keys.iter().rev() {
+            halves = utils::round(halves, round_key);
+        }
+        *block = utils::fp(halves.rotate_left(32)).to_be_bytes();
+    }
+}
+
+impl Clone for Des {
+    ghost use Rattle.std.specs.Prelude.{⊤};
+
+    ghost is_clone = { λ cipher other. other ≡ cipher };
+
+    ghost is_infallible = { λ _. ⊤ };
+
+    fn clone(&self) -> Result<Des, AllocError> {
+        Ok(Des {
+            round_keys: self.round_keys,
+        })
+    }
+}
+
+/// Shows no part of the key.
+impl fmt::Debug for Des {
+    fn fmt<W: fmt::Write>(&self, f: &mut fmt::Formatter<W>) -> fmt::Result {
+        f.write_str("Des { ... }")
     }
 }
 

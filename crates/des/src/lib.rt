@@ -5,6 +5,7 @@
 //! time that a call takes.
 #![tactic(auto)]
 
+pub mod cipher;
 pub mod consts;
 pub mod des;
 pub mod utils;

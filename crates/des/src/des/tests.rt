@@ -1,4 +1,5 @@
 use super::*;
+use crate::cipher::*;
 
 #[test]
 fn encrypts(rt: HostRuntime) {

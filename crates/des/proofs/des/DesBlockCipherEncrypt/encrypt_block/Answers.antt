@@ -3,10 +3,13 @@ use Rattle.std.proofs.lemmas.List.{drop_all}
 use Rattle.des.specs.Bits.{bits_of_bytes, bits_of_word, select}
 use Rattle.des.specs.Tables.{initial_permutation}
 use Rattle.des.specs.Answers.{enciphered, round_keys_of}
+use Rattle.des.specs.Des.{encrypted}
 use Rattle.des.proofs.BitLists.{length-bits_of_bytes}
-use Rattle.des.proofs.CipherRounds.{halves_after, halves_after-round_at, through_rounds-blocks, IsDes-through_rounds}
-use Rattle.des.proofs.des.Des.encrypt_block.Goals as goal
-use Rattle.des.proofs.des.Des.encrypt_block.Goals.{After-to_be_bytes}
+use Rattle.des.proofs.CipherRounds.{halves_after, halves_after-round_at, through_rounds-blocks}
+use Rattle.des.proofs.BlockBits.{IsBlock-to_be_bytes}
+use Rattle.des.proofs.DesAnswers.{block_from_bits, IsDes-held, enciphered-held}
+use Rattle.des.proofs.des.DesBlockCipherEncrypt.encrypt_block.Goals as goal
+use Rattle.des.proofs.des.DesBlockCipherEncrypt.encrypt_block.Goals.{After-to_be_bytes}
 
 pub loop-round_key-init : goal.loop-round_key-init
 loop-round_key-init c = record { is_word = omega arith; same_end = refl }
@@ -30,6 +33,14 @@ enciphers c =
     (ap (λ (rest : List ℕ). halves_after rest c.loop-round_key.halves) (sym none) ∙ c.loop-round_key.invariant.same_end)
     (c.fp.ensures ∙ ap bits_of_word c.rotate_left.ensures)
 
-pub returns : goal.returns
-returns c key of_key =
-    IsDes-through_rounds c.args.self.now.round_keys key (bits_of_bytes c.args.block.now) (bits_of_bytes c.to_be_bytes.result) of_key.0 of_key.1 (length-bits_of_bytes c.args.block.now ∙ omega arith) (enciphers c)
+pub returns-clause-encrypted : goal.returns-clause-encrypted
+unfolding encrypted
+returns-clause-encrypted c = block_from_bits c.to_be_bytes.result _ (rw c.to_be_bytes.ensures (IsBlock-to_be_bytes c.fp.result)) (enciphers c)
+
+pub returns-clause-enciphers : goal.returns-clause-enciphers
+returns-clause-enciphers c key of_key =
+    IsDes-held c.args.self.now.round_keys key of_key.0 of_key.1 (bits_of_bytes c.args.block.now) (bits_of_bytes c.to_be_bytes.result) (length-bits_of_bytes c.args.block.now ∙ omega arith) (enciphers c)
+
+pub returns-clause-alone : goal.returns-clause-alone
+returns-clause-alone c key other of_key des =
+    enciphered-held c.args.self.now.round_keys key of_key.0 of_key.1 (bits_of_bytes c.args.block.now) (bits_of_bytes c.to_be_bytes.result) other (enciphers c) des

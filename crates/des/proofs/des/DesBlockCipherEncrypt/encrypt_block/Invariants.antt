@@ -1,6 +1,6 @@
 use Rattle.std.proofs.Common.{◌≡◌, ◌^◌, ◌<◌, drop}
 use Rattle.des.proofs.CipherRounds.{halves_after}
-use Rattle.des.proofs.des.Des.encrypt_block.Given as goal
+use Rattle.des.proofs.des.DesBlockCipherEncrypt.encrypt_block.Given as goal
 
 -- the halves are a word, and the round keys still to come make of them what all of them make of the first halves
 abbrev pub invariant-loop-round_key : goal.invariant-loop-round_key

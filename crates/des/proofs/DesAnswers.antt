@@ -1,0 +1,39 @@
+-- What a `Des` answers: the one block of the DES relation of its key, in each direction, for words that hold the
+-- round keys.
+use Rattle.std.proofs.Common.{◌≡◌, ℕ, List, Bool, length, reverse, sym, ap, ◌∙◌}
+use Rattle.des.specs.Bits.{bits_of_bytes}
+use Rattle.des.specs.Blocks.{IsBlock, block_of_bits}
+use Rattle.des.specs.KeySchedule.{HoldRoundKeys, key_schedule}
+use Rattle.des.specs.Enciphering.{IsDes, HasOneAnswerEachWay}
+use Rattle.des.specs.Answers.{through_rounds, enciphered, deciphered, round_keys_of}
+use Rattle.des.proofs.OneAnswer.{IsDes-enciphered, enciphered-unique, IsDes-deciphered, deciphered-unique}
+use Rattle.des.proofs.HeldRoundKeys.{round_keys_of-HoldRoundKeys, round_keys_of-reverse}
+use Rattle.des.proofs.BlockBits.{block_of_bits-bits_of_bytes}
+
+-- a block is the block of bits that are its own
+pub block_from_bits : (block : List ℕ) (bits : List Bool) → IsBlock block → bits_of_bytes block ≡ bits → block ≡ block_of_bits bits
+block_from_bits block bits is_block same = sym (block_of_bits-bits_of_bytes block is_block) ∙ ap block_of_bits same
+
+-- the rounds of the words, from the first to the last, make of a block its enciphering
+module _ (words : List ℕ) (key : List Bool) (key_width : length key ≡ 64) (held : HoldRoundKeys words key) where
+  schedule : round_keys_of words ≡ key_schedule key
+  schedule = round_keys_of-HoldRoundKeys words key held
+
+  pub IsDes-held : (x y : List Bool) → length x ≡ 64 → y ≡ enciphered (round_keys_of words) x → IsDes key x y
+  IsDes-held x y width made = rw (made, schedule) (IsDes-enciphered key x key_width width)
+
+  pub enciphered-held : (x y other : List Bool) → y ≡ enciphered (round_keys_of words) x → IsDes key x other → other ≡ y
+  enciphered-held x y other made des = enciphered-unique key x other des ∙ ap (λ keys. enciphered keys x) (sym schedule) ∙ sym made
+
+  pub IsDes-held_reverse : (x y : List Bool) → length y ≡ 64 → x ≡ deciphered (round_keys_of words) y → IsDes key x y
+  IsDes-held_reverse x y width made = rw (made, schedule) (IsDes-deciphered key y key_width width)
+
+  pub deciphered-held : (x y other : List Bool) → x ≡ deciphered (round_keys_of words) y → IsDes key other y → other ≡ x
+  deciphered-held x y other made des = deciphered-unique key other y des ∙ ap (λ keys. deciphered keys y) (sym schedule) ∙ sym made
+
+-- DES under a key of 64 bits has one answer each way
+pub HasOneAnswerEachWay-key : (key : List Bool) → length key ≡ 64 → HasOneAnswerEachWay key
+HasOneAnswerEachWay-key key key_width = record {
+  enciphering = λ x width. (enciphered (key_schedule key) x, (IsDes-enciphered key x key_width width, λ other des. enciphered-unique key x other des));
+  deciphering = λ y width. (deciphered (key_schedule key) y, (IsDes-deciphered key y key_width width, λ other des. deciphered-unique key other y des));
+}

@@ -1,0 +1,297 @@
+//! The traits of block ciphers: their keys, sizes, names and calls, each with its laws. The module stands in
+//! place of the Rust crate `cipher`.
+//!
+//! Generic code may rest on the laws alone, whatever the body of a call is. In a law a byte is a number below
+//! 256, a block is eight bytes and a key `KEY_SIZE` bytes.
+
+ghost use Rattle.std.specs.Prelude.{◌≡◌, ◌↔◌, ℕ, List, length, codes, Some, IsSome, IfSome, IsOk, IfOk, OnOk, OnErr};
+ghost use Rattle.des.specs.Blocks.{AreBytes, IsBlock, AnswersEach};
+
+use std::error::Error;
+use std::fmt;
+
+/// The error of a key slice whose length is not the key size.
+#[derive(Clone, Copy, Debug, PartialEq, Eq)]
+pub struct InvalidLength;
+
+/// Writes the type's name.
+impl fmt::Display for InvalidLength {
+    ghost output = { λ _. Some (codes "InvalidLength") };
+
+    fn fmt<W: fmt::Write>(&self, f: &mut fmt::Formatter<W>) -> fmt::Result {
+        f.write_str("InvalidLength")
+    }
+}
+
+impl Error for InvalidLength {}
+
+/// The error of two lists of blocks that differ in length.
+#[derive(Clone, Copy, Debug, PartialEq, Eq)]
+pub struct NotEqualError;
+
+/// Writes the type's name.
+impl fmt::Display for NotEqualError {
+    ghost output = { λ _. Some (codes "NotEqualError") };
+
+    fn fmt<W: fmt::Write>(&self, f: &mut fmt::Formatter<W>) -> fmt::Result {
+        f.write_str("NotEqualError")
+    }
+}
+
+impl Error for NotEqualError {}
+
+/// A key as an array of bytes: `[u8; 8]`, `[u8; 16]` or `[u8; 24]`.
+pub trait KeyBytes: Copy {
+    /// The number of bytes.
+    const LEN: usize;
+
+    ghost LEN: { ℕ };
+
+    // The bytes of the key, in order.
+    ghost bytes_of: { Self → List ℕ };
+
+    /// The bytes of the key, `LEN` of them.
+    fn as_bytes(&self) -> &[u8]
+        ensures bytes { result.now ≡ bytes_of self.now }
+        ensures count { length result.now ≡ LEN };
+
+    /// The array of these bytes; `None` where there are not `LEN` of them.
+    fn from_bytes(bytes: &[u8]) -> Option<Self>
+        ensures found { IsSome result ↔ (length bytes.now ≡ LEN) }
+        ensures bytes { IfSome result (λ key. bytes_of key ≡ bytes.now) };
+
+    // Two keys of the same bytes are one.
+    ghost bytes_determine: { (key other : Self) → bytes_of key ≡ bytes_of other → key ≡ other };
+}
+
+impl KeyBytes for [u8; 8] {
+    const LEN: usize = 8;
+
+    ghost LEN = { 8 };
+
+    ghost bytes_of = { λ key. key };
+
+    ghost bytes_determine = { λ _ _ same. same };
+
+    fn as_bytes(&self) -> &[u8] {
+        self
+    }
+
+    fn from_bytes(bytes: &[u8]) -> Option<Self> {
+        bytes.try_into().ok()
+    }
+}
+
+impl KeyBytes for [u8; 16] {
+    const LEN: usize = 16;
+
+    ghost LEN = { 16 };
+
+    ghost bytes_of = { λ key. key };
+
+    ghost bytes_determine = { λ _ _ same. same };
+
+    fn as_bytes(&self) -> &[u8] {
+        self
+    }
+
+    fn from_bytes(bytes: &[u8]) -> Option<Self> {
+        bytes.try_into().ok()
+    }
+}
+
+impl KeyBytes for [u8; 24] {
+    const LEN: usize = 24;
+
+    ghost LEN = { 24 };
+
+    ghost bytes_of = { λ key. key };
+
+    ghost bytes_determine = { λ _ _ same. same };
+
+    fn as_bytes(&self) -> &[u8] {
+        self
+    }
+
+    fn from_bytes(bytes: &[u8]) -> Option<Self> {
+        bytes.try_into().ok()
+    }
+}
+
+/// A type with a key size.
+pub trait KeySizeUser {
+    /// The key.
+    type Key: KeyBytes;
+
+    /// The key size in bytes.
+    const KEY_SIZE: usize;
+
+    ghost KEY_SIZE: { ℕ };
+
+    // The key size is that of the key.
+    ghost key_size_is_len: { KEY_SIZE ≡ Self.Key.LEN };
+}
+
+/// A type whose values are made from a key.
+pub trait KeyInit: KeySizeUser + Sized {
+    // The value is one that is made from a key of these bytes.
+    ghost is_made_from: { Self → List ℕ → Type 0 };
+
+    /// A value made from the key.
+    fn new(key: &Self::Key) -> Self
+        ensures { is_made_from result (Self.Key.bytes_of key.now) };
+
+    /// A value made from the bytes of a key, or `InvalidLength` where there are not `KEY_SIZE` of them.
+    fn new_from_slice(key: &[u8]) -> Result<Self, InvalidLength>
+        ensures accepted { IsOk result ↔ (length key.now ≡ Self.KEY_SIZE) }
+        ensures made { IfOk result (λ value. is_made_from value key.now) }
+    {
+        match Self::Key::from_bytes(key) {
+            Some(key) => Ok(Self::new(&key)),
+            None => Err(InvalidLength),
+        }
+    }
+}
+
+/// A type with a block size.
+pub trait BlockSizeUser {
+    /// The block size in bytes.
+    const BLOCK_SIZE: usize;
+
+    ghost BLOCK_SIZE: { ℕ };
+
+    ghost block_size_is_eight: { BLOCK_SIZE ≡ 8 };
+}
+
+/// A type that treats some blocks at a time.
+pub trait ParBlocksSizeUser: BlockSizeUser {
+    /// The number of blocks at a time.
+    const PAR_BLOCKS: usize;
+
+    ghost PAR_BLOCKS: { ℕ };
+}
+
+/// A type with the name of an algorithm.
+pub trait AlgorithmName {
+    /// The name.
+    const NAME: &'static str;
+}
+
+/// Encryption of blocks of 8 bytes. No call changes the cipher or the input.
+pub trait BlockCipherEncrypt: BlockSizeUser {
+    // The block that the cipher makes of a block.
+    ghost encrypted: { Self → List ℕ → List ℕ };
+
+    /// Encrypts a block in place.
+    fn encrypt_block(&self, block: &mut [u8; 8])
+        ensures { block.new ≡ encrypted self.now block.old };
+
+    /// Encrypts the block `input` into `output`.
+    final fn encrypt_block_b2b(&self, input: &[u8; 8], output: &mut [u8; 8])
+        ensures { output.new ≡ encrypted self.now input.now }
+    {
+        *output = *input;
+        self.encrypt_block(output);
+    }
+
+    /// Encrypts each block in place.
+    final fn encrypt_blocks(&self, blocks: &mut [[u8; 8]])
+        ensures { AnswersEach (λ block answer. answer ≡ encrypted self.now block) blocks.old blocks.new }
+    {
+        for block in blocks.iter_mut() {
+            self.encrypt_block(block);
+        }
+    }
+
+    /// Encrypts each block of `input` into the block at its place in `output`. Where the two differ in length,
+    /// the answer is `NotEqualError`, and `output` stays as it was.
+    final fn encrypt_blocks_b2b(
+        &self,
+        input: &[[u8; 8]],
+        output: &mut [[u8; 8]],
+    ) -> Result<(), NotEqualError>
+        ensures accepted { IsOk result ↔ (length input.now ≡ length output.old) }
+        ensures ok { OnOk result (AnswersEach (λ block answer. answer ≡ encrypted self.now block) input.now output.new) }
+        ensures err { OnErr result (output.new ≡ output.old) }
+    {
+        if input.len() != output.len() {
+            return Err(NotEqualError);
+        }
+        output.copy_from_slice(input);
+        self.encrypt_blocks(output);
+        Ok(())
+    }
+}
+
+/// Decryption of blocks of 8 bytes. No call changes the cipher or the input.
+pub trait BlockCipherDecrypt: BlockSizeUser {
+    // The block that the cipher makes of a block.
+    ghost decrypted: { Self → List ℕ → List ℕ };
+
+    /// Decrypts a block in place.
+    fn decrypt_block(&self, block: &mut [u8; 8])
+        ensures { block.new ≡ decrypted self.now block.old };
+
+    /// Decrypts the block `input` into `output`.
+    final fn decrypt_block_b2b(&self, input: &[u8; 8], output: &mut [u8; 8])
+        ensures { output.new ≡ decrypted self.now input.now }
+    {
+        *output = *input;
+        self.decrypt_block(output);
+    }
+
+    /// Decrypts each block in place.
+    final fn decrypt_blocks(&self, blocks: &mut [[u8; 8]])
+        ensures { AnswersEach (λ block answer. answer ≡ decrypted self.now block) blocks.old blocks.new }
+    {
+        for block in blocks.iter_mut() {
+            self.decrypt_block(block);
+        }
+    }
+
+    /// Decrypts each block of `input` into the block at its place in `output`. Where the two differ in length,
+    /// the answer is `NotEqualError`, and `output` stays as it was.
+    final fn decrypt_blocks_b2b(
+        &self,
+        input: &[[u8; 8]],
+        output: &mut [[u8; 8]],
+    ) -> Result<(), NotEqualError>
+        ensures accepted { IsOk result ↔ (length input.now ≡ length output.old) }
+        ensures ok { OnOk result (AnswersEach (λ block answer. answer ≡ decrypted self.now block) input.now output.new) }
+        ensures err { OnErr result (output.new ≡ output.old) }
+    {
+        if input.len() != output.len() {
+            return Err(NotEqualError);
+        }
+        output.copy_from_slice(input);
+        self.decrypt_blocks(output);
+        Ok(())
+    }
+}
+
+/// A block cipher: encryption and decryption take blocks to blocks and undo each other.
+pub trait BlockCipher: BlockCipherEncrypt + BlockCipherDecrypt {
+    ghost encrypted_is_block: { (cipher : Self) (block : List ℕ) → IsBlock block → IsBlock (Self.encrypted cipher block) };
+
+    ghost decrypted_is_block: { (cipher : Self) (block : List ℕ) → IsBlock block → IsBlock (Self.decrypted cipher block) };
+
+    ghost decrypts_encrypted: { (cipher : Self) (block : List ℕ) → IsBlock block
+        → Self.decrypted cipher (Self.encrypted cipher block) ≡ block };
+
+    ghost encrypts_decrypted: { (cipher : Self) (block : List ℕ) → IsBlock block
+        → Self.encrypted cipher (Self.decrypted cipher block) ≡ block };
+}
+
+/// A block cipher whose key determines what it answers.
+pub trait KeyedCipher: KeyInit + BlockCipher {
+    // The block that a cipher made from the bytes of a key makes of a block, in each direction.
+    ghost encryption: { List ℕ → List ℕ → List ℕ };
+
+    ghost decryption: { List ℕ → List ℕ → List ℕ };
+
+    ghost encrypts_by_key: { (cipher : Self) (key block : List ℕ) → length key ≡ Self.KEY_SIZE → AreBytes key
+        → Self.is_made_from cipher key → IsBlock block → Self.encrypted cipher block ≡ encryption key block };
+
+    ghost decrypts_by_key: { (cipher : Self) (key block : List ℕ) → length key ≡ Self.KEY_SIZE → AreBytes key
+        → Self.is_made_from cipher key → IsBlock block → Self.decrypted cipher block ≡ decryption key block };
+}
