@@ -6,8 +6,8 @@ use Rattle.des.specs.Bits.{bits_of_word, bits_of_bytes, select, xor_bits}
 use Rattle.des.specs.Tables.{initial_permutation, final_permutation}
 use Rattle.des.specs.CipherFunction.{cipher_function}
 use Rattle.des.specs.Answers.{after_rounds, swapped, through_rounds, round_keys_of}
-use Rattle.des.proofs.BitLists.{length-bits_of, bits_of-cat, bits_of-mod, take-bits_of, drop-bits_of, bits_of_bytes-be, bits_of_bytes-to_be}
-use Rattle.des.proofs.Selections.{select-final_permutation}
+use Rattle.des.specs.Laws.BitLists.{length-bits_of, bits_of-cat, bits_of-mod, take-bits_of, drop-bits_of, bits_of_bytes-be, bits_of_bytes-to_be}
+use Rattle.des.specs.Laws.Selections.{select-final_permutation}
 
 -- the halves that the rounds of the words' round keys make of the halves of a word
 abbrev pub halves_after : List ℕ → ℕ → List Bool × List Bool

@@ -7,8 +7,8 @@ use Rattle.des.specs.KeySchedule.{HoldRoundKeys, key_schedule}
 use Rattle.des.specs.Enciphering.{IsDes, HasOneAnswerEachWay}
 use Rattle.des.specs.Answers.{through_rounds, enciphered, deciphered, round_keys_of}
 use Rattle.des.proofs.OneAnswer.{IsDes-enciphered, enciphered-unique, IsDes-deciphered, deciphered-unique}
-use Rattle.des.proofs.HeldRoundKeys.{round_keys_of-HoldRoundKeys, round_keys_of-reverse}
-use Rattle.des.proofs.BlockBits.{block_of_bits-bits_of_bytes}
+use Rattle.des.specs.Laws.HeldRoundKeys.{round_keys_of-HoldRoundKeys, round_keys_of-reverse}
+use Rattle.des.specs.Laws.BlockBits.{block_of_bits-bits_of_bytes}
 
 -- a block is the block of bits that are its own
 pub block_from_bits : (block : List ℕ) (bits : List Bool) → IsBlock block → bits_of_bytes block ≡ bits → block ≡ block_of_bits bits

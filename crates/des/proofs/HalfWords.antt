@@ -3,7 +3,7 @@ use Rattle.std.proofs.Common.{◌≡◌, ℕ, ◌+◌, ◌*◌, ◌/◌, ◌%◌
 use Rattle.std.proofs.lemmas.Nat.{shl-shr, shr_below, mod-pow-add, mod_low, or_shifted, xor_lt, xor_shr}
 use Rattle.std.proofs.lemmas.Nat.Bits.{and_high_mask}
 use Rattle.des.specs.Bits.{bits_of, bits_of_word, number_of, zeros, xor_bits}
-use Rattle.des.proofs.BitLists.{length-bits_of, take-bits_of, drop-bits_of, bits_of-cat, bits_of-mod, bits_of-zero, bits_of-shifted, bits_of-xor, number_of-bits_of}
+use Rattle.des.specs.Laws.BitLists.{length-bits_of, take-bits_of, drop-bits_of, bits_of-cat, bits_of-mod, bits_of-zero, bits_of-shifted, bits_of-xor, number_of-bits_of}
 
 -- ---- the first and the last bits
 

@@ -1,7 +1,4 @@
 mod KnownAnswers
-pub mod BitLists
-pub mod Selections
-pub mod Rounds
 pub mod Traces
 pub mod OneAnswer
 pub mod Permuting
@@ -11,7 +8,5 @@ pub mod Rotation
 pub mod RoundKeys
 pub mod HalfWords
 pub mod CipherRounds
-pub mod HeldRoundKeys
 pub mod BlockLists
-pub mod BlockBits
 pub mod DesAnswers

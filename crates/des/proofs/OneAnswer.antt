@@ -6,9 +6,10 @@ use Rattle.des.specs.Tables.{initial_permutation, final_permutation}
 use Rattle.des.specs.KeySchedule.{key_schedule}
 use Rattle.des.specs.Enciphering.{half_block, IsDes}
 use Rattle.des.specs.Answers.{after_rounds, swapped, through_rounds, enciphered, deciphered}
-use Rattle.des.proofs.Selections.{length-select, select-initial_permutation, select-final_permutation}
+use Rattle.des.specs.Laws.Selections.{length-select, select-initial_permutation, select-final_permutation}
 use Rattle.des.proofs.Traces.{trace, half_block-trace_first, half_block-trace_second, half_block-trace_before_last, half_block-trace_last, length-key_schedule, IsTrace-trace, trace_from_IsTrace}
-use Rattle.des.proofs.Rounds.{AreHalves, AreHalves-after_rounds, after_rounds-reverse, after_rounds-after_reverse}
+use Rattle.des.specs.Laws.ThroughRounds.{AreHalves-permuted, length-swapped, through_rounds_from_halves}
+use Rattle.des.specs.Laws.Rounds.{AreHalves, AreHalves-after_rounds, after_rounds-reverse, after_rounds-after_reverse}
 
 -- the rounds of the key join two blocks: they begin with the halves of x after the initial permutation, and
 -- end with those of y, in the opposite order
@@ -61,25 +62,6 @@ AreJoined_from_IsDes key x y des =
           (ap (λ h. half_block h 17) made ∙ half_block-trace_17 key left right)
           (ap (λ h. half_block h 16) made ∙ half_block-trace_16 key left right);
     }
-
--- the halves of a block after the initial permutation
-AreHalves-permuted : (block : List Bool) → AreHalves (take 32 (select initial_permutation block), drop 32 (select initial_permutation block))
-AreHalves-permuted block =
-    let permuted : List Bool = select initial_permutation block in
-    let width : length permuted ≡ 64 = length-select initial_permutation block in
-    (length-take-le 32 permuted (omega arith), length-drop 32 permuted ∙ omega arith)
-
--- two halves, swapped, are 64 bits
-length-swapped : (halves : List Bool × List Bool) → AreHalves halves → length (swapped halves) ≡ 64
-length-swapped halves widths = length-append halves.1 halves.0 ∙ omega arith
-
--- what the rounds make of a block, from its halves after the initial permutation
-through_rounds_from_halves : (keys : List (List Bool)) (block left right : List Bool) → length left ≡ 32 → select initial_permutation block ≡ left ++ right → through_rounds keys block ≡ select final_permutation (swapped (after_rounds keys left right))
-unfolding through_rounds
-through_rounds_from_halves keys block left right width begins =
-    let first : take 32 (select initial_permutation block) ≡ left = ap (take 32) begins ∙ take_at left right 32 width in
-    let second : drop 32 (select initial_permutation block) ≡ right = ap (drop 32) begins ∙ drop_at left right 32 width in
-    ap₂ (λ (l r : List Bool). select final_permutation (swapped (after_rounds keys l r))) first second
 
 -- a block is the final permutation of what the initial one makes of it
 block_from_permuted : (block permuted : List Bool) → length block ≡ 64 → select initial_permutation block ≡ permuted → block ≡ select final_permutation permuted

@@ -6,7 +6,7 @@ use Rattle.std.proofs.lemmas.Nat.Bits.{shr_and_one, bit_at-lt, bit_at-zero, bit_
 use Rattle.std.proofs.lemmas.Bool.{eqb-true, eqb-false, eq-eqb, leb-true, and_parts, or_parts, or_left, or_right, not-true, both_ways, cases_lt, cases_Bool}
 use Rattle.des.specs.Bits.{bits_of_word, bit, select}
 use Rattle.des.specs.Positions.{are_positions, are_distinct, is_among}
-use Rattle.des.proofs.BitLists.{bit-bits_of}
+use Rattle.des.specs.Laws.BitLists.{bit-bits_of}
 
 -- a word after the bit of `word` at a source position was put at a target position
 abbrev pub put : ℕ → ℕ → ℕ → ℕ → ℕ

@@ -5,8 +5,8 @@ use Rattle.std.proofs.lemmas.List.{drop_all, take_all, get_or-take}
 use Rattle.std.proofs.lemmas.Bool.{and_parts, leb-true, ne_eqb, or_from}
 use Rattle.des.specs.Bits.{bits_of_word, bit, select, zeros}
 use Rattle.des.specs.Positions.{is_among}
-use Rattle.des.proofs.BitLists.{length-bits_of}
-use Rattle.des.proofs.Selections.{counting, select-counting}
+use Rattle.des.specs.Laws.BitLists.{length-bits_of}
+use Rattle.des.specs.Laws.Selections.{counting, select-counting}
 
 -- a position after them is not among them
 is_among-counting : (first n i : ℕ) → first + n ≤ i → is_among (counting first n) i ≡ false

@@ -5,7 +5,7 @@ use Rattle.std.proofs.lemmas.List.{append_assoc, drop-append-le, take-append-le,
 use Rattle.std.proofs.Math.Seq.{take-add}
 use Rattle.des.specs.Bits.{bits_of}
 use Rattle.des.specs.KeySchedule.{rotate}
-use Rattle.des.proofs.BitLists.{bits_of-cat, bits_of-mod, take-bits_of, drop-bits_of}
+use Rattle.des.specs.Laws.BitLists.{bits_of-cat, bits_of-mod, take-bits_of, drop-bits_of}
 
 -- to rotate by m places and then by n is to rotate by m + n
 pub rotate-rotate : (m n : ℕ) (half : List Bool) → m + n ≤ length half → rotate (rotate half m) n ≡ rotate half (m + n)

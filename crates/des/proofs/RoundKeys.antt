@@ -8,8 +8,8 @@ use Rattle.std.proofs.lemmas.List.FromFn.{get_or-map-range_with_len}
 use Rattle.des.specs.Bits.{bits_of, bits_of_word, select, zeros}
 use Rattle.des.specs.Tables.{permuted_choice_1, permuted_choice_2, left_shifts}
 use Rattle.des.specs.KeySchedule.{c_half, d_half, rotate, shifts_through, round_key, key_schedule, HoldRoundKeys}
-use Rattle.des.proofs.BitLists.{bits_of-cat, bits_of-mod, take-bits_of, drop-bits_of}
-use Rattle.des.proofs.Selections.{length-select}
+use Rattle.des.specs.Laws.BitLists.{bits_of-cat, bits_of-mod, take-bits_of, drop-bits_of}
+use Rattle.des.specs.Laws.Selections.{length-select}
 use Rattle.des.proofs.Rotation.{rotate-rotate}
 
 -- the shifts through one more round

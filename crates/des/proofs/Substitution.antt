@@ -10,7 +10,7 @@ use Rattle.std.proofs.lemmas.List.Sums.{AllPass-from_list_all}
 use Rattle.des.specs.Bits.{bits_of, bits_of_word, number_of, bit}
 use Rattle.des.specs.Tables.{Box, selection_functions}
 use Rattle.des.specs.CipherFunction.{box_entry, substitute_by}
-use Rattle.des.proofs.BitLists.{bits_of-cat, bits_of-mod, take-bits_of, drop-bits_of}
+use Rattle.des.specs.Laws.BitLists.{bits_of-cat, bits_of-mod, take-bits_of, drop-bits_of}
 
 -- one more box replaces the next group of six bits
 substitute_by-push : (boxes : List Box) (box : Box) (bits : List Bool) → substitute_by (boxes ++ box ∷ []) bits ≡ substitute_by boxes bits ++ bits_of 4 (box_entry box (take 6 (drop (6 * length boxes) bits)))

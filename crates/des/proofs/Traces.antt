@@ -6,11 +6,8 @@ use Rattle.des.specs.CipherFunction.{cipher_function}
 use Rattle.des.specs.KeySchedule.{round_key, key_schedule}
 use Rattle.des.specs.Enciphering.{half_block, IsTrace}
 use Rattle.des.specs.Answers.{after_rounds}
-use Rattle.des.proofs.Selections.{length-combine, length-cipher_function, counting, slice_index_or-counting}
-
--- the right half that a round makes
-abbrev pub next_half : List Bool → List Bool → List Bool → List Bool
-next_half left right key = xor_bits left (cipher_function right key)
+use Rattle.des.specs.Laws.Rounds.{next_half, length-next_half}
+use Rattle.des.specs.Laws.Selections.{counting, slice_index_or-counting}
 
 -- the half blocks of a round for each round key, from two halves on
 pub trace : List (List Bool) → List Bool → List Bool → List (List Bool)
@@ -48,10 +45,6 @@ pub half_block-trace_last : (keys : List (List Bool)) (left right : List Bool) �
 unfolding trace after_rounds
 half_block-trace_last [] left right = refl
 half_block-trace_last (key ∷ keys) left right = half_block-trace_last keys right (next_half left right key)
-
--- a round keeps the width of 32 bits
-pub length-next_half : (left right key : List Bool) → length left ≡ 32 → length (next_half left right key) ≡ 32
-length-next_half left right key size = length-combine _ left (cipher_function right key) (size ∙ sym (length-cipher_function right key)) ∙ size
 
 -- each half block of a trace has 32 bits
 pub length-half_block-trace : (keys : List (List Bool)) (left right : List Bool) → length left ≡ 32 → length right ≡ 32 → (i : ℕ) → i < suc (suc (length keys)) → length (half_block (trace keys left right) i) ≡ 32

@@ -11,15 +11,15 @@ abbrev pub IsDesOf : Des → List Bool → Type 0
 IsDesOf cipher key = (length key ≡ 64) × HoldRoundKeys cipher.round_keys key
 
 -- the block that the cipher makes of a block, by the round keys that it holds
-unfoldable pub encrypted : Des → List ℕ → List ℕ
+abbrev pub encrypted : Des → List ℕ → List ℕ
 encrypted cipher block = block_of_bits (enciphered (round_keys_of cipher.round_keys) (bits_of_bytes block))
 
-unfoldable pub decrypted : Des → List ℕ → List ℕ
+abbrev pub decrypted : Des → List ℕ → List ℕ
 decrypted cipher block = block_of_bits (deciphered (round_keys_of cipher.round_keys) (bits_of_bytes block))
 
 -- the block that DES under a key of eight bytes makes of a block
-unfoldable pub encryption : List ℕ → List ℕ → List ℕ
+abbrev pub encryption : List ℕ → List ℕ → List ℕ
 encryption key block = block_of_bits (enciphered (key_schedule (bits_of_bytes key)) (bits_of_bytes block))
 
-unfoldable pub decryption : List ℕ → List ℕ → List ℕ
+abbrev pub decryption : List ℕ → List ℕ → List ℕ
 decryption key block = block_of_bits (deciphered (key_schedule (bits_of_bytes key)) (bits_of_bytes block))

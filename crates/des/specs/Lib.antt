@@ -7,3 +7,4 @@ pub mod Answers
 pub mod Blocks
 pub mod Des
 pub mod Positions
+pub mod Laws

@@ -114,6 +114,33 @@ impl BlockCipherDecrypt for Des {
     }
 }
 
+impl BlockCipher for Des {
+    ghost use Rattle.des.specs.Answers.{round_keys_of};
+    ghost use Rattle.des.specs.Laws.BlockBits.{IsBlock-block_of_bits};
+    ghost use Rattle.des.specs.Laws.ThroughRounds.{block_of_bits-deciphered, block_of_bits-enciphered};
+
+    ghost encrypted_is_block = { λ cipher block is_block. IsBlock-block_of_bits _ };
+
+    ghost decrypted_is_block = { λ cipher block is_block. IsBlock-block_of_bits _ };
+
+    ghost decrypts_encrypted = { λ cipher block is_block. block_of_bits-deciphered (round_keys_of cipher.round_keys) block is_block };
+
+    ghost encrypts_decrypted = { λ cipher block is_block. block_of_bits-enciphered (round_keys_of cipher.round_keys) block is_block };
+}
+
+impl KeyedCipher for Des {
+    ghost use Rattle.des.specs.Des.{encryption as encryption_by, decryption as decryption_by};
+    ghost use Rattle.des.specs.Laws.HeldRoundKeys.{encryption-held, decryption-held};
+
+    ghost encryption = { encryption_by };
+
+    ghost decryption = { decryption_by };
+
+    ghost encrypts_by_key = { λ cipher key block size bytes made is_block. encryption-held cipher.round_keys key block made.1 };
+
+    ghost decrypts_by_key = { λ cipher key block size bytes made is_block. decryption-held cipher.round_keys key block made.1 };
+}
+
 impl Clone for Des {
     ghost use Rattle.std.specs.Prelude.{⊤};
 

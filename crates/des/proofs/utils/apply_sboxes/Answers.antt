@@ -1,7 +1,7 @@
 use Rattle.std.proofs.Common.{◌≡◌, ◌-◌, ◌^◌, ◌/◌, ◌*◌, List, ◌++◌, Bool, refl, ap, ◌∙◌, arith}
 use Rattle.des.specs.Bits.{bits_of, zeros}
 use Rattle.des.specs.CipherFunction.{substitute_by}
-use Rattle.des.proofs.BitLists.{bits_of-mod, bits_of-shifted}
+use Rattle.des.specs.Laws.BitLists.{bits_of-mod, bits_of-shifted}
 use Rattle.des.proofs.Substitution.{row_of-lt, group_of, entry_for, with_entry-lt, bits_of-with_entry}
 use Rattle.des.proofs.utils.apply_sboxes.Goals as goal
 

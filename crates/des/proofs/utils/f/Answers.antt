@@ -2,8 +2,8 @@ use Rattle.std.proofs.Common.{◌≡◌, ◌+◌, ◌*◌, ◌++◌, ℕ, List, 
 use Rattle.des.specs.Bits.{bits_of, bits_of_word, select, zeros, xor_bits}
 use Rattle.des.specs.Tables.{Box, selection_functions, expansion, permutation}
 use Rattle.des.specs.CipherFunction.{box_entry, substitute_by, substitute, cipher_function}
-use Rattle.des.proofs.BitLists.{length-bits_of}
-use Rattle.des.proofs.Selections.{length-select}
+use Rattle.des.specs.Laws.BitLists.{length-bits_of}
+use Rattle.des.specs.Laws.Selections.{length-select}
 use Rattle.des.proofs.HalfWords.{take-bits_of_xor, mod_of_zeros}
 use Rattle.des.proofs.utils.f.Goals as goal
 

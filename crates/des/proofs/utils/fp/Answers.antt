@@ -1,5 +1,5 @@
 use Rattle.std.proofs.Common.{◌∙◌}
-use Rattle.des.proofs.Selections.{counting}
+use Rattle.des.specs.Laws.Selections.{counting}
 use Rattle.des.proofs.Places.{select-all_places}
 use Rattle.des.proofs.utils.fp.Goals as goal
 

@@ -1,7 +1,7 @@
 use Rattle.std.proofs.Common.{◌∙◌, sym, arith, refl}
 use Rattle.des.specs.Bits.{bits_of_word}
 use Rattle.des.specs.Tables.{permutation}
-use Rattle.des.proofs.Selections.{counting}
+use Rattle.des.specs.Laws.Selections.{counting}
 use Rattle.des.proofs.Places.{bits_of_word_placed, select-take}
 use Rattle.des.proofs.utils.p.Goals as goal
 

@@ -1,5 +1,5 @@
 use Rattle.std.proofs.Common.{arith}
-use Rattle.des.proofs.Selections.{counting}
+use Rattle.des.specs.Laws.Selections.{counting}
 use Rattle.des.proofs.Places.{bits_of_word_placed}
 use Rattle.des.proofs.utils.pc1.Goals as goal
 

@@ -1,7 +1,7 @@
 use Rattle.std.proofs.Common.{◌≡◌, ◌*◌, ◌%◌, ◌^◌, ◌++◌, take, drop, List, Bool, ap, ◌∙◌, take_at}
 use Rattle.des.specs.Bits.{bits_of_word, zeros, xor_bits}
 use Rattle.des.specs.CipherFunction.{cipher_function}
-use Rattle.des.proofs.Selections.{length-cipher_function}
+use Rattle.des.specs.Laws.Selections.{length-cipher_function}
 use Rattle.des.proofs.HalfWords.{take-bits_of_word_shl, bits_of_word-swapped}
 use Rattle.des.proofs.utils.round.Goals as goal
 

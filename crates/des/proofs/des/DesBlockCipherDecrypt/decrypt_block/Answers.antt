@@ -3,11 +3,10 @@ use Rattle.std.proofs.lemmas.List.{drop_all, reverse-append}
 use Rattle.des.specs.Bits.{bits_of_bytes, bits_of_word, select}
 use Rattle.des.specs.Tables.{initial_permutation}
 use Rattle.des.specs.Answers.{deciphered, through_rounds, round_keys_of}
-use Rattle.des.specs.Des.{decrypted}
-use Rattle.des.proofs.BitLists.{length-bits_of_bytes}
+use Rattle.des.specs.Laws.BitLists.{length-bits_of_bytes}
 use Rattle.des.proofs.CipherRounds.{halves_after, halves_after-round, through_rounds-blocks}
-use Rattle.des.proofs.HeldRoundKeys.{round_keys_of-reverse}
-use Rattle.des.proofs.BlockBits.{IsBlock-to_be_bytes}
+use Rattle.des.specs.Laws.HeldRoundKeys.{round_keys_of-reverse}
+use Rattle.des.specs.Laws.BlockBits.{IsBlock-to_be_bytes}
 use Rattle.des.proofs.DesAnswers.{block_from_bits, IsDes-held_reverse, deciphered-held}
 use Rattle.des.proofs.des.DesBlockCipherDecrypt.decrypt_block.Goals as goal
 use Rattle.des.proofs.des.DesBlockCipherDecrypt.decrypt_block.Goals.{After-to_be_bytes}
@@ -45,7 +44,6 @@ deciphers c =
     ∙ ap (λ keys. through_rounds keys (bits_of_bytes c.args.block.now)) (round_keys_of-reverse words)
 
 pub returns-clause-decrypted : goal.returns-clause-decrypted
-unfolding decrypted
 returns-clause-decrypted c = block_from_bits c.to_be_bytes.result _ (rw c.to_be_bytes.ensures (IsBlock-to_be_bytes c.fp.result)) (deciphers c)
 
 pub returns-clause-deciphers : goal.returns-clause-deciphers

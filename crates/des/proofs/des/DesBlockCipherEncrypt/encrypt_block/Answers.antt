@@ -3,10 +3,9 @@ use Rattle.std.proofs.lemmas.List.{drop_all}
 use Rattle.des.specs.Bits.{bits_of_bytes, bits_of_word, select}
 use Rattle.des.specs.Tables.{initial_permutation}
 use Rattle.des.specs.Answers.{enciphered, round_keys_of}
-use Rattle.des.specs.Des.{encrypted}
-use Rattle.des.proofs.BitLists.{length-bits_of_bytes}
+use Rattle.des.specs.Laws.BitLists.{length-bits_of_bytes}
 use Rattle.des.proofs.CipherRounds.{halves_after, halves_after-round_at, through_rounds-blocks}
-use Rattle.des.proofs.BlockBits.{IsBlock-to_be_bytes}
+use Rattle.des.specs.Laws.BlockBits.{IsBlock-to_be_bytes}
 use Rattle.des.proofs.DesAnswers.{block_from_bits, IsDes-held, enciphered-held}
 use Rattle.des.proofs.des.DesBlockCipherEncrypt.encrypt_block.Goals as goal
 use Rattle.des.proofs.des.DesBlockCipherEncrypt.encrypt_block.Goals.{After-to_be_bytes}
@@ -34,7 +33,6 @@ enciphers c =
     (c.fp.ensures ∙ ap bits_of_word c.rotate_left.ensures)
 
 pub returns-clause-encrypted : goal.returns-clause-encrypted
-unfolding encrypted
 returns-clause-encrypted c = block_from_bits c.to_be_bytes.result _ (rw c.to_be_bytes.ensures (IsBlock-to_be_bytes c.fp.result)) (enciphers c)
 
 pub returns-clause-enciphers : goal.returns-clause-enciphers

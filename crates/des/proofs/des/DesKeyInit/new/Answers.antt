@@ -1,7 +1,7 @@
 use Rattle.std.proofs.Common.{◌≡◌, length, arith}
 use Rattle.des.specs.Bits.{bits_of_bytes}
 use Rattle.des.specs.Des.{IsDesOf}
-use Rattle.des.proofs.HeldRoundKeys.{HoldRoundKeys-bytes}
+use Rattle.des.specs.Laws.HeldRoundKeys.{HoldRoundKeys-bytes}
 use Rattle.des.proofs.DesAnswers.{HasOneAnswerEachWay-key}
 use Rattle.des.proofs.des.DesKeyInit.new.Goals as goal
 

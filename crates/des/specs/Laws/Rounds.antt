@@ -1,10 +1,18 @@
 -- The rounds run forwards and backwards.
 use Rattle.std.proofs.Common.{◌≡◌, List, [], ◌∷◌, ◌++◌, Bool, length, reverse, refl, sym, ap, ◌∙◌}
 use Rattle.std.proofs.lemmas.List.{reverse-append, reverse-reverse}
+use Rattle.des.specs.Bits.{xor_bits}
 use Rattle.des.specs.CipherFunction.{cipher_function}
 use Rattle.des.specs.Answers.{after_rounds}
-use Rattle.des.proofs.Selections.{length-cipher_function, xor_bits-xor_bits}
-use Rattle.des.proofs.Traces.{next_half, length-next_half}
+use Rattle.des.specs.Laws.Selections.{length-combine, length-cipher_function, xor_bits-xor_bits}
+
+-- the right half that a round makes
+abbrev pub next_half : List Bool → List Bool → List Bool → List Bool
+next_half left right key = xor_bits left (cipher_function right key)
+
+-- a round keeps the width of 32 bits
+pub length-next_half : (left right key : List Bool) → length left ≡ 32 → length (next_half left right key) ≡ 32
+length-next_half left right key size = length-combine _ left (cipher_function right key) (size ∙ sym (length-cipher_function right key)) ∙ size
 
 -- each of two halves has 32 bits
 abbrev pub AreHalves : List Bool × List Bool → Type 0

@@ -6,9 +6,10 @@ use Rattle.std.proofs.lemmas.Simd.{map-map}
 use Rattle.des.specs.Bits.{bits_of_word, bits_of_bytes, zeros}
 use Rattle.des.specs.Tables.{permuted_choice_2}
 use Rattle.des.specs.KeySchedule.{HoldRoundKeys, key_schedule, round_key}
-use Rattle.des.specs.Answers.{round_keys_of}
-use Rattle.des.proofs.BitLists.{length-bits_of_bytes, bits_of_bytes-be}
-use Rattle.des.proofs.Selections.{counting, length-select}
+use Rattle.des.specs.Blocks.{block_of_bits}
+use Rattle.des.specs.Answers.{enciphered, deciphered, round_keys_of}
+use Rattle.des.specs.Laws.BitLists.{length-bits_of_bytes, bits_of_bytes-be}
+use Rattle.des.specs.Laws.Selections.{counting, length-select}
 
 -- a round key has 48 bits
 length-round_key : (key : List Bool) (i : ℕ) → length (round_key key i) ≡ 48
@@ -41,3 +42,10 @@ round_keys_of-reverse (word ∷ words) =
 pub HoldRoundKeys-bytes : (words bytes : List ℕ) (word : ℕ) → length bytes ≡ 8 → ((i : ℕ) → slice_index bytes i < 256) → word ≡ from_be_bytes w64 bytes → HoldRoundKeys words (bits_of_word word) → (length (bits_of_bytes bytes) ≡ 64) × HoldRoundKeys words (bits_of_bytes bytes)
 HoldRoundKeys-bytes words bytes word eight small same held =
     (length-bits_of_bytes bytes ∙ omega arith, rw (bits_of_bytes-be bytes eight small, ← same) held)
+
+-- a cipher that holds the round keys of a key of eight bytes answers as the key does, in each direction
+pub encryption-held : (words key block : List ℕ) → HoldRoundKeys words (bits_of_bytes key) → block_of_bits (enciphered (round_keys_of words) (bits_of_bytes block)) ≡ block_of_bits (enciphered (key_schedule (bits_of_bytes key)) (bits_of_bytes block))
+encryption-held words key block held = ap (λ keys. block_of_bits (enciphered keys (bits_of_bytes block))) (round_keys_of-HoldRoundKeys words (bits_of_bytes key) held)
+
+pub decryption-held : (words key block : List ℕ) → HoldRoundKeys words (bits_of_bytes key) → block_of_bits (deciphered (round_keys_of words) (bits_of_bytes block)) ≡ block_of_bits (deciphered (key_schedule (bits_of_bytes key)) (bits_of_bytes block))
+decryption-held words key block held = ap (λ keys. block_of_bits (deciphered keys (bits_of_bytes block))) (round_keys_of-HoldRoundKeys words (bits_of_bytes key) held)

@@ -6,7 +6,7 @@ use Rattle.std.proofs.lemmas.List.{get_or_past}
 use Rattle.std.proofs.lemmas.Bool.{cases_lt}
 use Rattle.des.specs.Bits.{bits_of, bits_of_bytes, number_of}
 use Rattle.des.specs.Blocks.{AreBytes, IsBlock, block_of_bits}
-use Rattle.des.proofs.BitLists.{number_of-lt, bits_of-number_of, bits_of_bytes-to_be, length-bits_of_bytes, bits_of_bytes-injective}
+use Rattle.des.specs.Laws.BitLists.{number_of-lt, bits_of-number_of, bits_of_bytes-to_be, length-bits_of_bytes, bits_of_bytes-injective}
 
 -- a byte in front of bytes
 AreBytes-cons : (byte : ℕ) (bytes : List ℕ) → byte < 256 → AreBytes bytes → (i d : ℕ) → i < length (byte ∷ bytes) → slice_index_or (byte ∷ bytes) i d < 256

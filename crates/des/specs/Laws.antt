@@ -1,0 +1,8 @@
+-- Lemmas that the laws of the cipher traits stand on. They stand here and not in proofs/, since the proof of a law
+-- may cite nothing but specs/.
+pub mod BitLists
+pub mod Selections
+pub mod Rounds
+pub mod BlockBits
+pub mod ThroughRounds
+pub mod HeldRoundKeys
