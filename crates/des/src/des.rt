@@ -1,6 +1,6 @@
 //! The block cipher `Des` (FIPS 46-3).
 
-ghost use Rattle.std.specs.Prelude.{◌≡◌, List, Bool};
+ghost use Rattle.std.specs.Prelude.{◌≡◌, ◌↔◌, ℕ, List, Bool};
 ghost use Rattle.des.specs.KeySchedule.{HoldSomeRoundKeys};
 
 use crate::cipher::{
@@ -35,7 +35,8 @@ impl KeySizeUser for Des {
 
 impl KeyInit for Des {
     ghost use Rattle.des.specs.Bits.{bits_of_bytes};
-    ghost use Rattle.des.specs.Enciphering.{HasOneAnswerEachWay};
+    ghost use Rattle.des.specs.Blocks.{IsBlock};
+    ghost use Rattle.des.specs.Enciphering.{IsDes, HasOneAnswerEachWay};
     ghost use Rattle.des.specs.Des.{IsDesOf};
 
     ghost is_made_from = { λ cipher key. IsDesOf cipher (bits_of_bytes key) };
@@ -44,6 +45,10 @@ impl KeyInit for Des {
     fn new(key: &[u8; 8]) -> Des
         ensures made { IsDesOf result (bits_of_bytes key.now) }
         ensures one_answer_each_way { HasOneAnswerEachWay (bits_of_bytes key.now) }
+        ensures encryption { (x y : List ℕ) → IsBlock x → IsBlock y
+            → (⟦<Des as KeyedCipher>⟧.encryption key.now x ≡ y) ↔ IsDes (bits_of_bytes key.now) (bits_of_bytes x) (bits_of_bytes y) }
+        ensures decryption { (x y : List ℕ) → IsBlock x → IsBlock y
+            → (⟦<Des as KeyedCipher>⟧.decryption key.now y ≡ x) ↔ IsDes (bits_of_bytes key.now) (bits_of_bytes x) (bits_of_bytes y) }
     {
         Des {
             round_keys: utils::gen_keys(u64::from_be_bytes(*key)),
