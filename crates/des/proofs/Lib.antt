@@ -10,3 +10,4 @@ pub mod HalfWords
 pub mod CipherRounds
 pub mod BlockLists
 pub mod DesAnswers
+pub mod BlockAnswers

@@ -1,0 +1,3 @@
+pub mod Requests
+pub mod Decoding
+pub mod Blocks

@@ -1,0 +1,4 @@
+pub mod Digits
+pub mod Request
+pub mod Fault
+pub mod Answer
