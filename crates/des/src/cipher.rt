@@ -295,3 +295,6 @@ pub trait KeyedCipher: KeyInit + BlockCipher {
     ghost decrypts_by_key: { (cipher : Self) (key block : List ℕ) → length key ≡ Self.KEY_SIZE → AreBytes key
         → Self.is_made_from cipher key → IsBlock block → Self.decrypted cipher block ≡ decryption key block };
 }
+
+#[cfg(test)]
+mod tests;

@@ -1,10 +1,14 @@
-//! The program `des_tool`: it enciphers blocks that its arguments write in hexadecimal digits.
+//! The program `des_tool`: it enciphers and deciphers blocks that its arguments write in hexadecimal digits.
 #![tactic(auto)]
+
+ghost use Rattle.std.specs.Prelude.{◌≡◌, ◌≢◌};
+ghost use Rattle.std.specs.IoError.{error_kind};
 
 mod command;
 
 use command::Fault;
 use std::env::Env;
+use std::io::ErrorKind;
 use std::process::ExitCode;
 use std::{env, io};
 
@@ -14,11 +18,10 @@ fn main(rt: HostRuntime) -> ExitCode {
     ExitCode::from(status)
 }
 
-// The answer to the program's arguments, of which the first is its own name.
+// The first argument is the program's own name.
 fn answer_arguments<R: Env + AllocGlobal>(rt: &R) -> Result<Vec<u8>, Fault> {
-    let mut arguments = env::args(rt).map_err(fault_of_arguments)?;
-    let _own_name = arguments.next();
-    let arguments: Vec<String> = arguments.collect(rt.alloc())?;
+    let arguments = env::args(rt).map_err(fault_of_arguments)?;
+    let arguments: Vec<String> = arguments.skip(1).collect(rt.alloc())?;
     let words: Vec<&str> = arguments
         .iter()
         .map(|word| word.as_str())
@@ -27,9 +30,12 @@ fn answer_arguments<R: Env + AllocGlobal>(rt: &R) -> Result<Vec<u8>, Fault> {
 }
 
 // Arguments that are not text have no shape that is known.
-fn fault_of_arguments(error: io::Error) -> Fault {
+fn fault_of_arguments(error: io::Error) -> Fault
+    ensures memory { error_kind error ≡ ErrorKind.OutOfMemory → result ≡ Fault.Memory }
+    ensures usage { error_kind error ≢ ErrorKind.OutOfMemory → result ≡ Fault.Usage }
+{
     match error.kind() {
-        io::ErrorKind::OutOfMemory => Fault::Memory,
+        ErrorKind::OutOfMemory => Fault::Memory,
         _ => Fault::Usage,
     }
 }

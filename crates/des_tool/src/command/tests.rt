@@ -45,12 +45,14 @@ impl Write for Page {
 
 #[test]
 fn refuses_words(rt: HostRuntime) {
-    let lines: [&[&str]; 8] = [
+    let lines: [&[&str]; 10] = [
         &[],
         &["des"],
         &["des", "encrypt", KEY],
         &["des", "encrypt", KEY, BLOCK, BLOCK],
         &["des", "encipher", KEY, BLOCK],
+        &["ede3", "encrypt", KEY, BLOCK],
+        &["weak", KEY],
         &["des", "Encrypt", KEY, BLOCK],
         &["DES", "encrypt", KEY, BLOCK],
         &["encrypt", "des", KEY, BLOCK],
@@ -94,21 +96,44 @@ fn answers_no_block(rt: HostRuntime) -> Result<(), Fail> {
     Ok(())
 }
 
-// A worked example that is widely printed: one key, one block, and what DES makes of it.
+// The worked example of J. Orlin Grabbe, "The DES Algorithm Illustrated"; and FIPS 81, appendix B, "Now is the
+// time for all ". OpenSSL answers the same.
+const ANSWERS: [(&str, &str, &str); 4] = [
+    ("133457799BBCDFF1", "0123456789ABCDEF", "85e813540f0ab405"),
+    ("133457799bbcdff1", "0123456789abcdef", "85e813540f0ab405"),
+    (
+        "133457799BBCDFF1",
+        "0123456789ABCDEF0123456789aBcDeF",
+        "85e813540f0ab40585e813540f0ab405",
+    ),
+    (
+        "0123456789ABCDEF",
+        "4e6f77206973207468652074696d6520666f7220616c6c20",
+        "3fa40e8a984d48156a271787ab8883f9893d51ec4b563b53",
+    ),
+];
+
 #[test]
-fn answers_blocks(rt: HostRuntime) -> Result<(), Fail> {
-    let lines = [
-        ("0123456789ABCDEF", "85e813540f0ab405\n"),
-        ("0123456789abcdef", "85e813540f0ab405\n"),
-        (
-            "0123456789ABCDEF0123456789aBcDeF",
-            "85e813540f0ab40585e813540f0ab405\n",
-        ),
-    ];
-    for (blocks, expected) in lines {
-        let text = answer(rt.alloc(), &["des", "encrypt", KEY, blocks])?;
-        assert_eq!(rt; text.as_slice(), expected.as_bytes());
+fn encrypts_blocks(rt: HostRuntime) -> Result<(), Fail> {
+    for (key, plaintext, ciphertext) in ANSWERS {
+        let text = answer(rt.alloc(), &["des", "encrypt", key, plaintext])?;
+        let (newline, digits) = text.as_slice().split_last().ok_or("no newline")?;
+        assert_eq!(rt; *newline, b'\n');
+        assert_eq!(rt; digits, ciphertext.as_bytes());
     }
+    Ok(())
+}
+
+#[test]
+fn decrypts_blocks(rt: HostRuntime) -> Result<(), Fail> {
+    for (key, plaintext, ciphertext) in ANSWERS {
+        let text = answer(rt.alloc(), &["des", "decrypt", key, ciphertext])?;
+        let (newline, digits) = text.as_slice().split_last().ok_or("no newline")?;
+        assert_eq!(rt; *newline, b'\n');
+        assert!(rt; digits.eq_ignore_ascii_case(plaintext.as_bytes()));
+    }
+    let text = answer(rt.alloc(), &["des", "decrypt", KEY, "85E813540F0AB405"])?;
+    assert_eq!(rt; text.as_slice(), b"0123456789abcdef\n".as_slice());
     Ok(())
 }
 
