@@ -2,34 +2,39 @@
 -- round keys.
 use Rattle.std.proofs.Common.{◌≡◌, ℕ, List, Bool, length, reverse, ◌↔◌, subst, sym, ap, ◌∙◌}
 use Rattle.des.specs.Bits.{bits_of_bytes}
-use Rattle.des.specs.Blocks.{IsBlock, block_of_bits}
 use Rattle.des.specs.KeySchedule.{HoldRoundKeys, key_schedule}
 use Rattle.des.specs.Enciphering.{IsDes, HasOneAnswerEachWay}
-use Rattle.des.specs.Answers.{through_rounds, enciphered, deciphered, round_keys_of}
-use Rattle.des.proofs.OneAnswer.{IsDes-enciphered, enciphered-unique, IsDes-deciphered, deciphered-unique}
-use Rattle.des.specs.Laws.HeldRoundKeys.{round_keys_of-HoldRoundKeys, round_keys_of-reverse}
+use Rattle.des.specs.Answers.{enciphered, deciphered, round_keys_of}
+use Rattle.des.specs.Blocks.{IsBlock, block_of_bits}
 use Rattle.des.specs.Des.{encryption, decryption}
 use Rattle.des.specs.Laws.BlockBits.{bits_of_bytes-block_of_bits, block_of_bits-bits_of_bytes, length-bits_of_block}
 use Rattle.des.specs.Laws.ThroughRounds.{length-through_rounds}
+use Rattle.des.specs.Laws.HeldRoundKeys.{round_keys_of-HoldRoundKeys}
+use Rattle.des.proofs.OneAnswer.{IsDes-enciphered, enciphered-unique, IsDes-deciphered, deciphered-unique}
 
 -- a block is the block of bits that are its own
 pub block_from_bits : (block : List ℕ) (bits : List Bool) → IsBlock block → bits_of_bytes block ≡ bits → block ≡ block_of_bits bits
 block_from_bits block bits is_block same = sym (block_of_bits-bits_of_bytes block is_block) ∙ ap block_of_bits same
 
--- the rounds of the words, from the first to the last, make of a block its enciphering
+-- words that hold the round keys of a key
 module _ (words : List ℕ) (key : List Bool) (key_width : length key ≡ 64) (held : HoldRoundKeys words key) where
+  -- they are those of its schedule
   schedule : round_keys_of words ≡ key_schedule key
   schedule = round_keys_of-HoldRoundKeys words key held
 
+  -- DES takes a block to what they make of it
   pub IsDes-held : (x y : List Bool) → length x ≡ 64 → y ≡ enciphered (round_keys_of words) x → IsDes key x y
   IsDes-held x y width made = rw (made, schedule) (IsDes-enciphered key x key_width width)
 
+  -- and to nothing else
   pub enciphered-held : (x y other : List Bool) → y ≡ enciphered (round_keys_of words) x → IsDes key x other → other ≡ y
   enciphered-held x y other made des = enciphered-unique key x other des ∙ ap (λ keys. enciphered keys x) (sym schedule) ∙ sym made
 
+  -- DES takes what they make of a block, from the last to the first, to the block
   pub IsDes-held_reverse : (x y : List Bool) → length y ≡ 64 → x ≡ deciphered (round_keys_of words) y → IsDes key x y
   IsDes-held_reverse x y width made = rw (made, schedule) (IsDes-deciphered key y key_width width)
 
+  -- and nothing else
   pub deciphered-held : (x y other : List Bool) → x ≡ deciphered (round_keys_of words) y → IsDes key other y → other ≡ x
   deciphered-held x y other made des = deciphered-unique key other y des ∙ ap (λ keys. deciphered keys y) (sym schedule) ∙ sym made
 
@@ -47,7 +52,7 @@ block_of_bits-iff block bits P is_block width holds alone = (
   λ holds. ap block_of_bits (sym (alone (bits_of_bytes block) holds)) ∙ block_of_bits-bits_of_bytes block is_block,
 )
 
--- encryption under a key takes a block to the one that DES relates it to, and decryption takes that one to it
+-- encryption under a key takes a block to the one that DES takes it to
 pub encryption-iff : (key x y : List ℕ) → length (bits_of_bytes key) ≡ 64 → IsBlock x → IsBlock y → (encryption key x ≡ y) ↔ IsDes (bits_of_bytes key) (bits_of_bytes x) (bits_of_bytes y)
 encryption-iff key x y key_width x_block y_block =
     let k : List Bool = bits_of_bytes key in
@@ -55,6 +60,7 @@ encryption-iff key x y key_width x_block y_block =
     block_of_bits-iff y (enciphered (key_schedule k) bits) (IsDes k bits) y_block (length-through_rounds (key_schedule k) bits)
     (IsDes-enciphered k bits key_width (length-bits_of_block x x_block)) (λ other des. enciphered-unique k bits other des)
 
+-- decryption under a key takes a block to the one that DES takes to it
 pub decryption-iff : (key x y : List ℕ) → length (bits_of_bytes key) ≡ 64 → IsBlock x → IsBlock y → (decryption key y ≡ x) ↔ IsDes (bits_of_bytes key) (bits_of_bytes x) (bits_of_bytes y)
 decryption-iff key x y key_width x_block y_block =
     let k : List Bool = bits_of_bytes key in

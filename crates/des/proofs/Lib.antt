@@ -1,12 +1,13 @@
 mod KnownAnswers
-pub mod Traces
-pub mod OneAnswer
-pub mod Permuting
+pub mod BitParts
+pub mod HalfWords
 pub mod Places
+pub mod Permuting
 pub mod Substitution
 pub mod Rotation
 pub mod RoundKeys
-pub mod HalfWords
+pub mod Traces
+pub mod OneAnswer
 pub mod CipherRounds
 pub mod BlockLists
 pub mod DesAnswers

@@ -1,15 +1,15 @@
 -- What a word is after bits of another were put into it, one after the other.
-use Rattle.std.proofs.Common.{◌≡◌, ◌≢◌, ℕ, zero, suc, ◌+◌, ◌-◌, ◌*◌, ◌/◌, ◌%◌, ◌^◌, ◌<◌, ◌≤◌, ◌==◌, ◌&&◌, max, not, nat_le, List, [], ◌∷◌, ◌++◌, Bool, true, false, length, take, drop, refl, ap, ap₂, sym, ◌∙◌, arith, bit_and, bit_or, add-zero, pow_pos, inl, inr}
+use Rattle.std.proofs.Common.{◌≡◌, ◌≢◌, ℕ, ◌-◌, ◌*◌, ◌/◌, ◌%◌, ◌^◌, ◌<◌, ◌≤◌, ◌==◌, ◌&&◌, max, not, nat_le, List, [], ◌∷◌, true, false, length, refl, ap, ap₂, sym, ◌∙◌, arith, bit_and, bit_or, add-zero, pow_pos, inl, inr}
 use Rattle.std.specs.Int.{bit_at}
 use Rattle.std.proofs.lemmas.Nat.{shl-shr, shl_whole}
 use Rattle.std.proofs.lemmas.Nat.Bits.{shr_and_one, bit_at-lt, bit_at-zero, bit_at_or, bit_at_above, bit_at_cat_low, bit_at_cat_high}
 use Rattle.std.proofs.lemmas.Bool.{eqb-true, eqb-false, eq-eqb, leb-true, and_parts, or_parts, or_left, or_right, not-true, both_ways, cases_lt, cases_Bool}
 use Rattle.des.specs.Bits.{bits_of_word, bit, select}
 use Rattle.des.specs.Positions.{are_positions, are_distinct, is_among}
-use Rattle.des.specs.Laws.BitLists.{bit-bits_of}
+use Rattle.des.proofs.BitParts.{bit-bits_of}
 
 -- a word after the bit of `word` at a source position was put at a target position
-abbrev pub put : ℕ → ℕ → ℕ → ℕ → ℕ
+abbrev put : ℕ → ℕ → ℕ → ℕ → ℕ
 put word held source target = bit_or held (bit_and (word / 2 ^ (64 - source)) 1 * 2 ^ (64 - target) % 2 ^ 64)
 
 -- the same for each source and target in turn
@@ -38,23 +38,23 @@ bit_at-shifted_other b k j small other = elim (cases_lt j k) [
 ]
 
 -- what is put is the one bit, shifted
-put_is : (word held source target : ℕ) → 1 ≤ target → target ≤ 64 → put word held source target ≡ bit_or held (bit_at word (64 - source) * 2 ^ (64 - target))
-put_is word held source target low high =
+put-or : (word held source target : ℕ) → 1 ≤ target → target ≤ 64 → put word held source target ≡ bit_or held (bit_at word (64 - source) * 2 ^ (64 - target))
+put-or word held source target low high =
     let small : bit_at word (64 - source) < 2 ^ 1 = bit_at-lt word (64 - source) in
     ap (bit_or held) (rw (shr_and_one word (64 - source)) (shl_whole (bit_at word (64 - source)) 1 (64 - target) 64 small (omega arith)))
 
 -- the bit at the target, where none was held
-bit-put_same : (word held source target : ℕ) → 1 ≤ target → target ≤ 64 → bit_at held (64 - target) ≡ 0 → bit_at (put word held source target) (64 - target) ≡ bit_at word (64 - source)
-bit-put_same word held source target low high none =
-    ap (λ (n : ℕ). bit_at n (64 - target)) (put_is word held source target low high)
+bit_at-put_same : (word held source target : ℕ) → 1 ≤ target → target ≤ 64 → bit_at held (64 - target) ≡ 0 → bit_at (put word held source target) (64 - target) ≡ bit_at word (64 - source)
+bit_at-put_same word held source target low high none =
+    ap (λ (n : ℕ). bit_at n (64 - target)) (put-or word held source target low high)
     ∙ bit_at_or held (bit_at word (64 - source) * 2 ^ (64 - target)) (64 - target)
     ∙ ap₂ max none (bit_at-shifted_same (bit_at word (64 - source)) (64 - target) (bit_at-lt word (64 - source)))
     ∙ omega arith
 
 -- the bit at another place stays
-bit-put_other : (word held source target j : ℕ) → 1 ≤ target → target ≤ 64 → j ≢ 64 - target → bit_at (put word held source target) j ≡ bit_at held j
-bit-put_other word held source target j low high other =
-    ap (λ (n : ℕ). bit_at n j) (put_is word held source target low high)
+bit_at-put_other : (word held source target j : ℕ) → 1 ≤ target → target ≤ 64 → j ≢ 64 - target → bit_at (put word held source target) j ≡ bit_at held j
+bit_at-put_other word held source target j low high other =
+    ap (λ (n : ℕ). bit_at n j) (put-or word held source target low high)
     ∙ bit_at_or held (bit_at word (64 - source) * 2 ^ (64 - target)) j
     ∙ ap (max (bit_at held j)) (bit_at-shifted_other (bit_at word (64 - source)) (64 - target) j (bit_at-lt word (64 - source)) other)
     ∙ omega arith
@@ -71,7 +71,7 @@ places_differ : (i j : ℕ) → 1 ≤ i → i ≤ 64 → 1 ≤ j → j ≤ 64 �
 places_differ i j ilow ihigh jlow jhigh differ same = eqb-false i j differ (omega arith)
 
 -- a bit at no target stays
-pub bit_at-put_all : (word : ℕ) (sources targets : List ℕ) (held i : ℕ) → 1 ≤ i → i ≤ 64 → are_positions targets ≡ true → is_among targets i ≡ false
+bit_at-put_all : (word : ℕ) (sources targets : List ℕ) (held i : ℕ) → 1 ≤ i → i ≤ 64 → are_positions targets ≡ true → is_among targets i ≡ false
     → bit_at (put_all word sources targets held) (64 - i) ≡ bit_at held (64 - i)
 unfolding put_all
 bit_at-put_all word [] targets held i low high inside apart = refl
@@ -80,7 +80,7 @@ bit_at-put_all word (source ∷ sources) (target ∷ targets) held i low high in
     let here = position_parts target targets inside in
     let parts = or_parts (target == i) (is_among targets i) apart in
     bit_at-put_all word sources targets (put word held source target) i low high here.2 parts.1
-    ∙ bit-put_other word held source target (64 - i) here.0 here.1 (places_differ target i here.0 here.1 low high parts.0)
+    ∙ bit_at-put_other word held source target (64 - i) here.0 here.1 (places_differ target i here.0 here.1 low high parts.0)
 
 -- none of the bits at some positions is set
 pub AreClear : ℕ → List ℕ → Type 0
@@ -94,7 +94,7 @@ AreClear-put word held source target targets low high apart clear = λ i ilow ih
       | inl same ↦ absurd (both_ways (is_among targets i) (ap (is_among targets) (sym (eqb-true target i same)) ∙ apart) among)
       | inr differ ↦ differ
     ] in
-    bit-put_other word held source target (64 - i) low high (places_differ target i low high ilow ihigh differ)
+    bit_at-put_other word held source target (64 - i) low high (places_differ target i low high ilow ihigh differ)
     ∙ clear i ilow ihigh (or_right (target == i) (is_among targets i) among)
 
 -- the bit at the first target, after all were put
@@ -102,7 +102,7 @@ bit_at-put_first : (word : ℕ) (source target : ℕ) (sources targets : List �
     → bit_at held (64 - target) ≡ 0 → bit_at (put_all word sources targets (put word held source target)) (64 - target) ≡ bit_at word (64 - source)
 bit_at-put_first word source target sources targets held low high inside apart none =
     bit_at-put_all word sources targets (put word held source target) target low high inside apart
-    ∙ bit-put_same word held source target low high none
+    ∙ bit_at-put_same word held source target low high none
 
 -- the bits at the targets are those of the word at the sources
 pub select-put_all : (word : ℕ) (sources targets : List ℕ) (held : ℕ) → length sources ≡ length targets → are_positions sources ≡ true → are_positions targets ≡ true
@@ -122,7 +122,7 @@ select-put_all word (source ∷ sources) (target ∷ targets) held same from int
     bit-bits_of 64 answer target t.0 t.1
     ∙ ap (λ (b : ℕ). b == 1) (bit_at-put_first word source target sources targets held t.0 t.1 t.2 apart none)
     ∙ sym (bit-bits_of 64 word source s.0 s.1) in
-    ap₂ (λ (b : Bool) (bs : List Bool). b ∷ bs) first
+    ap₂ ◌∷◌ first
     (select-put_all word sources targets (put word held source target) (omega arith) s.2 t.2 d.1 (AreClear-put word held source target targets t.0 t.1 apart clear))
 
 -- at the start no bit is set

@@ -1,15 +1,17 @@
 -- The key schedule as words compute it: the halves C and D, the shifts, and a list of sixteen round keys.
-use Rattle.std.proofs.Common.{◌≡◌, ℕ, ◌+◌, ◌-◌, ◌*◌, ◌/◌, ◌%◌, ◌^◌, ◌<◌, ◌≤◌, List, [], ◌++◌, Bool, map, length, take, drop, get_or, ap, ap₂, sym, ◌∙◌, arith, bit_and, bit_or}
+use Rattle.std.proofs.Common.{◌≡◌, ℕ, ◌+◌, ◌-◌, ◌*◌, ◌/◌, ◌%◌, ◌^◌, ◌<◌, ◌≤◌, List, [], ◌++◌, Bool, map, length, take, drop, get_or, slice_index, ap, ap₂, sym, ◌∙◌, arith, bit_and, bit_or}
+use Rattle.std.specs.Int.{w64, from_be_bytes}
 use Rattle.std.specs.List.{range_with_len}
 use Rattle.std.proofs.lemmas.Nat.{and_mask, or_shifted, shl_whole, shl_below, shl-shr}
 use Rattle.std.proofs.lemmas.List.{append-nil, take-append-le, take_at, length-map, length-drop, length-take-le, get_or-map, ext_get_or}
 use Rattle.std.proofs.lemmas.List.Sums.{sum_by_more, sum_by-take-le}
 use Rattle.std.proofs.lemmas.List.FromFn.{get_or-map-range_with_len}
-use Rattle.des.specs.Bits.{bits_of, bits_of_word, select, zeros}
+use Rattle.des.specs.Bits.{bits_of, bits_of_word, bits_of_bytes, select, zeros}
 use Rattle.des.specs.Tables.{permuted_choice_1, permuted_choice_2, left_shifts}
 use Rattle.des.specs.KeySchedule.{c_half, d_half, rotate, shifts_through, round_key, key_schedule, HoldRoundKeys}
-use Rattle.des.specs.Laws.BitLists.{bits_of-cat, bits_of-mod, take-bits_of, drop-bits_of}
+use Rattle.des.specs.Laws.BitLists.{bits_of-mod, length-bits_of_bytes, bits_of_bytes-from_be}
 use Rattle.des.specs.Laws.Selections.{length-select}
+use Rattle.des.proofs.BitParts.{bits_of-cat, take-bits_of, drop-bits_of}
 use Rattle.des.proofs.Rotation.{rotate-rotate}
 
 -- the shifts through one more round
@@ -82,7 +84,7 @@ pub round_key-in_word : (i c d : ℕ) (key : List Bool) → c < 2 ^ 28 → d < 2
 unfolding round_key
 round_key-in_word i c d key c_within d_within c_rotated d_rotated =
     ap (select permuted_choice_2)
-    (take-halves_word c d c_within d_within ∙ ap₂ (λ (front rest : List Bool). front ++ rest) c_rotated d_rotated)
+    (take-halves_word c d c_within d_within ∙ ap₂ ◌++◌ c_rotated d_rotated)
 
 -- sixteen words, each of which holds its round key, hold the round keys
 pub HoldRoundKeys-by_index : (words : List ℕ) (key : List Bool) → length words ≡ 16 → ((k : ℕ) → k < 16 → bits_of_word (get_or words k 0) ≡ round_key key (k + 1) ++ zeros 16) → HoldRoundKeys words key
@@ -95,3 +97,8 @@ HoldRoundKeys-by_index words key size each =
     get_or-map bits_of_word words k 0 [] (omega arith)
     ∙ each k within
     ∙ sym (get_or-map-range_with_len (λ (i : ℕ). round_key key i ++ zeros 16) 1 16 k (k + 1) [] within (omega arith)))
+
+-- words that hold the round keys of a word hold those of its eight bytes, a key of 64 bits
+pub HoldRoundKeys-bytes : (words bytes : List ℕ) (word : ℕ) → length bytes ≡ 8 → ((i : ℕ) → slice_index bytes i < 256) → word ≡ from_be_bytes w64 bytes → HoldRoundKeys words (bits_of_word word) → (length (bits_of_bytes bytes) ≡ 64) × HoldRoundKeys words (bits_of_bytes bytes)
+HoldRoundKeys-bytes words bytes word eight small same held =
+    (length-bits_of_bytes bytes ∙ omega arith, rw (bits_of_bytes-from_be bytes eight small, ← same) held)

@@ -3,14 +3,15 @@ use Rattle.std.proofs.Common.{◌≡◌, ℕ, ◌+◌, ◌-◌, ◌*◌, ◌/◌
 use Rattle.std.specs.List.{list_all, range_with_len}
 use Rattle.std.specs.Int.Bits.{mask_lt}
 use Rattle.std.proofs.lemmas.Bool.{eqb-true, ltb-true, cases_lt}
-use Rattle.std.proofs.lemmas.Nat.{and_mask, or_shifted, or_lt, and_le_r, shl_whole, pow-add}
+use Rattle.std.proofs.lemmas.Nat.{and_mask, or_shifted, or_lt, and_le_r, shl_whole, pow-add, mul-add-lt}
 use Rattle.std.proofs.lemmas.List.{append-nil, append_assoc, drop-drop, drop-take, take-take, take_more, length-take-le, get_or_past}
 use Rattle.std.proofs.lemmas.List.FromFn.{get_or-range_with_len, length-range_with_len}
 use Rattle.std.proofs.lemmas.List.Sums.{AllPass-from_list_all}
 use Rattle.des.specs.Bits.{bits_of, bits_of_word, number_of, bit}
 use Rattle.des.specs.Tables.{Box, selection_functions}
 use Rattle.des.specs.CipherFunction.{box_entry, substitute_by}
-use Rattle.des.specs.Laws.BitLists.{bits_of-cat, bits_of-mod, take-bits_of, drop-bits_of}
+use Rattle.des.specs.Laws.BitLists.{bits_of-mod}
+use Rattle.des.proofs.BitParts.{bits_of-cat, take-bits_of, drop-bits_of}
 
 -- one more box replaces the next group of six bits
 substitute_by-push : (boxes : List Box) (box : Box) (bits : List Bool) → substitute_by (boxes ++ box ∷ []) bits ≡ substitute_by boxes bits ++ bits_of 4 (box_entry box (take 6 (drop (6 * length boxes) bits)))
@@ -68,11 +69,11 @@ abbrev pub group_of : ℕ → ℕ
 group_of x = bit_and x 63
 
 -- the row of a box that a group chooses
-abbrev pub row_of : ℕ → ℕ
+abbrev row_of : ℕ → ℕ
 row_of group = bit_or (bit_and (group / 16) 2) (bit_and group 1)
 
 -- the column of a box that a group chooses
-abbrev pub column_of : ℕ → ℕ
+abbrev column_of : ℕ → ℕ
 column_of group = bit_and (group / 2) 15
 
 -- the row is one of four
@@ -92,7 +93,7 @@ number_of-column group below =
     eqb-true _ _ (list_all-below (λ (g : ℕ). number_of (bit (bits_of 6 g) 2 ∷ bit (bits_of 6 g) 3 ∷ bit (bits_of 6 g) 4 ∷ bit (bits_of 6 g) 5 ∷ []) == column_of g) 64 group refl below)
 
 -- the entry at a row and a column
-abbrev pub entry_at : Box → ℕ → ℕ → ℕ
+abbrev entry_at : Box → ℕ → ℕ → ℕ
 entry_at box row column = slice_index (slice_index_or box row []) column
 
 -- the entry of a box for the lowest six bits of a number
@@ -132,12 +133,8 @@ entry_for-lt i x =
     entry_at-lt i (row_of group) (column_of group)
 
 -- a number with an entry of four bits after it, in 64 bits
-abbrev pub with_entry : ℕ → ℕ → ℕ
+abbrev with_entry : ℕ → ℕ → ℕ
 with_entry output entry = bit_or (output * 16 % 2 ^ 64) entry
-
--- a number below a bound and four bits after it are below 16 times that bound
-fits_below : (output bound entry : ℕ) → output < bound → entry < 16 → output * 2 ^ 4 + entry < bound * 2 ^ 4
-fits_below output bound entry below small = omega arith
 
 -- the entry takes four places of its own
 with_entry-sum : (i output entry : ℕ) → i < 8 → output < 2 ^ (4 * i) → entry < 16 → with_entry output entry ≡ output * 2 ^ 4 + entry
@@ -148,8 +145,8 @@ with_entry-sum i output entry within below small =
 pub with_entry-lt : (i x output : ℕ) → i < 8 → output < 2 ^ (4 * i) → with_entry output (entry_for i x) < 2 ^ (4 * (i + 1))
 with_entry-lt i x output within below =
     let small = entry_for-lt i x in
-    let power : 2 ^ (4 * (i + 1)) ≡ 2 ^ (4 * i) * 2 ^ 4 = ap (λ (n : ℕ). 2 ^ n) (omega arith) ∙ pow-add 2 (4 * i) 4 in
-    rw (with_entry-sum i output (entry_for i x) within below small, power) (fits_below output (2 ^ (4 * i)) (entry_for i x) below small)
+    let power : 2 ^ (4 * (i + 1)) ≡ 2 ^ 4 * 2 ^ (4 * i) = ap (λ (n : ℕ). 2 ^ n) (omega arith) ∙ pow-add 2 4 (4 * i) in
+    rw (with_entry-sum i output (entry_for i x) within below small, power) (mul-add-lt output (2 ^ 4) (entry_for i x) (2 ^ (4 * i)) below small)
 
 -- after the first boxes' substitution, the next entry makes that of one box more
 pub bits_of-with_entry : (i x output : ℕ) → i < 8 → output < 2 ^ (4 * i) →
@@ -160,6 +157,6 @@ bits_of-with_entry i x output within below substituted =
     let count : 4 * (i + 1) ≡ 4 * i + 4 = omega arith in
     ap₂ bits_of count (with_entry-sum i output (entry_for i x) within below small)
     ∙ bits_of-cat (4 * i) 4 output (entry_for i x) small
-    ∙ ap₂ (λ (front rest : List Bool). front ++ rest) substituted
+    ∙ ap₂ ◌++◌ substituted
     (ap (bits_of 4) (sym (box_entry-bits_of (slice_index_or selection_functions i []) (x / 2 ^ (58 - 6 * i)))))
     ∙ sym (substitute_by-take i x within)

@@ -1,6 +1,6 @@
 -- The rounds run forwards and backwards.
 use Rattle.std.proofs.Common.{◌≡◌, List, [], ◌∷◌, ◌++◌, Bool, length, reverse, refl, sym, ap, ◌∙◌}
-use Rattle.std.proofs.lemmas.List.{reverse-append, reverse-reverse}
+use Rattle.std.proofs.lemmas.List.{reverse-append}
 use Rattle.des.specs.Bits.{xor_bits}
 use Rattle.des.specs.CipherFunction.{cipher_function}
 use Rattle.des.specs.Answers.{after_rounds}
@@ -45,8 +45,3 @@ after_rounds-reverse (key ∷ keys) left right halves =
     ∙ after_rounds-append (reverse keys) (key ∷ []) last.1 last.0
     ∙ ap (λ (h : List Bool × List Bool). after_rounds (key ∷ []) h.0 h.1) rest
     ∙ ap (λ (half : List Bool). (right, half)) back
-
--- the round keys take the halves after the rounds in the opposite order, swapped, back to the first, swapped
-pub after_rounds-after_reverse : (keys : List (List Bool)) (left right : List Bool) → AreHalves (left, right) → after_rounds keys (after_rounds (reverse keys) left right).1 (after_rounds (reverse keys) left right).0 ≡ (right, left)
-after_rounds-after_reverse keys left right halves =
-    rw reverse-reverse at (after_rounds-reverse (reverse keys) left right halves)

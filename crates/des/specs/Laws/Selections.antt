@@ -1,6 +1,8 @@
 -- Selections of bits by position, and lists combined bit by bit.
-use Rattle.std.proofs.Common.{◌≡◌, ℕ, zero, suc, ◌+◌, ◌-◌, ◌<◌, ◌≤◌, List, [], ◌∷◌, Bool, true, false, map, length, take, drop, slice_index_or, refl, sym, ap, ap₂, ◌∙◌, sub-one, drop-cons, arith}
-use Rattle.std.proofs.lemmas.List.{length-map, get_or_past, take_all}
+use Rattle.std.proofs.Common.{◌≡◌, ℕ, zero, suc, ◌+◌, ◌-◌, ◌<◌, ◌≤◌, List, [], ◌∷◌, Bool, true, false, map, length, take, drop, slice_index_or, refl, sym, ap, ap₂, ◌∙◌, arith}
+use Rattle.std.specs.List.{range_with_len}
+use Rattle.std.proofs.lemmas.List.{length-map, get_or_past, take_all, drop_more}
+use Rattle.std.proofs.Math.ListN.{get_or-map}
 use Rattle.des.specs.Bits.{bit, select, combine, xor, xor_bits}
 use Rattle.des.specs.Tables.{initial_permutation, final_permutation, permutation}
 use Rattle.des.specs.CipherFunction.{cipher_function}
@@ -17,7 +19,7 @@ length-combine operation [] others same = refl
 length-combine operation (first ∷ bits) [] same = sym same
 length-combine operation (first ∷ bits) (other ∷ others) same = ap suc (length-combine operation bits others (omega arith))
 
--- the function's value has 32 bits
+-- the cipher function's value has 32 bits
 pub length-cipher_function : (half round_key : List Bool) → length (cipher_function half round_key) ≡ 32
 unfolding cipher_function
 length-cipher_function half round_key = length-select permutation _
@@ -34,17 +36,11 @@ pub xor_bits-xor_bits : (bits others : List Bool) → length bits ≡ length oth
 unfolding combine
 xor_bits-xor_bits [] others same = refl
 xor_bits-xor_bits (first ∷ bits) [] same = absurd (omega arith)
-xor_bits-xor_bits (first ∷ bits) (other ∷ others) same = ap₂ (λ (b : Bool) (bs : List Bool). b ∷ bs) (xor-xor first other) (xor_bits-xor_bits bits others (omega arith))
-
--- the elements of a mapped list, with the default mapped too
-slice_index_or-map : (f : ℕ → Bool) (xs : List ℕ) (i d : ℕ) → slice_index_or (map f xs) i (f d) ≡ f (slice_index_or xs i d)
-slice_index_or-map f [] i d = refl
-slice_index_or-map f (x ∷ xs) zero d = refl
-slice_index_or-map f (x ∷ xs) (suc i) d = slice_index_or-map f xs i d
+xor_bits-xor_bits (first ∷ bits) (other ∷ others) same = ap₂ ◌∷◌ (xor-xor first other) (xor_bits-xor_bits bits others (omega arith))
 
 -- one list of positions in place of two: what `outer` selects from a selection by `inner`, with a position
 -- past the end of the bits where `outer` goes past the end of `inner`
-pub composed : ℕ → List ℕ → List ℕ → List ℕ
+composed : ℕ → List ℕ → List ℕ → List ℕ
 composed past outer inner = map (λ position. slice_index_or inner (position - 1) past) outer
 
 -- a bit of a selection is the bit at the composed position
@@ -52,52 +48,37 @@ bit-select : (past : ℕ) (inner : List ℕ) (bits : List Bool) → length bits 
 unfolding select
 bit-select past inner bits below position =
     let none : bit bits past ≡ false = get_or_past bits (past - 1) false (omega arith) in
-    ap (λ d. slice_index_or (map (bit bits) inner) (position - 1) d) (sym none) ∙ slice_index_or-map (bit bits) inner (position - 1) past
+    ap (λ d. slice_index_or (map (bit bits) inner) (position - 1) d) (sym none) ∙ get_or-map (bit bits) inner (position - 1) past
 
 -- a selection from a selection is the selection by the composed positions
-pub select-select : (past : ℕ) (outer inner : List ℕ) (bits : List Bool) → length bits < past → select outer (select inner bits) ≡ select (composed past outer inner) bits
+select-select : (past : ℕ) (outer inner : List ℕ) (bits : List Bool) → length bits < past → select outer (select inner bits) ≡ select (composed past outer inner) bits
 unfolding select composed
 select-select past [] inner bits below = refl
-select-select past (position ∷ outer) inner bits below = ap₂ (λ (b : Bool) (bs : List Bool). b ∷ bs) (bit-select past inner bits below position) (select-select past outer inner bits below)
-
--- n numbers that count up from the first
-unfoldable pub counting : ℕ → ℕ → List ℕ
-counting first zero = []
-counting first (suc n) = first ∷ counting (suc first) n
-
--- number i of them
-pub slice_index_or-counting : (first n i d : ℕ) → i < n → slice_index_or (counting first n) i d ≡ first + i
-unfolding counting
-slice_index_or-counting first zero i d below = absurd (omega arith)
-slice_index_or-counting first (suc n) zero d below = omega arith
-slice_index_or-counting first (suc n) (suc i) d below =
-    let rest : slice_index_or (counting (suc first) n) i d ≡ suc first + i = slice_index_or-counting (suc first) n i d (omega arith) in
-    omega arith
+select-select past (position ∷ outer) inner bits below = ap₂ ◌∷◌ (bit-select past inner bits below position) (select-select past outer inner bits below)
 
 -- n positions after the first k select n bits after the first k
-pub select-counting : (k n : ℕ) (bits : List Bool) → k + n ≤ length bits → select (counting (suc k) n) bits ≡ take n (drop k bits)
-unfolding select counting
-select-counting k zero bits within = refl
-select-counting k (suc n) bits within =
-    let inside : k < length bits = omega arith in
-    let first : bit bits (suc k) ≡ slice_index_or bits k false = rw sub-one refl in
-    ap₂ (λ (b : Bool) (bs : List Bool). b ∷ bs) first (select-counting (suc k) n bits (omega arith))
-    ∙ sym (ap (take (suc n)) (drop-cons bits k false inside))
+pub select-range_with_len : (k n : ℕ) (bits : List Bool) → k + n ≤ length bits → select (range_with_len (k + 1) n) bits ≡ take n (drop k bits)
+unfolding select
+select-range_with_len k zero bits within = refl
+select-range_with_len k (suc n) bits within =
+    let first : bit bits (k + 1) ≡ slice_index_or bits k false = ap (λ (i : ℕ). slice_index_or bits i false) (omega arith) in
+    ap₂ ◌∷◌ first (select-range_with_len (k + 1) n bits (omega arith))
+    ∙ sym (ap (take (suc n)) (drop_more bits k false (omega arith)))
 
 -- a selection from a selection whose composed positions count up from 1 is the list of bits
-select-composed : (outer inner : List ℕ) (n : ℕ) (bits : List Bool) → length bits ≡ n → composed (suc n) outer inner ≡ counting 1 n → select outer (select inner bits) ≡ bits
+select-composed : (outer inner : List ℕ) (n : ℕ) (bits : List Bool) → length bits ≡ n → composed (suc n) outer inner ≡ range_with_len 1 n → select outer (select inner bits) ≡ bits
 select-composed outer inner n bits size counts =
     select-select (suc n) outer inner bits (omega arith)
     ∙ ap (λ positions. select positions bits) counts
-    ∙ select-counting 0 n bits (omega arith)
+    ∙ select-range_with_len 0 n bits (omega arith)
     ∙ take_all n bits (omega arith)
 
 -- the initial permutation undoes the final one
 pub select-initial_permutation : (bits : List Bool) → length bits ≡ 64 → select initial_permutation (select final_permutation bits) ≡ bits
-unfolding composed counting
+unfolding composed
 select-initial_permutation bits size = select-composed initial_permutation final_permutation 64 bits size refl
 
 -- the final permutation undoes the initial one
 pub select-final_permutation : (bits : List Bool) → length bits ≡ 64 → select final_permutation (select initial_permutation bits) ≡ bits
-unfolding composed counting
+unfolding composed
 select-final_permutation bits size = select-composed final_permutation initial_permutation 64 bits size refl

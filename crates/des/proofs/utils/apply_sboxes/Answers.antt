@@ -1,7 +1,7 @@
 use Rattle.std.proofs.Common.{◌≡◌, ◌-◌, ◌^◌, ◌/◌, ◌*◌, List, ◌++◌, Bool, refl, ap, ◌∙◌, arith}
 use Rattle.des.specs.Bits.{bits_of, zeros}
 use Rattle.des.specs.CipherFunction.{substitute_by}
-use Rattle.des.specs.Laws.BitLists.{bits_of-mod, bits_of-shifted}
+use Rattle.des.proofs.BitParts.{bits_of-shl}
 use Rattle.des.proofs.Substitution.{row_of-lt, group_of, entry_for, with_entry-lt, bits_of-with_entry}
 use Rattle.des.proofs.utils.apply_sboxes.Goals as goal
 
@@ -24,6 +24,5 @@ loop-i-preserved c =
 pub returns : goal.returns
 returns c =
     let last : c.loop-i.i ≡ 8 = omega arith in
-    bits_of-mod 64 64 (c.loop-i.output * 2 ^ 32) (omega arith)
-    ∙ bits_of-shifted 32 32 c.loop-i.output
+    bits_of-shl 32 32 c.loop-i.output
     ∙ ap (λ (bits : List Bool). bits ++ zeros 32) (rw last at c.loop-i.invariant.substituted)

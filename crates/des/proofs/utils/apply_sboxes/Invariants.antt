@@ -4,6 +4,7 @@ use Rattle.des.specs.Tables.{selection_functions}
 use Rattle.des.specs.CipherFunction.{substitute_by}
 use Rattle.des.proofs.utils.apply_sboxes.Given as goal
 
+-- the output has four bits for each box so far: what the boxes make of the input
 abbrev pub invariant-loop-i : goal.invariant-loop-i
 invariant-loop-i l = record {
   below : l.output < 2 ^ (4 * l.i);

@@ -1,10 +1,10 @@
-use Rattle.std.proofs.Common.{◌≡◌, ◌+◌, ◌*◌, ◌++◌, ℕ, List, [], ◌∷◌, Bool, length, take, drop, bit_xor, refl, ap, ap₂, ◌∙◌, take_at, length-append, arith}
+use Rattle.std.proofs.Common.{◌≡◌, ◌+◌, ◌*◌, ◌++◌, List, [], ◌∷◌, Bool, length, take, drop, bit_xor, refl, ap, ap₂, ◌∙◌, take_at, length-append, arith}
 use Rattle.des.specs.Bits.{bits_of, bits_of_word, select, zeros, xor_bits}
 use Rattle.des.specs.Tables.{Box, selection_functions, expansion, permutation}
 use Rattle.des.specs.CipherFunction.{box_entry, substitute_by, substitute, cipher_function}
 use Rattle.des.specs.Laws.BitLists.{length-bits_of}
 use Rattle.des.specs.Laws.Selections.{length-select}
-use Rattle.des.proofs.HalfWords.{take-bits_of_xor, mod_of_zeros}
+use Rattle.des.proofs.BitParts.{take-bits_of_xor, mod-zeros}
 use Rattle.des.proofs.utils.f.Goals as goal
 
 -- four bits for each box
@@ -13,7 +13,7 @@ unfolding substitute_by
 length-substitute_by [] bits = refl
 length-substitute_by (box ∷ boxes) bits =
     length-append (bits_of 4 (box_entry box (take 6 bits))) (substitute_by boxes (drop 6 bits))
-    ∙ ap₂ (λ (m n : ℕ). m + n) (length-bits_of 4 (box_entry box (take 6 bits))) (length-substitute_by boxes (drop 6 bits))
+    ∙ ap₂ ◌+◌ (length-bits_of 4 (box_entry box (take 6 bits))) (length-substitute_by boxes (drop 6 bits))
     ∙ omega arith
 
 -- the boxes answer 32 bits
@@ -24,7 +24,7 @@ length-substitute bits = length-substitute_by selection_functions bits
 pub p-requires : goal.p-requires
 p-requires c =
     let boxed = take 48 (bits_of_word (bit_xor c.e.result c.args.key)) in
-    mod_of_zeros 32 32 c.apply_sboxes.result (substitute boxed) (length-substitute boxed) c.apply_sboxes.ensures
+    mod-zeros 32 32 c.apply_sboxes.result (substitute boxed) (length-substitute boxed) c.apply_sboxes.ensures
 
 -- each step's first bits are what the definition passes to the next one
 pub returns : goal.returns

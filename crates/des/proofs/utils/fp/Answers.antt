@@ -1,8 +1,6 @@
 use Rattle.std.proofs.Common.{◌∙◌}
-use Rattle.des.specs.Laws.Selections.{counting}
 use Rattle.des.proofs.Places.{select-all_places}
 use Rattle.des.proofs.utils.fp.Goals as goal
 
 pub returns : goal.returns
-unfolding counting
 returns c = c.permute.ensures.moved ∙ select-all_places c.args.input

@@ -3,6 +3,7 @@ use Rattle.des.specs.Bits.{bits_of, bits_of_word, zeros}
 use Rattle.des.specs.KeySchedule.{c_half, d_half, rotate, shifts_through, round_key}
 use Rattle.des.proofs.utils.gen_keys.Given as goal
 
+-- the halves are those of the key, rotated by the shifts so far, and a word for each of them holds its round key
 abbrev pub invariant-loop-i : goal.invariant-loop-i
 invariant-loop-i l = record {
   c_within : l.c < 2 ^ 28;

@@ -1,8 +1,6 @@
 use Rattle.std.proofs.Common.{◌∙◌, sym}
-use Rattle.des.specs.Laws.Selections.{counting}
 use Rattle.des.proofs.Places.{select-all_places}
 use Rattle.des.proofs.utils.ip.Goals as goal
 
 pub returns : goal.returns
-unfolding counting
 returns c = sym (select-all_places c.permute.result) ∙ c.permute.ensures.moved

@@ -1,13 +1,9 @@
-use Rattle.std.proofs.Common.{◌∙◌, sym, arith, refl}
+use Rattle.std.proofs.Common.{arith, refl}
 use Rattle.des.specs.Bits.{bits_of_word}
 use Rattle.des.specs.Tables.{permutation}
-use Rattle.des.specs.Laws.Selections.{counting}
-use Rattle.des.proofs.Places.{bits_of_word_placed, select-take}
+use Rattle.des.proofs.Places.{bits_of_word-placed_from}
 use Rattle.des.proofs.utils.p.Goals as goal
 
 pub returns : goal.returns
-unfolding counting
 returns c =
-    bits_of_word_placed 32 c.permute.result _ (omega arith)
-    (c.permute.ensures.moved ∙ sym (select-take 32 permutation (bits_of_word c.args.input) refl))
-    c.permute.ensures.zero_elsewhere
+    bits_of_word-placed_from 32 32 c.permute.result permutation (bits_of_word c.args.input) (omega arith) refl c.permute.ensures.moved c.permute.ensures.zero_elsewhere

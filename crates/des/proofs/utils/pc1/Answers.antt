@@ -1,8 +1,6 @@
 use Rattle.std.proofs.Common.{arith}
-use Rattle.des.specs.Laws.Selections.{counting}
-use Rattle.des.proofs.Places.{bits_of_word_placed}
+use Rattle.des.proofs.Places.{bits_of_word-placed}
 use Rattle.des.proofs.utils.pc1.Goals as goal
 
 pub returns : goal.returns
-unfolding counting
-returns c = bits_of_word_placed 56 c.permute.result _ (omega arith) c.permute.ensures.moved c.permute.ensures.zero_elsewhere
+returns c = bits_of_word-placed 56 c.permute.result _ (omega arith) c.permute.ensures.moved c.permute.ensures.zero_elsewhere

@@ -1,6 +1,5 @@
 use Rattle.std.proofs.Common.{rules, ◌≡◌, sym, ◌∙◌, inl, inr}
 use Rattle.std.proofs.lemmas.Slice.Zip.{either_empty_from_Zip}
-use Rattle.des.specs.Bits.{bits_of_word, select, bit}
 use Rattle.des.proofs.Permuting.{put_all, put_all-nil, select-put_all, AreClear-zero, bit-put_all}
 use Rattle.des.proofs.utils.permute.Goals as goal
 use Rattle.des.proofs.utils.permute.Goals.{In-None}

@@ -1,12 +1,11 @@
-use Rattle.std.proofs.Common.{◌≡◌, ℕ, ◌<◌, ◌≤◌, List, [], ◌∷◌, reverse, length, refl, ap, sym, ◌∙◌, arith}
+use Rattle.std.proofs.Common.{◌≡◌, ℕ, List, [], ◌∷◌, reverse, ap, sym, ◌∙◌, arith}
 use Rattle.std.proofs.lemmas.List.{drop_all, reverse-append}
 use Rattle.des.specs.Bits.{bits_of_bytes, bits_of_word, select}
 use Rattle.des.specs.Tables.{initial_permutation}
 use Rattle.des.specs.Answers.{deciphered, through_rounds, round_keys_of}
 use Rattle.des.specs.Laws.BitLists.{length-bits_of_bytes}
-use Rattle.des.proofs.CipherRounds.{halves_after, halves_after-round, through_rounds-blocks}
-use Rattle.des.specs.Laws.HeldRoundKeys.{round_keys_of-reverse}
 use Rattle.des.specs.Laws.BlockBits.{IsBlock-to_be_bytes}
+use Rattle.des.proofs.CipherRounds.{halves_after, halves_after-round, round_keys_of-reverse, through_rounds-blocks}
 use Rattle.des.proofs.DesAnswers.{block_from_bits, IsDes-held_reverse, deciphered-held}
 use Rattle.des.proofs.des.DesBlockCipherDecrypt.decrypt_block.Goals as goal
 use Rattle.des.proofs.des.DesBlockCipherDecrypt.decrypt_block.Goals.{After-to_be_bytes}
@@ -37,7 +36,7 @@ deciphers c =
     let none : reverse c.loop-round_key.round_key-iterator.iter.rest.now ≡ [] =
     ap reverse (drop_all 0 c.loop-round_key.round_key-iterator.iter.rest.now (omega (arith, c.in-None.ensures.steps.0))) in
     ap bits_of_bytes c.to_be_bytes.ensures
-    ∙ through_rounds-blocks (reverse words) c.args.block.now c.ip-halves.result c.loop-round_key.halves c.fp.result (omega arith) c.fits-block (omega arith) (omega arith)
+    ∙ through_rounds-blocks (reverse words) c.args.block.now c.ip-halves.result c.loop-round_key.halves c.fp.result (omega arith) c.fits-block (omega arith)
     (c.ip-halves.ensures ∙ ap (λ (word : ℕ). select initial_permutation (bits_of_word word)) c.from_be_bytes.ensures)
     (ap (λ (rest : List ℕ). halves_after rest c.loop-round_key.halves) (sym none) ∙ c.loop-round_key.invariant.same_end)
     (c.fp.ensures ∙ ap bits_of_word c.rotate_left.ensures)

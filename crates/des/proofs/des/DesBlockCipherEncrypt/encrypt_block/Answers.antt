@@ -1,11 +1,11 @@
-use Rattle.std.proofs.Common.{◌≡◌, ℕ, ◌<◌, ◌≤◌, List, [], drop, length, refl, ap, sym, ◌∙◌, arith}
+use Rattle.std.proofs.Common.{◌≡◌, ℕ, List, [], drop, refl, ap, sym, ◌∙◌, arith}
 use Rattle.std.proofs.lemmas.List.{drop_all}
 use Rattle.des.specs.Bits.{bits_of_bytes, bits_of_word, select}
 use Rattle.des.specs.Tables.{initial_permutation}
 use Rattle.des.specs.Answers.{enciphered, round_keys_of}
 use Rattle.des.specs.Laws.BitLists.{length-bits_of_bytes}
-use Rattle.des.proofs.CipherRounds.{halves_after, halves_after-round_at, through_rounds-blocks}
 use Rattle.des.specs.Laws.BlockBits.{IsBlock-to_be_bytes}
+use Rattle.des.proofs.CipherRounds.{halves_after, halves_after-round_at, through_rounds-blocks}
 use Rattle.des.proofs.DesAnswers.{block_from_bits, IsDes-held, enciphered-held}
 use Rattle.des.proofs.des.DesBlockCipherEncrypt.encrypt_block.Goals as goal
 use Rattle.des.proofs.des.DesBlockCipherEncrypt.encrypt_block.Goals.{After-to_be_bytes}
@@ -27,7 +27,7 @@ enciphers c =
     let words : List ℕ = c.args.self.now.round_keys in
     let none : drop c.loop-round_key.round_key-index words ≡ [] = drop_all c.loop-round_key.round_key-index words (omega arith) in
     ap bits_of_bytes c.to_be_bytes.ensures
-    ∙ through_rounds-blocks words c.args.block.now c.ip-halves.result c.loop-round_key.halves c.fp.result (omega arith) c.fits-block (omega arith) (omega arith)
+    ∙ through_rounds-blocks words c.args.block.now c.ip-halves.result c.loop-round_key.halves c.fp.result (omega arith) c.fits-block (omega arith)
     (c.ip-halves.ensures ∙ ap (λ (word : ℕ). select initial_permutation (bits_of_word word)) c.from_be_bytes.ensures)
     (ap (λ (rest : List ℕ). halves_after rest c.loop-round_key.halves) (sym none) ∙ c.loop-round_key.invariant.same_end)
     (c.fp.ensures ∙ ap bits_of_word c.rotate_left.ensures)

@@ -1,7 +1,7 @@
 use Rattle.std.proofs.Common.{◌∙◌, arith}
 use Rattle.des.specs.Bits.{bits_of_bytes}
 use Rattle.des.specs.Laws.BitLists.{length-bits_of_bytes}
-use Rattle.des.specs.Laws.HeldRoundKeys.{HoldRoundKeys-bytes}
+use Rattle.des.proofs.RoundKeys.{HoldRoundKeys-bytes}
 use Rattle.des.proofs.DesAnswers.{HasOneAnswerEachWay-key, encryption-iff, decryption-iff}
 use Rattle.des.proofs.des.DesKeyInit.new.Goals as goal
 
