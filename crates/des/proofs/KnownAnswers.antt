@@ -1,5 +1,6 @@
 -- The definitions, computed at values from outside: those of the worked example of J. Orlin Grabbe, The DES
--- Algorithm Illustrated, and answers published for DES (NBS Special Publication 500-20, FIPS 81).
+-- Algorithm Illustrated, and published answers (NBS Special Publication 500-20; FIPS 81, appendix B; the tests of
+-- Eric Young's library).
 use Rattle.std.proofs.Common.{◌≡◌, ℕ, List, [], ◌∷◌, ◌++◌, Bool, refl, subst, take}
 use Rattle.des.specs.Bits.{bits_of, bits_of_word, bits_of_bytes, number_of, zeros, select, combine}
 use Rattle.des.specs.Tables.{initial_permutation, final_permutation, permuted_choice_1, permuted_choice_2, expansion, permutation}

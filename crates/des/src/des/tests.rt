@@ -3,8 +3,9 @@ use crate::cipher::{InvalidLength, NotEqualError};
 use std::test::Fail;
 
 // Key, plaintext, ciphertext. The first is the worked example of J. Orlin Grabbe, "The DES Algorithm
-// Illustrated"; the second and the third are of NIST SP 800-17; the next three stand in the tests of many DES
-// libraries, first in Eric Young's; the last is of FIPS 81, appendix B. OpenSSL answers the same.
+// Illustrated"; the second and the third are of NBS Special Publication 500-20; the next three stand in the
+// tests of many DES libraries, first in Eric Young's; the last is of FIPS 81, appendix B. OpenSSL answers the
+// same.
 const ANSWERS: [(u64, u64, u64); 7] = [
     (0x133457799bbcdff1, 0x0123456789abcdef, 0x85e813540f0ab405),
     (0x0101010101010101, 0x8000000000000000, 0x95f8a5e5dd31d900),
@@ -59,7 +60,7 @@ fn takes_keys_of_eight_bytes(rt: HostRuntime) -> Result<(), Fail> {
 }
 
 // The calls of generic code, which knows the traits alone.
-fn there_and_back<C: KeyedCipher + Drop>(
+fn lists_there_and_back<C: KeyedCipher + Drop>(
     key: &[u8],
     blocks: &mut [[u8; 8]],
     copy: &mut [[u8; 8]],
@@ -72,13 +73,25 @@ fn there_and_back<C: KeyedCipher + Drop>(
     Ok(())
 }
 
+fn block_there_and_back<C: BlockCipher>(cipher: &C, block: &[u8; 8]) -> ([u8; 8], [u8; 8]) {
+    let mut answer = [0xa5; 8];
+    let mut back = [0xa5; 8];
+    cipher.encrypt_block_b2b(block, &mut answer);
+    cipher.decrypt_block_b2b(&answer, &mut back);
+    (answer, back)
+}
+
 #[test]
 fn goes_there_and_back_by_the_traits(rt: HostRuntime) -> Result<(), Fail> {
     let mut blocks = PLAINTEXT;
     let mut copy = [[0xa5; 8]; 3];
-    there_and_back::<Des>(&KEY, &mut blocks, &mut copy)?;
+    lists_there_and_back::<Des>(&KEY, &mut blocks, &mut copy)?;
     assert_eq!(rt; blocks, PLAINTEXT);
     assert_eq!(rt; copy, ciphertext());
+
+    let (answer, back) = block_there_and_back(&Des::new(&KEY), &PLAINTEXT[0]);
+    assert_eq!(rt; answer, ciphertext()[0]);
+    assert_eq!(rt; back, PLAINTEXT[0]);
     Ok(())
 }
 

@@ -146,6 +146,10 @@ fn memory_is_the_only_other_fault(rt: HostRuntime) {
         Ok(text) => assert_eq!(rt; text.as_slice(), b"85e813540f0ab405\n".as_slice()),
         Err(fault) => assert_eq!(rt; fault, Fault::Memory),
     }
+    match answer(rt.alloc(), &["des", "decrypt", KEY, "85e813540f0ab405"]) {
+        Ok(text) => assert_eq!(rt; text.as_slice(), b"0123456789abcdef\n".as_slice()),
+        Err(fault) => assert_eq!(rt; fault, Fault::Memory),
+    }
     let refused = answer(rt.alloc(), &["des", "encrypt", "0", BLOCK]);
     assert_eq!(rt; refused, Err(Fault::KeyLength));
 }
@@ -189,5 +193,46 @@ fn shows_faults(rt: HostRuntime) {
         assert_eq!(rt; show(&Err(fault), &mut out, &mut err), status);
         assert_eq!(rt; err.bytes.as_slice(), written.as_bytes());
         assert!(rt; out.bytes.is_empty());
+    }
+}
+
+// What the program writes and ends with: words, standard output, standard error, status.
+#[test]
+fn prints_lines(rt: HostRuntime) {
+    let alloc = rt.alloc();
+    let lines: [(&[&str], &str, &str, u8); 7] = [
+        (&["des", "encrypt", KEY, BLOCK], "85e813540f0ab405\n", "", 0),
+        (
+            &["des", "decrypt", KEY, "85E813540F0AB405"],
+            "0123456789abcdef\n",
+            "",
+            0,
+        ),
+        (&["des", "encrypt", KEY, ""], "\n", "", 0),
+        (
+            &["des", "encrypt", "133457799BBCDFF", BLOCK],
+            "",
+            "KeyLength\n",
+            2,
+        ),
+        (
+            &["des", "encrypt", "133457799BBCDFFg", BLOCK],
+            "",
+            "KeyText\n",
+            2,
+        ),
+        (
+            &["des", "encrypt", KEY, "0123456789ABCDEF0"],
+            "",
+            "BlockLength\n",
+            2,
+        ),
+        (&[], "", "Usage\n", 2),
+    ];
+    for (words, written, reported, status) in lines {
+        let (mut out, mut err) = (Page::new(alloc, 99, true), Page::new(alloc, 99, true));
+        assert_eq!(rt; show(&answer(alloc, words), &mut out, &mut err), status);
+        assert_eq!(rt; out.bytes.as_slice(), written.as_bytes());
+        assert_eq!(rt; err.bytes.as_slice(), reported.as_bytes());
     }
 }
