@@ -20,10 +20,11 @@ through_rounds keys block =
     let permuted = select initial_permutation block in
     select final_permutation (swapped (after_rounds keys (take 32 permuted) (drop 32 permuted)))
 
--- deciphering runs the same rounds with the round keys in the opposite order
+-- enciphering runs the rounds with the round keys in their order
 abbrev pub enciphered : List (List Bool) → List Bool → List Bool
 enciphered round_keys block = through_rounds round_keys block
 
+-- deciphering runs them with the round keys in the opposite order
 abbrev pub deciphered : List (List Bool) → List Bool → List Bool
 deciphered round_keys block = through_rounds (reverse round_keys) block
 

@@ -1,7 +1,7 @@
 -- Enciphering as FIPS 46-3 defines it ("Enciphering"), as a relation between a key, a block and a block. It
 -- has no direction: deciphering is the same relation, read from the second block to the first.
 use Rattle.std.specs.Prelude.{◌≡◌, ℕ, ◌+◌, ◌-◌, ◌≤◌, List, [], ◌++◌, Bool, length, slice_index_or}
-use Rattle.des.specs.Bits.{select, xor_bits}
+use Rattle.des.specs.Bits.{bits_of_bytes, select, xor_bits}
 use Rattle.des.specs.Tables.{initial_permutation}
 use Rattle.des.specs.CipherFunction.{cipher_function}
 use Rattle.des.specs.KeySchedule.{round_key}
@@ -27,6 +27,10 @@ pub record IsDes (key x y : List Bool) : Type 0 where
   pub is_trace : IsTrace key trace
   pub begins : select initial_permutation x ≡ half_block trace 0 ++ half_block trace 1
   pub ends : select initial_permutation y ≡ half_block trace 17 ++ half_block trace 16
+
+-- the same of a key and blocks of eight bytes
+abbrev pub Enciphers : List ℕ → List ℕ → List ℕ → Type 0
+Enciphers key x y = IsDes (bits_of_bytes key) (bits_of_bytes x) (bits_of_bytes y)
 
 -- one list of bits has the property, and no other
 abbrev pub HoldsOfOne : (List Bool → Type 0) → Type 0

@@ -3,10 +3,11 @@ use Rattle.std.specs.Prelude.{◌≡◌, ℕ, List, [], ◌∷◌, ◌++◌, Boo
 use Rattle.des.specs.Bits.{bits_of_word, select, zeros}
 use Rattle.des.specs.Tables.{permuted_choice_1, permuted_choice_2, left_shifts}
 
--- C and D: the first and the second 28 bits that permuted choice 1 takes from the key
+-- C: the first 28 bits that permuted choice 1 takes from the key
 unfoldable pub c_half : List Bool → List Bool
 c_half key = take 28 (select permuted_choice_1 key)
 
+-- D: the second 28 bits
 unfoldable pub d_half : List Bool → List Bool
 d_half key = drop 28 (select permuted_choice_1 key)
 

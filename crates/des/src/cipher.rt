@@ -1,8 +1,8 @@
-//! The traits of block ciphers: their keys, sizes, names and calls, each with its laws. The module stands in
-//! place of the Rust crate `cipher`.
+//! The traits of block ciphers: their keys, sizes, names and calls, each with its laws. The module
+//! stands in place of the Rust crate `cipher`.
 //!
-//! Generic code may rest on the laws alone, whatever the body of a call is. In a law a byte is a number below
-//! 256, a block is eight bytes and a key `KEY_SIZE` bytes.
+//! Generic code may rest on the laws alone, whatever the body of a call is. In a law a byte is a
+//! number below 256, a block is eight bytes and a key `KEY_SIZE` bytes.
 
 ghost use Rattle.std.specs.Prelude.{◌≡◌, ◌↔◌, ℕ, List, length, codes, Some, IsSome, IfSome, IsOk, IfOk, OnOk, OnErr};
 ghost use Rattle.des.specs.Blocks.{AreBytes, IsBlock, AnswersEach};
@@ -141,7 +141,8 @@ pub trait KeyInit: KeySizeUser + Sized {
     fn new(key: &Self::Key) -> Self
         ensures { is_made_from result (Self.Key.bytes_of key.now) };
 
-    /// A value made from the bytes of a key, or `InvalidLength` where there are not `KEY_SIZE` of them.
+    /// A value made from the bytes of a key, or `InvalidLength` where there are not `KEY_SIZE` of
+    /// them.
     fn new_from_slice(key: &[u8]) -> Result<Self, InvalidLength>
         ensures accepted { IsOk result ↔ (length key.now ≡ Self.KEY_SIZE) }
         ensures made { IfOk result (λ value. is_made_from value key.now) }
@@ -196,22 +197,24 @@ pub trait BlockCipherEncrypt: BlockSizeUser {
 
     /// Encrypts each block in place.
     final fn encrypt_blocks(&self, blocks: &mut [[u8; 8]])
-        ensures { AnswersEach (λ block answer. answer ≡ encrypted self.now block) blocks.old blocks.new }
+        ensures { AnswersEach (λ block answer. answer ≡ encrypted self.now block)
+            blocks.old blocks.new }
     {
         for block in blocks.iter_mut() {
             self.encrypt_block(block);
         }
     }
 
-    /// Encrypts each block of `input` into the block at its place in `output`. Where the two differ in length,
-    /// the answer is `NotEqualError`, and `output` stays as it was.
+    /// Encrypts each block of `input` into the block at its place in `output`. Where the two differ
+    /// in length, the answer is `NotEqualError`, and `output` stays as it was.
     final fn encrypt_blocks_b2b(
         &self,
         input: &[[u8; 8]],
         output: &mut [[u8; 8]],
     ) -> Result<(), NotEqualError>
         ensures accepted { IsOk result ↔ (length input.now ≡ length output.old) }
-        ensures ok { OnOk result (AnswersEach (λ block answer. answer ≡ encrypted self.now block) input.now output.new) }
+        ensures ok { OnOk result (AnswersEach (λ block answer. answer ≡ encrypted self.now block)
+            input.now output.new) }
         ensures err { OnErr result (output.new ≡ output.old) }
     {
         if input.len() != output.len() {
@@ -242,22 +245,24 @@ pub trait BlockCipherDecrypt: BlockSizeUser {
 
     /// Decrypts each block in place.
     final fn decrypt_blocks(&self, blocks: &mut [[u8; 8]])
-        ensures { AnswersEach (λ block answer. answer ≡ decrypted self.now block) blocks.old blocks.new }
+        ensures { AnswersEach (λ block answer. answer ≡ decrypted self.now block)
+            blocks.old blocks.new }
     {
         for block in blocks.iter_mut() {
             self.decrypt_block(block);
         }
     }
 
-    /// Decrypts each block of `input` into the block at its place in `output`. Where the two differ in length,
-    /// the answer is `NotEqualError`, and `output` stays as it was.
+    /// Decrypts each block of `input` into the block at its place in `output`. Where the two differ
+    /// in length, the answer is `NotEqualError`, and `output` stays as it was.
     final fn decrypt_blocks_b2b(
         &self,
         input: &[[u8; 8]],
         output: &mut [[u8; 8]],
     ) -> Result<(), NotEqualError>
         ensures accepted { IsOk result ↔ (length input.now ≡ length output.old) }
-        ensures ok { OnOk result (AnswersEach (λ block answer. answer ≡ decrypted self.now block) input.now output.new) }
+        ensures ok { OnOk result (AnswersEach (λ block answer. answer ≡ decrypted self.now block)
+            input.now output.new) }
         ensures err { OnErr result (output.new ≡ output.old) }
     {
         if input.len() != output.len() {
@@ -271,10 +276,14 @@ pub trait BlockCipherDecrypt: BlockSizeUser {
 
 /// A block cipher: encryption and decryption take blocks to blocks and undo each other.
 pub trait BlockCipher: BlockCipherEncrypt + BlockCipherDecrypt {
-    ghost encrypted_is_block: { (cipher : Self) (block : List ℕ) → IsBlock block → IsBlock (Self.encrypted cipher block) };
+    // A block is answered by a block.
+    ghost encrypted_is_block: { (cipher : Self) (block : List ℕ) → IsBlock block
+        → IsBlock (Self.encrypted cipher block) };
 
-    ghost decrypted_is_block: { (cipher : Self) (block : List ℕ) → IsBlock block → IsBlock (Self.decrypted cipher block) };
+    ghost decrypted_is_block: { (cipher : Self) (block : List ℕ) → IsBlock block
+        → IsBlock (Self.decrypted cipher block) };
 
+    // Each direction undoes the other.
     ghost decrypts_encrypted: { (cipher : Self) (block : List ℕ) → IsBlock block
         → Self.decrypted cipher (Self.encrypted cipher block) ≡ block };
 
@@ -289,11 +298,14 @@ pub trait KeyedCipher: KeyInit + BlockCipher {
 
     ghost decryption: { List ℕ → List ℕ → List ℕ };
 
-    ghost encrypts_by_key: { (cipher : Self) (key block : List ℕ) → length key ≡ Self.KEY_SIZE → AreBytes key
-        → Self.is_made_from cipher key → IsBlock block → Self.encrypted cipher block ≡ encryption key block };
+    // A cipher made from a key answers as the key does.
+    ghost encrypts_by_key: { (cipher : Self) (key block : List ℕ)
+        → length key ≡ Self.KEY_SIZE → AreBytes key → Self.is_made_from cipher key
+        → IsBlock block → Self.encrypted cipher block ≡ encryption key block };
 
-    ghost decrypts_by_key: { (cipher : Self) (key block : List ℕ) → length key ≡ Self.KEY_SIZE → AreBytes key
-        → Self.is_made_from cipher key → IsBlock block → Self.decrypted cipher block ≡ decryption key block };
+    ghost decrypts_by_key: { (cipher : Self) (key block : List ℕ)
+        → length key ≡ Self.KEY_SIZE → AreBytes key → Self.is_made_from cipher key
+        → IsBlock block → Self.decrypted cipher block ≡ decryption key block };
 }
 
 #[cfg(test)]

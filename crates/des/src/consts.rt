@@ -1,7 +1,7 @@
 //! The constants of DES (FIPS 46-3).
 
-/// How many places to the left each half of the key is rotated before each of the sixteen round keys
-/// (FIPS 46-3, "Key schedule KS").
+/// How many places to the left each half of the key is rotated before each of the sixteen round
+/// keys (FIPS 46-3, "Key schedule KS").
 pub const SHIFTS: [u8; 16] = [1, 1, 2, 2, 2, 2, 2, 2, 1, 2, 2, 2, 2, 2, 2, 1];
 
 // The boxes S1 to S8, each of four rows of sixteen entries (FIPS 46-3, "Selection functions").

@@ -13,8 +13,8 @@ use std::fmt;
 
 /// DES under one key: the key's sixteen round keys.
 ///
-/// A key has 8 bytes, bit 1 the most significant bit of the first. Every key is taken, weak ones included; its
-/// parity bits (bits 8, 16, .., 64) are neither tested nor used.
+/// A key has 8 bytes, bit 1 the most significant bit of the first. Every key is taken, weak ones
+/// included; its parity bits (bits 8, 16, .., 64) are neither tested nor used.
 #[derive(Drop)]
 pub struct Des {
     round_keys: [u64; 16],
@@ -36,7 +36,7 @@ impl KeySizeUser for Des {
 impl KeyInit for Des {
     ghost use Rattle.des.specs.Bits.{bits_of_bytes};
     ghost use Rattle.des.specs.Blocks.{IsBlock};
-    ghost use Rattle.des.specs.Enciphering.{IsDes, HasOneAnswerEachWay};
+    ghost use Rattle.des.specs.Enciphering.{Enciphers, HasOneAnswerEachWay};
     ghost use Rattle.des.specs.Des.{IsDesOf};
 
     ghost is_made_from = { λ cipher key. IsDesOf cipher (bits_of_bytes key) };
@@ -46,9 +46,9 @@ impl KeyInit for Des {
         ensures made { IsDesOf result (bits_of_bytes key.now) }
         ensures one_answer_each_way { HasOneAnswerEachWay (bits_of_bytes key.now) }
         ensures encryption { (x y : List ℕ) → IsBlock x → IsBlock y
-            → (⟦<Des as KeyedCipher>⟧.encryption key.now x ≡ y) ↔ IsDes (bits_of_bytes key.now) (bits_of_bytes x) (bits_of_bytes y) }
+            → (⟦<Des as KeyedCipher>⟧.encryption key.now x ≡ y) ↔ Enciphers key.now x y }
         ensures decryption { (x y : List ℕ) → IsBlock x → IsBlock y
-            → (⟦<Des as KeyedCipher>⟧.decryption key.now y ≡ x) ↔ IsDes (bits_of_bytes key.now) (bits_of_bytes x) (bits_of_bytes y) }
+            → (⟦<Des as KeyedCipher>⟧.decryption key.now y ≡ x) ↔ Enciphers key.now x y }
     {
         Des {
             round_keys: utils::gen_keys(u64::from_be_bytes(*key)),
@@ -86,8 +86,10 @@ impl BlockCipherEncrypt for Des {
     /// Enciphers a block in place (FIPS 46-3, "Enciphering").
     fn encrypt_block(&self, block: &mut [u8; 8])
         ensures encrypted { block.new ≡ encrypted_by self.now block.old }
-        ensures enciphers { (key : List Bool) → IsDesOf self.now key → IsDes key (bits_of_bytes block.old) (bits_of_bytes block.new) }
-        ensures alone { (key other : List Bool) → IsDesOf self.now key → IsDes key (bits_of_bytes block.old) other → other ≡ bits_of_bytes block.new }
+        ensures enciphers { (key : List Bool) → IsDesOf self.now key
+            → IsDes key (bits_of_bytes block.old) (bits_of_bytes block.new) }
+        ensures alone { (key other : List Bool) → IsDesOf self.now key
+            → IsDes key (bits_of_bytes block.old) other → other ≡ bits_of_bytes block.new }
     {
         let mut halves = utils::ip(u64::from_be_bytes(*block));
         for &round_key in &self.round_keys {
@@ -104,12 +106,14 @@ impl BlockCipherDecrypt for Des {
 
     ghost decrypted = { decrypted_by };
 
-    /// Deciphers a block in place: the rounds of enciphering, with the round keys from the last to the first
-    /// (FIPS 46-3, "Deciphering").
+    /// Deciphers a block in place: the rounds of enciphering, with the round keys from the last to
+    /// the first (FIPS 46-3, "Deciphering").
     fn decrypt_block(&self, block: &mut [u8; 8])
         ensures decrypted { block.new ≡ decrypted_by self.now block.old }
-        ensures deciphers { (key : List Bool) → IsDesOf self.now key → IsDes key (bits_of_bytes block.new) (bits_of_bytes block.old) }
-        ensures alone { (key other : List Bool) → IsDesOf self.now key → IsDes key other (bits_of_bytes block.old) → other ≡ bits_of_bytes block.new }
+        ensures deciphers { (key : List Bool) → IsDesOf self.now key
+            → IsDes key (bits_of_bytes block.new) (bits_of_bytes block.old) }
+        ensures alone { (key other : List Bool) → IsDesOf self.now key
+            → IsDes key other (bits_of_bytes block.old) → other ≡ bits_of_bytes block.new }
     {
         let mut halves = utils::ip(u64::from_be_bytes(*block));
         for &round_key in self.round_keys.iter().rev() {
@@ -128,9 +132,11 @@ impl BlockCipher for Des {
 
     ghost decrypted_is_block = { λ cipher block is_block. IsBlock-block_of_bits _ };
 
-    ghost decrypts_encrypted = { λ cipher block is_block. block_of_bits-deciphered (round_keys_of cipher.round_keys) block is_block };
+    ghost decrypts_encrypted = { λ cipher block is_block.
+        block_of_bits-deciphered (round_keys_of cipher.round_keys) block is_block };
 
-    ghost encrypts_decrypted = { λ cipher block is_block. block_of_bits-enciphered (round_keys_of cipher.round_keys) block is_block };
+    ghost encrypts_decrypted = { λ cipher block is_block.
+        block_of_bits-enciphered (round_keys_of cipher.round_keys) block is_block };
 }
 
 impl KeyedCipher for Des {
@@ -141,9 +147,11 @@ impl KeyedCipher for Des {
 
     ghost decryption = { decryption_by };
 
-    ghost encrypts_by_key = { λ cipher key block size bytes made is_block. encryption-held cipher.round_keys key block made.1 };
+    ghost encrypts_by_key = { λ cipher key block size bytes made is_block.
+        encryption-held cipher.round_keys key block made.1 };
 
-    ghost decrypts_by_key = { λ cipher key block size bytes made is_block. decryption-held cipher.round_keys key block made.1 };
+    ghost decrypts_by_key = { λ cipher key block size bytes made is_block.
+        decryption-held cipher.round_keys key block made.1 };
 }
 
 impl Clone for Des {

@@ -1,8 +1,8 @@
 //! The block cipher DES (FIPS 46-3), after the Rust crate `des` 0.9.0.
 //!
-//! DES is broken: its key of 56 bits can be searched. It is here for data and protocols that still use it. A
-//! block cipher hides nothing about repeated blocks and does not authenticate, and no claim is made on the
-//! time that a call takes.
+//! DES is broken: its key of 56 bits can be searched. It is here for data and protocols that still
+//! use it. A block cipher hides nothing about repeated blocks and does not authenticate, and no
+//! claim is made on the time that a call takes.
 #![tactic(auto)]
 
 pub mod cipher;

@@ -1,7 +1,7 @@
 //! The permutations, the cipher function and the key schedule of DES on words (FIPS 46-3).
 //!
-//! A word stands for 64 bits, bit 1 the most significant. A shorter list of bits stands in the first bits of a
-//! word, with zeros after it.
+//! A word stands for 64 bits, bit 1 the most significant. A shorter list of bits stands in the
+//! first bits of a word, with zeros after it.
 
 ghost use Rattle.std.specs.Prelude.{◌≡◌, ◌%◌, ◌^◌, ◌<◌, ◌≤◌, ◌++◌, ℕ, length, take, drop, IsTrue, IsFalse, false};
 ghost use Rattle.des.specs.Bits.{bits_of, bits_of_word, bit, select, zeros, xor_bits};
@@ -86,14 +86,17 @@ const PLACES: [u8; 64] = [
     57, 58, 59, 60, 61, 62, 63, 64,
 ];
 
-// The word whose bit `targets[i]` is bit `sources[i]` of `word`, for each i, and whose other bits are zero.
+// The word whose bit `targets[i]` is bit `sources[i]` of `word`, for each i, and whose other bits
+// are zero.
 fn permute(word: u64, sources: &[u8], targets: &[u8]) -> u64
     requires same_length { length sources.now ≡ length targets.now }
     requires sources_in_word { IsTrue (are_positions sources.now) }
     requires targets_in_word { IsTrue (are_positions targets.now) }
     requires targets_distinct { IsTrue (are_distinct targets.now) }
-    ensures moved { select targets.now (bits_of_word result) ≡ select sources.now (bits_of_word word) }
-    ensures zero_elsewhere { (i : ℕ) → 1 ≤ i → i ≤ 64 → IsFalse (is_among targets.now i) → bit (bits_of_word result) i ≡ false }
+    ensures moved { select targets.now (bits_of_word result)
+        ≡ select sources.now (bits_of_word word) }
+    ensures zero_elsewhere { (i : ℕ) → 1 ≤ i → i ≤ 64 → IsFalse (is_among targets.now i)
+        → bit (bits_of_word result) i ≡ false }
 {
     let mut permuted = 0;
     for (&source, &target) in sources.iter().zip(targets) {
@@ -116,33 +119,36 @@ pub fn fp(input: u64) -> u64
     permute(input, &PLACES, &IP)
 }
 
-/// The permuted choice 1 of a key of 64 bits (FIPS 46-3, "Key schedule KS"): the halves C and D, of 28 bits
-/// each, in the first 56 bits. No parity bit of the key (bits 8, 16, .., 64) is chosen.
+/// The permuted choice 1 of a key of 64 bits (FIPS 46-3, "Key schedule KS"): the halves C and D, of
+/// 28 bits each, in the first 56 bits. No parity bit of the key (bits 8, 16, .., 64) is chosen.
 pub fn pc1(key: u64) -> u64
     ensures { bits_of_word result ≡ select permuted_choice_1 (bits_of_word key) ++ zeros 8 }
 {
     permute(key, &PC1, &PLACES[..56])
 }
 
-/// The permuted choice 2 of the halves C and D in the first 56 bits of `halves` (FIPS 46-3, "Key schedule
-/// KS"): a round key, in the first 48 bits.
+/// The permuted choice 2 of the halves C and D in the first 56 bits of `halves`, whose other 8 bits
+/// are zero (FIPS 46-3, "Key schedule KS"): a round key, in the first 48 bits.
 pub fn pc2(halves: u64) -> u64
     requires { halves % 2 ^ 8 ≡ 0 }
-    ensures { bits_of_word result ≡ select permuted_choice_2 (take 56 (bits_of_word halves)) ++ zeros 16 }
+    ensures { bits_of_word result
+        ≡ select permuted_choice_2 (take 56 (bits_of_word halves)) ++ zeros 16 }
 {
     permute(halves, &PC2, &PLACES[..48])
 }
 
-/// The expansion E of the half block in the first 32 bits of `half_block` (FIPS 46-3, "The Cipher Function
-/// f"), in the first 48 bits.
+/// The expansion E of the half block in the first 32 bits of `half_block`, whose other 32 bits are
+/// zero (FIPS 46-3, "The Cipher Function f"), in the first 48 bits.
 pub fn e(half_block: u64) -> u64
     requires { half_block % 2 ^ 32 ≡ 0 }
-    ensures { bits_of_word result ≡ select expansion (take 32 (bits_of_word half_block)) ++ zeros 16 }
+    ensures { bits_of_word result
+        ≡ select expansion (take 32 (bits_of_word half_block)) ++ zeros 16 }
 {
     permute(half_block, &E, &PLACES[..48])
 }
 
-/// The permutation P of the first 32 bits of `input` (FIPS 46-3, "The Cipher Function f").
+/// The permutation P of the first 32 bits of `input`, whose other 32 bits are zero (FIPS 46-3, "The
+/// Cipher Function f"), in the first 32 bits.
 pub fn p(input: u64) -> u64
     requires { input % 2 ^ 32 ≡ 0 }
     ensures { bits_of_word result ≡ select permutation (take 32 (bits_of_word input)) ++ zeros 32 }
@@ -150,36 +156,40 @@ pub fn p(input: u64) -> u64
     permute(input, &P, &PLACES[..32])
 }
 
-/// The substitution of the first 48 bits of `input` by the boxes S1 to S8 (FIPS 46-3, "Selection functions"),
-/// in the first 32 bits. The low 16 bits of `input` do not count.
+/// The substitution of the first 48 bits of `input` by the boxes S1 to S8 (FIPS 46-3, "Selection
+/// functions"), in the first 32 bits. The low 16 bits of `input` do not count.
 pub fn apply_sboxes(input: u64) -> u64
     ensures { bits_of_word result ≡ substitute (take 48 (bits_of_word input)) ++ zeros 32 }
 {
     let mut output = 0;
     for (i, sbox) in SBOX_ROWS.iter().enumerate() {
-        let group = (input >> (58 - 6 * i)) & 0x3f;
+        let group = (input >> (58 - 6 * i)) & 0x000000000000003f;
         let row = ((group >> 4) & 2) | (group & 1);
-        let column = (group >> 1) & 0xf;
+        let column = (group >> 1) & 0x000000000000000f;
         output = (output << 4) | u64::from(sbox[row as usize][column as usize]);
     }
     output << 32
 }
 
-// The cipher function f of the half block in the first 32 bits of `half_block` and the round key in the first
-// 48 bits of `key` (FIPS 46-3, "The Cipher Function f"), in the first 32 bits.
+// The cipher function f of the half block in the first 32 bits of `half_block` and the round key in
+// the first 48 bits of `key` (FIPS 46-3, "The Cipher Function f"), in the first 32 bits.
 fn f(half_block: u64, key: u64) -> u64
     requires { half_block % 2 ^ 32 ≡ 0 }
-    ensures { bits_of_word result ≡ cipher_function (take 32 (bits_of_word half_block)) (take 48 (bits_of_word key)) ++ zeros 32 }
+    ensures { bits_of_word result
+        ≡ cipher_function (take 32 (bits_of_word half_block)) (take 48 (bits_of_word key))
+        ++ zeros 32 }
 {
     p(apply_sboxes(e(half_block) ^ key))
 }
 
-/// One round (FIPS 46-3, "Enciphering"): of the halves L and R of `input` and the round key K in the first 48
-/// bits of `key`, the halves R and L xor f(R, K).
+/// One round (FIPS 46-3, "Enciphering"): of the halves L and R of `input` and the round key K in
+/// the first 48 bits of `key`, the halves R and L xor f(R, K). The low 16 bits of `key` do not
+/// count.
 pub fn round(input: u64, key: u64) -> u64
     ensures { let left = take 32 (bits_of_word input) in
         let right = drop 32 (bits_of_word input) in
-        bits_of_word result ≡ right ++ xor_bits left (cipher_function right (take 48 (bits_of_word key))) }
+        let round_key = take 48 (bits_of_word key) in
+        bits_of_word result ≡ right ++ xor_bits left (cipher_function right round_key) }
 {
     let left = input & 0xffffffff00000000;
     let right = input << 32;
@@ -196,8 +206,8 @@ fn rotate(half: u64, shift: u8) -> u64
     ((half << shift) & 0x000000000fffffff) | (half >> (28 - shift))
 }
 
-/// The round keys K(1) to K(16) of a key of 64 bits (FIPS 46-3, "Key schedule KS"), each in the first 48 bits
-/// of its word.
+/// The round keys K(1) to K(16) of a key of 64 bits (FIPS 46-3, "Key schedule KS"), each in the
+/// first 48 bits of its word.
 pub fn gen_keys(key: u64) -> [u64; 16]
     ensures { HoldRoundKeys result (bits_of_word key) }
 {

@@ -1,9 +1,8 @@
 -- What answers the words of a command line.
 use Rattle.std.specs.Prelude.{◌≡◌, ℕ, List, MatchOption}
 use Rattle.std.specs.List.{All, concat}
-use Rattle.des.specs.Bits.{bits_of_bytes}
 use Rattle.des.specs.Blocks.{IsBlock, AnswersEach}
-use Rattle.des.specs.Enciphering.{IsDes}
+use Rattle.des.specs.Enciphering.{Enciphers}
 use Rattle.des_tool.specs.declared.command.Direction.{Direction}
 use Rattle.des_tool.specs.declared.command.Direction.TheVariants.{Encrypt, Decrypt}
 use Rattle.des_tool.specs.Digits.{bytes_of_digits, text_of_blocks}
@@ -11,8 +10,8 @@ use Rattle.des_tool.specs.Request.{Request, des, request_of}
 
 -- DES under the bytes of a key relates a block to its answer, read in the direction
 abbrev pub Answers : Direction → List ℕ → List ℕ → List ℕ → Type 0
-Answers Encrypt key block answer = IsDes (bits_of_bytes key) (bits_of_bytes block) (bits_of_bytes answer)
-Answers Decrypt key block answer = IsDes (bits_of_bytes key) (bits_of_bytes answer) (bits_of_bytes block)
+Answers Encrypt key block answer = Enciphers key block answer
+Answers Decrypt key block answer = Enciphers key answer block
 
 -- the text is that of the blocks which answer, block by block, the blocks that the digits write, under the key
 -- that its digits write

@@ -146,9 +146,10 @@ fn parse<'a>(words: &[&'a str]) -> Option<Command<'a>>
 
 /// The text that answers the words of a command line, without the program's own name.
 ///
-/// `des encrypt KEY BLOCKS` enciphers 8-byte blocks under an 8-byte key, and `des decrypt KEY BLOCKS`
-/// deciphers them, each block on its own. `KEY` and `BLOCKS` are hexadecimal digits in either case, two a
-/// byte; no block at all is a list too. The answer is the blocks' lower-case digits, in order, and a newline.
+/// `des encrypt KEY BLOCKS` enciphers 8-byte blocks under an 8-byte key, and `des decrypt KEY
+/// BLOCKS` deciphers them, each block on its own. `KEY` and `BLOCKS` are hexadecimal digits in
+/// either case, two a byte; no block at all is a list too. The answer is the blocks' lower-case
+/// digits, in order, and a newline.
 ///
 /// Every fault but `Memory` is found before any memory is asked for.
 pub fn answer(alloc: Global, words: &[&str]) -> Result<Vec<u8>, Fault>
@@ -195,7 +196,8 @@ fn parse_key(digits: &str) -> Result<[u8; 8], Fault>
 // The word is taken whole before any memory is asked for, so only memory fails after that.
 fn parse_blocks(alloc: Global, digits: &str) -> Result<Vec<[u8; 8]>, Fault>
     ensures fault { IfSome (blocks_fault digits.now) (λ fault. result ≡ Err fault) }
-    ensures memory { IfNone (blocks_fault digits.now) (IfErr result (λ fault. fault ≡ Fault.Memory)) }
+    ensures memory { IfNone (blocks_fault digits.now)
+        (IfErr result (λ fault. fault ≡ Fault.Memory)) }
     ensures joined { IfOk result (λ blocks. concat blocks.items ≡ bytes_of_digits digits.now) }
     ensures blocks { IfOk result (λ blocks. All IsBlock blocks.items) }
 {
@@ -262,7 +264,8 @@ fn text_of(alloc: Global, blocks: &[[u8; 8]]) -> Result<Vec<u8>, Fault>
 pub fn show<W: Write, E: Write>(answer: &Result<Vec<u8>, Fault>, out: &mut W, err: &mut E) -> u8
     ensures answered { OnOk answer.now ((result ≡ 0) ⊎ (result ≡ NOT_WRITTEN)) }
     ensures fault { IfErr answer.now (λ fault. result ≡ status_of fault) }
-    ensures written { result ≡ 0 → IfOk answer.now (λ text. Appends (W.contents out.old) (W.contents out.new) text.items) }
+    ensures written { result ≡ 0 → IfOk answer.now (λ text.
+        Appends (W.contents out.old) (W.contents out.new) text.items) }
     ensures err { OnOk answer.now (err.new ≡ err.old) }
     ensures out { OnErr answer.now (out.new ≡ out.old) }
 {
@@ -286,7 +289,8 @@ fn write_whole<W: Write>(out: &mut W, text: &[u8]) -> io::Result<()>
 }
 
 fn report<E: Write>(fault: Fault, err: &mut E) -> io::Result<()>
-    ensures { OnOk result (Appends (E.contents err.old) (E.contents err.new) (name_of fault ++ codes "\n")) }
+    ensures { OnOk result
+        (Appends (E.contents err.old) (E.contents err.new) (name_of fault ++ codes "\n")) }
 {
     writeln!(err, "{fault}")?;
     err.flush()

@@ -1,4 +1,5 @@
-//! The program `des_tool`: it enciphers and deciphers blocks that its arguments write in hexadecimal digits.
+//! The program `des_tool`: it enciphers and deciphers blocks that its arguments write in
+//! hexadecimal digits.
 #![tactic(auto)]
 
 ghost use Rattle.std.specs.Prelude.{◌≡◌, ◌≢◌};

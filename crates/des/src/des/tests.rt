@@ -2,10 +2,10 @@ use super::*;
 use crate::cipher::{InvalidLength, NotEqualError};
 use std::test::Fail;
 
-// Key, plaintext, ciphertext. The first is the worked example of J. Orlin Grabbe, "The DES Algorithm
-// Illustrated"; the second and the third are of NBS Special Publication 500-20; the next three stand in the
-// tests of many DES libraries, first in Eric Young's; the last is of FIPS 81, appendix B. OpenSSL answers the
-// same.
+// Key, plaintext, ciphertext. The first is the worked example of J. Orlin Grabbe, "The DES
+// Algorithm Illustrated"; the second and the third are of NBS Special Publication 500-20; the next
+// three stand in the tests of many DES libraries, first in Eric Young's; the last is of FIPS 81,
+// appendix B. OpenSSL answers the same.
 const ANSWERS: [(u64, u64, u64); 7] = [
     (0x133457799bbcdff1, 0x0123456789abcdef, 0x85e813540f0ab405),
     (0x0101010101010101, 0x8000000000000000, 0x95f8a5e5dd31d900),
@@ -153,8 +153,8 @@ fn has_its_sizes_and_names(rt: HostRuntime) -> Result<(), Fail> {
     Ok(())
 }
 
-// This test asks for no memory but in `clone`, so it holds whichever request is refused only if a clone asks
-// for none.
+// This test asks for no memory but in `clone`, so it holds whichever request is refused only if a
+// clone asks for none.
 #[test]
 fn clones_without_memory(rt: HostRuntime) -> Result<(), Fail> {
     let cipher = Des::new(&KEY);

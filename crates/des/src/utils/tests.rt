@@ -1,7 +1,7 @@
 use super::*;
 
-// The steps of the worked example of J. Orlin Grabbe, "The DES Algorithm Illustrated": the key 133457799bbcdff1
-// and the block 0123456789abcdef.
+// The steps of the worked example of J. Orlin Grabbe, "The DES Algorithm Illustrated": the key
+// 133457799bbcdff1 and the block 0123456789abcdef.
 #[test]
 fn first_steps(rt: HostRuntime) {
     assert_eq!(rt; ip(0x0123456789abcdef), 0xcc00ccfff0aaf0aa);

@@ -96,8 +96,8 @@ fn answers_no_block(rt: HostRuntime) -> Result<(), Fail> {
     Ok(())
 }
 
-// The worked example of J. Orlin Grabbe, "The DES Algorithm Illustrated"; and FIPS 81, appendix B, "Now is the
-// time for all ". OpenSSL answers the same.
+// The worked example of J. Orlin Grabbe, "The DES Algorithm Illustrated"; and FIPS 81, appendix B,
+// "Now is the time for all ". OpenSSL answers the same.
 const ANSWERS: [(&str, &str, &str); 4] = [
     ("133457799BBCDFF1", "0123456789ABCDEF", "85e813540f0ab405"),
     ("133457799bbcdff1", "0123456789abcdef", "85e813540f0ab405"),
