@@ -1,5 +1,5 @@
 -- What a `Des` of a key answers to a list of blocks is related to it, block by block, by DES under the key.
-use Rattle.std.proofs.Common.{◌≡◌, ℕ, List, [], ◌∷◌, Bool, reverse, refl}
+use Rattle.std.proofs.Common.{◌≡◌, ℕ, List, [], ◌∷◌, Bool, reverse}
 use Rattle.std.specs.List.{All}
 use Rattle.std.proofs.lemmas.List.Elements.{All-head, All-tail}
 use Rattle.des.specs.Bits.{bits_of_bytes}

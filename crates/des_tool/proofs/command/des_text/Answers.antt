@@ -1,12 +1,10 @@
 use Rattle.std.proofs.Common.{◌≡◌, ℕ, List, Option, Some, None, Result, Ok, Err, IfSome, IfNone, IfOk, OnOk, ◌∙◌, arith}
 use Rattle.std.proofs.lemmas.List.{with_items_is}
 use Rattle.des.specs.Bits.{bits_of_bytes}
-use Rattle.des.specs.Blocks.{IsBlock}
 use Rattle.des.specs.Des.{IsDesOf}
 use Rattle.des_tool.specs.declared.command.Fault.{Fault}
 use Rattle.des_tool.specs.Fault.{key_fault}
 use Rattle.des_tool.specs.Digits.{bytes_of_digits}
-use Rattle.des_tool.specs.Answer.{IsDesText}
 use Rattle.des_tool.proofs.command.des_text.Goals as goal
 use Rattle.des_tool.proofs.command.des_text.Goals.{After-drop-blocks}
 
