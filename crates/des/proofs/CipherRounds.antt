@@ -1,14 +1,11 @@
 -- The rounds of the cipher on words: the steps from a block to the block that the rounds make of it.
-use Rattle.std.proofs.Common.{◌≡◌, ℕ, suc, ◌+◌, ◌-◌, ◌^◌, ◌<◌, List, [], ◌∷◌, ◌++◌, Bool, length, take, drop, slice_index, ap, ap₂, sym, ◌∙◌, add-one, drop-cons, take_at, drop_at, length-drop, reverse, refl}
-use Rattle.std.specs.Int.{w64, rotate_left, from_be_bytes, to_be_bytes}
+use Rattle.std.proofs.Common.{◌≡◌, ℕ, suc, ◌+◌, ◌-◌, ◌<◌, List, [], ◌∷◌, ◌++◌, Bool, length, take, drop, slice_index, ap, ap₂, sym, ◌∙◌, add-one, drop-cons, take_at, drop_at, length-drop, reverse, refl}
 use Rattle.std.proofs.lemmas.List.{map-append, reverse-append}
-use Rattle.des.specs.Bits.{bits_of_word, bits_of_bytes, select, xor_bits}
+use Rattle.des.specs.Bits.{bits_of_word, select, xor_bits}
 use Rattle.des.specs.Tables.{initial_permutation, final_permutation}
 use Rattle.des.specs.CipherFunction.{cipher_function}
 use Rattle.des.specs.Answers.{after_rounds, swapped, through_rounds, round_keys_of}
-use Rattle.des.specs.Laws.BitLists.{length-bits_of, bits_of_bytes-to_be, bits_of_bytes-from_be}
-use Rattle.des.specs.Laws.Selections.{select-final_permutation}
-use Rattle.des.proofs.HalfWords.{bits_of_word-rotate_left}
+use Rattle.des.specs.Laws.BitLists.{length-bits_of}
 
 -- the halves that the rounds of the words' round keys make of the halves of a word
 abbrev pub halves_after : List ℕ → ℕ → List Bool × List Bool
@@ -50,18 +47,14 @@ round_keys_of-reverse (word ∷ words) =
     ∙ ap (λ (keys : List (List Bool)). keys ++ take 48 (bits_of_word word) ∷ []) (round_keys_of-reverse words)
     ∙ sym (reverse-append (take 48 (bits_of_word word) ∷ []) (round_keys_of words))
 
--- the steps of the cipher from a block to a block: the initial permutation, the rounds, the halves swapped, and
--- the word whose initial permutation that is
-pub through_rounds-blocks : (words block : List ℕ) (permuted last final : ℕ) → length block ≡ 8 → ((i : ℕ) → slice_index block i < 256) → last < 2 ^ 64
-    → bits_of_word permuted ≡ select initial_permutation (bits_of_word (from_be_bytes w64 block))
-    → halves_after [] last ≡ halves_after words permuted
-    → select initial_permutation (bits_of_word final) ≡ bits_of_word (rotate_left w64 last 32)
-    → bits_of_bytes (to_be_bytes w64 final) ≡ through_rounds (round_keys_of words) (bits_of_bytes block)
+-- the rounds of the words from the halves of a block after the initial permutation, the halves swapped, and the
+-- final permutation
+pub through_rounds-halves : (words : List ℕ) (first last : ℕ) (block answer : List Bool) → bits_of_word first ≡ select initial_permutation block
+    → halves_after [] last ≡ halves_after words first
+    → answer ≡ select final_permutation (drop 32 (bits_of_word last) ++ take 32 (bits_of_word last))
+    → answer ≡ through_rounds (round_keys_of words) block
 unfolding after_rounds round_keys_of through_rounds
-through_rounds-blocks words block permuted last final eight small fits begins rounds ends =
-    bits_of_bytes-to_be final
-    ∙ sym (select-final_permutation (bits_of_word final) (length-bits_of 64 final))
-    ∙ ap (select final_permutation) (ends ∙ bits_of_word-rotate_left last fits)
+through_rounds-halves words first last block answer begins rounds ends =
+    ends
     ∙ ap (λ h. select final_permutation (swapped h)) rounds
     ∙ ap (λ (bits : List Bool). select final_permutation (swapped (after_rounds (round_keys_of words) (take 32 bits) (drop 32 bits)))) begins
-    ∙ ap (through_rounds (round_keys_of words)) (sym (bits_of_bytes-from_be block eight small))

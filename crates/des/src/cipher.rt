@@ -78,7 +78,7 @@ impl KeyBytes for [u8; 8] {
     }
 
     fn from_bytes(bytes: &[u8]) -> Option<Self> {
-        bytes.try_into().ok()
+        <[u8; 8]>::try_from(bytes).ok()
     }
 }
 
@@ -96,7 +96,7 @@ impl KeyBytes for [u8; 16] {
     }
 
     fn from_bytes(bytes: &[u8]) -> Option<Self> {
-        bytes.try_into().ok()
+        <[u8; 16]>::try_from(bytes).ok()
     }
 }
 
@@ -114,7 +114,7 @@ impl KeyBytes for [u8; 24] {
     }
 
     fn from_bytes(bytes: &[u8]) -> Option<Self> {
-        bytes.try_into().ok()
+        <[u8; 24]>::try_from(bytes).ok()
     }
 }
 
@@ -178,6 +178,19 @@ pub trait AlgorithmName {
     const NAME: &'static str;
 }
 
+// Copies a list of blocks into one of the same length.
+fn copy_blocks(input: &[[u8; 8]], output: &mut [[u8; 8]]) -> Result<(), NotEqualError>
+    ensures accepted { IsOk result ↔ (length input.now ≡ length output.old) }
+    ensures ok { OnOk result (output.new ≡ input.now) }
+    ensures err { OnErr result (output.new ≡ output.old) }
+{
+    if input.len() != output.len() {
+        return Err(NotEqualError);
+    }
+    output.copy_from_slice(input);
+    Ok(())
+}
+
 /// Encryption of blocks of 8 bytes. No call changes the cipher or the input.
 pub trait BlockCipherEncrypt: BlockSizeUser {
     // The block that the cipher makes of a block.
@@ -217,10 +230,7 @@ pub trait BlockCipherEncrypt: BlockSizeUser {
             input.now output.new) }
         ensures err { OnErr result (output.new ≡ output.old) }
     {
-        if input.len() != output.len() {
-            return Err(NotEqualError);
-        }
-        output.copy_from_slice(input);
+        copy_blocks(input, output)?;
         self.encrypt_blocks(output);
         Ok(())
     }
@@ -265,10 +275,7 @@ pub trait BlockCipherDecrypt: BlockSizeUser {
             input.now output.new) }
         ensures err { OnErr result (output.new ≡ output.old) }
     {
-        if input.len() != output.len() {
-            return Err(NotEqualError);
-        }
-        output.copy_from_slice(input);
+        copy_blocks(input, output)?;
         self.decrypt_blocks(output);
         Ok(())
     }

@@ -1,6 +1,9 @@
 //! The block cipher `Des` (FIPS 46-3).
 
-ghost use Rattle.std.specs.Prelude.{◌≡◌, ◌↔◌, ℕ, List, Bool};
+ghost use Rattle.std.specs.Prelude.{◌≡◌, ◌↔◌, ◌++◌, ℕ, List, Bool, take, drop};
+ghost use Rattle.des.specs.Bits.{bits_of_bytes, bits_of_word, select};
+ghost use Rattle.des.specs.Blocks.{IsBlock};
+ghost use Rattle.des.specs.Tables.{initial_permutation, final_permutation};
 ghost use Rattle.des.specs.KeySchedule.{HoldSomeRoundKeys};
 
 use crate::cipher::{
@@ -10,6 +13,23 @@ use crate::cipher::{
 use crate::utils;
 use std::alloc::AllocError;
 use std::fmt;
+
+// The word of the two halves that the rounds of a block begin with.
+fn first_halves(block: &[u8; 8]) -> u64
+    ensures { bits_of_word result ≡ select initial_permutation (bits_of_bytes block.now) }
+{
+    utils::ip(u64::from_be_bytes(*block))
+}
+
+// The block that the word of the two halves after the rounds makes: the halves are swapped, and the
+// final permutation follows.
+fn last_block(halves: u64) -> [u8; 8]
+    ensures block { IsBlock result }
+    ensures bits { bits_of_bytes result ≡ select final_permutation
+        (drop 32 (bits_of_word halves) ++ take 32 (bits_of_word halves)) }
+{
+    utils::fp(halves.rotate_left(32)).to_be_bytes()
+}
 
 /// DES under one key: the key's sixteen round keys.
 ///
@@ -34,8 +54,6 @@ impl KeySizeUser for Des {
 }
 
 impl KeyInit for Des {
-    ghost use Rattle.des.specs.Bits.{bits_of_bytes};
-    ghost use Rattle.des.specs.Blocks.{IsBlock};
     ghost use Rattle.des.specs.Enciphering.{Enciphers, HasOneAnswerEachWay};
     ghost use Rattle.des.specs.Des.{IsDesOf};
 
@@ -77,7 +95,6 @@ impl AlgorithmName for Des {
 }
 
 impl BlockCipherEncrypt for Des {
-    ghost use Rattle.des.specs.Bits.{bits_of_bytes};
     ghost use Rattle.des.specs.Enciphering.{IsDes};
     ghost use Rattle.des.specs.Des.{IsDesOf, encrypted as encrypted_by};
 
@@ -91,16 +108,15 @@ impl BlockCipherEncrypt for Des {
         ensures alone { (key other : List Bool) → IsDesOf self.now key
             → IsDes key (bits_of_bytes block.old) other → other ≡ bits_of_bytes block.new }
     {
-        let mut halves = utils::ip(u64::from_be_bytes(*block));
+        let mut halves = first_halves(block);
         for &round_key in &self.round_keys {
             halves = utils::round(halves, round_key);
         }
-        *block = utils::fp(halves.rotate_left(32)).to_be_bytes();
+        *block = last_block(halves);
     }
 }
 
 impl BlockCipherDecrypt for Des {
-    ghost use Rattle.des.specs.Bits.{bits_of_bytes};
     ghost use Rattle.des.specs.Enciphering.{IsDes};
     ghost use Rattle.des.specs.Des.{IsDesOf, decrypted as decrypted_by};
 
@@ -115,11 +131,11 @@ impl BlockCipherDecrypt for Des {
         ensures alone { (key other : List Bool) → IsDesOf self.now key
             → IsDes key other (bits_of_bytes block.old) → other ≡ bits_of_bytes block.new }
     {
-        let mut halves = utils::ip(u64::from_be_bytes(*block));
+        let mut halves = first_halves(block);
         for &round_key in self.round_keys.iter().rev() {
             halves = utils::round(halves, round_key);
         }
-        *block = utils::fp(halves.rotate_left(32)).to_be_bytes();
+        *block = last_block(halves);
     }
 }
 
@@ -162,9 +178,8 @@ impl Clone for Des {
     ghost is_infallible = { λ _. ⊤ };
 
     fn clone(&self) -> Result<Des, AllocError> {
-        Ok(Des {
-            round_keys: self.round_keys,
-        })
+        let round_keys = self.round_keys;
+        Ok(Des { round_keys })
     }
 }
 
