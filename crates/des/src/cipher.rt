@@ -53,6 +53,7 @@ pub trait KeyBytes: Copy {
     /// The bytes of the key, `LEN` of them.
     fn as_bytes(&self) -> &[u8]
         ensures bytes { result.now ≡ bytes_of self.now }
+        ensures are_bytes { AreBytes result.now }
         ensures count { length result.now ≡ LEN };
 
     /// The array of these bytes; `None` where there are not `LEN` of them.
@@ -74,7 +75,7 @@ impl KeyBytes for [u8; 8] {
     ghost bytes_determine = { λ _ _ same. same };
 
     fn as_bytes(&self) -> &[u8] {
-        self
+        self.as_slice()
     }
 
     fn from_bytes(bytes: &[u8]) -> Option<Self> {
@@ -92,7 +93,7 @@ impl KeyBytes for [u8; 16] {
     ghost bytes_determine = { λ _ _ same. same };
 
     fn as_bytes(&self) -> &[u8] {
-        self
+        self.as_slice()
     }
 
     fn from_bytes(bytes: &[u8]) -> Option<Self> {
@@ -110,7 +111,7 @@ impl KeyBytes for [u8; 24] {
     ghost bytes_determine = { λ _ _ same. same };
 
     fn as_bytes(&self) -> &[u8] {
-        self
+        self.as_slice()
     }
 
     fn from_bytes(bytes: &[u8]) -> Option<Self> {

@@ -183,8 +183,12 @@ impl Clone for Des {
     }
 }
 
-/// Shows no part of the key.
+/// Writes the type's name, and no part of the key.
 impl fmt::Debug for Des {
+    ghost use Rattle.std.specs.Prelude.{Some, codes};
+
+    ghost debug_output = { λ _. Some (codes "Des { ... }") };
+
     fn fmt<W: fmt::Write>(&self, f: &mut fmt::Formatter<W>) -> fmt::Result {
         f.write_str("Des { ... }")
     }
