@@ -2,7 +2,8 @@
 use Rattle.std.proofs.Common.{◌≡◌, ℕ, suc, ◌+◌, ◌-◌, ◌<◌, List, [], ◌∷◌, ◌++◌, Bool, length, take, drop, slice_index, ap, ap₂, sym, ◌∙◌, add-one, drop-cons, take_at, drop_at, length-drop, reverse, refl}
 use Rattle.std.proofs.lemmas.List.{map-append, reverse-append}
 use Rattle.des.specs.Bits.{bits_of_word, select, xor_bits}
-use Rattle.des.specs.Tables.{initial_permutation, final_permutation}
+use Rattle.des.specs.Tables.{initial_permutation}
+use Rattle.des.specs.Answers.{final_permutation}
 use Rattle.des.specs.CipherFunction.{cipher_function}
 use Rattle.des.specs.Answers.{after_rounds, swapped, through_rounds, round_keys_of}
 use Rattle.des.specs.Laws.BitLists.{length-bits_of}

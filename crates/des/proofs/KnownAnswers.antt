@@ -1,13 +1,13 @@
 -- The definitions, computed at values from outside: those of the worked example of J. Orlin Grabbe, The DES
--- Algorithm Illustrated, and published answers (NBS Special Publication 500-20; FIPS 81, appendix B; the tests of
--- Eric Young's library).
+-- Algorithm Illustrated, and published answers (NBS Special Publication 500-20; FIPS 81, appendix B; those of no
+-- bit and of every bit set stand in the tests of many libraries).
 use Rattle.std.proofs.Common.{◌≡◌, ℕ, List, [], ◌∷◌, ◌++◌, Bool, refl, subst, take}
 use Rattle.des.specs.Bits.{bits_of, bits_of_word, bits_of_bytes, number_of, zeros, select, combine}
-use Rattle.des.specs.Tables.{initial_permutation, final_permutation, permuted_choice_1, permuted_choice_2, expansion, permutation}
+use Rattle.des.specs.Tables.{initial_permutation, permuted_choice_1, permuted_choice_2, expansion, permutation}
 use Rattle.des.specs.CipherFunction.{box_entry, substitute_by, substitute, cipher_function}
 use Rattle.des.specs.KeySchedule.{c_half, d_half, rotate, shifts_through, round_key, key_schedule}
 use Rattle.des.specs.Enciphering.{IsDes}
-use Rattle.des.specs.Answers.{after_rounds, through_rounds, enciphered}
+use Rattle.des.specs.Answers.{final_permutation, after_rounds, through_rounds, enciphered}
 use Rattle.des.proofs.OneAnswer.{IsDes-enciphered}
 
 -- ---- the steps, each at the worked example's values
@@ -70,8 +70,8 @@ cipher_function-example = refl
 -- ---- whole encryptions
 
 -- DES under a key takes word x to word y
-Enciphers : ℕ → ℕ → ℕ → Type 0
-Enciphers key x y = IsDes (bits_of_word key) (bits_of_word x) (bits_of_word y)
+EnciphersWord : ℕ → ℕ → ℕ → Type 0
+EnciphersWord key x y = IsDes (bits_of_word key) (bits_of_word x) (bits_of_word y)
 
 -- the bits that `enciphered` computes: `unfolding computed` opens what they are computed by
 computed : ℕ → ℕ → List Bool
@@ -79,38 +79,38 @@ unfolding bits_of select substitute_by box_entry number_of cipher_function combi
 computed key x = enciphered (key_schedule (bits_of_word key)) (bits_of_word x)
 
 -- where those are the bits of y, DES takes x to y
-Enciphers-computed : (key x y : ℕ) → computed key x ≡ bits_of_word y → Enciphers key x y
-unfolding Enciphers computed
-Enciphers-computed key x y same =
+EnciphersWord-computed : (key x y : ℕ) → computed key x ≡ bits_of_word y → EnciphersWord key x y
+unfolding EnciphersWord computed
+EnciphersWord-computed key x y same =
     let P : List Bool → Type 0 = IsDes (bits_of_word key) (bits_of_word x) in
     subst P same (IsDes-enciphered (bits_of_word key) (bits_of_word x) refl refl)
 
 -- the worked example
-worked_example : Enciphers 0x133457799bbcdff1 0x0123456789abcdef 0x85e813540f0ab405
+worked_example : EnciphersWord 0x133457799bbcdff1 0x0123456789abcdef 0x85e813540f0ab405
 unfolding computed
-worked_example = Enciphers-computed _ _ _ refl
+worked_example = EnciphersWord-computed _ _ _ refl
 
 -- a key whose sixteen round keys are equal, at the word whose first bit alone is set
-first_bit_alone : Enciphers 0x0101010101010101 0x8000000000000000 0x95f8a5e5dd31d900
+first_bit_alone : EnciphersWord 0x0101010101010101 0x8000000000000000 0x95f8a5e5dd31d900
 unfolding computed
-first_bit_alone = Enciphers-computed _ _ _ refl
+first_bit_alone = EnciphersWord-computed _ _ _ refl
 
 -- the same key takes the answer back
-first_bit_alone-back : Enciphers 0x0101010101010101 0x95f8a5e5dd31d900 0x8000000000000000
+first_bit_alone-back : EnciphersWord 0x0101010101010101 0x95f8a5e5dd31d900 0x8000000000000000
 unfolding computed
-first_bit_alone-back = Enciphers-computed _ _ _ refl
+first_bit_alone-back = EnciphersWord-computed _ _ _ refl
 
 -- no bit set
-no_bits : Enciphers 0x0000000000000000 0x0000000000000000 0x8ca64de9c1b123a7
+no_bits : EnciphersWord 0x0000000000000000 0x0000000000000000 0x8ca64de9c1b123a7
 unfolding computed
-no_bits = Enciphers-computed _ _ _ refl
+no_bits = EnciphersWord-computed _ _ _ refl
 
 -- every bit set
-all_bits : Enciphers 0xffffffffffffffff 0xffffffffffffffff 0x7359b2163e4edc58
+all_bits : EnciphersWord 0xffffffffffffffff 0xffffffffffffffff 0x7359b2163e4edc58
 unfolding computed
-all_bits = Enciphers-computed _ _ _ refl
+all_bits = EnciphersWord-computed _ _ _ refl
 
 -- the text "Now is t"
-text : Enciphers 0x0123456789abcdef 0x4e6f772069732074 0x3fa40e8a984d4815
+text : EnciphersWord 0x0123456789abcdef 0x4e6f772069732074 0x3fa40e8a984d4815
 unfolding computed
-text = Enciphers-computed _ _ _ refl
+text = EnciphersWord-computed _ _ _ refl

@@ -2,7 +2,8 @@
 -- `deciphered` compute.
 use Rattle.std.proofs.Common.{◌≡◌, suc, List, ◌++◌, Bool, length, take, drop, reverse, subst, sym, ap, ap₂, ◌∙◌, take-append-drop, arith}
 use Rattle.des.specs.Bits.{select}
-use Rattle.des.specs.Tables.{initial_permutation, final_permutation}
+use Rattle.des.specs.Tables.{initial_permutation}
+use Rattle.des.specs.Answers.{final_permutation}
 use Rattle.des.specs.KeySchedule.{key_schedule}
 use Rattle.des.specs.Enciphering.{half_block, IsDes}
 use Rattle.des.specs.Answers.{after_rounds, swapped, through_rounds, enciphered, deciphered}

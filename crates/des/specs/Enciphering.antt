@@ -1,4 +1,4 @@
--- Enciphering as FIPS 46-3 defines it ("Enciphering"), as a relation between a key, a block and a block. It
+-- Enciphering as FIPS 46-3 defines it (enciphering), as a relation between a key, a block and a block. It
 -- has no direction: deciphering is the same relation, read from the second block to the first.
 use Rattle.std.specs.Prelude.{◌≡◌, ℕ, ◌+◌, ◌-◌, ◌≤◌, List, [], ◌++◌, Bool, length, slice_index_or}
 use Rattle.des.specs.Bits.{bits_of_bytes, select, xor_bits}

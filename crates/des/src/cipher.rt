@@ -134,7 +134,7 @@ pub trait KeySizeUser {
 }
 
 /// A type whose values are made from a key.
-pub trait KeyInit: KeySizeUser + Sized {
+pub trait KeyInit: KeySizeUser {
     // The value is one that is made from a key of these bytes.
     ghost is_made_from: { Self → List ℕ → Type 0 };
 
@@ -165,9 +165,9 @@ pub trait BlockSizeUser {
     ghost block_size_is_eight: { BLOCK_SIZE ≡ 8 };
 }
 
-/// A type that treats some blocks at a time.
+/// A type that encrypts or decrypts some blocks at a time.
 pub trait ParBlocksSizeUser: BlockSizeUser {
-    /// The number of blocks at a time.
+    /// The number of blocks that are treated at a time.
     const PAR_BLOCKS: usize;
 
     ghost PAR_BLOCKS: { ℕ };
@@ -197,11 +197,11 @@ pub trait BlockCipherEncrypt: BlockSizeUser {
     // The block that the cipher makes of a block.
     ghost encrypted: { Self → List ℕ → List ℕ };
 
-    /// Encrypts a block in place.
+    /// Encrypts a block of 8 bytes in place.
     fn encrypt_block(&self, block: &mut [u8; 8])
         ensures { block.new ≡ encrypted self.now block.old };
 
-    /// Encrypts the block `input` into `output`.
+    /// Encrypts the block of 8 bytes `input` into `output`.
     final fn encrypt_block_b2b(&self, input: &[u8; 8], output: &mut [u8; 8])
         ensures { output.new ≡ encrypted self.now input.now }
     {
@@ -209,7 +209,7 @@ pub trait BlockCipherEncrypt: BlockSizeUser {
         self.encrypt_block(output);
     }
 
-    /// Encrypts each block in place.
+    /// Encrypts each block of 8 bytes in place, in order. A list of none stays one.
     final fn encrypt_blocks(&self, blocks: &mut [[u8; 8]])
         ensures { AnswersEach (λ block answer. answer ≡ encrypted self.now block)
             blocks.old blocks.new }
@@ -242,11 +242,11 @@ pub trait BlockCipherDecrypt: BlockSizeUser {
     // The block that the cipher makes of a block.
     ghost decrypted: { Self → List ℕ → List ℕ };
 
-    /// Decrypts a block in place.
+    /// Decrypts a block of 8 bytes in place.
     fn decrypt_block(&self, block: &mut [u8; 8])
         ensures { block.new ≡ decrypted self.now block.old };
 
-    /// Decrypts the block `input` into `output`.
+    /// Decrypts the block of 8 bytes `input` into `output`.
     final fn decrypt_block_b2b(&self, input: &[u8; 8], output: &mut [u8; 8])
         ensures { output.new ≡ decrypted self.now input.now }
     {
@@ -254,7 +254,7 @@ pub trait BlockCipherDecrypt: BlockSizeUser {
         self.decrypt_block(output);
     }
 
-    /// Decrypts each block in place.
+    /// Decrypts each block of 8 bytes in place, in order. A list of none stays one.
     final fn decrypt_blocks(&self, blocks: &mut [[u8; 8]])
         ensures { AnswersEach (λ block answer. answer ≡ decrypted self.now block)
             blocks.old blocks.new }

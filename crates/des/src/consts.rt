@@ -1,10 +1,10 @@
 //! The constants of DES (FIPS 46-3).
 
 /// How many places to the left each half of the key is rotated before each of the sixteen round
-/// keys (FIPS 46-3, "Key schedule KS").
+/// keys (FIPS 46-3, key schedule).
 pub const SHIFTS: [u8; 16] = [1, 1, 2, 2, 2, 2, 2, 2, 1, 2, 2, 2, 2, 2, 2, 1];
 
-// The boxes S1 to S8, each of four rows of sixteen entries (FIPS 46-3, "Selection functions").
+// The boxes S1 to S8, each of four rows of sixteen entries (FIPS 46-3, S-boxes).
 pub(crate) const SBOX_ROWS: [[[u8; 16]; 4]; 8] = [
     // S1
     [

@@ -3,7 +3,8 @@
 ghost use Rattle.std.specs.Prelude.{◌≡◌, ◌↔◌, ◌++◌, ℕ, List, Bool, take, drop};
 ghost use Rattle.des.specs.Bits.{bits_of_bytes, bits_of_word, select};
 ghost use Rattle.des.specs.Blocks.{IsBlock};
-ghost use Rattle.des.specs.Tables.{initial_permutation, final_permutation};
+ghost use Rattle.des.specs.Tables.{initial_permutation};
+ghost use Rattle.des.specs.Answers.{final_permutation};
 ghost use Rattle.des.specs.KeySchedule.{HoldSomeRoundKeys};
 
 use crate::cipher::{
@@ -59,7 +60,7 @@ impl KeyInit for Des {
 
     ghost is_made_from = { λ cipher key. IsDesOf cipher (bits_of_bytes key) };
 
-    /// The cipher of the key.
+    /// The cipher of a key of 8 bytes (FIPS 46-3, key schedule).
     fn new(key: &[u8; 8]) -> Des
         ensures made { IsDesOf result (bits_of_bytes key.now) }
         ensures one_answer_each_way { HasOneAnswerEachWay (bits_of_bytes key.now) }
@@ -100,7 +101,8 @@ impl BlockCipherEncrypt for Des {
 
     ghost encrypted = { encrypted_by };
 
-    /// Enciphers a block in place (FIPS 46-3, "Enciphering").
+    /// Enciphers a block of 8 bytes in place, bit 1 the most significant bit of the first byte
+    /// (FIPS 46-3, enciphering).
     fn encrypt_block(&self, block: &mut [u8; 8])
         ensures encrypted { block.new ≡ encrypted_by self.now block.old }
         ensures enciphers { (key : List Bool) → IsDesOf self.now key
@@ -122,8 +124,9 @@ impl BlockCipherDecrypt for Des {
 
     ghost decrypted = { decrypted_by };
 
-    /// Deciphers a block in place: the rounds of enciphering, with the round keys from the last to
-    /// the first (FIPS 46-3, "Deciphering").
+    /// Deciphers a block of 8 bytes in place, bit 1 the most significant bit of the first byte: the
+    /// rounds of enciphering, with the round keys from the last to the first (FIPS 46-3,
+    /// deciphering).
     fn decrypt_block(&self, block: &mut [u8; 8])
         ensures decrypted { block.new ≡ decrypted_by self.now block.old }
         ensures deciphers { (key : List Bool) → IsDesOf self.now key

@@ -12,7 +12,7 @@ ghost use Rattle.des.specs.Positions.{are_positions, are_distinct, is_among};
 
 use crate::consts::{SBOX_ROWS, SHIFTS};
 
-// The initial permutation IP (FIPS 46-3, "Enciphering").
+// The initial permutation IP (FIPS 46-3, enciphering).
 #[rattlefmt::skip]
 const IP: [u8; 64] = [
     58, 50, 42, 34, 26, 18, 10, 2,
@@ -25,7 +25,7 @@ const IP: [u8; 64] = [
     63, 55, 47, 39, 31, 23, 15, 7,
 ];
 
-// The bit selection table E (FIPS 46-3, "The Cipher Function f").
+// The bit selection table E (FIPS 46-3, cipher function).
 #[rattlefmt::skip]
 const E: [u8; 48] = [
     32, 1, 2, 3, 4, 5,
@@ -38,7 +38,7 @@ const E: [u8; 48] = [
     28, 29, 30, 31, 32, 1,
 ];
 
-// The permutation P (FIPS 46-3, "The Cipher Function f").
+// The permutation P (FIPS 46-3, cipher function).
 #[rattlefmt::skip]
 const P: [u8; 32] = [
     16, 7, 20, 21, 29, 12, 28, 17,
@@ -47,7 +47,7 @@ const P: [u8; 32] = [
     19, 13, 30, 6, 22, 11, 4, 25,
 ];
 
-// Permuted choice 1 (FIPS 46-3, "Key schedule KS").
+// Permuted choice 1 (FIPS 46-3, key schedule).
 #[rattlefmt::skip]
 const PC1: [u8; 56] = [
     57, 49, 41, 33, 25, 17, 9,
@@ -60,7 +60,7 @@ const PC1: [u8; 56] = [
     21, 13, 5, 28, 20, 12, 4,
 ];
 
-// Permuted choice 2 (FIPS 46-3, "Key schedule KS").
+// Permuted choice 2 (FIPS 46-3, key schedule).
 #[rattlefmt::skip]
 const PC2: [u8; 48] = [
     14, 17, 11, 24, 1, 5,
@@ -105,22 +105,22 @@ fn permute(word: u64, sources: &[u8], targets: &[u8]) -> u64
     permuted
 }
 
-/// The initial permutation IP of the 64 bits of `input` (FIPS 46-3, "Enciphering").
+/// The initial permutation IP of the 64 bits of `input` (FIPS 46-3, enciphering).
 pub fn ip(input: u64) -> u64
     ensures { bits_of_word result ≡ select initial_permutation (bits_of_word input) }
 {
     permute(input, &IP, &PLACES)
 }
 
-/// The final permutation: the word whose initial permutation is `input` (FIPS 46-3, "Enciphering").
+/// The final permutation: the word whose initial permutation is `input` (FIPS 46-3, enciphering).
 pub fn fp(input: u64) -> u64
     ensures { select initial_permutation (bits_of_word result) ≡ bits_of_word input }
 {
     permute(input, &PLACES, &IP)
 }
 
-/// The permuted choice 1 of a key of 64 bits (FIPS 46-3, "Key schedule KS"): the halves C and D, of
-/// 28 bits each, in the first 56 bits. No parity bit of the key (bits 8, 16, .., 64) is chosen.
+/// The permuted choice 1 of a key of 64 bits (FIPS 46-3, key schedule): the halves C and D, of 28
+/// bits each, in the first 56 bits. No parity bit of the key (bits 8, 16, .., 64) is chosen.
 pub fn pc1(key: u64) -> u64
     ensures { bits_of_word result ≡ select permuted_choice_1 (bits_of_word key) ++ zeros 8 }
 {
@@ -128,7 +128,7 @@ pub fn pc1(key: u64) -> u64
 }
 
 /// The permuted choice 2 of the halves C and D in the first 56 bits of `halves`, whose other 8 bits
-/// are zero (FIPS 46-3, "Key schedule KS"): a round key, in the first 48 bits.
+/// are zero (FIPS 46-3, key schedule): a round key, in the first 48 bits.
 pub fn pc2(halves: u64) -> u64
     requires { halves % 2 ^ 8 ≡ 0 }
     ensures { bits_of_word result
@@ -138,7 +138,7 @@ pub fn pc2(halves: u64) -> u64
 }
 
 /// The expansion E of the half block in the first 32 bits of `half_block`, whose other 32 bits are
-/// zero (FIPS 46-3, "The Cipher Function f"), in the first 48 bits.
+/// zero (FIPS 46-3, cipher function), in the first 48 bits.
 pub fn e(half_block: u64) -> u64
     requires { half_block % 2 ^ 32 ≡ 0 }
     ensures { bits_of_word result
@@ -156,15 +156,15 @@ pub fn p(input: u64) -> u64
     permute(input, &P, &PLACES[..32])
 }
 
-/// The substitution of the first 48 bits of `input` by the boxes S1 to S8 (FIPS 46-3, "Selection
-/// functions"), in the first 32 bits. The low 16 bits of `input` do not count.
+/// The substitution of the first 48 bits of `input` by the boxes S1 to S8 (FIPS 46-3, S-boxes), in
+/// the first 32 bits. The low 16 bits of `input` do not count.
 pub fn apply_sboxes(input: u64) -> u64
     ensures { bits_of_word result ≡ substitute (take 48 (bits_of_word input)) ++ zeros 32 }
 {
     let mut output = 0;
     for (i, sbox) in SBOX_ROWS.iter().enumerate() {
         let group = (input >> (58 - 6 * i)) & 0x000000000000003f;
-        let row = ((group >> 4) & 2) | (group & 1);
+        let row = ((group >> 4) & 0x0000000000000002) | (group & 0x0000000000000001);
         let column = (group >> 1) & 0x000000000000000f;
         output = (output << 4) | u64::from(sbox[row as usize][column as usize]);
     }
@@ -172,7 +172,7 @@ pub fn apply_sboxes(input: u64) -> u64
 }
 
 // The cipher function f of the half block in the first 32 bits of `half_block` and the round key in
-// the first 48 bits of `key` (FIPS 46-3, "The Cipher Function f"), in the first 32 bits.
+// the first 48 bits of `key` (FIPS 46-3, cipher function), in the first 32 bits.
 fn f(half_block: u64, key: u64) -> u64
     requires { half_block % 2 ^ 32 ≡ 0 }
     ensures { bits_of_word result
@@ -182,9 +182,8 @@ fn f(half_block: u64, key: u64) -> u64
     p(apply_sboxes(e(half_block) ^ key))
 }
 
-/// One round (FIPS 46-3, "Enciphering"): of the halves L and R of `input` and the round key K in
-/// the first 48 bits of `key`, the halves R and L xor f(R, K). The low 16 bits of `key` do not
-/// count.
+/// One round (FIPS 46-3, enciphering): of the halves L and R of `input` and the round key K in the
+/// first 48 bits of `key`, the halves R and L xor f(R, K). The low 16 bits of `key` do not count.
 pub fn round(input: u64, key: u64) -> u64
     ensures { let left = take 32 (bits_of_word input) in
         let right = drop 32 (bits_of_word input) in
@@ -206,8 +205,8 @@ fn rotate(half: u64, shift: u8) -> u64
     ((half << shift) & 0x000000000fffffff) | (half >> (28 - shift))
 }
 
-/// The round keys K(1) to K(16) of a key of 64 bits (FIPS 46-3, "Key schedule KS"), each in the
-/// first 48 bits of its word.
+/// The round keys K(1) to K(16) of a key of 64 bits (FIPS 46-3, key schedule), each in the first 48
+/// bits of its word.
 pub fn gen_keys(key: u64) -> [u64; 16]
     ensures { HoldRoundKeys result (bits_of_word key) }
 {

@@ -7,14 +7,14 @@ use Rattle.des_tool.specs.Request.{Request, des, request_of}
 use Rattle.des_tool.specs.declared.command.Fault.{Fault}
 use Rattle.des_tool.specs.declared.command.Fault.TheVariants.{Usage, KeyLength, KeyText, BlockLength, BlockText, Memory}
 
--- the first fault of a key's word: it has sixteen digits
+-- the first fault of a key's word, which has to have sixteen digits
 abbrev pub key_fault : List ℕ → Option Fault
 key_fault key =
     if not (length key == 16) then Some KeyLength
     else if not (list_all is_hex_digit key) then Some KeyText
     else None
 
--- the first fault of the blocks' word: it has sixteen digits for each block
+-- the first fault of the blocks' word, which has to have sixteen digits for each block
 abbrev pub blocks_fault : List ℕ → Option Fault
 blocks_fault blocks =
     if not (length blocks % 16 == 0) then Some BlockLength

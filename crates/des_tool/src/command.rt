@@ -24,7 +24,7 @@ use std::{fmt, io};
 #[cfg(test)]
 mod tests;
 
-/// The status where an answer could not be written.
+// The status where an answer could not be written.
 const NOT_WRITTEN: u8 = 4;
 
 /// Why the words have no answer. The first that holds is reported, in this order.
@@ -91,8 +91,8 @@ impl Fault {
     ghost use Rattle.std.specs.Prelude.{◌≡◌};
     ghost use Rattle.des_tool.specs.Fault.{status_of};
 
-    /// The status that the program ends with: 2 where the words are at fault, 3 where memory is.
-    pub fn status(self) -> u8
+    // The status that the program ends with: 2 where the words are at fault, 3 where memory is.
+    fn status(self) -> u8
         ensures { result ≡ status_of self }
     {
         match self {
@@ -262,7 +262,7 @@ fn text_of(alloc: Global, blocks: &[[u8; 8]]) -> Result<Vec<u8>, Fault>
 /// memory is, and 4 where the answer could not be written: `out` may then hold a part of it. A name
 /// that cannot be written changes no status. It takes no memory of its own.
 pub fn show<W: Write, E: Write>(answer: &Result<Vec<u8>, Fault>, out: &mut W, err: &mut E) -> u8
-    ensures answered { OnOk answer.now ((result ≡ 0) ⊎ (result ≡ NOT_WRITTEN)) }
+    ensures answered { OnOk answer.now ((result ≡ 0) ⊎ (result ≡ 4)) }
     ensures fault { IfErr answer.now (λ fault. result ≡ status_of fault) }
     ensures written { result ≡ 0 → IfOk answer.now (λ text.
         Appends (W.contents out.old) (W.contents out.new) text.items) }

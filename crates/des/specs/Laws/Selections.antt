@@ -4,7 +4,8 @@ use Rattle.std.specs.List.{range_with_len}
 use Rattle.std.proofs.lemmas.List.{length-map, get_or_past, take_all, drop_more}
 use Rattle.std.proofs.Math.ListN.{get_or-map}
 use Rattle.des.specs.Bits.{bit, select, combine, xor, xor_bits}
-use Rattle.des.specs.Tables.{initial_permutation, final_permutation, permutation}
+use Rattle.des.specs.Tables.{initial_permutation, permutation}
+use Rattle.des.specs.Answers.{final_permutation}
 use Rattle.des.specs.CipherFunction.{cipher_function}
 
 -- a selection has as many bits as its list of positions

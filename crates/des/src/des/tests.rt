@@ -3,9 +3,10 @@ use crate::cipher::{InvalidLength, NotEqualError};
 use std::test::Fail;
 
 // Key, plaintext, ciphertext. The first is the worked example of J. Orlin Grabbe, "The DES
-// Algorithm Illustrated"; the second and the third are of NBS Special Publication 500-20; the next
-// three stand in the tests of many DES libraries, first in Eric Young's; the last is of FIPS 81,
-// appendix B. OpenSSL answers the same.
+// Algorithm Illustrated"; the second and the third are of NBS Special Publication 500-20; the
+// fourth and the sixth, of no bit and of every bit set, stand in the tests of many libraries, and
+// the fifth is the fourth with the parity bits of its key set; the last is of FIPS 81, appendix B.
+// OpenSSL answers the same to all.
 const ANSWERS: [(u64, u64, u64); 7] = [
     (0x133457799bbcdff1, 0x0123456789abcdef, 0x85e813540f0ab405),
     (0x0101010101010101, 0x8000000000000000, 0x95f8a5e5dd31d900),
@@ -63,13 +64,14 @@ fn takes_keys_of_eight_bytes(rt: HostRuntime) -> Result<(), Fail> {
 fn lists_there_and_back<C: KeyedCipher + Drop>(
     key: &[u8],
     blocks: &mut [[u8; 8]],
-    copy: &mut [[u8; 8]],
+    answers: &mut [[u8; 8]],
+    back: &mut [[u8; 8]],
 ) -> Result<(), Fail> {
     let cipher = C::new_from_slice(key)?;
-    cipher.encrypt_blocks_b2b(blocks, copy)?;
+    cipher.encrypt_blocks_b2b(blocks, answers)?;
+    cipher.decrypt_blocks_b2b(answers, back)?;
     cipher.encrypt_blocks(blocks);
-    cipher.decrypt_blocks(blocks);
-    cipher.decrypt_blocks_b2b(copy, blocks)?;
+    cipher.decrypt_blocks(answers);
     Ok(())
 }
 
@@ -84,10 +86,12 @@ fn block_there_and_back<C: BlockCipher>(cipher: &C, block: &[u8; 8]) -> ([u8; 8]
 #[test]
 fn goes_there_and_back_by_the_traits(rt: HostRuntime) -> Result<(), Fail> {
     let mut blocks = PLAINTEXT;
-    let mut copy = [[0xa5; 8]; 3];
-    lists_there_and_back::<Des>(&KEY, &mut blocks, &mut copy)?;
-    assert_eq!(rt; blocks, PLAINTEXT);
-    assert_eq!(rt; copy, ciphertext());
+    let mut answers = [[0xa5; 8]; 3];
+    let mut back = [[0xa5; 8]; 3];
+    lists_there_and_back::<Des>(&KEY, &mut blocks, &mut answers, &mut back)?;
+    assert_eq!(rt; back, PLAINTEXT);
+    assert_eq!(rt; blocks, ciphertext());
+    assert_eq!(rt; answers, PLAINTEXT);
 
     let (answer, back) = block_there_and_back(&Des::new(&KEY), &PLAINTEXT[0]);
     assert_eq!(rt; answer, ciphertext()[0]);
