@@ -1,4 +1,4 @@
--- The cipher function f of FIPS 46-3 (cipher function).
+-- The cipher function f (FIPS 46-3, cipher function), and the substitution by the boxes in it (FIPS 46-3, S-boxes).
 use Rattle.std.specs.Prelude.{ℕ, List, [], ◌∷◌, ◌++◌, take, drop, Bool, slice_index, slice_index_or}
 use Rattle.des.specs.Bits.{bit, bits_of, number_of, select, xor_bits}
 use Rattle.des.specs.Tables.{Box, selection_functions, expansion, permutation}

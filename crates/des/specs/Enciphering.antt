@@ -1,5 +1,5 @@
--- Enciphering as FIPS 46-3 defines it (enciphering), as a relation between a key, a block and a block. It
--- has no direction: deciphering is the same relation, read from the second block to the first.
+-- What DES is, as a relation between a key, a block and a block (FIPS 46-3, enciphering). It has no direction:
+-- deciphering is the same relation, read from the second block to the first (FIPS 46-3, deciphering).
 use Rattle.std.specs.Prelude.{◌≡◌, ℕ, ◌+◌, ◌-◌, ◌≤◌, List, [], ◌++◌, Bool, length, slice_index_or}
 use Rattle.des.specs.Bits.{bits_of_bytes, select, xor_bits}
 use Rattle.des.specs.Tables.{initial_permutation}

@@ -1,4 +1,4 @@
--- The key schedule of FIPS 46-3 (key schedule): each round key, taken from the key.
+-- The key schedule KS (FIPS 46-3, key schedule): each round key, taken from the key.
 use Rattle.std.specs.Prelude.{◌≡◌, ℕ, List, [], ◌∷◌, ◌++◌, Bool, map, length, take, drop, sum}
 use Rattle.des.specs.Bits.{bits_of_word, select, zeros}
 use Rattle.des.specs.Tables.{permuted_choice_1, permuted_choice_2, left_shifts}

@@ -147,8 +147,8 @@ pub fn e(half_block: u64) -> u64
     permute(half_block, &E, &PLACES[..48])
 }
 
-/// The permutation P of the first 32 bits of `input`, whose other 32 bits are zero (FIPS 46-3, "The
-/// Cipher Function f"), in the first 32 bits.
+/// The permutation P of the first 32 bits of `input`, whose other 32 bits are zero (FIPS 46-3,
+/// cipher function), in the first 32 bits.
 pub fn p(input: u64) -> u64
     requires { input % 2 ^ 32 ≡ 0 }
     ensures { bits_of_word result ≡ select permutation (take 32 (bits_of_word input)) ++ zeros 32 }
