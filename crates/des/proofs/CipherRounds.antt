@@ -3,9 +3,8 @@ use Rattle.std.proofs.Common.{◌≡◌, ℕ, suc, ◌+◌, ◌-◌, ◌<◌, Li
 use Rattle.std.proofs.lemmas.List.{map-append, reverse-append}
 use Rattle.des.specs.Bits.{bits_of_word, select, xor_bits}
 use Rattle.des.specs.Tables.{initial_permutation}
-use Rattle.des.specs.Answers.{final_permutation}
 use Rattle.des.specs.CipherFunction.{cipher_function}
-use Rattle.des.specs.Answers.{after_rounds, swapped, through_rounds, round_keys_of}
+use Rattle.des.specs.Answers.{final_permutation, after_rounds, swapped, through_rounds, round_keys_of}
 use Rattle.des.specs.Laws.BitLists.{length-bits_of}
 
 -- the halves that the rounds of the words' round keys make of the halves of a word

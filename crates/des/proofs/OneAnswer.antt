@@ -3,10 +3,9 @@
 use Rattle.std.proofs.Common.{◌≡◌, suc, List, ◌++◌, Bool, length, take, drop, reverse, subst, sym, ap, ap₂, ◌∙◌, take-append-drop, arith}
 use Rattle.des.specs.Bits.{select}
 use Rattle.des.specs.Tables.{initial_permutation}
-use Rattle.des.specs.Answers.{final_permutation}
 use Rattle.des.specs.KeySchedule.{key_schedule}
 use Rattle.des.specs.Enciphering.{half_block, IsDes}
-use Rattle.des.specs.Answers.{after_rounds, swapped, through_rounds, enciphered, deciphered}
+use Rattle.des.specs.Answers.{final_permutation, after_rounds, swapped, through_rounds, enciphered, deciphered}
 use Rattle.des.specs.Laws.Selections.{select-initial_permutation, select-final_permutation}
 use Rattle.des.specs.Laws.Rounds.{AreHalves, AreHalves-after_rounds}
 use Rattle.des.specs.Laws.ThroughRounds.{AreHalves-permuted, length-swapped, through_rounds-from_halves, length-through_rounds, deciphered-enciphered, enciphered-deciphered}

@@ -4,8 +4,7 @@ use Rattle.std.proofs.Common.{◌≡◌, ℕ, List, ◌++◌, Bool, length, take
 use Rattle.std.proofs.lemmas.List.{reverse-reverse}
 use Rattle.des.specs.Bits.{bits_of_bytes, select}
 use Rattle.des.specs.Tables.{initial_permutation}
-use Rattle.des.specs.Answers.{final_permutation}
-use Rattle.des.specs.Answers.{after_rounds, swapped, through_rounds, enciphered, deciphered}
+use Rattle.des.specs.Answers.{final_permutation, after_rounds, swapped, through_rounds, enciphered, deciphered}
 use Rattle.des.specs.Blocks.{IsBlock, block_of_bits}
 use Rattle.des.specs.Laws.Selections.{length-select, select-initial_permutation, select-final_permutation}
 use Rattle.des.specs.Laws.Rounds.{AreHalves, AreHalves-after_rounds, after_rounds-reverse}
