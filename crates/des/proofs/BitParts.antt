@@ -1,70 +1,64 @@
 -- Parts of a number's list of bits: its first and its last bits and each of them, and what shifts, `|` and `^`
 -- make of them.
-use Rattle.std.proofs.Common.{◌≡◌, ℕ, zero, suc, ◌+◌, ◌-◌, ◌*◌, ◌/◌, ◌%◌, ◌^◌, ◌<◌, ◌≤◌, ◌==◌, Bool, false, List, ◌∷◌, ◌++◌, take, drop, get_or, bit_or, bit_xor, length, refl, ap, ap₂, sym, ◌∙◌, arith, add-zero, le_of_suc-le-suc, not-suc-le-zero, pow_pos, take_at, drop_at, le_refl}
+use Rattle.std.proofs.Common.{◌≡◌, ℕ, zero, suc, ◌+◌, ◌-◌, ◌*◌, ◌/◌, ◌%◌, ◌^◌, ◌<◌, ◌≤◌, ◌==◌, Bool, false, List, ◌∷◌, ◌++◌, take, drop, get_or, bit_and, bit_or, bit_xor, length, refl, ap, ap₂, sym, ◌∙◌, arith, add-zero, pow_pos, take_at, drop_at}
 use Rattle.std.specs.Int.{bit_at}
 use Rattle.std.specs.Int.Bits.{or_zero_r}
-use Rattle.std.proofs.lemmas.Nat.{shl-shr, shr_high, mod-pow-add, or_shifted, xor_shr}
+use Rattle.std.proofs.lemmas.Nat.{shl-shr, mod-pow-add, and_mask, or_shifted, xor_shr}
 use Rattle.std.proofs.Math.Nat.{mul-mod_left}
-use Rattle.std.proofs.lemmas.Nat.Bits.{bit_at-zero, bit_at-lt, bit_at_xor, bit_at_cat_low}
-use Rattle.des.specs.Bits.{bits_of, number_of, zeros, bit, combine, xor, xor_bits}
-use Rattle.des.specs.Laws.BitLists.{length-bits_of, bits_of-same, bits_of-split, bits_of-mod, number_of-bits_of}
-
--- a number made of a high and a low part has the bits of the two, one after the other
-pub bits_of-cat : (m n high low : ℕ) → low < 2 ^ n → bits_of (m + n) (high * 2 ^ n + low) ≡ bits_of m high ++ bits_of n low
-bits_of-cat m n high low fits =
-    bits_of-split m n (high * 2 ^ n + low)
-    ∙ ap₂ ◌++◌
-    (ap (bits_of m) (shr_high high n low fits))
-    (bits_of-same n (high * 2 ^ n + low) low (bit_at_cat_low high n low))
+use Rattle.std.proofs.lemmas.Nat.Bits.{bit_at-zero, bit_at-lt, bit_at_xor}
+use Rattle.std.proofs.lemmas.Bool.Decides.{nat_tests}
+use Rattle.des.specs.Bits.{bits_of, zeros, bit, xor, xor_bits}
+use Rattle.des.specs.Laws.BitLists.{length-bits_of, bits_of-cat, bits_of-split, bits_of-mod, number_of-bits_of}
 
 -- the first m bits of m + n are the bits of the quotient by 2 ^ n
 pub take-bits_of : (m n x : ℕ) → take m (bits_of (m + n) x) ≡ bits_of m (x / 2 ^ n)
-take-bits_of m n x = ap (take m) (bits_of-split m n x) ∙ take_at (bits_of m (x / 2 ^ n)) (bits_of n x) m (length-bits_of m (x / 2 ^ n))
+take-bits_of m n x = rw bits_of-split (take_at (bits_of m (x / 2 ^ n)) (bits_of n x) m (length-bits_of m (x / 2 ^ n)))
 
 -- the last n bits of m + n are the lowest n bits
 pub drop-bits_of : (m n x : ℕ) → drop m (bits_of (m + n) x) ≡ bits_of n x
-drop-bits_of m n x = ap (drop m) (bits_of-split m n x) ∙ drop_at (bits_of m (x / 2 ^ n)) (bits_of n x) m (length-bits_of m (x / 2 ^ n))
+drop-bits_of m n x = rw bits_of-split (drop_at (bits_of m (x / 2 ^ n)) (bits_of n x) m (length-bits_of m (x / 2 ^ n)))
 
 -- the bit at an index from 0, counted from the most significant
 get_or-bits_of : (n x i : ℕ) → i < n → get_or (bits_of n x) i false ≡ (bit_at x (n - 1 - i) == 1)
 unfolding bits_of
-get_or-bits_of zero x i within = absurd (not-suc-le-zero within)
+get_or-bits_of zero x i within = absurd (omega arith)
 get_or-bits_of (suc n) x zero within = ap (λ (k : ℕ). bit_at x k == 1) (omega arith)
 get_or-bits_of (suc n) x (suc i) within =
-    get_or-bits_of n x i (le_of_suc-le-suc within) ∙ ap (λ (k : ℕ). bit_at x k == 1) (omega arith)
+    get_or-bits_of n x i (omega arith) ∙ ap (λ (k : ℕ). bit_at x k == 1) (omega arith)
 
--- the bit at a position from 1, counted from the most significant
-pub bit-bits_of : (n x i : ℕ) → 1 ≤ i → i ≤ n → bit (bits_of n x) i ≡ (bit_at x (n - i) == 1)
-bit-bits_of n x i positive within =
+-- a position in n bits
+abbrev pub IsPositionIn : ℕ → ℕ → Type 0
+IsPositionIn n position = (1 ≤ position) × (position ≤ n)
+
+-- the bit at a position, counted from the most significant
+pub bit-bits_of : (n x i : ℕ) → IsPositionIn n i → bit (bits_of n x) i ≡ (bit_at x (n - i) == 1)
+bit-bits_of n x i inside =
     get_or-bits_of n x (i - 1) (omega arith) ∙ ap (λ (k : ℕ). bit_at x k == 1) (omega arith)
 
 -- zero has no bit set
 bits_of-zero : (n : ℕ) → bits_of n 0 ≡ zeros n
 unfolding bits_of
 bits_of-zero zero = refl
-bits_of-zero (suc n) = rw (bit_at-zero n, bits_of-zero n) refl
+bits_of-zero (suc n) = rw (bit_at-zero n, bits_of-zero n)
+
+-- a mask of the lowest n bits keeps them
+pub bits_of-and_mask : (n x : ℕ) → bits_of n (bit_and x (2 ^ n - 1)) ≡ bits_of n x
+bits_of-and_mask n x = rw and_mask (bits_of-mod n x)
 
 -- a number whose last n bits are zero is divisible by 2 ^ n
 pub mod-zeros : (m n x : ℕ) (front : List Bool) → length front ≡ m → bits_of (m + n) x ≡ front ++ zeros n → x % 2 ^ n ≡ 0
 mod-zeros m n x front size same =
-    let low : bits_of n x ≡ bits_of n 0 =
-    sym (drop-bits_of m n x) ∙ ap (drop m) same ∙ drop_at front (zeros n) m size ∙ sym (bits_of-zero n) in
-    sym (number_of-bits_of n x) ∙ ap number_of low ∙ number_of-bits_of n 0 ∙ omega (arith, pow_pos n)
+    let last : drop m (front ++ zeros n) ≡ zeros n = drop_at front (zeros n) m size in
+    rw (← number_of-bits_of n x, ← drop-bits_of m n x, same, last, ← bits_of-zero n, number_of-bits_of n 0) (omega (arith, pow_pos n))
 
 -- a shift to the left by k places in j + k bits keeps the lowest j bits
 shl-mod : (j k x : ℕ) → x * 2 ^ k % 2 ^ (j + k) ≡ x % 2 ^ j * 2 ^ k
-shl-mod j k x =
-    mod-pow-add (x * 2 ^ k) j k
-    ∙ ap₂ (λ (a b : ℕ). a % 2 ^ j * 2 ^ k + b) (shl-shr x k) (mul-mod_left x (2 ^ k))
-    ∙ add-zero (x % 2 ^ j * 2 ^ k)
+shl-mod j k x = rw (mod-pow-add (x * 2 ^ k) j k, shl-shr x k, mul-mod_left x (2 ^ k)) (add-zero (x % 2 ^ j * 2 ^ k))
 
 -- a number of n bits put in the place that a shift to the left made
 pub bits_of-or_shl : (m n x low : ℕ) → low < 2 ^ n → bits_of (m + n) (bit_or (x * 2 ^ n % 2 ^ (m + n)) low) ≡ bits_of m x ++ bits_of n low
 bits_of-or_shl m n x low fits =
-    ap (λ (high : ℕ). bits_of (m + n) (bit_or high low)) (shl-mod m n x)
-    ∙ ap (bits_of (m + n)) (or_shifted (x % 2 ^ m) n low fits)
-    ∙ bits_of-cat m n (x % 2 ^ m) low fits
-    ∙ ap (λ (front : List Bool). front ++ bits_of n low) (bits_of-mod m m x (le_refl m))
+    rw (shl-mod m n x, or_shifted (x % 2 ^ m) n low fits, bits_of-cat m n (x % 2 ^ m) low fits, bits_of-mod m x)
 
 -- a shift to the left puts zeros after the bits
 pub bits_of-shl : (m n x : ℕ) → bits_of (m + n) (x * 2 ^ n % 2 ^ (m + n)) ≡ bits_of m x ++ zeros n
@@ -75,16 +69,11 @@ bits_of-shl m n x =
 
 -- addition modulo 2 of two numbers below 2, as tests
 sum_test : (a b : ℕ) → a < 2 → b < 2 → ((a + b) % 2 == 1) ≡ xor (a == 1) (b == 1)
-sum_test zero zero p q = refl
-sum_test zero (suc zero) p q = refl
-sum_test (suc zero) zero p q = refl
-sum_test (suc zero) (suc zero) p q = refl
-sum_test (suc (suc a)) b p q = absurd (omega arith)
-sum_test a (suc (suc b)) p q = absurd (omega arith)
+sum_test a b p q = grind (arith, nat_tests)
 
 -- the xor of two numbers has the xor of their bits
 bits_of-xor : (n a b : ℕ) → bits_of n (bit_xor a b) ≡ xor_bits (bits_of n a) (bits_of n b)
-unfolding bits_of combine
+unfolding bits_of xor_bits
 bits_of-xor zero a b = refl
 bits_of-xor (suc n) a b =
     ap₂ ◌∷◌
@@ -92,9 +81,7 @@ bits_of-xor (suc n) a b =
     (bits_of-xor n a b)
 
 -- the first m bits of a xor are the xor of the first m bits
-pub take-bits_of_xor : (m n a b : ℕ) → take m (bits_of (m + n) (bit_xor a b)) ≡ xor_bits (take m (bits_of (m + n) a)) (take m (bits_of (m + n) b))
+pub take-bits_of_xor : (m n a b : ℕ)
+    → take m (bits_of (m + n) (bit_xor a b)) ≡ xor_bits (take m (bits_of (m + n) a)) (take m (bits_of (m + n) b))
 take-bits_of_xor m n a b =
-    take-bits_of m n (bit_xor a b)
-    ∙ ap (bits_of m) (xor_shr a b n)
-    ∙ bits_of-xor m (a / 2 ^ n) (b / 2 ^ n)
-    ∙ sym (ap₂ xor_bits (take-bits_of m n a) (take-bits_of m n b))
+    rw (take-bits_of m n (bit_xor a b), take-bits_of m n a, take-bits_of m n b, xor_shr) (bits_of-xor m (a / 2 ^ n) (b / 2 ^ n))

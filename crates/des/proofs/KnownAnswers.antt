@@ -1,14 +1,15 @@
--- The definitions, computed at values from outside: those of the worked example of J. Orlin Grabbe, The DES
--- Algorithm Illustrated, and published answers (NBS Special Publication 500-20; FIPS 81, appendix B; those of no
--- bit and of every bit set stand in the tests of many libraries).
-use Rattle.std.proofs.Common.{◌≡◌, ℕ, List, [], ◌∷◌, ◌++◌, Bool, refl, subst, take}
-use Rattle.des.specs.Bits.{bits_of, bits_of_word, bits_of_bytes, number_of, zeros, select, combine}
+-- The definitions, computed at values from outside: the steps of the worked example of J. Orlin Grabbe, The DES
+-- Algorithm Illustrated, and whole encryptions.
+use Rattle.std.proofs.Common.{◌≡◌, ℕ, List, [], ◌∷◌, ◌++◌, Bool, map, refl, subst, take}
+use Rattle.std.specs.List.{All}
+use Rattle.std.proofs.lemmas.List.Elements.{All-nil, All-cons}
+use Rattle.des.specs.Bits.{bits_of, bits_of_word, bits_of_bytes, number_of, zeros, select, xor_bits}
 use Rattle.des.specs.Tables.{initial_permutation, permuted_choice_1, permuted_choice_2, expansion, permutation}
 use Rattle.des.specs.CipherFunction.{box_entry, substitute_by, substitute, cipher_function}
 use Rattle.des.specs.KeySchedule.{c_half, d_half, rotate, shifts_through, round_key, key_schedule}
 use Rattle.des.specs.Enciphering.{IsDes}
-use Rattle.des.specs.Answers.{final_permutation, after_rounds, through_rounds, enciphered}
-use Rattle.des.proofs.OneAnswer.{IsDes-enciphered}
+use Rattle.des.specs.Rounds.{final_permutation, after_rounds, through_rounds}
+use Rattle.des.proofs.OneAnswer.{IsDes-through_rounds}
 
 -- ---- the steps, each at the worked example's values
 
@@ -33,7 +34,8 @@ unfolding bits_of select
 permuted_choice_1-example = refl
 
 -- `permuted_choice_2`
-permuted_choice_2-example : select permuted_choice_2 (take 56 (bits_of_word 0xe19955faaccf1e00)) ++ zeros 16 ≡ bits_of_word 0x1b02effc70720000
+permuted_choice_2-example : select permuted_choice_2 (take 56 (bits_of_word 0xe19955faaccf1e00)) ++ zeros 16
+    ≡ bits_of_word 0x1b02effc70720000
 unfolding bits_of select
 permuted_choice_2-example = refl
 
@@ -64,53 +66,63 @@ permutation-example = refl
 
 -- `cipher_function`
 cipher_function-example : cipher_function (bits_of 32 0xf0aaf0aa) (bits_of 48 0x1b02effc7072) ≡ bits_of 32 0x234aa9bb
-unfolding bits_of select substitute_by box_entry number_of cipher_function combine
+unfolding bits_of select substitute_by box_entry number_of cipher_function xor_bits
 cipher_function-example = refl
 
 -- ---- whole encryptions
 
--- DES under a key takes word x to word y
-EnciphersWord : ℕ → ℕ → ℕ → Type 0
-EnciphersWord key x y = IsDes (bits_of_word key) (bits_of_word x) (bits_of_word y)
+-- a key, a plaintext and a ciphertext, as words
+abbrev Answer : Type 0
+Answer = ℕ × ℕ × ℕ
 
--- the bits that `enciphered` computes: `unfolding computed` opens what they are computed by
-computed : ℕ → ℕ → List Bool
-unfolding bits_of select substitute_by box_entry number_of cipher_function combine round_key c_half d_half rotate shifts_through key_schedule after_rounds through_rounds
-computed key x = enciphered (key_schedule (bits_of_word key)) (bits_of_word x)
+-- DES under the key takes the plaintext to the ciphertext
+IsAnswered : Answer → Type 0
+IsAnswered answer = IsDes (bits_of_word answer.0) (bits_of_word answer.1) (bits_of_word answer.2)
 
--- where those are the bits of y, DES takes x to y
-EnciphersWord-computed : (key x y : ℕ) → computed key x ≡ bits_of_word y → EnciphersWord key x y
-unfolding EnciphersWord computed
-EnciphersWord-computed key x y same =
-    let P : List Bool → Type 0 = IsDes (bits_of_word key) (bits_of_word x) in
-    subst P same (IsDes-enciphered (bits_of_word key) (bits_of_word x) refl refl)
+-- what the rounds make of the plaintext: `unfolding computed` opens what it is computed by
+computed : Answer → List Bool
+unfolding bits_of select substitute_by box_entry number_of cipher_function xor_bits
+    round_key c_half d_half rotate shifts_through key_schedule after_rounds through_rounds
+computed answer = through_rounds (key_schedule (bits_of_word answer.0)) (bits_of_word answer.1)
 
--- the worked example
-worked_example : EnciphersWord 0x133457799bbcdff1 0x0123456789abcdef 0x85e813540f0ab405
-unfolding computed
-worked_example = EnciphersWord-computed _ _ _ refl
+-- where that is the ciphertext, DES takes the plaintext to it
+IsAnswered-computed : (answers : List Answer) → map computed answers ≡ map (λ answer. bits_of_word answer.2) answers
+    → All IsAnswered answers
+unfolding IsAnswered computed
+IsAnswered-computed [] same = All-nil IsAnswered
+IsAnswered-computed (answer ∷ answers) same =
+    let P : List Bool → Type 0 = IsDes (bits_of_word answer.0) (bits_of_word answer.1) in
+    let heads : computed answer ≡ bits_of_word answer.2 = cc in
+    let tails : map computed answers ≡ map (λ other. bits_of_word other.2) answers = cc in
+    All-cons IsAnswered answer answers
+    (subst P heads (IsDes-through_rounds (bits_of_word answer.0) (bits_of_word answer.1) refl refl))
+    (IsAnswered-computed answers tails)
 
--- a key whose sixteen round keys are equal, at the word whose first bit alone is set
-first_bit_alone : EnciphersWord 0x0101010101010101 0x8000000000000000 0x95f8a5e5dd31d900
-unfolding computed
-first_bit_alone = EnciphersWord-computed _ _ _ refl
+-- the worked example, and the nineteen answers of the substitution table test of NBS Special Publication 500-20, which
+-- reach all 512 entries of the boxes
+abbrev answers : List Answer
+answers =
+    (0x133457799bbcdff1, 0x0123456789abcdef, 0x85e813540f0ab405) ∷
+    (0x7ca110454a1a6e57, 0x01a1d6d039776742, 0x690f5b0d9a26939b) ∷
+    (0x0131d9619dc1376e, 0x5cd54ca83def57da, 0x7a389d10354bd271) ∷
+    (0x07a1133e4a0b2686, 0x0248d43806f67172, 0x868ebb51cab4599a) ∷
+    (0x3849674c2602319e, 0x51454b582ddf440a, 0x7178876e01f19b2a) ∷
+    (0x04b915ba43feb5b6, 0x42fd443059577fa2, 0xaf37fb421f8c4095) ∷
+    (0x0113b970fd34f2ce, 0x059b5e0851cf143a, 0x86a560f10ec6d85b) ∷
+    (0x0170f175468fb5e6, 0x0756d8e0774761d2, 0x0cd3da020021dc09) ∷
+    (0x43297fad38e373fe, 0x762514b829bf486a, 0xea676b2cb7db2b7a) ∷
+    (0x07a7137045da2a16, 0x3bdd119049372802, 0xdfd64a815caf1a0f) ∷
+    (0x04689104c2fd3b2f, 0x26955f6835af609a, 0x5c513c9c4886c088) ∷
+    (0x37d06bb516cb7546, 0x164d5e404f275232, 0x0a2aeeae3ff4ab77) ∷
+    (0x1f08260d1ac2465e, 0x6b056e18759f5cca, 0xef1bf03e5dfa575a) ∷
+    (0x584023641aba6176, 0x004bd6ef09176062, 0x88bf0db6d70dee56) ∷
+    (0x025816164629b007, 0x480d39006ee762f2, 0xa1f9915541020b56) ∷
+    (0x49793ebc79b3258f, 0x437540c8698f3cfa, 0x6fbf1cafcffd0556) ∷
+    (0x4fb05e1515ab73a7, 0x072d43a077075292, 0x2f22e49bab7ca1ac) ∷
+    (0x49e95d6d4ca229bf, 0x02fe55778117f12a, 0x5a6b612cc26cce4a) ∷
+    (0x018310dc409b26d6, 0x1d9d5c5018f728c2, 0x5f4c038ed12b2e41) ∷
+    (0x1c587f1c13924fef, 0x305532286d6f295a, 0x63fac0d034d9f793) ∷ []
 
--- the same key takes the answer back
-first_bit_alone-back : EnciphersWord 0x0101010101010101 0x95f8a5e5dd31d900 0x8000000000000000
-unfolding computed
-first_bit_alone-back = EnciphersWord-computed _ _ _ refl
-
--- no bit set
-no_bits : EnciphersWord 0x0000000000000000 0x0000000000000000 0x8ca64de9c1b123a7
-unfolding computed
-no_bits = EnciphersWord-computed _ _ _ refl
-
--- every bit set
-all_bits : EnciphersWord 0xffffffffffffffff 0xffffffffffffffff 0x7359b2163e4edc58
-unfolding computed
-all_bits = EnciphersWord-computed _ _ _ refl
-
--- the text "Now is t"
-text : EnciphersWord 0x0123456789abcdef 0x4e6f772069732074 0x3fa40e8a984d4815
-unfolding computed
-text = EnciphersWord-computed _ _ _ refl
+each_answered : All IsAnswered answers
+unfolding computed bits_of
+each_answered = IsAnswered-computed answers refl

@@ -8,7 +8,5 @@ pub mod Rotation
 pub mod RoundKeys
 pub mod Traces
 pub mod OneAnswer
-pub mod CipherRounds
-pub mod BlockLists
-pub mod DesAnswers
-pub mod BlockAnswers
+pub mod RoundsOnWords
+pub mod Graphs

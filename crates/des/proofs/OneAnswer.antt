@@ -1,14 +1,12 @@
--- DES takes each block of 64 bits to exactly one, and takes exactly one to each: those that `enciphered` and
--- `deciphered` compute.
-use Rattle.std.proofs.Common.{◌≡◌, suc, List, ◌++◌, Bool, length, take, drop, reverse, subst, sym, ap, ap₂, ◌∙◌, take-append-drop, arith}
+-- DES takes each block of 64 bits to exactly one: what the rounds of the key make of it.
+use Rattle.std.proofs.Common.{◌≡◌, suc, List, ◌++◌, Bool, length, take, drop, sym, ap, ap₂, ◌∙◌, take-append-drop, arith}
 use Rattle.des.specs.Bits.{select}
 use Rattle.des.specs.Tables.{initial_permutation}
 use Rattle.des.specs.KeySchedule.{key_schedule}
 use Rattle.des.specs.Enciphering.{half_block, IsDes}
-use Rattle.des.specs.Answers.{final_permutation, after_rounds, swapped, through_rounds, enciphered, deciphered}
+use Rattle.des.specs.Rounds.{final_permutation, after_rounds, swapped, through_rounds}
 use Rattle.des.specs.Laws.Selections.{select-initial_permutation, select-final_permutation}
-use Rattle.des.specs.Laws.Rounds.{AreHalves, AreHalves-after_rounds}
-use Rattle.des.specs.Laws.ThroughRounds.{AreHalves-permuted, length-swapped, through_rounds-from_halves, length-through_rounds, deciphered-enciphered, enciphered-deciphered}
+use Rattle.des.specs.Laws.RoundsUndone.{AreHalves, AreHalves-after_rounds, AreHalves-permuted, length-swapped, through_rounds-from_halves, length-through_rounds}
 use Rattle.des.proofs.Traces.{trace, half_block-trace_first, half_block-trace_second, half_block-trace_before_last, half_block-trace_last, length-key_schedule, IsTrace-trace, trace_from_IsTrace}
 
 -- the rounds of the key join two blocks: they begin with the halves of x after the initial permutation, and
@@ -19,19 +17,22 @@ record AreJoined (key x y left right : List Bool) : Type 0 where
   pub ends : select initial_permutation y ≡ swapped (after_rounds (key_schedule key) left right)
 
 -- half block 16 of the trace of a key is the first half after its rounds
-half_block-trace_16 : (key left right : List Bool) → half_block (trace (key_schedule key) left right) 16 ≡ (after_rounds (key_schedule key) left right).0
+half_block-trace_16 : (key left right : List Bool)
+    → half_block (trace (key_schedule key) left right) 16 ≡ (after_rounds (key_schedule key) left right).0
 half_block-trace_16 key left right =
     ap (half_block (trace (key_schedule key) left right)) (sym (length-key_schedule key))
     ∙ half_block-trace_before_last (key_schedule key) left right
 
 -- half block 17 is the second
-half_block-trace_17 : (key left right : List Bool) → half_block (trace (key_schedule key) left right) 17 ≡ (after_rounds (key_schedule key) left right).1
+half_block-trace_17 : (key left right : List Bool)
+    → half_block (trace (key_schedule key) left right) 17 ≡ (after_rounds (key_schedule key) left right).1
 half_block-trace_17 key left right =
     ap (λ n. half_block (trace (key_schedule key) left right) (suc n)) (sym (length-key_schedule key))
     ∙ half_block-trace_last (key_schedule key) left right
 
 -- DES relates two blocks that the rounds of the key join
-IsDes-from_AreJoined : (key x y left right : List Bool) → length key ≡ 64 → length x ≡ 64 → length y ≡ 64 → AreJoined key x y left right → IsDes key x y
+IsDes-from_AreJoined : (key x y left right : List Bool) → length key ≡ 64 → length x ≡ 64 → length y ≡ 64 → AreJoined key x y left right
+    → IsDes key x y
 IsDes-from_AreJoined key x y left right key_width first_width last_width joined = record {
   key_width = key_width;
   first_width = first_width;
@@ -60,41 +61,29 @@ AreJoined-from_IsDes key x y des =
           (ap (λ h. half_block h 16) made ∙ half_block-trace_16 key left right);
     }
 
--- DES takes a block to what `enciphered` computes
-pub IsDes-enciphered : (key x : List Bool) → length key ≡ 64 → length x ≡ 64 → IsDes key x (enciphered (key_schedule key) x)
+-- DES takes a block to what the rounds of its key make of it
+pub IsDes-through_rounds : (key x : List Bool) → length key ≡ 64 → length x ≡ 64 → IsDes key x (through_rounds (key_schedule key) x)
 unfolding through_rounds
-IsDes-enciphered key x key_width width =
+IsDes-through_rounds key x key_width width =
     let left : List Bool = take 32 (select initial_permutation x) in
     let right : List Bool = drop 32 (select initial_permutation x) in
     let last : List Bool × List Bool = after_rounds (key_schedule key) left right in
     let halves : AreHalves (left, right) = AreHalves-permuted x in
-    let joined : AreJoined key x (enciphered (key_schedule key) x) left right = record {
+    let ends : AreHalves last = AreHalves-after_rounds (key_schedule key) left right halves in
+    let joined : AreJoined key x (through_rounds (key_schedule key) x) left right = record {
       widths = halves;
       begins = sym (take-append-drop 32 (select initial_permutation x));
-      ends = select-initial_permutation (swapped last) (length-swapped last (AreHalves-after_rounds (key_schedule key) left right halves));
+      ends = select-initial_permutation (swapped last) (length-swapped last ends);
     } in
-    IsDes-from_AreJoined key x (enciphered (key_schedule key) x) left right key_width width (length-through_rounds (key_schedule key) x) joined
+    IsDes-from_AreJoined key x (through_rounds (key_schedule key) x) left right key_width width
+    (length-through_rounds (key_schedule key) x) joined
 
 -- and to nothing else
-pub enciphered-unique : (key x y : List Bool) → IsDes key x y → y ≡ enciphered (key_schedule key) x
-enciphered-unique key x y des =
+pub through_rounds-from_IsDes : (key x y : List Bool) → IsDes key x y → through_rounds (key_schedule key) x ≡ y
+through_rounds-from_IsDes key x y des =
     let left : List Bool = half_block des.trace 0 in
     let right : List Bool = half_block des.trace 1 in
     let joined : AreJoined key x y left right = AreJoined-from_IsDes key x y des in
-    sym (select-final_permutation y des.last_width)
-    ∙ ap (select final_permutation) joined.ends
-    ∙ sym (through_rounds-from_halves (key_schedule key) x left right joined.widths.0 joined.begins)
-
--- DES takes what `deciphered` computes to the block
-pub IsDes-deciphered : (key y : List Bool) → length key ≡ 64 → length y ≡ 64 → IsDes key (deciphered (key_schedule key) y) y
-IsDes-deciphered key y key_width width =
-    let x : List Bool = deciphered (key_schedule key) y in
-    let P : List Bool → Type 0 = IsDes key x in
-    subst P (enciphered-deciphered (key_schedule key) y width)
-    (IsDes-enciphered key x key_width (length-through_rounds (reverse (key_schedule key)) y))
-
--- and nothing else
-pub deciphered-unique : (key x y : List Bool) → IsDes key x y → x ≡ deciphered (key_schedule key) y
-deciphered-unique key x y des =
-    sym (deciphered-enciphered (key_schedule key) x des.first_width)
-    ∙ ap (deciphered (key_schedule key)) (sym (enciphered-unique key x y des))
+    through_rounds-from_halves (key_schedule key) x left right joined.widths.0 joined.begins
+    ∙ ap (select final_permutation) (sym joined.ends)
+    ∙ select-final_permutation y des.last_width

@@ -1,5 +1,5 @@
 -- Rotations to the left, of lists of bits and of numbers.
-use Rattle.std.proofs.Common.{◌≡◌, ℕ, ◌+◌, ◌-◌, ◌*◌, ◌/◌, ◌%◌, ◌^◌, ◌<◌, ◌≤◌, List, ◌++◌, Bool, length, take, drop, refl, ap, ap₂, sym, ◌∙◌, subst, arith, bit_and, bit_or, add_comm}
+use Rattle.std.proofs.Common.{◌≡◌, ℕ, ◌+◌, ◌-◌, ◌*◌, ◌/◌, ◌%◌, ◌^◌, ◌<◌, ◌≤◌, List, Bool, length, drop, arith, bit_and, bit_or, add_comm}
 use Rattle.std.proofs.lemmas.Nat.{and_mask, or_lt, shl_whole, pow_pos, mod_below, shr_le, shr_below}
 use Rattle.std.proofs.lemmas.List.{append_assoc, drop-append-le, take-append-le, drop-drop, length-drop}
 use Rattle.std.proofs.Math.Seq.{take-add}
@@ -12,12 +12,12 @@ pub rotate-rotate : (m n : ℕ) (half : List Bool) → m + n ≤ length half →
 unfolding rotate
 rotate-rotate m n half within =
     let fits : n ≤ length (drop m half) = omega (arith, length-drop m half) in
-    rw (drop-append-le n (drop m half) (take m half) fits, take-append-le n (drop m half) (take m half) fits, drop-drop n m half, append_assoc, take-add m n half) refl
+    rw (drop-append-le, take-append-le, drop-drop, append_assoc, take-add)
 
 -- a number of k bits, shifted to the left in a word of w bits and masked, keeps its lowest k bits
 and_mask-shl : (m k w x : ℕ) → k + m ≤ w → x < 2 ^ k → bit_and (x * 2 ^ m % 2 ^ w) (2 ^ k - 1) ≡ x * 2 ^ m % 2 ^ k
 and_mask-shl m k w x room within =
-    ap (λ (y : ℕ). bit_and y (2 ^ k - 1)) (shl_whole x k m w within room) ∙ and_mask (x * 2 ^ m) k
+    rw (shl_whole x k m w within room) (and_mask (x * 2 ^ m) k)
 
 -- the shifts both ways give a number of k bits again
 pub or_shifts-lt : (m n k w x : ℕ) → k + m ≤ w → x < 2 ^ k → bit_or (bit_and (x * 2 ^ m % 2 ^ w) (2 ^ k - 1)) (x / 2 ^ n) < 2 ^ k
@@ -25,17 +25,10 @@ or_shifts-lt m n k w x room within =
     rw (and_mask-shl m k w x room within)
     (or_lt k (x * 2 ^ m % 2 ^ k) (x / 2 ^ n) (mod_below (x * 2 ^ m) (2 ^ k) (pow_pos k)) (omega (arith, shr_le x n)))
 
--- the shifts both ways, in m + n bits, rotate the bits by m places
-bits_of-rotated : (m n x : ℕ) → x < 2 ^ (m + n) → bits_of (m + n) (bit_or (x * 2 ^ m % 2 ^ (m + n)) (x / 2 ^ n)) ≡ rotate (bits_of (m + n) x) m
+-- the shifts both ways rotate the bits
+pub bits_of-or_shifts : (m n k w x : ℕ) → m + n ≡ k → k + m ≤ w → x < 2 ^ k
+    → bits_of k (bit_or (bit_and (x * 2 ^ m % 2 ^ w) (2 ^ k - 1)) (x / 2 ^ n)) ≡ rotate (bits_of k x) m
 unfolding rotate
-bits_of-rotated m n x within =
-    ap (λ (k : ℕ). bits_of k (bit_or (x * 2 ^ m % 2 ^ k) (x / 2 ^ n))) (add_comm m n)
-    ∙ bits_of-or_shl n m x (x / 2 ^ n) (shr_below x m n within)
-    ∙ ap₂ ◌++◌ (sym (drop-bits_of m n x)) (sym (take-bits_of m n x))
-
--- the same with k for m + n, shifted in a word of w bits and masked
-pub bits_of-or_shifts : (m n k w x : ℕ) → m + n ≡ k → k + m ≤ w → x < 2 ^ k → bits_of k (bit_or (bit_and (x * 2 ^ m % 2 ^ w) (2 ^ k - 1)) (x / 2 ^ n)) ≡ rotate (bits_of k x) m
-bits_of-or_shifts m n k w x e room within =
-    let P : ℕ → Type 0 = λ j. x < 2 ^ j → bits_of j (bit_or (x * 2 ^ m % 2 ^ j) (x / 2 ^ n)) ≡ rotate (bits_of j x) m in
-    ap (λ (y : ℕ). bits_of k (bit_or y (x / 2 ^ n))) (and_mask-shl m k w x room within)
-    ∙ subst P e (bits_of-rotated m n x) within
+bits_of-or_shifts m n k w x same room within =
+    rw (and_mask-shl m k w x room within, ← same, drop-bits_of m n x, take-bits_of m n x, add_comm m n)
+    (bits_of-or_shl n m x (x / 2 ^ n) (shr_below x m n (rw same within)))

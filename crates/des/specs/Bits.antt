@@ -34,17 +34,13 @@ bit bits position = slice_index_or bits (position - 1) false
 unfoldable pub select : List ℕ → List Bool → List Bool
 select positions bits = map (bit bits) positions
 
--- bit by bit, an operation on two lists of one length
-unfoldable pub combine : (Bool → Bool → Bool) → List Bool → List Bool → List Bool
-combine operation [] others = []
-combine operation (bit ∷ bits) [] = []
-combine operation (bit ∷ bits) (other ∷ others) = operation bit other ∷ combine operation bits others
-
 -- addition of two bits modulo 2
 abbrev pub xor : Bool → Bool → Bool
 xor true other = not other
 xor false other = other
 
--- addition modulo 2, bit by bit
-abbrev pub xor_bits : List Bool → List Bool → List Bool
-xor_bits bits others = combine xor bits others
+-- addition modulo 2, bit by bit, of two lists of one length
+unfoldable pub xor_bits : List Bool → List Bool → List Bool
+xor_bits [] others = []
+xor_bits (bit ∷ bits) [] = []
+xor_bits (bit ∷ bits) (other ∷ others) = xor bit other ∷ xor_bits bits others

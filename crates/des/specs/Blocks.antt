@@ -1,4 +1,4 @@
--- Bytes and blocks of bytes.
+-- Bytes, keys and blocks as lists of numbers, and lists of blocks.
 use Rattle.std.specs.Prelude.{◌≡◌, ℕ, ◌<◌, List, Bool, length}
 use Rattle.std.specs.List.{All, AllZip}
 use Rattle.std.specs.Int.{w64, to_be_bytes}
@@ -7,6 +7,10 @@ use Rattle.des.specs.Bits.{number_of}
 -- each number is a byte
 abbrev pub AreBytes : List ℕ → Type 0
 AreBytes numbers = All (λ number. number < 256) numbers
+
+-- a key of n bytes
+abbrev pub IsKey : ℕ → List ℕ → Type 0
+IsKey n key = (length key ≡ n) × AreBytes key
 
 -- a block of 64 bits: eight bytes
 abbrev pub IsBlock : List ℕ → Type 0

@@ -5,6 +5,7 @@ use Rattle.des.specs.Bits.{bits_of_bytes, select, xor_bits}
 use Rattle.des.specs.Tables.{initial_permutation}
 use Rattle.des.specs.CipherFunction.{cipher_function}
 use Rattle.des.specs.KeySchedule.{round_key}
+use Rattle.des.specs.Blocks.{IsKey, IsBlock}
 
 -- half block i of a list of them, from 0
 abbrev pub half_block : List (List Bool) → ℕ → List Bool
@@ -15,7 +16,8 @@ half_block halves i = slice_index_or halves i []
 pub record IsTrace (key : List Bool) (h : List (List Bool)) : Type 0 where
   pub count : length h ≡ 18
   pub widths : (i : ℕ) → i ≤ 17 → length (half_block h i) ≡ 32
-  pub rounds : (i : ℕ) → 1 ≤ i → i ≤ 16 → half_block h (i + 1) ≡ xor_bits (half_block h (i - 1)) (cipher_function (half_block h i) (round_key key i))
+  pub rounds : (i : ℕ) → 1 ≤ i → i ≤ 16
+      → half_block h (i + 1) ≡ xor_bits (half_block h (i - 1)) (cipher_function (half_block h i) (round_key key i))
 
 -- DES under a key takes block x to block y: a trace of the key begins with the two halves of x after the
 -- initial permutation, and ends with those of y, in the opposite order
@@ -28,15 +30,9 @@ pub record IsDes (key x y : List Bool) : Type 0 where
   pub begins : select initial_permutation x ≡ half_block trace 0 ++ half_block trace 1
   pub ends : select initial_permutation y ≡ half_block trace 17 ++ half_block trace 16
 
--- the same of a key and blocks of eight bytes
-abbrev pub Enciphers : List ℕ → List ℕ → List ℕ → Type 0
-Enciphers key x y = IsDes (bits_of_bytes key) (bits_of_bytes x) (bits_of_bytes y)
-
--- one list of bits has the property, and no other
-abbrev pub HoldsOfOne : (List Bool → Type 0) → Type 0
-HoldsOfOne P = (one : List Bool) × (P one × ((other : List Bool) → P other → other ≡ one))
-
--- DES under the key takes each block of 64 bits to exactly one, and takes exactly one to each
-pub record HasOneAnswerEachWay (key : List Bool) : Type 0 where
-  pub enciphering : (x : List Bool) → length x ≡ 64 → HoldsOfOne (λ y. IsDes key x y)
-  pub deciphering : (y : List Bool) → length y ≡ 64 → HoldsOfOne (λ x. IsDes key x y)
+-- the same of a key and blocks as bytes: DES under the key takes block x to block y
+pub record Enciphers (key x y : List ℕ) : Type 0 where
+  pub is_key : IsKey 8 key
+  pub first_is_block : IsBlock x
+  pub last_is_block : IsBlock y
+  pub is_des : IsDes (bits_of_bytes key) (bits_of_bytes x) (bits_of_bytes y)

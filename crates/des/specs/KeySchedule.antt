@@ -1,6 +1,6 @@
 -- The key schedule KS (FIPS 46-3, key schedule): each round key, taken from the key.
-use Rattle.std.specs.Prelude.{◌≡◌, ℕ, List, [], ◌∷◌, ◌++◌, Bool, map, length, take, drop, sum}
-use Rattle.des.specs.Bits.{bits_of_word, select, zeros}
+use Rattle.std.specs.Prelude.{ℕ, List, [], ◌∷◌, ◌++◌, Bool, map, take, drop, sum}
+use Rattle.des.specs.Bits.{select}
 use Rattle.des.specs.Tables.{permuted_choice_1, permuted_choice_2, left_shifts}
 
 -- C: the first 28 bits that permuted choice 1 takes from the key
@@ -27,11 +27,3 @@ round_key key i =
 -- K(1) to K(16)
 unfoldable pub key_schedule : List Bool → List (List Bool)
 key_schedule key = map (round_key key) (1 ∷ 2 ∷ 3 ∷ 4 ∷ 5 ∷ 6 ∷ 7 ∷ 8 ∷ 9 ∷ 10 ∷ 11 ∷ 12 ∷ 13 ∷ 14 ∷ 15 ∷ 16 ∷ [])
-
--- the words hold K(1) to K(16) of the key, each in its first 48 bits, with zeros after it
-abbrev pub HoldRoundKeys : List ℕ → List Bool → Type 0
-HoldRoundKeys words key = map bits_of_word words ≡ map (λ round_key. round_key ++ zeros 16) (key_schedule key)
-
--- the words hold the round keys of some key of 64 bits
-abbrev pub HoldSomeRoundKeys : List ℕ → Type 0
-HoldSomeRoundKeys words = (key : List Bool) × (length key ≡ 64) × HoldRoundKeys words key

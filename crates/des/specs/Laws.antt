@@ -2,7 +2,7 @@
 -- may cite nothing but specs/.
 pub mod BitLists
 pub mod Selections
-pub mod Rounds
 pub mod BlockBits
-pub mod ThroughRounds
+pub mod Passes
+pub mod RoundsUndone
 pub mod HeldRoundKeys

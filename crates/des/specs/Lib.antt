@@ -2,9 +2,11 @@ pub mod Bits
 pub mod Tables
 pub mod CipherFunction
 pub mod KeySchedule
-pub mod Enciphering
-pub mod Answers
 pub mod Blocks
+pub mod Relations
+pub mod Enciphering
+pub mod RoundKeyWords
+pub mod Rounds
 pub mod Des
 pub mod Positions
 pub mod Laws

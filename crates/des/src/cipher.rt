@@ -4,8 +4,8 @@
 //! Generic code may rest on the laws alone, whatever the body of a call is. In a law a byte is a
 //! number below 256, a block is eight bytes and a key `KEY_SIZE` bytes.
 
-ghost use Rattle.std.specs.Prelude.{◌≡◌, ◌↔◌, ℕ, List, length, codes, Some, IsSome, IfSome, IsOk, IfOk, OnOk, OnErr};
-ghost use Rattle.des.specs.Blocks.{AreBytes, IsBlock, AnswersEach};
+ghost use Rattle.std.specs.Prelude.{◌≡◌, ◌↔◌, ◌≤◌, ℕ, List, length, map, codes, Some, IsSome, IfSome, IsOk, IfOk, OnOk, OnErr};
+ghost use Rattle.des.specs.Blocks.{AreBytes, IsKey, IsBlock};
 
 use std::error::Error;
 use std::fmt;
@@ -14,9 +14,11 @@ use std::fmt;
 #[derive(Clone, Copy, Debug, PartialEq, Eq)]
 pub struct InvalidLength;
 
-/// Writes the type's name.
+/// Writes the type's name, whatever options are set.
 impl fmt::Display for InvalidLength {
     ghost output = { λ _. Some (codes "InvalidLength") };
+
+    ghost styled_output = { λ _ _. Some (codes "InvalidLength") };
 
     fn fmt<W: fmt::Write>(&self, f: &mut fmt::Formatter<W>) -> fmt::Result {
         f.write_str("InvalidLength")
@@ -29,9 +31,11 @@ impl Error for InvalidLength {}
 #[derive(Clone, Copy, Debug, PartialEq, Eq)]
 pub struct NotEqualError;
 
-/// Writes the type's name.
+/// Writes the type's name, whatever options are set.
 impl fmt::Display for NotEqualError {
     ghost output = { λ _. Some (codes "NotEqualError") };
+
+    ghost styled_output = { λ _ _. Some (codes "NotEqualError") };
 
     fn fmt<W: fmt::Write>(&self, f: &mut fmt::Formatter<W>) -> fmt::Result {
         f.write_str("NotEqualError")
@@ -171,6 +175,8 @@ pub trait ParBlocksSizeUser: BlockSizeUser {
     const PAR_BLOCKS: usize;
 
     ghost PAR_BLOCKS: { ℕ };
+
+    ghost par_blocks_is_positive: { 1 ≤ PAR_BLOCKS };
 }
 
 /// A type with the name of an algorithm.
@@ -211,8 +217,7 @@ pub trait BlockCipherEncrypt: BlockSizeUser {
 
     /// Encrypts each block of 8 bytes in place, in order. A list of none stays one.
     final fn encrypt_blocks(&self, blocks: &mut [[u8; 8]])
-        ensures { AnswersEach (λ block answer. answer ≡ encrypted self.now block)
-            blocks.old blocks.new }
+        ensures { blocks.new ≡ map (encrypted self.now) blocks.old }
     {
         for block in blocks.iter_mut() {
             self.encrypt_block(block);
@@ -227,8 +232,7 @@ pub trait BlockCipherEncrypt: BlockSizeUser {
         output: &mut [[u8; 8]],
     ) -> Result<(), NotEqualError>
         ensures accepted { IsOk result ↔ (length input.now ≡ length output.old) }
-        ensures ok { OnOk result (AnswersEach (λ block answer. answer ≡ encrypted self.now block)
-            input.now output.new) }
+        ensures ok { OnOk result (output.new ≡ map (encrypted self.now) input.now) }
         ensures err { OnErr result (output.new ≡ output.old) }
     {
         copy_blocks(input, output)?;
@@ -256,8 +260,7 @@ pub trait BlockCipherDecrypt: BlockSizeUser {
 
     /// Decrypts each block of 8 bytes in place, in order. A list of none stays one.
     final fn decrypt_blocks(&self, blocks: &mut [[u8; 8]])
-        ensures { AnswersEach (λ block answer. answer ≡ decrypted self.now block)
-            blocks.old blocks.new }
+        ensures { blocks.new ≡ map (decrypted self.now) blocks.old }
     {
         for block in blocks.iter_mut() {
             self.decrypt_block(block);
@@ -272,8 +275,7 @@ pub trait BlockCipherDecrypt: BlockSizeUser {
         output: &mut [[u8; 8]],
     ) -> Result<(), NotEqualError>
         ensures accepted { IsOk result ↔ (length input.now ≡ length output.old) }
-        ensures ok { OnOk result (AnswersEach (λ block answer. answer ≡ decrypted self.now block)
-            input.now output.new) }
+        ensures ok { OnOk result (output.new ≡ map (decrypted self.now) input.now) }
         ensures err { OnErr result (output.new ≡ output.old) }
     {
         copy_blocks(input, output)?;
@@ -308,11 +310,11 @@ pub trait KeyedCipher: KeyInit + BlockCipher {
 
     // A cipher made from a key answers as the key does.
     ghost encrypts_by_key: { (cipher : Self) (key block : List ℕ)
-        → length key ≡ Self.KEY_SIZE → AreBytes key → Self.is_made_from cipher key
+        → IsKey Self.KEY_SIZE key → Self.is_made_from cipher key
         → IsBlock block → Self.encrypted cipher block ≡ encryption key block };
 
     ghost decrypts_by_key: { (cipher : Self) (key block : List ℕ)
-        → length key ≡ Self.KEY_SIZE → AreBytes key → Self.is_made_from cipher key
+        → IsKey Self.KEY_SIZE key → Self.is_made_from cipher key
         → IsBlock block → Self.decrypted cipher block ≡ decryption key block };
 }
 

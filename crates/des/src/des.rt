@@ -1,11 +1,15 @@
 //! The block cipher `Des` (FIPS 46-3).
 
-ghost use Rattle.std.specs.Prelude.{◌≡◌, ◌↔◌, ◌++◌, ℕ, List, Bool, take, drop};
+ghost use Rattle.std.specs.Prelude.{◌≡◌, ℕ, List, ◌++◌, take, drop, codes, Some};
+ghost use Rattle.std.specs.Iterator.{IsFinite, AlwaysYields};
+ghost use Rattle.std.specs.Fmt.{DisplaysOnOk, DisplaysStyledOnOk};
 ghost use Rattle.des.specs.Bits.{bits_of_bytes, bits_of_word, select};
 ghost use Rattle.des.specs.Blocks.{IsBlock};
+ghost use Rattle.des.specs.Relations.{IsTheOne, HasOneAnswerEachWay, IsGraphOf};
 ghost use Rattle.des.specs.Tables.{initial_permutation};
-ghost use Rattle.des.specs.Answers.{final_permutation};
-ghost use Rattle.des.specs.KeySchedule.{HoldSomeRoundKeys};
+ghost use Rattle.des.specs.Enciphering.{Enciphers};
+ghost use Rattle.des.specs.Rounds.{final_permutation, answer_by};
+ghost use Rattle.des.specs.RoundKeyWords.{HoldSomeRoundKeys, round_keys_of};
 
 use crate::cipher::{
     AlgorithmName, BlockCipher, BlockCipherDecrypt, BlockCipherEncrypt, BlockSizeUser, KeyInit,
@@ -32,6 +36,23 @@ fn last_block(halves: u64) -> [u8; 8]
     utils::fp(halves.rotate_left(32)).to_be_bytes()
 }
 
+// Takes a block through a round for each round key: to encipher it the round keys come in their
+// order, to decipher it from the last to the first.
+fn run_rounds<'a, I: Iterator<Item = &'a u64>>(block: &mut [u8; 8], round_keys: I)
+    requires can { I.can_next round_keys }
+    requires ends { IsFinite (I.remaining round_keys) }
+    ensures block { IsBlock block.old }
+    ensures answered { (words : List ℕ)
+        → AlwaysYields I.next_gives (λ word. word.now) round_keys words
+        → block.new ≡ answer_by (round_keys_of words) block.old }
+{
+    let mut halves = first_halves(block);
+    for &round_key in round_keys {
+        halves = utils::round(halves, round_key);
+    }
+    *block = last_block(halves);
+}
+
 /// DES under one key: the key's sixteen round keys.
 ///
 /// A key has 8 bytes, bit 1 the most significant bit of the first. Every key is taken, weak ones
@@ -55,19 +76,18 @@ impl KeySizeUser for Des {
 }
 
 impl KeyInit for Des {
-    ghost use Rattle.des.specs.Enciphering.{Enciphers, HasOneAnswerEachWay};
     ghost use Rattle.des.specs.Des.{IsDesOf};
 
-    ghost is_made_from = { λ cipher key. IsDesOf cipher (bits_of_bytes key) };
+    ghost is_made_from = { IsDesOf };
 
     /// The cipher of a key of 8 bytes (FIPS 46-3, key schedule).
     fn new(key: &[u8; 8]) -> Des
-        ensures made { IsDesOf result (bits_of_bytes key.now) }
-        ensures one_answer_each_way { HasOneAnswerEachWay (bits_of_bytes key.now) }
-        ensures encryption { (x y : List ℕ) → IsBlock x → IsBlock y
-            → (⟦<Des as KeyedCipher>⟧.encryption key.now x ≡ y) ↔ Enciphers key.now x y }
-        ensures decryption { (x y : List ℕ) → IsBlock x → IsBlock y
-            → (⟦<Des as KeyedCipher>⟧.decryption key.now y ≡ x) ↔ Enciphers key.now x y }
+        ensures made { IsDesOf result key.now }
+        ensures one_answer_each_way { HasOneAnswerEachWay (Enciphers key.now) }
+        ensures encryption { IsGraphOf (⟦<Des as KeyedCipher>⟧.encryption key.now)
+            (λ x y. Enciphers key.now x y) }
+        ensures decryption { IsGraphOf (⟦<Des as KeyedCipher>⟧.decryption key.now)
+            (λ y x. Enciphers key.now x y) }
     {
         Des {
             round_keys: utils::gen_keys(u64::from_be_bytes(*key)),
@@ -86,9 +106,13 @@ impl BlockSizeUser for Des {
 }
 
 impl ParBlocksSizeUser for Des {
+    ghost use Rattle.std.proofs.Common.{lit≤};
+
     const PAR_BLOCKS: usize = 1;
 
     ghost PAR_BLOCKS = { 1 };
+
+    ghost par_blocks_is_positive = { lit≤ tt };
 }
 
 impl AlgorithmName for Des {
@@ -96,7 +120,6 @@ impl AlgorithmName for Des {
 }
 
 impl BlockCipherEncrypt for Des {
-    ghost use Rattle.des.specs.Enciphering.{IsDes};
     ghost use Rattle.des.specs.Des.{IsDesOf, encrypted as encrypted_by};
 
     ghost encrypted = { encrypted_by };
@@ -105,21 +128,14 @@ impl BlockCipherEncrypt for Des {
     /// (FIPS 46-3, enciphering).
     fn encrypt_block(&self, block: &mut [u8; 8])
         ensures encrypted { block.new ≡ encrypted_by self.now block.old }
-        ensures enciphers { (key : List Bool) → IsDesOf self.now key
-            → IsDes key (bits_of_bytes block.old) (bits_of_bytes block.new) }
-        ensures alone { (key other : List Bool) → IsDesOf self.now key
-            → IsDes key (bits_of_bytes block.old) other → other ≡ bits_of_bytes block.new }
+        ensures enciphers { (key : List ℕ) → IsDesOf self.now key
+            → IsTheOne (λ answer. Enciphers key block.old answer) block.new }
     {
-        let mut halves = first_halves(block);
-        for &round_key in &self.round_keys {
-            halves = utils::round(halves, round_key);
-        }
-        *block = last_block(halves);
+        run_rounds(block, self.round_keys.iter());
     }
 }
 
 impl BlockCipherDecrypt for Des {
-    ghost use Rattle.des.specs.Enciphering.{IsDes};
     ghost use Rattle.des.specs.Des.{IsDesOf, decrypted as decrypted_by};
 
     ghost decrypted = { decrypted_by };
@@ -129,48 +145,40 @@ impl BlockCipherDecrypt for Des {
     /// deciphering).
     fn decrypt_block(&self, block: &mut [u8; 8])
         ensures decrypted { block.new ≡ decrypted_by self.now block.old }
-        ensures deciphers { (key : List Bool) → IsDesOf self.now key
-            → IsDes key (bits_of_bytes block.new) (bits_of_bytes block.old) }
-        ensures alone { (key other : List Bool) → IsDesOf self.now key
-            → IsDes key other (bits_of_bytes block.old) → other ≡ bits_of_bytes block.new }
+        ensures deciphers { (key : List ℕ) → IsDesOf self.now key
+            → IsTheOne (λ answer. Enciphers key answer block.old) block.new }
     {
-        let mut halves = first_halves(block);
-        for &round_key in self.round_keys.iter().rev() {
-            halves = utils::round(halves, round_key);
-        }
-        *block = last_block(halves);
+        run_rounds(block, self.round_keys.iter().rev());
     }
 }
 
 impl BlockCipher for Des {
-    ghost use Rattle.des.specs.Answers.{round_keys_of};
-    ghost use Rattle.des.specs.Laws.BlockBits.{IsBlock-block_of_bits};
-    ghost use Rattle.des.specs.Laws.ThroughRounds.{block_of_bits-deciphered, block_of_bits-enciphered};
+    ghost use Rattle.des.specs.RoundKeyWords.{round_keys_of};
+    ghost use Rattle.des.specs.Laws.RoundsUndone.{IsPass-answer_by};
 
-    ghost encrypted_is_block = { λ cipher block is_block. IsBlock-block_of_bits _ };
+    ghost encrypted_is_block = { λ cipher. (IsPass-answer_by (round_keys_of cipher.round_keys)).forth_is_block };
 
-    ghost decrypted_is_block = { λ cipher block is_block. IsBlock-block_of_bits _ };
+    ghost decrypted_is_block = { λ cipher. (IsPass-answer_by (round_keys_of cipher.round_keys)).back_is_block };
 
-    ghost decrypts_encrypted = { λ cipher block is_block.
-        block_of_bits-deciphered (round_keys_of cipher.round_keys) block is_block };
+    ghost decrypts_encrypted = { λ cipher. (IsPass-answer_by (round_keys_of cipher.round_keys)).back_forth };
 
-    ghost encrypts_decrypted = { λ cipher block is_block.
-        block_of_bits-enciphered (round_keys_of cipher.round_keys) block is_block };
+    ghost encrypts_decrypted = { λ cipher. (IsPass-answer_by (round_keys_of cipher.round_keys)).forth_back };
 }
 
 impl KeyedCipher for Des {
+    ghost use Rattle.std.specs.Prelude.{reverse};
     ghost use Rattle.des.specs.Des.{encryption as encryption_by, decryption as decryption_by};
-    ghost use Rattle.des.specs.Laws.HeldRoundKeys.{encryption-held, decryption-held};
+    ghost use Rattle.des.specs.Laws.HeldRoundKeys.{answer_by-held};
 
     ghost encryption = { encryption_by };
 
     ghost decryption = { decryption_by };
 
-    ghost encrypts_by_key = { λ cipher key block size bytes made is_block.
-        encryption-held cipher.round_keys key block made.1 };
+    ghost encrypts_by_key = { λ cipher key block _ made _.
+        answer_by-held (λ keys. keys) cipher.round_keys key block made.1 };
 
-    ghost decrypts_by_key = { λ cipher key block size bytes made is_block.
-        decryption-held cipher.round_keys key block made.1 };
+    ghost decrypts_by_key = { λ cipher key block _ made _.
+        answer_by-held reverse cipher.round_keys key block made.1 };
 }
 
 impl Clone for Des {
@@ -186,13 +194,16 @@ impl Clone for Des {
     }
 }
 
-/// Writes the type's name, and no part of the key.
+/// Writes the type's name, and no part of the key, whatever options are set.
 impl fmt::Debug for Des {
-    ghost use Rattle.std.specs.Prelude.{Some, codes};
-
     ghost debug_output = { λ _. Some (codes "Des { ... }") };
 
-    fn fmt<W: fmt::Write>(&self, f: &mut fmt::Formatter<W>) -> fmt::Result {
+    fn fmt<W: fmt::Write>(&self, f: &mut fmt::Formatter<W>) -> fmt::Result
+        ensures writes { DisplaysOnOk W.write_str_gives f.old result
+            (Some (codes "Des { ... }")) f.new }
+        ensures styled { DisplaysStyledOnOk W.write_str_gives f.old result
+            (Some (codes "Des { ... }")) f.new }
+    {
         f.write_str("Des { ... }")
     }
 }

@@ -7,7 +7,8 @@ ghost use Rattle.std.specs.Prelude.{◌≡◌, ◌%◌, ◌^◌, ◌<◌, ◌≤
 ghost use Rattle.des.specs.Bits.{bits_of, bits_of_word, bit, select, zeros, xor_bits};
 ghost use Rattle.des.specs.Tables.{initial_permutation, permuted_choice_1, permuted_choice_2, expansion, permutation};
 ghost use Rattle.des.specs.CipherFunction.{substitute, cipher_function};
-ghost use Rattle.des.specs.KeySchedule.{HoldRoundKeys, rotate};
+ghost use Rattle.des.specs.KeySchedule.{rotate};
+ghost use Rattle.des.specs.RoundKeyWords.{HoldRoundKeys};
 ghost use Rattle.des.specs.Positions.{are_positions, are_distinct, is_among};
 
 use crate::consts::{SBOX_ROWS, SHIFTS};

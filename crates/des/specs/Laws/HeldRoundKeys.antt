@@ -1,12 +1,12 @@
--- Words that hold the round keys of a key.
+-- Words that hold the round keys of a key answer as the key does.
 use Rattle.std.proofs.Common.{◌≡◌, ℕ, List, [], ◌∷◌, ◌++◌, Bool, length, map, take, refl, ap, ap₂, sym, ◌∙◌, take_at}
 use Rattle.std.specs.List.{range_with_len}
 use Rattle.std.proofs.lemmas.Simd.{map-map}
 use Rattle.des.specs.Bits.{bits_of_word, bits_of_bytes, zeros}
 use Rattle.des.specs.Tables.{permuted_choice_2}
-use Rattle.des.specs.KeySchedule.{HoldRoundKeys, key_schedule, round_key}
-use Rattle.des.specs.Answers.{enciphered, deciphered, round_keys_of}
-use Rattle.des.specs.Blocks.{block_of_bits}
+use Rattle.des.specs.KeySchedule.{key_schedule, round_key}
+use Rattle.des.specs.RoundKeyWords.{HoldRoundKeys, round_keys_of}
+use Rattle.des.specs.Rounds.{answer_by}
 use Rattle.des.specs.Laws.Selections.{length-select}
 
 -- a round key has 48 bits
@@ -15,21 +15,23 @@ unfolding round_key
 length-round_key key i = length-select permuted_choice_2 _
 
 -- the first 48 bits of round keys with zeros after them are the round keys
-take-round_keys : (key : List Bool) (numbers : List ℕ) → map (take 48) (map (λ bits. bits ++ zeros 16) (map (round_key key) numbers)) ≡ map (round_key key) numbers
+take-round_keys : (key : List Bool) (numbers : List ℕ)
+    → map (take 48) (map (λ bits. bits ++ zeros 16) (map (round_key key) numbers)) ≡ map (round_key key) numbers
 take-round_keys key [] = refl
 take-round_keys key (i ∷ numbers) =
     ap₂ ◌∷◌ (take_at (round_key key i) (zeros 16) 48 (length-round_key key i)) (take-round_keys key numbers)
 
 -- words that hold the round keys of a key have them in their first 48 bits
-pub round_keys_of-HoldRoundKeys : (words : List ℕ) (key : List Bool) → HoldRoundKeys words key → round_keys_of words ≡ key_schedule key
+pub round_keys_of-HoldRoundKeys : (words : List ℕ) (key : List Bool) → HoldRoundKeys words key
+    → round_keys_of words ≡ key_schedule key
 unfolding round_keys_of key_schedule
 round_keys_of-HoldRoundKeys words key held =
-    sym (map-map (take 48) (λ word. bits_of_word word) words) ∙ ap (map (take 48)) held ∙ take-round_keys key (range_with_len 1 16)
+    sym (map-map (take 48) (λ word. bits_of_word word) words)
+    ∙ ap (map (take 48)) held
+    ∙ take-round_keys key (range_with_len 1 16)
 
--- words that hold the round keys of a key of eight bytes encipher a block as the key does
-pub encryption-held : (words key block : List ℕ) → HoldRoundKeys words (bits_of_bytes key) → block_of_bits (enciphered (round_keys_of words) (bits_of_bytes block)) ≡ block_of_bits (enciphered (key_schedule (bits_of_bytes key)) (bits_of_bytes block))
-encryption-held words key block held = ap (λ keys. block_of_bits (enciphered keys (bits_of_bytes block))) (round_keys_of-HoldRoundKeys words (bits_of_bytes key) held)
-
--- and decipher it as the key does
-pub decryption-held : (words key block : List ℕ) → HoldRoundKeys words (bits_of_bytes key) → block_of_bits (deciphered (round_keys_of words) (bits_of_bytes block)) ≡ block_of_bits (deciphered (key_schedule (bits_of_bytes key)) (bits_of_bytes block))
-decryption-held words key block held = ap (λ keys. block_of_bits (deciphered keys (bits_of_bytes block))) (round_keys_of-HoldRoundKeys words (bits_of_bytes key) held)
+-- they answer a block as the key does, in each order of the round keys
+pub answer_by-held : (order : List (List Bool) → List (List Bool)) (words key block : List ℕ) → HoldRoundKeys words (bits_of_bytes key)
+    → answer_by (order (round_keys_of words)) block ≡ answer_by (order (key_schedule (bits_of_bytes key))) block
+answer_by-held order words key block held =
+    ap (λ keys. answer_by (order keys) block) (round_keys_of-HoldRoundKeys words (bits_of_bytes key) held)

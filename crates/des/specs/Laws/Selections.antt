@@ -1,11 +1,13 @@
--- Selections of bits by position, and lists combined bit by bit.
-use Rattle.std.proofs.Common.{◌≡◌, ℕ, zero, suc, ◌+◌, ◌-◌, ◌<◌, ◌≤◌, List, [], ◌∷◌, Bool, true, false, map, length, take, drop, slice_index_or, refl, sym, ap, ap₂, ◌∙◌, arith}
+-- Selections of bits by position, and addition modulo 2 of lists of bits.
+use Rattle.std.proofs.Common.{◌≡◌, ℕ, zero, suc, ◌+◌, ◌-◌, ◌<◌, ◌≤◌, List, [], ◌∷◌, Bool, false, map, length, take, drop, slice_index_or, refl, sym, ap, ap₂, ◌∙◌, arith}
 use Rattle.std.specs.List.{range_with_len}
 use Rattle.std.proofs.lemmas.List.{length-map, get_or_past, take_all, drop_more}
+use Rattle.std.proofs.lemmas.Simd.{map-map}
 use Rattle.std.proofs.Math.ListN.{get_or-map}
-use Rattle.des.specs.Bits.{bit, select, combine, xor, xor_bits}
+use Rattle.std.proofs.Math.Path.{fun_ext}
+use Rattle.des.specs.Bits.{bit, select, xor, xor_bits}
 use Rattle.des.specs.Tables.{initial_permutation, permutation}
-use Rattle.des.specs.Answers.{final_permutation}
+use Rattle.des.specs.Rounds.{final_permutation}
 use Rattle.des.specs.CipherFunction.{cipher_function}
 
 -- a selection has as many bits as its list of positions
@@ -13,12 +15,12 @@ pub length-select : (positions : List ℕ) (bits : List Bool) → length (select
 unfolding select
 length-select positions bits = length-map positions (bit bits)
 
--- two lists of one length combine to a list of that length
-pub length-combine : (operation : Bool → Bool → Bool) (bits others : List Bool) → length bits ≡ length others → length (combine operation bits others) ≡ length bits
-unfolding combine
-length-combine operation [] others same = refl
-length-combine operation (first ∷ bits) [] same = sym same
-length-combine operation (first ∷ bits) (other ∷ others) same = ap suc (length-combine operation bits others (omega arith))
+-- two lists of one length add to a list of that length
+pub length-xor_bits : (bits others : List Bool) → length bits ≡ length others → length (xor_bits bits others) ≡ length bits
+unfolding xor_bits
+length-xor_bits [] others same = refl
+length-xor_bits (first ∷ bits) [] same = sym same
+length-xor_bits (first ∷ bits) (other ∷ others) same = ap suc (length-xor_bits bits others (omega arith))
 
 -- the cipher function's value has 32 bits
 pub length-cipher_function : (half round_key : List Bool) → length (cipher_function half round_key) ≡ 32
@@ -27,14 +29,11 @@ length-cipher_function half round_key = length-select permutation _
 
 -- adding the same bit again gives back the first
 xor-xor : (b c : Bool) → xor (xor b c) c ≡ b
-xor-xor true true = refl
-xor-xor true false = refl
-xor-xor false true = refl
-xor-xor false false = refl
+xor-xor b c = grind arith
 
 -- adding the same bits again gives back the first list
 pub xor_bits-xor_bits : (bits others : List Bool) → length bits ≡ length others → xor_bits (xor_bits bits others) others ≡ bits
-unfolding combine
+unfolding xor_bits
 xor_bits-xor_bits [] others same = refl
 xor_bits-xor_bits (first ∷ bits) [] same = absurd (omega arith)
 xor_bits-xor_bits (first ∷ bits) (other ∷ others) same = ap₂ ◌∷◌ (xor-xor first other) (xor_bits-xor_bits bits others (omega arith))
@@ -45,20 +44,25 @@ composed : ℕ → List ℕ → List ℕ → List ℕ
 composed past outer inner = map (λ position. slice_index_or inner (position - 1) past) outer
 
 -- a bit of a selection is the bit at the composed position
-bit-select : (past : ℕ) (inner : List ℕ) (bits : List Bool) → length bits < past → (position : ℕ) → bit (select inner bits) position ≡ bit bits (slice_index_or inner (position - 1) past)
+bit-select : (past : ℕ) (inner : List ℕ) (bits : List Bool) → length bits < past → (position : ℕ)
+    → bit (select inner bits) position ≡ bit bits (slice_index_or inner (position - 1) past)
 unfolding select
 bit-select past inner bits below position =
     let none : bit bits past ≡ false = get_or_past bits (past - 1) false (omega arith) in
-    ap (λ d. slice_index_or (map (bit bits) inner) (position - 1) d) (sym none) ∙ get_or-map (bit bits) inner (position - 1) past
+    ap (λ d. slice_index_or (map (bit bits) inner) (position - 1) d) (sym none)
+    ∙ get_or-map (bit bits) inner (position - 1) past
 
 -- a selection from a selection is the selection by the composed positions
-select-select : (past : ℕ) (outer inner : List ℕ) (bits : List Bool) → length bits < past → select outer (select inner bits) ≡ select (composed past outer inner) bits
+select-select : (past : ℕ) (outer inner : List ℕ) (bits : List Bool) → length bits < past
+    → select outer (select inner bits) ≡ select (composed past outer inner) bits
 unfolding select composed
-select-select past [] inner bits below = refl
-select-select past (position ∷ outer) inner bits below = ap₂ ◌∷◌ (bit-select past inner bits below position) (select-select past outer inner bits below)
+select-select past outer inner bits below =
+    ap (λ (read : ℕ → Bool). map read outer) (fun_ext (bit-select past inner bits below))
+    ∙ sym (map-map (bit bits) (λ position. slice_index_or inner (position - 1) past) outer)
 
 -- n positions after the first k select n bits after the first k
-pub select-range_with_len : (k n : ℕ) (bits : List Bool) → k + n ≤ length bits → select (range_with_len (k + 1) n) bits ≡ take n (drop k bits)
+pub select-range_with_len : (k n : ℕ) (bits : List Bool) → k + n ≤ length bits
+    → select (range_with_len (k + 1) n) bits ≡ take n (drop k bits)
 unfolding select
 select-range_with_len k zero bits within = refl
 select-range_with_len k (suc n) bits within =
@@ -67,12 +71,11 @@ select-range_with_len k (suc n) bits within =
     ∙ sym (ap (take (suc n)) (drop_more bits k false (omega arith)))
 
 -- a selection from a selection whose composed positions count up from 1 is the list of bits
-select-composed : (outer inner : List ℕ) (n : ℕ) (bits : List Bool) → length bits ≡ n → composed (suc n) outer inner ≡ range_with_len 1 n → select outer (select inner bits) ≡ bits
+select-composed : (outer inner : List ℕ) (n : ℕ) (bits : List Bool) → length bits ≡ n → composed (suc n) outer inner ≡ range_with_len 1 n
+    → select outer (select inner bits) ≡ bits
 select-composed outer inner n bits size counts =
-    select-select (suc n) outer inner bits (omega arith)
-    ∙ ap (λ positions. select positions bits) counts
-    ∙ select-range_with_len 0 n bits (omega arith)
-    ∙ take_all n bits (omega arith)
+    rw (select-select (suc n) outer inner bits (omega arith), counts, select-range_with_len 0 n bits (omega arith))
+    (take_all n bits (omega arith))
 
 -- the initial permutation undoes the final one
 pub select-initial_permutation : (bits : List Bool) → length bits ≡ 64 → select initial_permutation (select final_permutation bits) ≡ bits

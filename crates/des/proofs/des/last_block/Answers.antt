@@ -1,6 +1,6 @@
 use Rattle.std.proofs.Common.{ap, sym, ◌∙◌, arith}
 use Rattle.des.specs.Bits.{bits_of_bytes, bits_of_word, select}
-use Rattle.des.specs.Answers.{final_permutation}
+use Rattle.des.specs.Rounds.{final_permutation}
 use Rattle.des.specs.Laws.BitLists.{length-bits_of, bits_of_bytes-to_be}
 use Rattle.des.specs.Laws.Selections.{select-final_permutation}
 use Rattle.des.proofs.HalfWords.{bits_of_word-rotate_left}
@@ -11,4 +11,5 @@ returns-clause-bits c =
     ap bits_of_bytes c.to_be_bytes.ensures
     ∙ bits_of_bytes-to_be c.fp.result
     ∙ sym (select-final_permutation (bits_of_word c.fp.result) (length-bits_of 64 c.fp.result))
-    ∙ ap (select final_permutation) (c.fp.ensures ∙ ap bits_of_word c.rotate_left.ensures ∙ bits_of_word-rotate_left c.args.halves (omega arith))
+    ∙ ap (select final_permutation)
+    (c.fp.ensures ∙ ap bits_of_word c.rotate_left.ensures ∙ bits_of_word-rotate_left c.args.halves (omega arith))

@@ -1,12 +1,12 @@
-use Rattle.std.proofs.Common.{◌≡◌, ◌-◌, ◌^◌, ◌/◌, ◌*◌, List, ◌++◌, Bool, refl, ap, ◌∙◌, arith}
-use Rattle.des.specs.Bits.{bits_of, zeros}
+use Rattle.std.proofs.Common.{◌≡◌, ◌-◌, ◌^◌, ◌/◌, ◌*◌, refl, arith, append-nil}
+use Rattle.des.specs.Bits.{bits_of}
 use Rattle.des.specs.CipherFunction.{substitute_by}
 use Rattle.des.proofs.BitParts.{bits_of-shl}
 use Rattle.des.proofs.Substitution.{row_of-lt, group_of, entry_for, with_entry-lt, bits_of-with_entry}
 use Rattle.des.proofs.utils.apply_sboxes.Goals as goal
 
 pub loop-i-init : goal.loop-i-init
-unfolding bits_of substitute_by
+unfolding bits_of
 loop-i-init c = record { below = omega arith; substituted = refl }
 
 pub bounds-sbox-row : goal.bounds-sbox-row
@@ -16,13 +16,15 @@ pub loop-i-preserved : goal.loop-i-preserved
 loop-i-preserved c =
     let entry : c.from.result ≡ entry_for c.loop-i.i c.args.input = c.from.ensures in
     let before = c.loop-i.invariant in
+    let within = c.loop-i-test.true in
     record {
-      below = rw entry (with_entry-lt c.loop-i.i c.args.input c.loop-i.output c.loop-i-test.true before.below);
-      substituted = rw entry (bits_of-with_entry c.loop-i.i c.args.input c.loop-i.output c.loop-i-test.true before.below before.substituted);
+      below = rw entry (with_entry-lt c.loop-i.i c.args.input c.loop-i.output within before.below);
+      substituted = rw entry (bits_of-with_entry c.loop-i.i c.args.input c.loop-i.output _ within before.below before.substituted);
     }
 
 pub returns : goal.returns
+unfolding substitute_by
 returns c =
     let last : c.loop-i.i ≡ 8 = omega arith in
-    bits_of-shl 32 32 c.loop-i.output
-    ∙ ap (λ (bits : List Bool). bits ++ zeros 32) (rw last at c.loop-i.invariant.substituted)
+    let all = rw (last, append-nil (bits_of 32 c.loop-i.output)) at c.loop-i.invariant.substituted in
+    rw all at (bits_of-shl 32 32 c.loop-i.output)

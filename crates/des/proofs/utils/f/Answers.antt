@@ -1,7 +1,7 @@
-use Rattle.std.proofs.Common.{◌≡◌, ◌+◌, ◌*◌, ◌++◌, List, [], ◌∷◌, Bool, length, take, drop, bit_xor, refl, ap, ap₂, ◌∙◌, take_at, length-append, arith}
-use Rattle.des.specs.Bits.{bits_of, bits_of_word, select, zeros, xor_bits}
-use Rattle.des.specs.Tables.{Box, selection_functions, expansion, permutation}
-use Rattle.des.specs.CipherFunction.{box_entry, substitute_by, substitute, cipher_function}
+use Rattle.std.proofs.Common.{◌≡◌, ◌*◌, List, [], ◌∷◌, Bool, length, take, drop, bit_xor, refl, take_at, length-append, arith}
+use Rattle.des.specs.Bits.{bits_of_word, select, zeros, xor_bits}
+use Rattle.des.specs.Tables.{Box, selection_functions, expansion}
+use Rattle.des.specs.CipherFunction.{substitute_by, substitute, cipher_function}
 use Rattle.des.specs.Laws.BitLists.{length-bits_of}
 use Rattle.des.specs.Laws.Selections.{length-select}
 use Rattle.des.proofs.BitParts.{take-bits_of_xor, mod-zeros}
@@ -12,9 +12,7 @@ length-substitute_by : (boxes : List Box) (bits : List Bool) → length (substit
 unfolding substitute_by
 length-substitute_by [] bits = refl
 length-substitute_by (box ∷ boxes) bits =
-    length-append (bits_of 4 (box_entry box (take 6 bits))) (substitute_by boxes (drop 6 bits))
-    ∙ ap₂ ◌+◌ (length-bits_of 4 (box_entry box (take 6 bits))) (length-substitute_by boxes (drop 6 bits))
-    ∙ omega arith
+    simp (length-append, length-bits_of, length-substitute_by boxes (drop 6 bits)) (omega arith)
 
 -- the boxes answer 32 bits
 length-substitute : (bits : List Bool) → length (substitute bits) ≡ 32
@@ -34,9 +32,9 @@ returns c =
     let key = take 48 (bits_of_word c.args.key) in
     let boxed = take 48 (bits_of_word (bit_xor c.e.result c.args.key)) in
     let expanded : take 48 (bits_of_word c.e.result) ≡ select expansion half =
-    ap (take 48) c.e.ensures ∙ take_at (select expansion half) (zeros 16) 48 (length-select expansion half) in
+    rw c.e.ensures (take_at (select expansion half) (zeros 16) 48 (length-select expansion half)) in
     let mixed : boxed ≡ xor_bits (select expansion half) key =
-    take-bits_of_xor 48 16 c.e.result c.args.key ∙ ap (λ (bits : List Bool). xor_bits bits key) expanded in
+    rw expanded at (take-bits_of_xor 48 16 c.e.result c.args.key) in
     let replaced : take 32 (bits_of_word c.apply_sboxes.result) ≡ substitute (xor_bits (select expansion half) key) =
-    ap (take 32) c.apply_sboxes.ensures ∙ take_at (substitute boxed) (zeros 32) 32 (length-substitute boxed) ∙ ap substitute mixed in
-    c.p.ensures ∙ ap (λ (bits : List Bool). select permutation bits ++ zeros 32) replaced
+    rw (c.apply_sboxes.ensures, ← mixed) (take_at (substitute boxed) (zeros 32) 32 (length-substitute boxed)) in
+    rw replaced at c.p.ensures

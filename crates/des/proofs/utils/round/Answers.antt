@@ -1,5 +1,5 @@
-use Rattle.std.proofs.Common.{◌≡◌, ◌*◌, ◌%◌, ◌^◌, ◌++◌, take, drop, List, Bool, ap, ◌∙◌, take_at}
-use Rattle.des.specs.Bits.{bits_of_word, zeros, xor_bits}
+use Rattle.std.proofs.Common.{◌≡◌, ◌*◌, ◌%◌, ◌^◌, take, drop, take_at}
+use Rattle.des.specs.Bits.{bits_of_word, zeros}
 use Rattle.des.specs.CipherFunction.{cipher_function}
 use Rattle.des.specs.Laws.Selections.{length-cipher_function}
 use Rattle.des.proofs.HalfWords.{take-bits_of_word_shl, bits_of_word-swapped}
@@ -13,8 +13,6 @@ returns c =
     let key = take 48 (bits_of_word c.args.key) in
     let shifted = take 32 (bits_of_word (c.args.input * 2 ^ 32 % 2 ^ 64)) in
     let value : take 32 (bits_of_word c.f.result) ≡ cipher_function right key =
-    ap (take 32) c.f.ensures
-    ∙ take_at (cipher_function shifted key) (zeros 32) 32 (length-cipher_function shifted key)
-    ∙ ap (λ (half : List Bool). cipher_function half key) (take-bits_of_word_shl c.args.input) in
-    bits_of_word-swapped c.args.input c.f.result c.ranges.input.fits c.f.type_inv
-    ∙ ap (λ (bits : List Bool). right ++ xor_bits left bits) value
+    rw (c.f.ensures, ← take-bits_of_word_shl c.args.input)
+    (take_at (cipher_function shifted key) (zeros 32) 32 (length-cipher_function shifted key)) in
+    rw value at (bits_of_word-swapped c.args.input c.f.result c.ranges.input.fits c.f.type_inv)

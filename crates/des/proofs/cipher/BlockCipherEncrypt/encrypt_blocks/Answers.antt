@@ -1,10 +1,6 @@
 use Rattle.std.proofs.Common.{rules}
 use Rattle.std.proofs.lemmas.List.Edits.{map_over_more}
-use Rattle.des.proofs.BlockLists.{AnswersEach-map_over}
 use Rattle.des.proofs.cipher.BlockCipherEncrypt.encrypt_blocks.Goals as goal
 
 pub loop-block-preserved : goal.loop-block-preserved
 loop-block-preserved g c = search (rules, map_over_more (g.Self.BlockCipherEncrypt.encrypted c.args.self.now))
-
-pub returns : goal.returns
-returns g c = AnswersEach-map_over _ _ _ _ c.loop-block-test.false c.loop-block.invariant

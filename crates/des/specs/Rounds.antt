@@ -1,10 +1,11 @@
--- A way to compute what DES answers, for contracts that need a term for it: the members of the cipher traits are
--- functions. It is not the definition, which is the relation `IsDes`: that these functions give the one block that
--- is related, in each direction, is proved, and stated on `Des::new`, `encrypt_block` and `decrypt_block`.
-use Rattle.std.specs.Prelude.{ℕ, List, [], ◌∷◌, ◌++◌, Bool, map, take, drop, reverse}
-use Rattle.des.specs.Bits.{bits_of_word, select, xor_bits}
+-- The rounds as a computation, for contracts that need a term for an answer: the members of the cipher traits are
+-- functions. It is not the definition, which is the relation `IsDes`: that `answer_by` gives the one block that is
+-- related, in each direction, is proved, and stated on `Des::new`, `encrypt_block` and `decrypt_block`.
+use Rattle.std.specs.Prelude.{ℕ, List, [], ◌∷◌, ◌++◌, Bool, take, drop}
+use Rattle.des.specs.Bits.{bits_of_bytes, select, xor_bits}
 use Rattle.des.specs.Tables.{initial_permutation}
 use Rattle.des.specs.CipherFunction.{cipher_function}
+use Rattle.des.specs.Blocks.{block_of_bits}
 
 -- IP^-1, the final permutation: the inverse of IP (FIPS 46-3, enciphering)
 abbrev pub final_permutation : List ℕ
@@ -27,21 +28,14 @@ after_rounds (key ∷ keys) left right = after_rounds keys right (xor_bits left 
 abbrev pub swapped : List Bool × List Bool → List Bool
 swapped halves = halves.1 ++ halves.0
 
--- the block that the rounds make of a block: the initial permutation, a round for each round key, the halves
--- swapped, the final permutation
+-- what the rounds make of 64 bits: the initial permutation, a round for each round key, the halves swapped, the
+-- final permutation
 unfoldable pub through_rounds : List (List Bool) → List Bool → List Bool
 through_rounds keys block =
     let permuted = select initial_permutation block in
     select final_permutation (swapped (after_rounds keys (take 32 permuted) (drop 32 permuted)))
 
--- enciphering runs the rounds with the round keys in their order
-abbrev pub enciphered : List (List Bool) → List Bool → List Bool
-enciphered round_keys block = through_rounds round_keys block
-
--- deciphering runs them with the round keys in the opposite order
-abbrev pub deciphered : List (List Bool) → List Bool → List Bool
-deciphered round_keys block = through_rounds (reverse round_keys) block
-
--- the round keys that words hold in their first 48 bits
-unfoldable pub round_keys_of : List ℕ → List (List Bool)
-round_keys_of words = map (λ word. take 48 (bits_of_word word)) words
+-- the block that the rounds make of a block. Enciphering takes the round keys in their order, deciphering in the
+-- opposite order
+abbrev pub answer_by : List (List Bool) → List ℕ → List ℕ
+answer_by round_keys block = block_of_bits (through_rounds round_keys (bits_of_bytes block))

@@ -1,0 +1,16 @@
+-- Relations between blocks, read from the first to the second or from the second to the first.
+use Rattle.std.specs.Prelude.{◌≡◌, ◌↔◌, ℕ, List}
+use Rattle.des.specs.Blocks.{IsBlock}
+
+-- the relation that P is at one end holds of this block, and of no other
+abbrev pub IsTheOne : (List ℕ → Type 0) → List ℕ → Type 0
+IsTheOne P block = P block × ((other : List ℕ) → P other → other ≡ block)
+
+-- the relation takes each block to exactly one, and takes exactly one to each
+pub record HasOneAnswerEachWay (Answers : List ℕ → List ℕ → Type 0) : Type 0 where
+  pub forwards : (x : List ℕ) → IsBlock x → (y : List ℕ) × IsTheOne (Answers x) y
+  pub backwards : (y : List ℕ) → IsBlock y → (x : List ℕ) × IsTheOne (λ x. Answers x y) x
+
+-- the relation takes a block to what the function answers to it, and relates nothing else
+abbrev pub IsGraphOf : (List ℕ → List ℕ) → (List ℕ → List ℕ → Type 0) → Type 0
+IsGraphOf answer Answers = (x y : List ℕ) → Answers x y ↔ (IsBlock x × (answer x ≡ y))
