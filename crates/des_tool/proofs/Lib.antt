@@ -1,3 +1,3 @@
-pub mod Requests
 pub mod Decoding
-pub mod Blocks
+pub mod Chunks
+pub mod BlockAnswers

@@ -1,33 +1,38 @@
--- What answers the words of a command line.
+-- What answers the arguments of a command line.
 use Rattle.std.specs.Prelude.{◌≡◌, ℕ, List, MatchOption}
-use Rattle.std.specs.List.{All, concat}
-use Rattle.des.specs.Blocks.{IsBlock, AnswersEach}
+use Rattle.std.specs.List.{concat}
+use Rattle.des.specs.Blocks.{AnswersEach}
 use Rattle.des.specs.Enciphering.{Enciphers}
+use Rattle.des_tool.specs.declared.command.Cipher.{Cipher}
+use Rattle.des_tool.specs.declared.command.Cipher.TheVariants.{Des}
 use Rattle.des_tool.specs.declared.command.Direction.{Direction}
 use Rattle.des_tool.specs.declared.command.Direction.TheVariants.{Encrypt, Decrypt}
 use Rattle.des_tool.specs.Digits.{bytes_of_digits, text_of_blocks}
-use Rattle.des_tool.specs.Request.{Request, des, request_of}
+use Rattle.des_tool.specs.Request.{Request, of_blocks, request_of}
 
--- DES under the bytes of a key relates a block to its answer, read in the direction
-abbrev pub Answers : Direction → List ℕ → List ℕ → List ℕ → Type 0
-Answers Encrypt key block answer = Enciphers key block answer
-Answers Decrypt key block answer = Enciphers key answer block
+-- what a cipher is: the relation between the bytes of a key, a block and the block that it is enciphered to
+abbrev pub relation_of : Cipher → List ℕ → List ℕ → List ℕ → Type 0
+relation_of Des key first last = Enciphers key first last
 
--- the text is that of the blocks which answer, block by block, the blocks that the digits write, under the key
--- that its digits write
-pub record IsDesText (direction : Direction) (key digits text : List ℕ) : Type 0 where
+-- a relation of blocks, read in a direction: from the first block to the second, or from the second to the first
+abbrev pub ReadIn : Direction → (List ℕ → List ℕ → Type 0) → List ℕ → List ℕ → Type 0
+ReadIn Encrypt Relates block answer = Relates block answer
+ReadIn Decrypt Relates block answer = Relates answer block
+
+-- the text is that of the blocks which answer, block by block, the blocks that the digits write. What a cipher
+-- relates are blocks, so there is one way to cut the digits' bytes
+pub record IsTextOf (Answers : List ℕ → List ℕ → Type 0) (digits text : List ℕ) : Type 0 where
   pub blocks : List (List ℕ)
   pub answers : List (List ℕ)
-  pub are_blocks : All IsBlock blocks
   pub joined : concat blocks ≡ bytes_of_digits digits
-  pub answers_are_blocks : All IsBlock answers
-  pub answered : AnswersEach (Answers direction (bytes_of_digits key)) blocks answers
+  pub answered : AnswersEach Answers blocks answers
   pub written : text ≡ text_of_blocks answers
 
--- the text answers the request
+-- the text answers the request, under the key that its digits write
 abbrev pub AnswersRequest : Request → List ℕ → Type 0
-AnswersRequest (des direction key digits) text = IsDesText direction key digits text
+AnswersRequest (of_blocks cipher direction key digits) text =
+    IsTextOf (ReadIn direction (relation_of cipher (bytes_of_digits key))) digits text
 
--- the text answers the words
+-- the text answers the arguments
 abbrev pub IsAnswer : List (List ℕ) → List ℕ → Type 0
-IsAnswer words text = MatchOption (request_of words) ⊥ (λ request. AnswersRequest request text)
+IsAnswer arguments text = MatchOption (request_of arguments) ⊥ (λ request. AnswersRequest request text)

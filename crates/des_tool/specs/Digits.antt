@@ -7,7 +7,7 @@ use Rattle.hex.specs.Hex.{encode_lower, hex_digit_value}
 abbrev pub digit_value : ℕ → ℕ
 digit_value digit = unwrap_or (hex_digit_value digit) 0
 
--- the bytes of a word of digits: two digits a byte, the first worth sixteen
+-- the bytes that digits write: two digits a byte, the first worth sixteen
 unfoldable pub bytes_of_digits : List ℕ → List ℕ
 bytes_of_digits [] = []
 bytes_of_digits (digit ∷ []) = []

@@ -1,34 +1,45 @@
--- What the words of a command line ask for.
+-- What the arguments of a command line ask for.
 use Rattle.std.specs.Prelude.{ℕ, if◌then◌else◌, List, [], ◌∷◌, map, codes, bytes_eq, Option, Some, None}
-use Rattle.std.specs.Option.{option_map}
+use Rattle.std.specs.Option.{option_and_then, option_map}
 use Rattle.std.specs.Borrow.{Bor}
+use Rattle.des_tool.specs.declared.command.Cipher.{Cipher}
+use Rattle.des_tool.specs.declared.command.Cipher.TheVariants.{Des}
 use Rattle.des_tool.specs.declared.command.Direction.{Direction}
 use Rattle.des_tool.specs.declared.command.Direction.TheVariants.{Encrypt, Decrypt}
 use Rattle.des_tool.specs.declared.command.Command.{Command}
-use Rattle.des_tool.specs.declared.command.Command.TheVariants.{Des}
+use Rattle.des_tool.specs.declared.command.Command.TheVariants.{Blocks}
 
--- a request, with its words of digits
+-- a request, with the arguments that hold digits
 pub data Request : Type 0 where
-  des : (direction : Direction) (key blocks : List ℕ) → Request
+  of_blocks : (cipher : Cipher) (direction : Direction) (key digits : List ℕ) → Request
 
 -- the texts of a `&[&str]`
 abbrev pub texts : List (Bor (List ℕ)) → List (List ℕ)
-texts words = map (λ word. word.now) words
+texts arguments = map (λ argument. argument.now) arguments
 
--- the direction that a word names
+-- the cipher that an argument names
+abbrev pub cipher_of : List ℕ → Option Cipher
+cipher_of argument = if bytes_eq argument (codes "des") then Some Des else None
+
+-- the bytes of a cipher's key
+abbrev pub key_size_of : Cipher → ℕ
+key_size_of Des = 8
+
+-- the direction that an argument names
 abbrev pub direction_of : List ℕ → Option Direction
-direction_of word =
-    if bytes_eq word (codes "encrypt") then Some Encrypt
-    else if bytes_eq word (codes "decrypt") then Some Decrypt
+direction_of argument =
+    if bytes_eq argument (codes "encrypt") then Some Encrypt
+    else if bytes_eq argument (codes "decrypt") then Some Decrypt
     else None
 
--- the request that the words are, if they have a shape that is known: `des encrypt KEY BLOCKS` or
--- `des decrypt KEY BLOCKS`
+-- the request that the arguments are, if they have a shape that is known: CIPHER DIRECTION KEY BLOCKS
 abbrev pub request_of : List (List ℕ) → Option Request
-request_of (cipher ∷ direction ∷ key ∷ blocks ∷ []) =
-    if bytes_eq cipher (codes "des") then option_map (λ named. des named key blocks) (direction_of direction) else None
+request_of (cipher ∷ direction ∷ key ∷ digits ∷ []) =
+    option_and_then
+    (λ cipher. option_map (λ direction. of_blocks cipher direction key digits) (direction_of direction))
+    (cipher_of cipher)
 request_of _ = None
 
 -- the request that a `Command` holds
 abbrev pub request : Command → Request
-request (Des direction key blocks) = des direction key.now blocks.now
+request (Blocks cipher direction key digits) = of_blocks cipher direction key.now digits.now

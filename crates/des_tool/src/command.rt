@@ -1,55 +1,70 @@
-//! The command line: what its words ask for, the answer, and what is written of it.
+//! The command line: what its arguments ask for, the answer, what is written of it, and the status
+//! that the program ends with.
 
-ghost use Rattle.std.specs.Prelude.{◌≡◌, ◌⊎◌, ℕ, List, length, codes, ◌++◌, IfSome, IfNone, IfOk, IfErr, OnOk, OnErr, true};
+ghost use Rattle.std.specs.Prelude.{◌≡◌, ◌≢◌, ◌⊎◌, ◌≤◌, ◌*◌, ℕ, List, length, map, codes, ◌++◌, IsTrue, IsOk, IfSome, IfNone, IfOk, IfErr, OnOk, OnErr};
 ghost use Rattle.std.specs.List.{All, concat, list_all};
-ghost use Rattle.std.specs.Option.{option_map};
+ghost use Rattle.std.specs.Option.{option_map, option_or};
 ghost use Rattle.std.specs.Io.KnownBytes.{Appends};
+ghost use Rattle.std.specs.IoError.{error_kind};
+ghost use Rattle.std.specs.Process.{exit_status};
 ghost use Rattle.hex.specs.Hex.{is_hex_digit};
-ghost use Rattle.des.specs.Bits.{bits_of_bytes};
-ghost use Rattle.des.specs.Blocks.{IsBlock, AnswersEach};
-ghost use Rattle.des.specs.Des.{IsDesOf};
+ghost use Rattle.des.specs.Blocks.{IsKey, IsBlock};
 ghost use Rattle.des_tool.specs.Digits.{bytes_of_digits, text_of_blocks};
-ghost use Rattle.des_tool.specs.Request.{request, request_of, direction_of, texts};
-ghost use Rattle.des_tool.specs.Fault.{key_fault, blocks_fault, fault_of, first_fault, name_of, status_of};
-ghost use Rattle.des_tool.specs.Answer.{Answers, IsAnswer, IsDesText};
+ghost use Rattle.des_tool.specs.Request.{of_blocks, request, request_of, cipher_of, direction_of, texts};
+ghost use Rattle.des_tool.specs.Fault.{key_fault, blocks_fault, fault_of_request, fault_of, name_of};
+ghost use Rattle.des_tool.specs.Status.{answer_written, IsOfAnswer, IsOfFault, IsStatusOf};
+ghost use Rattle.des_tool.specs.Answer.{IsTextOf, AnswersRequest, IsAnswer};
+ghost use Rattle.des_tool.specs.Ciphers.{in_direction, IsMadeBy};
 
 use des::Des;
-use des::cipher::{BlockCipherDecrypt, BlockCipherEncrypt, KeyInit};
-use hex::FromHex;
+use des::cipher::{BlockCipher, KeyInit, KeyedCipher};
 use std::alloc::{AllocError, AllocFailed, Global};
+use std::env::Env;
 use std::error::Error;
-use std::io::Write;
-use std::{fmt, io};
+use std::io::{ErrorKind, Write};
+use std::process::ExitCode;
+use std::{env, fmt, io};
 
 #[cfg(test)]
 mod tests;
 
-// The status where an answer could not be written.
-const NOT_WRITTEN: u8 = 4;
+// The statuses that the program ends with.
+const ANSWER_WRITTEN: u8 = 0;
 
-/// Why the words have no answer. The first that holds is reported, in this order.
+const ARGUMENTS_AT_FAULT: u8 = 2;
+
+const MEMORY_REFUSED: u8 = 3;
+
+const ANSWER_NOT_WRITTEN: u8 = 4;
+
+// The bytes of the longest key that a cipher has.
+const LONGEST_KEY: usize = 24;
+
+/// Why the arguments have no answer. The first that holds is reported, in this order.
 #[derive(Clone, Copy, Debug, PartialEq, Eq)]
 pub enum Fault {
-    /// The words do not have a shape that is known.
+    /// The arguments do not have a shape that is known.
     Usage,
-    /// The key's word does not have sixteen bytes.
+    /// The key argument does not have two digits for each byte of the cipher's key.
     KeyLength,
-    /// The key's word holds something that is not a hexadecimal digit.
+    /// The key argument holds something that is not a hexadecimal digit.
     KeyText,
-    /// The blocks' word does not have sixteen bytes for each block.
+    /// The blocks argument does not have sixteen digits for each block.
     BlockLength,
-    /// The blocks' word holds something that is not a hexadecimal digit.
+    /// The blocks argument holds something that is not a hexadecimal digit.
     BlockText,
     /// A request for memory was refused.
     Memory,
 }
 
-/// Writes the fault's name.
+/// Writes the fault's name, whatever options are set.
 impl fmt::Display for Fault {
     ghost use Rattle.std.specs.Prelude.{Some};
     ghost use Rattle.des_tool.specs.Fault.{name_of};
 
     ghost output = { λ fault. Some (name_of fault) };
+
+    ghost styled_output = { λ fault _. Some (name_of fault) };
 
     fn fmt<W: fmt::Write>(&self, f: &mut fmt::Formatter<W>) -> fmt::Result {
         match self {
@@ -89,17 +104,23 @@ impl<T: Drop> From<AllocFailed<T>> for Fault {
 
 impl Fault {
     ghost use Rattle.std.specs.Prelude.{◌≡◌};
-    ghost use Rattle.des_tool.specs.Fault.{status_of};
+    ghost use Rattle.des_tool.specs.Status.{status_of};
 
-    // The status that the program ends with: 2 where the words are at fault, 3 where memory is.
+    // The status that the program ends with.
     fn status(self) -> u8
         ensures { result ≡ status_of self }
     {
         match self {
-            Fault::Memory => 3,
-            _ => 2,
+            Fault::Memory => MEMORY_REFUSED,
+            _ => ARGUMENTS_AT_FAULT,
         }
     }
+}
+
+// A block cipher that the program knows.
+#[derive(Clone, Copy)]
+enum Cipher {
+    Des,
 }
 
 // Whether blocks are enciphered or deciphered.
@@ -109,42 +130,50 @@ enum Direction {
     Decrypt,
 }
 
-// What the words ask for, with its words of digits.
+// What the arguments ask for, with those that hold digits.
 enum Command<'a> {
-    Des {
+    Blocks {
+        cipher: Cipher,
         direction: Direction,
         key: &'a str,
         blocks: &'a str,
     },
 }
 
-fn parse_direction(word: &str) -> Option<Direction>
-    ensures { result ≡ direction_of word.now }
+fn parse_cipher(argument: &str) -> Option<Cipher>
+    ensures { result ≡ cipher_of argument.now }
 {
-    match word {
+    match argument {
+        "des" => Some(Cipher::Des),
+        _ => None,
+    }
+}
+
+fn parse_direction(argument: &str) -> Option<Direction>
+    ensures { result ≡ direction_of argument.now }
+{
+    match argument {
         "encrypt" => Some(Direction::Encrypt),
         "decrypt" => Some(Direction::Decrypt),
         _ => None,
     }
 }
 
-fn parse<'a>(words: &[&'a str]) -> Option<Command<'a>>
-    ensures { option_map request result ≡ request_of (texts words.now) }
+fn parse<'a>(arguments: &[&'a str]) -> Option<Command<'a>>
+    ensures { option_map request result ≡ request_of (texts arguments.now) }
 {
-    match *words {
-        ["des", direction, key, blocks] => {
-            let direction = parse_direction(direction)?;
-            Some(Command::Des {
-                direction,
-                key,
-                blocks,
-            })
-        }
+    match *arguments {
+        [cipher, direction, key, blocks] => Some(Command::Blocks {
+            cipher: parse_cipher(cipher)?,
+            direction: parse_direction(direction)?,
+            key,
+            blocks,
+        }),
         _ => None,
     }
 }
 
-/// The text that answers the words of a command line, without the program's own name.
+/// The text that answers the arguments of a command line, without the program's own name.
 ///
 /// `des encrypt KEY BLOCKS` enciphers 8-byte blocks under an 8-byte key, and `des decrypt KEY
 /// BLOCKS` deciphers them, each block on its own. `KEY` and `BLOCKS` are hexadecimal digits in
@@ -152,48 +181,84 @@ fn parse<'a>(words: &[&'a str]) -> Option<Command<'a>>
 /// digits, in order, and a newline.
 ///
 /// Every fault but `Memory` is found before any memory is asked for.
-pub fn answer(alloc: Global, words: &[&str]) -> Result<Vec<u8>, Fault>
-    ensures fault { IfSome (fault_of (texts words.now)) (λ fault. result ≡ Err fault) }
-    ensures memory { IfNone (fault_of (texts words.now))
+pub fn answer(alloc: Global, arguments: &[&str]) -> Result<Vec<u8>, Fault>
+    ensures fault { IfSome (fault_of (texts arguments.now)) (λ fault. result ≡ Err fault) }
+    ensures memory { IfNone (fault_of (texts arguments.now))
         (IfErr result (λ fault. fault ≡ Fault.Memory)) }
-    ensures answer { IfOk result (λ text. IsAnswer (texts words.now) text.items) }
+    ensures answer { IfOk result (λ text. IsAnswer (texts arguments.now) text.items) }
 {
-    match parse(words).ok_or(Fault::Usage)? {
-        Command::Des {
+    match parse(arguments).ok_or(Fault::Usage)? {
+        Command::Blocks {
+            cipher,
             direction,
             key,
             blocks,
-        } => des_text(alloc, direction, key, blocks),
+        } => blocks_text(alloc, cipher, direction, key, blocks),
     }
 }
 
-fn des_text(alloc: Global, direction: Direction, key: &str, digits: &str) -> Result<Vec<u8>, Fault>
-    ensures fault { IfSome (first_fault (key_fault key.now) (blocks_fault digits.now))
+fn blocks_text(
+    alloc: Global,
+    cipher: Cipher,
+    direction: Direction,
+    key: &str,
+    digits: &str,
+) -> Result<Vec<u8>, Fault>
+    ensures fault { IfSome (fault_of_request (of_blocks cipher direction key.now digits.now))
         (λ fault. result ≡ Err fault) }
-    ensures memory { IfNone (first_fault (key_fault key.now) (blocks_fault digits.now))
+    ensures memory { IfNone (fault_of_request (of_blocks cipher direction key.now digits.now))
         (IfErr result (λ fault. fault ≡ Fault.Memory)) }
-    ensures answer { IfOk result (λ text. IsDesText direction key.now digits.now text.items) }
+    ensures answer { IfOk result (λ text.
+        AnswersRequest (of_blocks cipher direction key.now digits.now) text.items) }
 {
-    let cipher = Des::new(&parse_key(key)?);
+    match cipher {
+        Cipher::Des => cipher_text::<Des>(alloc, direction, key, digits),
+    }
+}
+
+fn cipher_text<C: KeyedCipher + Drop>(
+    alloc: Global,
+    direction: Direction,
+    key: &str,
+    digits: &str,
+) -> Result<Vec<u8>, Fault>
+    requires { C.KEY_SIZE ≤ LONGEST_KEY }
+    ensures fault { IfSome (option_or (key_fault C.KEY_SIZE key.now) (blocks_fault digits.now))
+        (λ fault. result ≡ Err fault) }
+    ensures memory { IfNone (option_or (key_fault C.KEY_SIZE key.now) (blocks_fault digits.now))
+        (IfErr result (λ fault. fault ≡ Fault.Memory)) }
+    ensures answer { IfOk result (λ text. IsTextOf
+        (IsMadeBy (in_direction direction C.encryption C.decryption) C.KEY_SIZE
+        (bytes_of_digits key.now))
+        digits.now text.items) }
+{
+    let cipher = parse_key::<C>(key)?;
     let mut blocks = parse_blocks(alloc, digits)?;
     answer_each(&cipher, direction, blocks.as_mut_slice());
     text_of(alloc, blocks.as_slice())
 }
 
-fn parse_key(digits: &str) -> Result<[u8; 8], Fault>
-    ensures fault { IfSome (key_fault digits.now) (λ fault. result ≡ Err fault) }
-    ensures key { IfNone (key_fault digits.now) (result ≡ Ok (bytes_of_digits digits.now)) }
+// The cipher of the key that the digits write.
+fn parse_key<C: KeyInit + Drop>(digits: &str) -> Result<C, Fault>
+    requires { C.KEY_SIZE ≤ LONGEST_KEY }
+    ensures fault { IfSome (key_fault C.KEY_SIZE digits.now) (λ fault. result ≡ Err fault) }
+    ensures accepted { IfNone (key_fault C.KEY_SIZE digits.now) (IsOk result) }
+    ensures key { OnOk result (IsKey C.KEY_SIZE (bytes_of_digits digits.now)) }
+    ensures made { IfOk result (λ cipher. C.is_made_from cipher (bytes_of_digits digits.now)) }
 {
-    if digits.len() != 16 {
+    if digits.len() != 2 * C::KEY_SIZE {
         return Err(Fault::KeyLength);
     }
     if !are_digits(digits) {
         return Err(Fault::KeyText);
     }
-    Ok(parse_block(digits.as_bytes()))
+    let mut buffer = [0u8; LONGEST_KEY];
+    let key = &mut buffer[..C::KEY_SIZE];
+    decode(digits.as_bytes(), key);
+    Ok(C::new_from_slice(key).unwrap())
 }
 
-// The word is taken whole before any memory is asked for, so only memory fails after that.
+// The argument is taken whole before any memory is asked for, so only memory fails after that.
 fn parse_blocks(alloc: Global, digits: &str) -> Result<Vec<[u8; 8]>, Fault>
     ensures fault { IfSome (blocks_fault digits.now) (λ fault. result ≡ Err fault) }
     ensures memory { IfNone (blocks_fault digits.now)
@@ -210,7 +275,9 @@ fn parse_blocks(alloc: Global, digits: &str) -> Result<Vec<[u8; 8]>, Fault>
     let (chunks, _) = digits.as_bytes().as_chunks::<16>();
     let mut blocks = Vec::with_capacity(alloc, chunks.len())?;
     for chunk in chunks {
-        blocks.push(parse_block(chunk))?;
+        let mut block = [0u8; 8];
+        decode(chunk, &mut block);
+        blocks.push(block)?;
     }
     Ok(blocks)
 }
@@ -221,17 +288,17 @@ fn are_digits(text: &str) -> bool
     text.bytes().all(|digit| digit.is_ascii_hexdigit())
 }
 
-fn parse_block(digits: &[u8]) -> [u8; 8]
-    requires count { length digits.now ≡ 16 }
-    requires digits { list_all is_hex_digit digits.now ≡ true }
-    ensures { result ≡ bytes_of_digits digits.now }
+fn decode(digits: &[u8], bytes: &mut [u8])
+    requires count { length digits.now ≡ 2 * length bytes.old }
+    requires digits { IsTrue (list_all is_hex_digit digits.now) }
+    ensures { bytes.new ≡ bytes_of_digits digits.now }
 {
-    <[u8; 8]>::from_hex(digits).unwrap()
+    hex::decode_to_slice(digits, bytes).unwrap();
 }
 
-fn answer_each(cipher: &Des, direction: Direction, blocks: &mut [[u8; 8]])
-    ensures { (key : List ℕ) → IsDesOf cipher.now (bits_of_bytes key) → All IsBlock blocks.old
-        → AnswersEach (Answers direction key) blocks.old blocks.new }
+fn answer_each<C: BlockCipher>(cipher: &C, direction: Direction, blocks: &mut [[u8; 8]])
+    ensures { blocks.new
+        ≡ map (in_direction direction C.encrypted C.decrypted cipher.now) blocks.old }
 {
     match direction {
         Direction::Encrypt => cipher.encrypt_blocks(blocks),
@@ -240,9 +307,6 @@ fn answer_each(cipher: &Des, direction: Direction, blocks: &mut [[u8; 8]])
 }
 
 fn text_of(alloc: Global, blocks: &[[u8; 8]]) -> Result<Vec<u8>, Fault>
-    // What the type of `blocks` says.
-    ensures blocks { OnOk result (All IsBlock blocks.now) }
-
     ensures text { IfOk result (λ text. text.items ≡ text_of_blocks blocks.now) }
     ensures memory { IfErr result (λ fault. fault ≡ Fault.Memory) }
 {
@@ -258,21 +322,20 @@ fn text_of(alloc: Global, blocks: &[[u8; 8]]) -> Result<Vec<u8>, Fault>
 /// Writes an answer to `out`, or a fault's name and a newline to `err`, and gives the status that
 /// the program ends with.
 ///
-/// The status is 0 where the whole answer was written, 2 where the words are at fault, 3 where
+/// The status is 0 where the whole answer was written, 2 where the arguments are at fault, 3 where
 /// memory is, and 4 where the answer could not be written: `out` may then hold a part of it. A name
 /// that cannot be written changes no status. It takes no memory of its own.
 pub fn show<W: Write, E: Write>(answer: &Result<Vec<u8>, Fault>, out: &mut W, err: &mut E) -> u8
-    ensures answered { OnOk answer.now ((result ≡ 0) ⊎ (result ≡ 4)) }
-    ensures fault { IfErr answer.now (λ fault. result ≡ status_of fault) }
-    ensures written { result ≡ 0 → IfOk answer.now (λ text.
+    ensures status { IsStatusOf answer.now result }
+    ensures written { result ≡ answer_written → IfOk answer.now (λ text.
         Appends (W.contents out.old) (W.contents out.new) text.items) }
     ensures err { OnOk answer.now (err.new ≡ err.old) }
     ensures out { OnErr answer.now (out.new ≡ out.old) }
 {
     match answer {
         Ok(text) => match write_whole(out, text.as_slice()) {
-            Ok(()) => 0,
-            Err(_) => NOT_WRITTEN,
+            Ok(()) => ANSWER_WRITTEN,
+            Err(_) => ANSWER_NOT_WRITTEN,
         },
         Err(fault) => {
             let _ = report(*fault, err);
@@ -294,4 +357,58 @@ fn report<E: Write>(fault: Fault, err: &mut E) -> io::Result<()>
 {
     writeln!(err, "{fault}")?;
     err.flush()
+}
+
+/// Writes what `show` writes, and gives its status as the exit status.
+pub fn finish<W: Write, E: Write>(
+    answer: &Result<Vec<u8>, Fault>,
+    out: &mut W,
+    err: &mut E,
+) -> ExitCode
+    ensures status { IsStatusOf answer.now (exit_status result) }
+    ensures written { exit_status result ≡ answer_written → IfOk answer.now (λ text.
+        Appends (W.contents out.old) (W.contents out.new) text.items) }
+    ensures err { OnOk answer.now (err.new ≡ err.old) }
+    ensures out { OnErr answer.now (out.new ≡ out.old) }
+{
+    ExitCode::from(show(answer, out, err))
+}
+
+/// Answers the arguments of the process, writes what `show` writes, and gives its status as the
+/// exit status.
+pub fn run<R: Env + AllocGlobal, W: Write, E: Write>(rt: &R, out: &mut W, err: &mut E) -> ExitCode
+    ensures status { IsOfAnswer (exit_status result) ⊎ IsOfFault (exit_status result) }
+    // No contract says which arguments the process has.
+    ensures written { exit_status result ≡ answer_written
+        → (arguments : List (List ℕ)) × (text : List ℕ)
+        × IsAnswer arguments text × Appends (W.contents out.old) (W.contents out.new) text }
+    ensures err { IsOfAnswer (exit_status result) → err.new ≡ err.old }
+    ensures out { IsOfFault (exit_status result) → out.new ≡ out.old }
+{
+    finish(&answer_arguments(rt), out, err)
+}
+
+// The first argument of the process is the program's own name.
+fn answer_arguments<R: Env + AllocGlobal>(rt: &R) -> Result<Vec<u8>, Fault>
+    ensures { IfOk result (λ text.
+        (arguments : List (List ℕ)) × IsAnswer arguments text.items) }
+{
+    let arguments = env::args(rt).map_err(fault_of_arguments)?;
+    let arguments: Vec<String> = arguments.skip(1).collect(rt.alloc())?;
+    let arguments: Vec<&str> = arguments
+        .iter()
+        .map(|argument| argument.as_str())
+        .collect(rt.alloc())?;
+    answer(rt.alloc(), arguments.as_slice())
+}
+
+// Arguments that are not text have no shape that is known.
+fn fault_of_arguments(error: io::Error) -> Fault
+    ensures memory { error_kind error ≡ ErrorKind.OutOfMemory → result ≡ Fault.Memory }
+    ensures usage { error_kind error ≢ ErrorKind.OutOfMemory → result ≡ Fault.Usage }
+{
+    match error.kind() {
+        ErrorKind::OutOfMemory => Fault::Memory,
+        _ => Fault::Usage,
+    }
 }

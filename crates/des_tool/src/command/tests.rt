@@ -1,99 +1,94 @@
+ghost use Rattle.std.specs.Prelude.{◌≤◌};
+
 use super::*;
+use std::env::FillError;
 use std::test::Fail;
 
 const KEY: &str = "133457799BBCDFF1";
 
 const BLOCK: &str = "0123456789ABCDEF";
 
-// Takes `room` bytes, at most three a call, and fails from then on; or fails when it is flushed.
+const ANSWER: &str = "85e813540f0ab405\n";
+
+// The most writes that a test asks for, and more.
+const NEVER: usize = 1000;
+
+// Takes one byte a write, and no memory for it. It refuses one write, after so many that it takes,
+// and may refuse to be flushed.
 #[derive(Drop)]
 struct Page {
-    bytes: Vec<u8>,
-    room: usize,
+    bytes: [u8; 64],
+    taken: usize,
+    takes: usize,
     flushes: bool,
+    ghost within: { taken ≤ 64 },
 }
 
 impl Page {
-    fn new(alloc: Global, room: usize, flushes: bool) -> Page {
+    fn new(takes: usize, flushes: bool) -> Page {
         Page {
-            bytes: Vec::new(alloc),
-            room,
+            bytes: [0; 64],
+            taken: 0,
+            takes,
             flushes,
         }
+    }
+
+    fn text(&self) -> &[u8] {
+        &self.bytes[..self.taken]
     }
 }
 
 impl Write for Page {
     fn write(&mut self, buf: &[u8]) -> io::Result<usize> {
-        let most = buf.len().min(self.room).min(3);
-        if most == 0 {
-            return Err(io::Error::from(io::ErrorKind::BrokenPipe));
+        if self.takes == 0 {
+            self.takes = NEVER;
+            return Err(io::Error::from(ErrorKind::BrokenPipe));
         }
-        self.bytes.extend_from_slice(&buf[..most])?;
-        self.room -= most;
-        Ok(most)
+        self.takes -= 1;
+        if buf.is_empty() || self.taken == self.bytes.len() {
+            return Ok(0);
+        }
+        self.bytes[self.taken] = buf[0];
+        self.taken += 1;
+        Ok(1)
     }
 
     fn flush(&mut self) -> io::Result<()> {
         if self.flushes {
             Ok(())
         } else {
-            Err(io::Error::from(io::ErrorKind::BrokenPipe))
+            Err(io::Error::from(ErrorKind::BrokenPipe))
         }
     }
 }
 
-#[test]
-fn refuses_words(rt: HostRuntime) {
-    let lines: [&[&str]; 10] = [
-        &[],
-        &["des"],
-        &["des", "encrypt", KEY],
-        &["des", "encrypt", KEY, BLOCK, BLOCK],
-        &["des", "encipher", KEY, BLOCK],
-        &["ede3", "encrypt", KEY, BLOCK],
-        &["weak", KEY],
-        &["des", "Encrypt", KEY, BLOCK],
-        &["DES", "encrypt", KEY, BLOCK],
-        &["encrypt", "des", KEY, BLOCK],
-    ];
-    for words in lines {
-        assert_eq!(rt; answer(rt.alloc(), words), Err(Fault::Usage));
-    }
+// A process with these arguments, the program's own name among them.
+#[derive(Drop)]
+struct Process<'a> {
+    arguments: &'a [&'a str],
 }
 
-#[test]
-fn refuses_digits(rt: HostRuntime) {
-    let lines = [
-        ("", BLOCK, Fault::KeyLength),
-        ("133457799BBCDFF", BLOCK, Fault::KeyLength),
-        ("133457799BBCDFF1F", BLOCK, Fault::KeyLength),
-        ("133457799BBCDFF1 ", BLOCK, Fault::KeyLength),
-        ("133457799BBCDFg", "0", Fault::KeyLength),
-        ("133457799BBCDFFg", BLOCK, Fault::KeyText),
-        ("133457799BBCDF\u{e9}", "0", Fault::KeyText),
-        ("0x33457799BBCDFF", BLOCK, Fault::KeyText),
-        (KEY, "0123456789ABCDEF0", Fault::BlockLength),
-        (KEY, "0123456789ABCDE", Fault::BlockLength),
-        (KEY, "g", Fault::BlockLength),
-        (KEY, "0123456789ABCDEg", Fault::BlockText),
-        (KEY, "0123456789ABCDE:", Fault::BlockText),
-        (KEY, "0123456789ABCD\u{e9}", Fault::BlockText),
-        (KEY, "0123456789ABCDEF0123456 89ABCDEF", Fault::BlockText),
-    ];
-    for (key, blocks, fault) in lines {
-        let words = ["des", "encrypt", key, blocks];
-        assert_eq!(rt; answer(rt.alloc(), &words), Err(fault));
+impl Env for Process<'_> {
+    fn arg(&self, i: usize, buf: &mut [u8]) -> Result<usize, FillError> {
+        let Some(argument) = self.arguments.get(i) else {
+            return Err(FillError::NotPresent);
+        };
+        let bytes = argument.as_bytes();
+        if bytes.len() > buf.len() {
+            return Err(FillError::TooLong);
+        }
+        buf[..bytes.len()].copy_from_slice(bytes);
+        Ok(bytes.len())
     }
-}
 
-#[test]
-fn answers_no_block(rt: HostRuntime) -> Result<(), Fail> {
-    for key in [KEY, "133457799bbcdff1"] {
-        let text = answer(rt.alloc(), &["des", "encrypt", key, ""])?;
-        assert_eq!(rt; text.as_slice(), b"\n".as_slice());
+    fn var(&self, _name: &str, _buf: &mut [u8]) -> Result<usize, FillError> {
+        Err(FillError::NotPresent)
     }
-    Ok(())
+
+    fn var_at(&self, _i: usize, _buf: &mut [u8]) -> Result<usize, FillError> {
+        Err(FillError::NotPresent)
+    }
 }
 
 // The worked example of J. Orlin Grabbe, "The DES Algorithm Illustrated"; and FIPS 81, appendix B,
@@ -132,107 +127,159 @@ fn decrypts_blocks(rt: HostRuntime) -> Result<(), Fail> {
         assert_eq!(rt; *newline, b'\n');
         assert!(rt; digits.eq_ignore_ascii_case(plaintext.as_bytes()));
     }
-    let text = answer(rt.alloc(), &["des", "decrypt", KEY, "85E813540F0AB405"])?;
-    assert_eq!(rt; text.as_slice(), b"0123456789abcdef\n".as_slice());
     Ok(())
+}
+
+#[test]
+fn answers_many_blocks(rt: HostRuntime) -> Result<(), Fail> {
+    let mut blocks = String::new(rt.alloc());
+    for _ in 0..3000 {
+        blocks.push_str(BLOCK)?;
+    }
+    let text = answer(rt.alloc(), &["des", "encrypt", KEY, blocks.as_str()])?;
+    let (answers, end) = text.as_slice().as_chunks::<16>();
+    assert_eq!(rt; answers.len(), 3000);
+    for block in answers {
+        assert_eq!(rt; block, b"85e813540f0ab405");
+    }
+    assert_eq!(rt; end, b"\n".as_slice());
+    Ok(())
+}
+
+#[test]
+fn stops_at_a_refused_write(rt: HostRuntime) -> Result<(), Fail> {
+    let answer = Ok(Vec::from_slice(rt.alloc(), ANSWER.as_bytes())?);
+    for takes in 0..ANSWER.len() {
+        let (mut out, mut err) = (Page::new(takes, true), Page::new(NEVER, true));
+        assert_eq!(rt;
+            show(&answer, &mut out, &mut err),
+            4,
+            "after {takes} writes"
+        );
+        assert_eq!(rt; out.text(), &ANSWER.as_bytes()[..takes]);
+    }
+    let (mut out, mut err) = (Page::new(ANSWER.len(), true), Page::new(NEVER, true));
+    assert_eq!(rt; show(&answer, &mut out, &mut err), 0);
+    assert_eq!(rt; out.text(), ANSWER.as_bytes());
+    Ok(())
+}
+
+#[test]
+fn finishes_answers(rt: HostRuntime) -> Result<(), Fail> {
+    let answer = Ok(Vec::from_slice(rt.alloc(), ANSWER.as_bytes())?);
+    for (flushes, status) in [(true, 0), (false, 4)] {
+        let (mut out, mut err) = (Page::new(NEVER, flushes), Page::new(NEVER, true));
+        let code = finish(&answer, &mut out, &mut err);
+        assert_eq!(rt; code, ExitCode::from(status));
+        assert_eq!(rt; out.text(), ANSWER.as_bytes());
+        assert!(rt; err.text().is_empty());
+    }
+    Ok(())
+}
+
+// A fault, how many writes `err` takes, what it takes, and the exit status.
+#[test]
+fn finishes_faults(rt: HostRuntime) {
+    let lines = [
+        (Fault::Usage, NEVER, "Usage\n", 2),
+        (Fault::KeyLength, NEVER, "KeyLength\n", 2),
+        (Fault::KeyText, NEVER, "KeyText\n", 2),
+        (Fault::BlockLength, NEVER, "BlockLength\n", 2),
+        (Fault::BlockText, NEVER, "BlockText\n", 2),
+        (Fault::Memory, NEVER, "Memory\n", 3),
+        (Fault::Usage, 3, "Usa", 2),
+        (Fault::Memory, 0, "", 3),
+    ];
+    for (fault, takes, reported, status) in lines {
+        let (mut out, mut err) = (Page::new(NEVER, true), Page::new(takes, true));
+        let code = finish(&Err(fault), &mut out, &mut err);
+        assert_eq!(rt; code, ExitCode::from(status));
+        assert_eq!(rt; err.text(), reported.as_bytes());
+        assert!(rt; out.text().is_empty());
+    }
+}
+
+// A direction, blocks, how many writes `out` takes, what it takes, and the exit status.
+#[test]
+fn runs_to_answers(rt: HostRuntime) {
+    let lines = [
+        ("encrypt", BLOCK, NEVER, ANSWER, 0),
+        (
+            "decrypt",
+            "85E813540F0AB405",
+            NEVER,
+            "0123456789abcdef\n",
+            0,
+        ),
+        ("encrypt", "", NEVER, "\n", 0),
+        ("encrypt", BLOCK, 4, "85e8", 4),
+    ];
+    for (direction, blocks, takes, written, status) in lines {
+        let arguments = ["des_tool", "des", direction, KEY, blocks];
+        let process = Process {
+            arguments: &arguments,
+        };
+        let (mut out, mut err) = (Page::new(takes, true), Page::new(NEVER, true));
+        let code = run(&(process, rt.alloc()), &mut out, &mut err);
+        assert_eq!(rt; code, ExitCode::from(status));
+        assert_eq!(rt; out.text(), written.as_bytes());
+        assert!(rt; err.text().is_empty());
+    }
+}
+
+#[test]
+fn runs_to_faults(rt: HostRuntime) {
+    let lines: [(&[&str], &str); 9] = [
+        (&[], "Usage\n"),
+        (&["des_tool", "des", "encrypt", KEY], "Usage\n"),
+        (
+            &["des_tool", "des", "encrypt", KEY, BLOCK, BLOCK],
+            "Usage\n",
+        ),
+        (&["des_tool", "DES", "encrypt", KEY, BLOCK], "Usage\n"),
+        (&["des_tool", "des", "encipher", KEY, BLOCK], "Usage\n"),
+        (
+            &["des_tool", "des", "encrypt", "133457799BBCDFF", "0"],
+            "KeyLength\n",
+        ),
+        (
+            &["des_tool", "des", "encrypt", "133457799BBCDF\u{e9}", "0"],
+            "KeyText\n",
+        ),
+        (
+            &["des_tool", "des", "encrypt", KEY, "0123456789ABCDEg0"],
+            "BlockLength\n",
+        ),
+        (
+            &["des_tool", "des", "encrypt", KEY, "0x0123456789ABCD"],
+            "BlockText\n",
+        ),
+    ];
+    for (arguments, reported) in lines {
+        let (mut out, mut err) = (Page::new(NEVER, true), Page::new(NEVER, true));
+        let code = run(&(Process { arguments }, rt.alloc()), &mut out, &mut err);
+        assert_eq!(rt; code, ExitCode::from(2));
+        assert_eq!(rt; err.text(), reported.as_bytes());
+        assert!(rt; out.text().is_empty());
+    }
 }
 
 // This test holds whichever request for memory is refused.
 #[test]
-fn memory_is_the_only_other_fault(rt: HostRuntime) {
-    let refused = answer(rt.alloc(), &["des", "encrypt", KEY, "0"]);
-    assert_eq!(rt; refused, Err(Fault::BlockLength));
-    match answer(rt.alloc(), &["des", "encrypt", KEY, BLOCK]) {
-        Ok(text) => assert_eq!(rt; text.as_slice(), b"85e813540f0ab405\n".as_slice()),
-        Err(fault) => assert_eq!(rt; fault, Fault::Memory),
-    }
-    match answer(rt.alloc(), &["des", "decrypt", KEY, "85e813540f0ab405"]) {
-        Ok(text) => assert_eq!(rt; text.as_slice(), b"0123456789abcdef\n".as_slice()),
-        Err(fault) => assert_eq!(rt; fault, Fault::Memory),
-    }
-    let refused = answer(rt.alloc(), &["des", "encrypt", "0", BLOCK]);
-    assert_eq!(rt; refused, Err(Fault::KeyLength));
-}
-
-#[test]
-fn shows_answers(rt: HostRuntime) -> Result<(), Fail> {
-    let alloc = rt.alloc();
-    let lines = [
-        (17, true, 0, "85e813540f0ab405\n"),
-        (99, true, 0, "85e813540f0ab405\n"),
-        (17, false, 4, "85e813540f0ab405\n"),
-        (16, true, 4, "85e813540f0ab405"),
-        (4, true, 4, "85e8"),
-        (0, true, 4, ""),
-    ];
-    for (room, flushes, status, written) in lines {
-        let text = Vec::from_slice(alloc, b"85e813540f0ab405\n")?;
-        let (mut out, mut err) = (Page::new(alloc, room, flushes), Page::new(alloc, 99, true));
-        assert_eq!(rt; show(&Ok(text), &mut out, &mut err), status);
-        assert_eq!(rt; out.bytes.as_slice(), written.as_bytes());
-        assert!(rt; err.bytes.is_empty());
-    }
-    Ok(())
-}
-
-#[test]
-fn shows_faults(rt: HostRuntime) {
-    let alloc = rt.alloc();
-    let lines = [
-        (Fault::Usage, 99, 2, "Usage\n"),
-        (Fault::KeyLength, 99, 2, "KeyLength\n"),
-        (Fault::KeyText, 99, 2, "KeyText\n"),
-        (Fault::BlockLength, 99, 2, "BlockLength\n"),
-        (Fault::BlockText, 99, 2, "BlockText\n"),
-        (Fault::Memory, 99, 3, "Memory\n"),
-        (Fault::Usage, 3, 2, "Usa"),
-        (Fault::Memory, 0, 3, ""),
-    ];
-    for (fault, room, status, written) in lines {
-        let (mut out, mut err) = (Page::new(alloc, 99, true), Page::new(alloc, room, true));
-        assert_eq!(rt; show(&Err(fault), &mut out, &mut err), status);
-        assert_eq!(rt; err.bytes.as_slice(), written.as_bytes());
-        assert!(rt; out.bytes.is_empty());
-    }
-}
-
-// What the program writes and ends with: words, standard output, standard error, status.
-#[test]
-fn prints_lines(rt: HostRuntime) {
-    let alloc = rt.alloc();
-    let lines: [(&[&str], &str, &str, u8); 7] = [
-        (&["des", "encrypt", KEY, BLOCK], "85e813540f0ab405\n", "", 0),
-        (
-            &["des", "decrypt", KEY, "85E813540F0AB405"],
-            "0123456789abcdef\n",
-            "",
-            0,
-        ),
-        (&["des", "encrypt", KEY, ""], "\n", "", 0),
-        (
-            &["des", "encrypt", "133457799BBCDFF", BLOCK],
-            "",
-            "KeyLength\n",
-            2,
-        ),
-        (
-            &["des", "encrypt", "133457799BBCDFFg", BLOCK],
-            "",
-            "KeyText\n",
-            2,
-        ),
-        (
-            &["des", "encrypt", KEY, "0123456789ABCDEF0"],
-            "",
-            "BlockLength\n",
-            2,
-        ),
-        (&[], "", "Usage\n", 2),
-    ];
-    for (words, written, reported, status) in lines {
-        let (mut out, mut err) = (Page::new(alloc, 99, true), Page::new(alloc, 99, true));
-        assert_eq!(rt; show(&answer(alloc, words), &mut out, &mut err), status);
-        assert_eq!(rt; out.bytes.as_slice(), written.as_bytes());
-        assert_eq!(rt; err.bytes.as_slice(), reported.as_bytes());
-    }
+fn reports_a_refused_request_for_memory(rt: HostRuntime) {
+    let arguments = ["des_tool", "des", "encrypt", KEY, BLOCK];
+    let process = Process {
+        arguments: &arguments,
+    };
+    let (mut out, mut err) = (Page::new(NEVER, true), Page::new(NEVER, true));
+    let code = run(&(process, rt.alloc()), &mut out, &mut err);
+    let is_refused = code != ExitCode::SUCCESS;
+    let (written, reported, status) = if is_refused {
+        ("", "Memory\n", 3)
+    } else {
+        (ANSWER, "", 0)
+    };
+    assert_eq!(rt; code, ExitCode::from(status));
+    assert_eq!(rt; out.text(), written.as_bytes());
+    assert_eq!(rt; err.text(), reported.as_bytes());
 }
