@@ -1,10 +1,10 @@
 -- What a key, or a `Des` of the key, answers: the graph of each function is the DES relation of the key.
-use Rattle.std.proofs.Common.{◌≡◌, ℕ, List, Bool, length, reverse, ap, ◌∙◌, subst}
+use Rattle.std.proofs.Common.{◌≡◌, ℕ, List, Bool, ap, ◌∙◌, subst}
 use Rattle.des.specs.Bits.{bits_of_bytes}
 use Rattle.des.specs.Blocks.{IsKey, IsBlock, block_of_bits}
 use Rattle.des.specs.Relations.{IsTheOne, HasOneAnswerEachWay, IsGraphOf}
 use Rattle.des.specs.KeySchedule.{key_schedule}
-use Rattle.des.specs.Enciphering.{IsDes, Enciphers}
+use Rattle.des.specs.Enciphering.{Enciphers}
 use Rattle.des.specs.Rounds.{through_rounds, answer_by}
 use Rattle.des.specs.declared.des.Des.{Des}
 use Rattle.des.specs.Des.{IsDesOf, encrypted, decrypted, encryption, decryption}

@@ -10,3 +10,4 @@ pub mod Traces
 pub mod OneAnswer
 pub mod RoundsOnWords
 pub mod Graphs
+pub mod TripleGraphs

@@ -1,5 +1,5 @@
 -- The rounds of the cipher on words: the steps from a block to what the rounds make of it.
-use Rattle.std.proofs.Common.{◌≡◌, ℕ, ◌-◌, List, [], ◌∷◌, ◌++◌, Bool, length, map, take, drop, reverse, refl, ap, ap₂, sym, ◌∙◌, take_at, drop_at, length-drop}
+use Rattle.std.proofs.Common.{◌≡◌, ℕ, ◌-◌, List, [], ◌∷◌, ◌++◌, Bool, length, take, drop, reverse, refl, ap, ap₂, sym, ◌∙◌, take_at, drop_at, length-drop}
 use Rattle.std.proofs.lemmas.List.{map-append, reverse-append}
 use Rattle.des.specs.Bits.{bits_of_word, select, xor_bits}
 use Rattle.des.specs.Tables.{initial_permutation}
@@ -62,7 +62,7 @@ unfolding through_rounds
 through_rounds-halves words first last block answer begins rounds ends =
     ends
     ∙ ap (λ (h : List Bool × List Bool). select final_permutation (swapped h)) rounds
-    ∙ ap (λ (bits : List Bool). select final_permutation (swapped (after_rounds (round_keys_of words) (take 32 bits) (drop 32 bits)))) begins
+    ∙ ap (λ (bits : List Bool). select final_permutation (swapped (halves_after words (take 32 bits, drop 32 bits)))) begins
 
 -- the words from the last to the first hold the round keys from the last to the first
 pub round_keys_of-reverse : (words : List ℕ) → round_keys_of (reverse words) ≡ reverse (round_keys_of words)

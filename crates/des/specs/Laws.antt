@@ -6,3 +6,4 @@ pub mod BlockBits
 pub mod Passes
 pub mod RoundsUndone
 pub mod HeldRoundKeys
+pub mod DesPasses

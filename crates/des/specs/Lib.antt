@@ -8,5 +8,6 @@ pub mod Enciphering
 pub mod RoundKeyWords
 pub mod Rounds
 pub mod Des
+pub mod Triple
 pub mod Positions
 pub mod Laws

@@ -1,4 +1,4 @@
-//! The block cipher DES (FIPS 46-3), after the Rust crate `des` 0.9.0.
+//! The block cipher DES and its triple forms (FIPS 46-3), after the Rust crate `des` 0.9.0.
 //!
 //! DES is broken: its key of 56 bits can be searched. It is here for data and protocols that still
 //! use it. A block cipher hides nothing about repeated blocks and does not authenticate, and no
@@ -8,6 +8,8 @@
 pub mod cipher;
 pub mod consts;
 pub mod des;
+pub mod tdes;
 pub mod utils;
 
 pub use des::Des;
+pub use tdes::{TdesEde2, TdesEde3, TdesEee2, TdesEee3};

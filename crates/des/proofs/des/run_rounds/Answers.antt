@@ -25,7 +25,8 @@ loop-round_key-preserved g c =
       rounds =
           halves_of-round_more so_far first c.loop-round_key.halves c.in-Some.field-0.now c.round-halves.result
           c.loop-round_key.invariant.rounds c.round-halves.ensures
-          ∙ ap (λ (words : List ℕ). halves_after words (halves_of first)) (sym (map-append read c.loop-round_key.yielded (c.in-Some.field-0 ∷ [])));
+          ∙ ap (λ (words : List ℕ). halves_after words (halves_of first))
+          (sym (map-append read c.loop-round_key.yielded (c.in-Some.field-0 ∷ [])));
     }
 
 pub returns-clause-answered : goal.returns-clause-answered
@@ -35,8 +36,8 @@ returns-clause-answered g c words yields =
     let yielded : YieldsList g.I.Iterator.next_gives (λ word. word.now) c.into_iter-round_key-iterator.result words =
     record { runs = rw same yields } in
     let all =
-    YieldsList-end yielded c.loop-round_key.yielded c.loop-round_key.round_key-iterator c.loop-round_key.yielded_by c.next.result c.next.new.self
-    c.in-None.is c.next.ensures.steps in
+    YieldsList-end yielded c.loop-round_key.yielded c.loop-round_key.round_key-iterator c.loop-round_key.yielded_by
+    c.next.result c.next.new.self c.in-None.is c.next.ensures.steps in
     sym (block_of_bits-bits_of_bytes c.last_block.result c.last_block.ensures.block)
     ∙ ap block_of_bits
     (through_rounds-halves words first c.loop-round_key.halves (bits_of_bytes c.args.block.now) (bits_of_bytes c.last_block.result)

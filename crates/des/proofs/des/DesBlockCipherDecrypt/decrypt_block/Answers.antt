@@ -1,5 +1,4 @@
 use Rattle.std.proofs.Common.{reverse, ap, ◌∙◌, rules}
-use Rattle.std.proofs.lemmas.Iterator.{YieldsList}
 use Rattle.std.proofs.lemmas.Iterator.Adapters.{YieldsList-from_rev_slice}
 use Rattle.des.specs.Rounds.{answer_by}
 use Rattle.des.proofs.RoundsOnWords.{round_keys_of-reverse}
@@ -14,4 +13,5 @@ returns-clause-decrypted c =
 
 pub returns-clause-deciphers : goal.returns-clause-deciphers
 returns-clause-deciphers c key of_key =
-    IsTheOne-decrypted c.args.self.now key c.args.block.now c.run_rounds.new.block of_key c.run_rounds.ensures.block (returns-clause-decrypted c)
+    IsTheOne-decrypted c.args.self.now key c.args.block.now c.run_rounds.new.block of_key c.run_rounds.ensures.block
+    (returns-clause-decrypted c)

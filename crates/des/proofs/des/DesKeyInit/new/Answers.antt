@@ -1,5 +1,4 @@
 use Rattle.std.proofs.Common.{arith}
-use Rattle.des.specs.Des.{IsDesOf}
 use Rattle.des.proofs.RoundKeys.{HoldRoundKeys-bytes}
 use Rattle.des.proofs.Graphs.{HasOneAnswerEachWay-key, IsGraphOf-encryption, IsGraphOf-decryption}
 use Rattle.des.proofs.des.DesKeyInit.new.Goals as goal

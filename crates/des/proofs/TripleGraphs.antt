@@ -1,0 +1,114 @@
+-- What three passes of DES under three keys answer: the graph of each direction is the relations joined.
+use Rattle.std.proofs.Common.{ℕ, ◌*◌, ◌-◌, ◌<◌, ◌≤◌, List, drop, length-drop, lit≤, arith}
+use Rattle.std.proofs.lemmas.List.{length-take-le}
+use Rattle.std.proofs.lemmas.List.Elements.{All-take, All-drop}
+use Rattle.des.specs.Blocks.{IsKey}
+use Rattle.des.specs.Relations.{IsTheOne, HasOneAnswerEachWay, IsGraphOf}
+use Rattle.des.specs.Enciphering.{Enciphers}
+use Rattle.des.specs.Des.{encryption, decryption}
+use Rattle.des.specs.Triple.{part, through, Ede3, Eee3, EnciphersEde3, EnciphersEee3, EnciphersEde2, EnciphersEee2}
+use Rattle.des.specs.Laws.Passes.{IsPass, IsPass-turned, IsPass-through, IsGraphOf-through, IsGraphOf-turned, HasOneAnswerEachWay-graph, IsTheOne-through, IsTheOne-back_through}
+use Rattle.des.specs.Laws.DesPasses.{IsPass-key}
+use Rattle.des.proofs.Graphs.{IsGraphOf-encryption, IsGraphOf-decryption}
+
+-- two functions answer by the relation, each way
+pub record AnswerBy (forth back : List ℕ → List ℕ) (Answers : List ℕ → List ℕ → Type 0) : Type 0 where
+  pub one_answer_each_way : HasOneAnswerEachWay Answers
+  pub encryption : IsGraphOf forth Answers
+  pub decryption : IsGraphOf back (λ y x. Answers x y)
+
+-- those of a pass do whose graph is the relation
+AnswerBy-graph : (forth back : List ℕ → List ℕ) (Answers : List ℕ → List ℕ → Type 0) → IsPass forth back → IsGraphOf forth Answers
+    → AnswerBy forth back Answers
+AnswerBy-graph forth back Answers pass graph = record {
+  one_answer_each_way = HasOneAnswerEachWay-graph forth back Answers pass graph;
+  encryption = graph;
+  decryption = IsGraphOf-turned forth back Answers pass graph;
+}
+
+module _ (k1 k2 k3 : List ℕ) where
+  -- what the keys answer by each form, in each direction
+  abbrev pub ede : List ℕ → List ℕ
+  ede = through (encryption k1) (decryption k2) (encryption k3)
+
+  abbrev pub ede_back : List ℕ → List ℕ
+  ede_back = through (decryption k3) (encryption k2) (decryption k1)
+
+  abbrev pub eee : List ℕ → List ℕ
+  eee = through (encryption k1) (encryption k2) (encryption k3)
+
+  abbrev pub eee_back : List ℕ → List ℕ
+  eee_back = through (decryption k3) (decryption k2) (decryption k1)
+
+  -- where each key answers by the DES relation, the three answer by the relation of the form
+  pub AnswerBy-ede : IsGraphOf (encryption k1) (λ x y. Enciphers k1 x y) → IsGraphOf (decryption k2) (λ y x. Enciphers k2 x y)
+      → IsGraphOf (encryption k3) (λ x y. Enciphers k3 x y) → AnswerBy ede ede_back (λ x y. Ede3 k1 k2 k3 x y)
+  AnswerBy-ede first second third =
+      let middle = IsPass-turned (IsPass-key k2) in
+      AnswerBy-graph ede ede_back (λ x y. Ede3 k1 k2 k3 x y) (IsPass-through (IsPass-key k1) middle (IsPass-key k3))
+      (IsGraphOf-through (encryption k1) (decryption k1) (decryption k2) (encryption k2) (encryption k3)
+      (λ x u. Enciphers k1 x u) (λ u v. Enciphers k2 v u) (λ v y. Enciphers k3 v y) (IsPass-key k1) middle first second third)
+
+  pub AnswerBy-eee : IsGraphOf (encryption k1) (λ x y. Enciphers k1 x y) → IsGraphOf (encryption k2) (λ x y. Enciphers k2 x y)
+      → IsGraphOf (encryption k3) (λ x y. Enciphers k3 x y) → AnswerBy eee eee_back (λ x y. Eee3 k1 k2 k3 x y)
+  AnswerBy-eee first second third =
+      AnswerBy-graph eee eee_back (λ x y. Eee3 k1 k2 k3 x y) (IsPass-through (IsPass-key k1) (IsPass-key k2) (IsPass-key k3))
+      (IsGraphOf-through (encryption k1) (decryption k1) (encryption k2) (decryption k2) (encryption k3)
+      (λ x u. Enciphers k1 x u) (λ u v. Enciphers k2 u v) (λ v y. Enciphers k3 v y) (IsPass-key k1) (IsPass-key k2) first second third)
+
+-- three passes over blocks, each of which gives the one block of its key
+module _ (k1 k2 k3 x u v y : List ℕ) where
+  pub IsTheOne-ede : IsTheOne (λ a. Enciphers k1 x a) u → IsTheOne (λ a. Enciphers k2 a u) v → IsTheOne (λ a. Enciphers k3 v a) y
+      → IsTheOne (λ a. Ede3 k1 k2 k3 x a) y
+  IsTheOne-ede = IsTheOne-through (λ a b. Enciphers k1 a b) (λ a b. Enciphers k2 b a) (λ a b. Enciphers k3 a b) x u v y
+
+  pub IsTheOne-eee : IsTheOne (λ a. Enciphers k1 x a) u → IsTheOne (λ a. Enciphers k2 u a) v → IsTheOne (λ a. Enciphers k3 v a) y
+      → IsTheOne (λ a. Eee3 k1 k2 k3 x a) y
+  IsTheOne-eee = IsTheOne-through (λ a b. Enciphers k1 a b) (λ a b. Enciphers k2 a b) (λ a b. Enciphers k3 a b) x u v y
+
+  pub IsTheOne-ede_back : IsTheOne (λ a. Enciphers k3 a y) v → IsTheOne (λ a. Enciphers k2 v a) u → IsTheOne (λ a. Enciphers k1 a u) x
+      → IsTheOne (λ a. Ede3 k1 k2 k3 a y) x
+  IsTheOne-ede_back = IsTheOne-back_through (λ a b. Enciphers k1 a b) (λ a b. Enciphers k2 b a) (λ a b. Enciphers k3 a b) x u v y
+
+  pub IsTheOne-eee_back : IsTheOne (λ a. Enciphers k3 a y) v → IsTheOne (λ a. Enciphers k2 a v) u → IsTheOne (λ a. Enciphers k1 a u) x
+      → IsTheOne (λ a. Eee3 k1 k2 k3 a y) x
+  IsTheOne-eee_back = IsTheOne-back_through (λ a b. Enciphers k1 a b) (λ a b. Enciphers k2 a b) (λ a b. Enciphers k3 a b) x u v y
+
+-- a part of a key is a key, so it answers by the DES relation
+module _ (n size : ℕ) (key : List ℕ) (is_key : IsKey size key) (from : 1 ≤ n) (within : 8 * n ≤ size) where
+  IsKey-part : IsKey 8 (part n key)
+  IsKey-part = (
+    length-take-le 8 (drop (8 * (n - 1)) key) (omega (arith, length-drop (8 * (n - 1)) key, is_key.0)),
+    All-take (λ byte. byte < 256) 8 (drop (8 * (n - 1)) key) (All-drop (λ byte. byte < 256) (8 * (n - 1)) key is_key.1),
+  )
+
+  encrypts : IsGraphOf (encryption (part n key)) (λ x y. Enciphers (part n key) x y)
+  encrypts = IsGraphOf-encryption (part n key) IsKey-part
+
+  decrypts : IsGraphOf (decryption (part n key)) (λ y x. Enciphers (part n key) x y)
+  decrypts = IsGraphOf-decryption (part n key) IsKey-part
+
+-- a key answers by the relation of its cipher
+pub AnswerBy-Ede3 : (key : List ℕ) → IsKey 24 key
+    → AnswerBy (ede (part 1 key) (part 2 key) (part 3 key)) (ede_back (part 1 key) (part 2 key) (part 3 key)) (λ x y. EnciphersEde3 key x y)
+AnswerBy-Ede3 key is_key =
+    AnswerBy-ede (part 1 key) (part 2 key) (part 3 key) (encrypts 1 24 key is_key (lit≤ tt) (lit≤ tt))
+    (decrypts 2 24 key is_key (lit≤ tt) (lit≤ tt)) (encrypts 3 24 key is_key (lit≤ tt) (lit≤ tt))
+
+pub AnswerBy-Eee3 : (key : List ℕ) → IsKey 24 key
+    → AnswerBy (eee (part 1 key) (part 2 key) (part 3 key)) (eee_back (part 1 key) (part 2 key) (part 3 key)) (λ x y. EnciphersEee3 key x y)
+AnswerBy-Eee3 key is_key =
+    AnswerBy-eee (part 1 key) (part 2 key) (part 3 key) (encrypts 1 24 key is_key (lit≤ tt) (lit≤ tt))
+    (encrypts 2 24 key is_key (lit≤ tt) (lit≤ tt)) (encrypts 3 24 key is_key (lit≤ tt) (lit≤ tt))
+
+pub AnswerBy-Ede2 : (key : List ℕ) → IsKey 16 key
+    → AnswerBy (ede (part 1 key) (part 2 key) (part 1 key)) (ede_back (part 1 key) (part 2 key) (part 1 key)) (λ x y. EnciphersEde2 key x y)
+AnswerBy-Ede2 key is_key =
+    AnswerBy-ede (part 1 key) (part 2 key) (part 1 key) (encrypts 1 16 key is_key (lit≤ tt) (lit≤ tt))
+    (decrypts 2 16 key is_key (lit≤ tt) (lit≤ tt)) (encrypts 1 16 key is_key (lit≤ tt) (lit≤ tt))
+
+pub AnswerBy-Eee2 : (key : List ℕ) → IsKey 16 key
+    → AnswerBy (eee (part 1 key) (part 2 key) (part 1 key)) (eee_back (part 1 key) (part 2 key) (part 1 key)) (λ x y. EnciphersEee2 key x y)
+AnswerBy-Eee2 key is_key =
+    AnswerBy-eee (part 1 key) (part 2 key) (part 1 key) (encrypts 1 16 key is_key (lit≤ tt) (lit≤ tt))
+    (encrypts 2 16 key is_key (lit≤ tt) (lit≤ tt)) (encrypts 1 16 key is_key (lit≤ tt) (lit≤ tt))

@@ -1,0 +1,5 @@
+use Rattle.des.specs.Triple.{part}
+use Rattle.des.proofs.tdes.eee3.TdesEee3BlockCipherEncrypt.encrypt_block.Goals as goal
+
+pub returns-clause-enciphers : goal.returns-clause-enciphers
+returns-clause-enciphers c key made = c.encrypt_eee.ensures.enciphers (part 1 key) (part 2 key) (part 3 key) made.0 made.1 made.2

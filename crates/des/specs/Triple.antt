@@ -1,0 +1,40 @@
+-- The triple ciphers, as relations joined: three passes of DES, each read as the letter in the name says. FIPS 46-3
+-- defines EDE (triple data encryption algorithm); the Rust crate defines EEE in the same way.
+use Rattle.std.specs.Prelude.{ℕ, ◌-◌, ◌*◌, List, take, drop}
+use Rattle.des.specs.Enciphering.{Enciphers}
+
+-- part n of a key, from 1: bytes 1 to 8, 9 to 16, 17 to 24
+abbrev pub part : ℕ → List ℕ → List ℕ
+part n key = take 8 (drop (8 * (n - 1)) key)
+
+-- encryption, decryption, encryption: x to u under the first part, u from v under the second, v to y under the third
+abbrev pub Ede3 : List ℕ → List ℕ → List ℕ → List ℕ → List ℕ → Type 0
+Ede3 k1 k2 k3 x y = (u : List ℕ) × ((v : List ℕ) × (Enciphers k1 x u × Enciphers k2 v u × Enciphers k3 v y))
+
+-- encryption, encryption, encryption
+abbrev pub Eee3 : List ℕ → List ℕ → List ℕ → List ℕ → List ℕ → Type 0
+Eee3 k1 k2 k3 x y = (u : List ℕ) × ((v : List ℕ) × (Enciphers k1 x u × Enciphers k2 u v × Enciphers k3 v y))
+
+-- of two parts, with the first again as the third
+abbrev pub Ede2 : List ℕ → List ℕ → List ℕ → List ℕ → Type 0
+Ede2 k1 k2 x y = Ede3 k1 k2 k1 x y
+
+abbrev pub Eee2 : List ℕ → List ℕ → List ℕ → List ℕ → Type 0
+Eee2 k1 k2 x y = Eee3 k1 k2 k1 x y
+
+-- the same of a key as bytes, 24 for three parts and 16 for two
+abbrev pub EnciphersEde3 : List ℕ → List ℕ → List ℕ → Type 0
+EnciphersEde3 key x y = Ede3 (part 1 key) (part 2 key) (part 3 key) x y
+
+abbrev pub EnciphersEee3 : List ℕ → List ℕ → List ℕ → Type 0
+EnciphersEee3 key x y = Eee3 (part 1 key) (part 2 key) (part 3 key) x y
+
+abbrev pub EnciphersEde2 : List ℕ → List ℕ → List ℕ → Type 0
+EnciphersEde2 key x y = Ede2 (part 1 key) (part 2 key) x y
+
+abbrev pub EnciphersEee2 : List ℕ → List ℕ → List ℕ → Type 0
+EnciphersEee2 key x y = Eee2 (part 1 key) (part 2 key) x y
+
+-- three functions on blocks, one after another
+abbrev pub through : (List ℕ → List ℕ) → (List ℕ → List ℕ) → (List ℕ → List ℕ) → List ℕ → List ℕ
+through first second third block = third (second (first block))

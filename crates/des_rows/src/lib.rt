@@ -1,0 +1,5 @@
+//! What stands above the ciphers of `des`: callers that rest on its contracts and laws alone.
+//! Nothing here is part of the product.
+#![tactic(auto)]
+
+pub mod check_value;
