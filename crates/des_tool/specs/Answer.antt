@@ -3,8 +3,9 @@ use Rattle.std.specs.Prelude.{◌≡◌, ℕ, List, MatchOption}
 use Rattle.std.specs.List.{concat}
 use Rattle.des.specs.Blocks.{AnswersEach}
 use Rattle.des.specs.Enciphering.{Enciphers}
+use Rattle.des.specs.Triple.{EnciphersEde3, EnciphersEee3, EnciphersEde2, EnciphersEee2}
 use Rattle.des_tool.specs.declared.command.Cipher.{Cipher}
-use Rattle.des_tool.specs.declared.command.Cipher.TheVariants.{Des}
+use Rattle.des_tool.specs.declared.command.Cipher.TheVariants.{Des, Ede3, Eee3, Ede2, Eee2}
 use Rattle.des_tool.specs.declared.command.Direction.{Direction}
 use Rattle.des_tool.specs.declared.command.Direction.TheVariants.{Encrypt, Decrypt}
 use Rattle.des_tool.specs.Digits.{bytes_of_digits, text_of_blocks}
@@ -13,6 +14,10 @@ use Rattle.des_tool.specs.Request.{Request, of_blocks, request_of}
 -- what a cipher is: the relation between the bytes of a key, a block and the block that it is enciphered to
 abbrev pub relation_of : Cipher → List ℕ → List ℕ → List ℕ → Type 0
 relation_of Des key first last = Enciphers key first last
+relation_of Ede3 key first last = EnciphersEde3 key first last
+relation_of Eee3 key first last = EnciphersEee3 key first last
+relation_of Ede2 key first last = EnciphersEde2 key first last
+relation_of Eee2 key first last = EnciphersEee2 key first last
 
 -- a relation of blocks, read in a direction: from the first block to the second, or from the second to the first
 abbrev pub ReadIn : Direction → (List ℕ → List ℕ → Type 0) → List ℕ → List ℕ → Type 0

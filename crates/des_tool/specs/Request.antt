@@ -3,7 +3,7 @@ use Rattle.std.specs.Prelude.{ℕ, if◌then◌else◌, List, [], ◌∷◌, map
 use Rattle.std.specs.Option.{option_and_then, option_map}
 use Rattle.std.specs.Borrow.{Bor}
 use Rattle.des_tool.specs.declared.command.Cipher.{Cipher}
-use Rattle.des_tool.specs.declared.command.Cipher.TheVariants.{Des}
+use Rattle.des_tool.specs.declared.command.Cipher.TheVariants.{Des, Ede3, Eee3, Ede2, Eee2}
 use Rattle.des_tool.specs.declared.command.Direction.{Direction}
 use Rattle.des_tool.specs.declared.command.Direction.TheVariants.{Encrypt, Decrypt}
 use Rattle.des_tool.specs.declared.command.Command.{Command}
@@ -19,11 +19,21 @@ texts arguments = map (λ argument. argument.now) arguments
 
 -- the cipher that an argument names
 abbrev pub cipher_of : List ℕ → Option Cipher
-cipher_of argument = if bytes_eq argument (codes "des") then Some Des else None
+cipher_of argument =
+    if bytes_eq argument (codes "des") then Some Des
+    else if bytes_eq argument (codes "ede3") then Some Ede3
+    else if bytes_eq argument (codes "eee3") then Some Eee3
+    else if bytes_eq argument (codes "ede2") then Some Ede2
+    else if bytes_eq argument (codes "eee2") then Some Eee2
+    else None
 
 -- the bytes of a cipher's key
 abbrev pub key_size_of : Cipher → ℕ
 key_size_of Des = 8
+key_size_of Ede3 = 24
+key_size_of Eee3 = 24
+key_size_of Ede2 = 16
+key_size_of Eee2 = 16
 
 -- the direction that an argument names
 abbrev pub direction_of : List ℕ → Option Direction

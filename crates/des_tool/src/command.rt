@@ -16,8 +16,8 @@ ghost use Rattle.des_tool.specs.Status.{answer_written, IsOfAnswer, IsOfFault, I
 ghost use Rattle.des_tool.specs.Answer.{IsTextOf, AnswersRequest, IsAnswer};
 ghost use Rattle.des_tool.specs.Ciphers.{in_direction, IsMadeBy};
 
-use des::Des;
 use des::cipher::{BlockCipher, KeyInit, KeyedCipher};
+use des::{Des, TdesEde2, TdesEde3, TdesEee2, TdesEee3};
 use std::alloc::{AllocError, AllocFailed, Global};
 use std::env::Env;
 use std::error::Error;
@@ -121,6 +121,10 @@ impl Fault {
 #[derive(Clone, Copy)]
 enum Cipher {
     Des,
+    Ede3,
+    Eee3,
+    Ede2,
+    Eee2,
 }
 
 // Whether blocks are enciphered or deciphered.
@@ -145,6 +149,10 @@ fn parse_cipher(argument: &str) -> Option<Cipher>
 {
     match argument {
         "des" => Some(Cipher::Des),
+        "ede3" => Some(Cipher::Ede3),
+        "eee3" => Some(Cipher::Eee3),
+        "ede2" => Some(Cipher::Ede2),
+        "eee2" => Some(Cipher::Eee2),
         _ => None,
     }
 }
@@ -175,10 +183,11 @@ fn parse<'a>(arguments: &[&'a str]) -> Option<Command<'a>>
 
 /// The text that answers the arguments of a command line, without the program's own name.
 ///
-/// `des encrypt KEY BLOCKS` enciphers 8-byte blocks under an 8-byte key, and `des decrypt KEY
-/// BLOCKS` deciphers them, each block on its own. `KEY` and `BLOCKS` are hexadecimal digits in
-/// either case, two a byte; no block at all is a list too. The answer is the blocks' lower-case
-/// digits, in order, and a newline.
+/// `CIPHER encrypt KEY BLOCKS` enciphers blocks of 8 bytes, and `CIPHER decrypt KEY BLOCKS` deciphers
+/// them, each block on its own. `CIPHER` is `des`, with a key of 8 bytes, `ede3` or `eee3`, with one
+/// of 24, or `ede2` or `eee2`, with one of 16. `KEY` and `BLOCKS` are hexadecimal digits in either
+/// case, two a byte; no block at all is a list too. The answer is the blocks' lower-case digits, in
+/// order, and a newline.
 ///
 /// Every fault but `Memory` is found before any memory is asked for.
 pub fn answer(alloc: Global, arguments: &[&str]) -> Result<Vec<u8>, Fault>
@@ -213,6 +222,10 @@ fn blocks_text(
 {
     match cipher {
         Cipher::Des => cipher_text::<Des>(alloc, direction, key, digits),
+        Cipher::Ede3 => cipher_text::<TdesEde3>(alloc, direction, key, digits),
+        Cipher::Eee3 => cipher_text::<TdesEee3>(alloc, direction, key, digits),
+        Cipher::Ede2 => cipher_text::<TdesEde2>(alloc, direction, key, digits),
+        Cipher::Eee2 => cipher_text::<TdesEee2>(alloc, direction, key, digits),
     }
 }
 

@@ -1,29 +1,82 @@
-use Rattle.std.proofs.Common.{ℕ, List, IfOk}
+use Rattle.std.proofs.Common.{ℕ, List}
 use Rattle.std.proofs.lemmas.Result.{IfOk-weaker}
+use Rattle.des.specs.Blocks.{IsKey}
 use Rattle.des.specs.Des.{encryption, decryption}
-use Rattle.des.proofs.Graphs.{IsGraphOf-encryption, IsGraphOf-decryption}
-use Rattle.des_tool.specs.declared.command.Cipher.TheVariants.{Des}
+use Rattle.des.specs.Triple.{part}
+use Rattle.des.proofs.Graphs.{IsGraphOf-encryption, IsGraphOf-decryption, HasOneAnswerEachWay-key}
+use Rattle.des.proofs.TripleGraphs.{AnswerBy, ede, ede_back, eee, eee_back, AnswerBy-Ede3, AnswerBy-Eee3, AnswerBy-Ede2, AnswerBy-Eee2}
+use Rattle.des_tool.specs.declared.command.Cipher.{Cipher}
+use Rattle.des_tool.specs.declared.command.Cipher.TheVariants.{Des, Ede3, Eee3, Ede2, Eee2}
 use Rattle.des_tool.specs.declared.command.Direction.{Direction}
-use Rattle.des_tool.specs.Answer.{AnswersRequest, IsTextOf, ReadIn, relation_of}
+use Rattle.des_tool.specs.Answer.{IsTextOf, ReadIn, relation_of}
 use Rattle.des_tool.specs.Ciphers.{IsMadeBy, in_direction}
 use Rattle.des_tool.specs.Digits.{bytes_of_digits}
-use Rattle.des_tool.specs.Request.{of_blocks}
+use Rattle.des_tool.specs.Request.{key_size_of}
 use Rattle.des_tool.proofs.BlockAnswers.{IsTextOf-made}
 use Rattle.des_tool.proofs.command.blocks_text.Goals as goal
 
--- a text of what the functions of DES make of blocks is one of what DES relates them to
-by_des : (direction : Direction) (key digits text : List ℕ)
-    → IsTextOf (IsMadeBy (in_direction direction encryption decryption) 8 key) digits text
-    → IsTextOf (ReadIn direction (relation_of Des key)) digits text
-by_des direction key =
-    IsTextOf-made direction encryption decryption 8 key (relation_of Des key) (IsGraphOf-encryption key) (IsGraphOf-decryption key)
+-- what a key of a cipher answers by encryption, and by decryption
+abbrev encryption_by : Cipher → List ℕ → List ℕ → List ℕ
+encryption_by Des key = encryption key
+encryption_by Ede3 key = ede (part 1 key) (part 2 key) (part 3 key)
+encryption_by Eee3 key = eee (part 1 key) (part 2 key) (part 3 key)
+encryption_by Ede2 key = ede (part 1 key) (part 2 key) (part 1 key)
+encryption_by Eee2 key = eee (part 1 key) (part 2 key) (part 1 key)
 
-pub returns-clause-answer : goal.returns-clause-answer
-returns-clause-answer c =
-    let key = c.args.key.now in
-    let digits = c.args.digits.now in
-    let made = c.cipher_text.ensures.answer in
-    elim c.args.cipher as (λ cipher. IfOk c.cipher_text.result
-    (λ text. AnswersRequest (of_blocks cipher c.args.direction key digits) text.items)) [
-      | Des ↦ IfOk-weaker c.cipher_text.result _ _ (λ text. by_des c.args.direction (bytes_of_digits key) digits text.items) made
-    ]
+abbrev decryption_by : Cipher → List ℕ → List ℕ → List ℕ
+decryption_by Des key = decryption key
+decryption_by Ede3 key = ede_back (part 1 key) (part 2 key) (part 3 key)
+decryption_by Eee3 key = eee_back (part 1 key) (part 2 key) (part 3 key)
+decryption_by Ede2 key = ede_back (part 1 key) (part 2 key) (part 1 key)
+decryption_by Eee2 key = eee_back (part 1 key) (part 2 key) (part 1 key)
+
+-- these are the graphs of the cipher's relation
+answer_by : (cipher : Cipher) (key : List ℕ) → IsKey (key_size_of cipher) key
+    → AnswerBy (encryption_by cipher key) (decryption_by cipher key) (λ x y. relation_of cipher key x y)
+answer_by Des key is_key = record {
+  one_answer_each_way = HasOneAnswerEachWay-key key is_key;
+  encryption = IsGraphOf-encryption key is_key;
+  decryption = IsGraphOf-decryption key is_key;
+}
+answer_by Ede3 key is_key = AnswerBy-Ede3 key is_key
+answer_by Eee3 key is_key = AnswerBy-Eee3 key is_key
+answer_by Ede2 key is_key = AnswerBy-Ede2 key is_key
+answer_by Eee2 key is_key = AnswerBy-Eee2 key is_key
+
+-- a text of what the key answers is one of what its relation gives
+by_relation : (cipher : Cipher) (direction : Direction) (key digits text : List ℕ)
+    → IsTextOf (IsMadeBy (in_direction direction (encryption_by cipher) (decryption_by cipher)) (key_size_of cipher) key) digits text
+    → IsTextOf (ReadIn direction (relation_of cipher key)) digits text
+by_relation cipher direction key =
+    IsTextOf-made direction (encryption_by cipher) (decryption_by cipher) (key_size_of cipher) key (relation_of cipher key)
+    (λ is_key. (answer_by cipher key is_key).encryption) (λ is_key. (answer_by cipher key is_key).decryption)
+
+pub returns-in-Des-clause-answer : goal.returns-in-Des-clause-answer
+returns-in-Des-clause-answer c =
+    let key = bytes_of_digits c.args.key.now in
+    rw c.in-Des.is
+    (IfOk-weaker c.cipher_text.result _ _ (λ text. by_relation Des c.args.direction key c.args.digits.now text.items) c.cipher_text.ensures.answer)
+
+pub returns-in-Ede3-clause-answer : goal.returns-in-Ede3-clause-answer
+returns-in-Ede3-clause-answer c =
+    let key = bytes_of_digits c.args.key.now in
+    rw c.in-Ede3.is
+    (IfOk-weaker c.cipher_text-in-Ede3.result _ _ (λ text. by_relation Ede3 c.args.direction key c.args.digits.now text.items) c.cipher_text-in-Ede3.ensures.answer)
+
+pub returns-in-Eee3-clause-answer : goal.returns-in-Eee3-clause-answer
+returns-in-Eee3-clause-answer c =
+    let key = bytes_of_digits c.args.key.now in
+    rw c.in-Eee3.is
+    (IfOk-weaker c.cipher_text-in-Eee3.result _ _ (λ text. by_relation Eee3 c.args.direction key c.args.digits.now text.items) c.cipher_text-in-Eee3.ensures.answer)
+
+pub returns-in-Ede2-clause-answer : goal.returns-in-Ede2-clause-answer
+returns-in-Ede2-clause-answer c =
+    let key = bytes_of_digits c.args.key.now in
+    rw c.in-Ede2.is
+    (IfOk-weaker c.cipher_text-in-Ede2.result _ _ (λ text. by_relation Ede2 c.args.direction key c.args.digits.now text.items) c.cipher_text-in-Ede2.ensures.answer)
+
+pub returns-in-Eee2-clause-answer : goal.returns-in-Eee2-clause-answer
+returns-in-Eee2-clause-answer c =
+    let key = bytes_of_digits c.args.key.now in
+    rw c.in-Eee2.is
+    (IfOk-weaker c.cipher_text-in-Eee2.result _ _ (λ text. by_relation Eee2 c.args.direction key c.args.digits.now text.items) c.cipher_text-in-Eee2.ensures.answer)
