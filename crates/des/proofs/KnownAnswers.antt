@@ -4,11 +4,11 @@ use Rattle.std.proofs.Common.{◌≡◌, ℕ, List, [], ◌∷◌, ◌++◌, Boo
 use Rattle.std.specs.List.{All}
 use Rattle.std.proofs.lemmas.List.Elements.{All-nil, All-cons}
 use Rattle.des.specs.Bits.{bits_of, bits_of_word, bits_of_bytes, number_of, zeros, select, xor_bits}
-use Rattle.des.specs.Tables.{initial_permutation, permuted_choice_1, permuted_choice_2, expansion, permutation}
+use Rattle.des.specs.Tables.{initial_permutation, permuted_choice_1, permuted_choice_2, expansion, permutation, final_permutation}
 use Rattle.des.specs.CipherFunction.{box_entry, substitute_by, substitute, cipher_function}
 use Rattle.des.specs.KeySchedule.{c_half, d_half, rotate, shifts_through, round_key, key_schedule}
 use Rattle.des.specs.Enciphering.{IsDes}
-use Rattle.des.specs.Rounds.{final_permutation, after_rounds, through_rounds}
+use Rattle.des.specs.Rounds.{after_rounds, through_rounds}
 use Rattle.des.proofs.OneAnswer.{IsDes-through_rounds}
 
 -- ---- the steps, each at the worked example's values

@@ -9,5 +9,7 @@ pub mod RoundKeys
 pub mod Traces
 pub mod OneAnswer
 pub mod RoundsOnWords
+pub mod PassGraphs
 pub mod Graphs
 pub mod TripleGraphs
+pub mod KeyParts

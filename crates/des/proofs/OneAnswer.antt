@@ -1,10 +1,10 @@
 -- DES takes each block of 64 bits to exactly one: what the rounds of the key make of it.
 use Rattle.std.proofs.Common.{◌≡◌, suc, List, ◌++◌, Bool, length, take, drop, sym, ap, ap₂, ◌∙◌, take-append-drop, arith}
 use Rattle.des.specs.Bits.{select}
-use Rattle.des.specs.Tables.{initial_permutation}
+use Rattle.des.specs.Tables.{initial_permutation, final_permutation}
 use Rattle.des.specs.KeySchedule.{key_schedule}
 use Rattle.des.specs.Enciphering.{half_block, IsDes}
-use Rattle.des.specs.Rounds.{final_permutation, after_rounds, swapped, through_rounds}
+use Rattle.des.specs.Rounds.{after_rounds, swapped, through_rounds}
 use Rattle.des.specs.Laws.Selections.{select-initial_permutation, select-final_permutation}
 use Rattle.des.specs.Laws.RoundsUndone.{AreHalves, AreHalves-after_rounds, AreHalves-permuted, length-swapped, through_rounds-from_halves, length-through_rounds}
 use Rattle.des.proofs.Traces.{trace, half_block-trace_first, half_block-trace_second, half_block-trace_before_last, half_block-trace_last, length-key_schedule, IsTrace-trace, trace_from_IsTrace}

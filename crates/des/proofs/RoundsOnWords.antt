@@ -2,9 +2,9 @@
 use Rattle.std.proofs.Common.{◌≡◌, ℕ, ◌-◌, List, [], ◌∷◌, ◌++◌, Bool, length, take, drop, reverse, refl, ap, ap₂, sym, ◌∙◌, take_at, drop_at, length-drop}
 use Rattle.std.proofs.lemmas.List.{map-append, reverse-append}
 use Rattle.des.specs.Bits.{bits_of_word, select, xor_bits}
-use Rattle.des.specs.Tables.{initial_permutation}
+use Rattle.des.specs.Tables.{initial_permutation, final_permutation}
 use Rattle.des.specs.CipherFunction.{cipher_function}
-use Rattle.des.specs.Rounds.{final_permutation, after_rounds, swapped, through_rounds}
+use Rattle.des.specs.Rounds.{after_rounds, swapped, through_rounds}
 use Rattle.des.specs.RoundKeyWords.{round_keys_of}
 use Rattle.des.specs.Laws.BitLists.{length-bits_of}
 use Rattle.des.specs.Laws.RoundsUndone.{after_rounds-append}

@@ -2,13 +2,14 @@
 use Rattle.std.proofs.Common.{ℕ, ◌*◌, ◌-◌, ◌<◌, ◌≤◌, List, drop, length-drop, lit≤, arith}
 use Rattle.std.proofs.lemmas.List.{length-take-le}
 use Rattle.std.proofs.lemmas.List.Elements.{All-take, All-drop}
-use Rattle.des.specs.Blocks.{IsKey}
+use Rattle.des.specs.Blocks.{IsKey, part}
 use Rattle.des.specs.Relations.{IsTheOne, HasOneAnswerEachWay, IsGraphOf}
 use Rattle.des.specs.Enciphering.{Enciphers}
 use Rattle.des.specs.Des.{encryption, decryption}
-use Rattle.des.specs.Triple.{part, through, Ede3, Eee3, EnciphersEde3, EnciphersEee3, EnciphersEde2, EnciphersEee2}
-use Rattle.des.specs.Laws.Passes.{IsPass, IsPass-turned, IsPass-through, IsGraphOf-through, IsGraphOf-turned, HasOneAnswerEachWay-graph, IsTheOne-through, IsTheOne-back_through}
-use Rattle.des.specs.Laws.DesPasses.{IsPass-key}
+use Rattle.des.specs.Triple.{through, Ede3, Eee3, EnciphersEde3, EnciphersEee3, EnciphersEde2, EnciphersEee2}
+use Rattle.des.specs.Laws.Passes.{IsPass, IsPass-turned, IsPass-through}
+use Rattle.des.proofs.PassGraphs.{IsTheOne-back_through, IsTheOne-through, IsGraphOf-through, HasOneAnswerEachWay-graph, IsGraphOf-turned}
+use Rattle.des.specs.Laws.DesLaws.{IsPass-key}
 use Rattle.des.proofs.Graphs.{IsGraphOf-encryption, IsGraphOf-decryption}
 
 -- two functions answer by the relation, each way

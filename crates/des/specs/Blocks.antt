@@ -1,5 +1,5 @@
 -- Bytes, keys and blocks as lists of numbers, and lists of blocks.
-use Rattle.std.specs.Prelude.{◌≡◌, ℕ, ◌<◌, List, Bool, length}
+use Rattle.std.specs.Prelude.{◌≡◌, ℕ, ◌-◌, ◌*◌, ◌<◌, List, Bool, length, take, drop}
 use Rattle.std.specs.List.{All, AllZip}
 use Rattle.std.specs.Int.{w64, to_be_bytes}
 use Rattle.des.specs.Bits.{number_of}
@@ -11,6 +11,10 @@ AreBytes numbers = All (λ number. number < 256) numbers
 -- a key of n bytes
 abbrev pub IsKey : ℕ → List ℕ → Type 0
 IsKey n key = (length key ≡ n) × AreBytes key
+
+-- part n of a key, from 1: bytes 1 to 8, 9 to 16, 17 to 24
+abbrev pub part : ℕ → List ℕ → List ℕ
+part n key = take 8 (drop (8 * (n - 1)) key)
 
 -- a block of 64 bits: eight bytes
 abbrev pub IsBlock : List ℕ → Type 0

@@ -15,7 +15,8 @@ d_half key = drop 28 (select permuted_choice_1 key)
 unfoldable pub rotate : List Bool → ℕ → List Bool
 rotate half n = drop n half ++ take n half
 
--- the left shifts before round key i, together
+-- the left shifts before round key i, together: the standard shifts C and D before each round key in turn, and K(i)
+-- takes them as they are after the first i shifts
 unfoldable pub shifts_through : ℕ → ℕ
 shifts_through i = sum (take i left_shifts)
 

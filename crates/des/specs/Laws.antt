@@ -6,4 +6,5 @@ pub mod BlockBits
 pub mod Passes
 pub mod RoundsUndone
 pub mod HeldRoundKeys
-pub mod DesPasses
+pub mod DesLaws
+pub mod TriplePasses

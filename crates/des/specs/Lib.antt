@@ -9,5 +9,6 @@ pub mod RoundKeyWords
 pub mod Rounds
 pub mod Des
 pub mod Triple
+pub mod WeakKeys
 pub mod Positions
 pub mod Laws

@@ -1,11 +1,8 @@
 -- The triple ciphers, as relations joined: three passes of DES, each read as the letter in the name says. FIPS 46-3
 -- defines EDE (triple data encryption algorithm); the Rust crate defines EEE in the same way.
-use Rattle.std.specs.Prelude.{ℕ, ◌-◌, ◌*◌, List, take, drop}
+use Rattle.std.specs.Prelude.{ℕ, List}
+use Rattle.des.specs.Blocks.{part}
 use Rattle.des.specs.Enciphering.{Enciphers}
-
--- part n of a key, from 1: bytes 1 to 8, 9 to 16, 17 to 24
-abbrev pub part : ℕ → List ℕ → List ℕ
-part n key = take 8 (drop (8 * (n - 1)) key)
 
 -- encryption, decryption, encryption: x to u under the first part, u from v under the second, v to y under the third
 abbrev pub Ede3 : List ℕ → List ℕ → List ℕ → List ℕ → List ℕ → Type 0

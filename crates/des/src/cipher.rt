@@ -161,7 +161,7 @@ pub trait KeyInit: KeySizeUser {
 
 /// A type with a block size.
 pub trait BlockSizeUser {
-    /// The block size in bytes.
+    /// The block size in bytes: 8 for each cipher of this module.
     const BLOCK_SIZE: usize;
 
     ghost BLOCK_SIZE: { ℕ };
@@ -181,7 +181,7 @@ pub trait ParBlocksSizeUser: BlockSizeUser {
 
 /// A type with the name of an algorithm.
 pub trait AlgorithmName {
-    /// The name.
+    /// The type's name, such as `Des`.
     const NAME: &'static str;
 }
 

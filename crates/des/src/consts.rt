@@ -1,4 +1,4 @@
-//! The constants of DES (FIPS 46-3).
+//! The left shifts and the S-boxes of DES (FIPS 46-3).
 
 /// How many places to the left each half of the key is rotated before each of the sixteen round
 /// keys (FIPS 46-3, key schedule).

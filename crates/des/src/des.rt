@@ -6,9 +6,9 @@ ghost use Rattle.std.specs.Fmt.{DisplaysOnOk, DisplaysStyledOnOk};
 ghost use Rattle.des.specs.Bits.{bits_of_bytes, bits_of_word, select};
 ghost use Rattle.des.specs.Blocks.{IsBlock};
 ghost use Rattle.des.specs.Relations.{IsTheOne, HasOneAnswerEachWay, IsGraphOf};
-ghost use Rattle.des.specs.Tables.{initial_permutation};
+ghost use Rattle.des.specs.Tables.{initial_permutation, final_permutation};
 ghost use Rattle.des.specs.Enciphering.{Enciphers};
-ghost use Rattle.des.specs.Rounds.{final_permutation, answer_by};
+ghost use Rattle.des.specs.Rounds.{answer_by};
 ghost use Rattle.des.specs.RoundKeyWords.{HoldSomeRoundKeys, round_keys_of};
 
 use crate::cipher::{
@@ -41,7 +41,7 @@ fn last_block(halves: u64) -> [u8; 8]
 fn run_rounds<'a, I: Iterator<Item = &'a u64>>(block: &mut [u8; 8], round_keys: I)
     requires can { I.can_next round_keys }
     requires ends { IsFinite (I.remaining round_keys) }
-    ensures block { IsBlock block.old }
+    ensures was_block { IsBlock block.old }
     ensures answered { (words : List ℕ)
         → AlwaysYields I.next_gives (λ word. word.now) round_keys words
         → block.new ≡ answer_by (round_keys_of words) block.old }
@@ -85,7 +85,7 @@ impl KeyInit for Des {
         ensures made { IsDesOf result key.now }
         ensures one_answer_each_way { HasOneAnswerEachWay (Enciphers key.now) }
         ensures encryption { IsGraphOf (⟦<Des as KeyedCipher>⟧.encryption key.now)
-            (λ x y. Enciphers key.now x y) }
+            (Enciphers key.now) }
         ensures decryption { IsGraphOf (⟦<Des as KeyedCipher>⟧.decryption key.now)
             (λ y x. Enciphers key.now x y) }
     {
@@ -153,16 +153,19 @@ impl BlockCipherDecrypt for Des {
 }
 
 impl BlockCipher for Des {
-    ghost use Rattle.des.specs.RoundKeyWords.{round_keys_of};
     ghost use Rattle.des.specs.Laws.RoundsUndone.{IsPass-answer_by};
 
-    ghost encrypted_is_block = { λ cipher. (IsPass-answer_by (round_keys_of cipher.round_keys)).forth_is_block };
+    ghost encrypted_is_block = { λ cipher.
+        (IsPass-answer_by (round_keys_of cipher.round_keys)).forth_is_block };
 
-    ghost decrypted_is_block = { λ cipher. (IsPass-answer_by (round_keys_of cipher.round_keys)).back_is_block };
+    ghost decrypted_is_block = { λ cipher.
+        (IsPass-answer_by (round_keys_of cipher.round_keys)).back_is_block };
 
-    ghost decrypts_encrypted = { λ cipher. (IsPass-answer_by (round_keys_of cipher.round_keys)).back_forth };
+    ghost decrypts_encrypted = { λ cipher.
+        (IsPass-answer_by (round_keys_of cipher.round_keys)).back_forth };
 
-    ghost encrypts_decrypted = { λ cipher. (IsPass-answer_by (round_keys_of cipher.round_keys)).forth_back };
+    ghost encrypts_decrypted = { λ cipher.
+        (IsPass-answer_by (round_keys_of cipher.round_keys)).forth_back };
 }
 
 impl KeyedCipher for Des {

@@ -10,6 +10,8 @@ pub mod consts;
 pub mod des;
 pub mod tdes;
 pub mod utils;
+pub mod weak_key;
 
 pub use des::Des;
 pub use tdes::{TdesEde2, TdesEde3, TdesEee2, TdesEee3};
+pub use weak_key::{WeakKeyError, weak_key_test};

@@ -7,7 +7,8 @@
 ghost use Rattle.std.specs.Prelude.{◌≡◌, ◌≤◌, ◌*◌, ℕ, List, length};
 ghost use Rattle.des.specs.Relations.{IsTheOne};
 ghost use Rattle.des.specs.Des.{IsDesOf, encrypted, decrypted};
-ghost use Rattle.des.specs.Triple.{part, through, Ede3, Eee3};
+ghost use Rattle.des.specs.Triple.{through, Ede3, Eee3};
+ghost use Rattle.des.specs.Blocks.{part};
 
 use crate::cipher::{BlockCipherDecrypt, BlockCipherEncrypt};
 use crate::des::Des;

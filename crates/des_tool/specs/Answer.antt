@@ -1,15 +1,16 @@
 -- What answers the arguments of a command line.
-use Rattle.std.specs.Prelude.{◌≡◌, ℕ, List, MatchOption}
+use Rattle.std.specs.Prelude.{◌≡◌, ◌⊎◌, ℕ, List, MatchOption, codes}
 use Rattle.std.specs.List.{concat}
 use Rattle.des.specs.Blocks.{AnswersEach}
 use Rattle.des.specs.Enciphering.{Enciphers}
+use Rattle.des.specs.WeakKeys.{IsRefused}
 use Rattle.des.specs.Triple.{EnciphersEde3, EnciphersEee3, EnciphersEde2, EnciphersEee2}
 use Rattle.des_tool.specs.declared.command.Cipher.{Cipher}
 use Rattle.des_tool.specs.declared.command.Cipher.TheVariants.{Des, Ede3, Eee3, Ede2, Eee2}
 use Rattle.des_tool.specs.declared.command.Direction.{Direction}
 use Rattle.des_tool.specs.declared.command.Direction.TheVariants.{Encrypt, Decrypt}
 use Rattle.des_tool.specs.Digits.{bytes_of_digits, text_of_blocks}
-use Rattle.des_tool.specs.Request.{Request, of_blocks, request_of}
+use Rattle.des_tool.specs.Request.{Request, of_blocks, of_weak, request_of}
 
 -- what a cipher is: the relation between the bytes of a key, a block and the block that it is enciphered to
 abbrev pub relation_of : Cipher → List ℕ → List ℕ → List ℕ → Type 0
@@ -33,10 +34,15 @@ pub record IsTextOf (Answers : List ℕ → List ℕ → Type 0) (digits text : 
   pub answered : AnswersEach Answers blocks answers
   pub written : text ≡ text_of_blocks answers
 
+-- the text says whether the weak key test refuses the key
+abbrev pub IsVerdict : List ℕ → List ℕ → Type 0
+IsVerdict key text = (IsRefused key × (text ≡ codes "WeakKey\n")) ⊎ ((¬ (IsRefused key)) × (text ≡ codes "Ok\n"))
+
 -- the text answers the request, under the key that its digits write
 abbrev pub AnswersRequest : Request → List ℕ → Type 0
 AnswersRequest (of_blocks cipher direction key digits) text =
     IsTextOf (ReadIn direction (relation_of cipher (bytes_of_digits key))) digits text
+AnswersRequest (of_weak key) text = IsVerdict (bytes_of_digits key) text
 
 -- the text answers the arguments
 abbrev pub IsAnswer : List (List ℕ) → List ℕ → Type 0

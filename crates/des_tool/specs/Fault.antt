@@ -1,9 +1,9 @@
 -- The faults of a command line that are found before any memory is asked for, and their names.
-use Rattle.std.specs.Prelude.{ℕ, ◌*◌, ◌%◌, ◌==◌, not, if◌then◌else◌, List, length, codes, Option, Some, None}
+use Rattle.std.specs.Prelude.{ℕ, ◌*◌, ◌%◌, ◌==◌, ◌||◌, not, if◌then◌else◌, List, length, codes, Option, Some, None}
 use Rattle.std.specs.List.{list_all}
 use Rattle.std.specs.Option.{option_map_or, option_or}
 use Rattle.hex.specs.Hex.{is_hex_digit}
-use Rattle.des_tool.specs.Request.{Request, of_blocks, request_of, key_size_of}
+use Rattle.des_tool.specs.Request.{Request, of_blocks, of_weak, request_of, key_size_of}
 use Rattle.des_tool.specs.declared.command.Fault.{Fault}
 use Rattle.des_tool.specs.declared.command.Fault.TheVariants.{Usage, KeyLength, KeyText, BlockLength, BlockText, Memory}
 
@@ -11,6 +11,13 @@ use Rattle.des_tool.specs.declared.command.Fault.TheVariants.{Usage, KeyLength, 
 abbrev pub key_fault : ℕ → List ℕ → Option Fault
 key_fault size key =
     if not (length key == 2 * size) then Some KeyLength
+    else if not (list_all is_hex_digit key) then Some KeyText
+    else None
+
+-- the first fault of a key to be tested, which has to have two digits for each of 8, 16 or 24 bytes
+abbrev pub tested_key_fault : List ℕ → Option Fault
+tested_key_fault key =
+    if not (length key == 16 || length key == 32 || length key == 48) then Some KeyLength
     else if not (list_all is_hex_digit key) then Some KeyText
     else None
 
@@ -24,6 +31,7 @@ blocks_fault blocks =
 -- the first fault of a request
 abbrev pub fault_of_request : Request → Option Fault
 fault_of_request (of_blocks cipher direction key digits) = option_or (key_fault (key_size_of cipher) key) (blocks_fault digits)
+fault_of_request (of_weak key) = tested_key_fault key
 
 -- the first fault of the arguments, but for memory
 abbrev pub fault_of : List (List ℕ) → Option Fault

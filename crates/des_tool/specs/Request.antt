@@ -7,11 +7,12 @@ use Rattle.des_tool.specs.declared.command.Cipher.TheVariants.{Des, Ede3, Eee3, 
 use Rattle.des_tool.specs.declared.command.Direction.{Direction}
 use Rattle.des_tool.specs.declared.command.Direction.TheVariants.{Encrypt, Decrypt}
 use Rattle.des_tool.specs.declared.command.Command.{Command}
-use Rattle.des_tool.specs.declared.command.Command.TheVariants.{Blocks}
+use Rattle.des_tool.specs.declared.command.Command.TheVariants.{Blocks, Weak}
 
 -- a request, with the arguments that hold digits
 pub data Request : Type 0 where
   of_blocks : (cipher : Cipher) (direction : Direction) (key digits : List ℕ) → Request
+  of_weak : (key : List ℕ) → Request
 
 -- the texts of a `&[&str]`
 abbrev pub texts : List (Bor (List ℕ)) → List (List ℕ)
@@ -42,14 +43,16 @@ direction_of argument =
     else if bytes_eq argument (codes "decrypt") then Some Decrypt
     else None
 
--- the request that the arguments are, if they have a shape that is known: CIPHER DIRECTION KEY BLOCKS
+-- the request that the arguments are, if they have a shape that is known: CIPHER DIRECTION KEY BLOCKS, or weak KEY
 abbrev pub request_of : List (List ℕ) → Option Request
 request_of (cipher ∷ direction ∷ key ∷ digits ∷ []) =
     option_and_then
     (λ cipher. option_map (λ direction. of_blocks cipher direction key digits) (direction_of direction))
     (cipher_of cipher)
+request_of (test ∷ key ∷ []) = if bytes_eq test (codes "weak") then Some (of_weak key) else None
 request_of _ = None
 
 -- the request that a `Command` holds
 abbrev pub request : Command → Request
 request (Blocks cipher direction key digits) = of_blocks cipher direction key.now digits.now
+request (Weak key) = of_weak key.now

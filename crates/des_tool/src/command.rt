@@ -11,13 +11,13 @@ ghost use Rattle.hex.specs.Hex.{is_hex_digit};
 ghost use Rattle.des.specs.Blocks.{IsKey, IsBlock};
 ghost use Rattle.des_tool.specs.Digits.{bytes_of_digits, text_of_blocks};
 ghost use Rattle.des_tool.specs.Request.{of_blocks, request, request_of, cipher_of, direction_of, texts};
-ghost use Rattle.des_tool.specs.Fault.{key_fault, blocks_fault, fault_of_request, fault_of, name_of};
+ghost use Rattle.des_tool.specs.Fault.{key_fault, tested_key_fault, blocks_fault, fault_of_request, fault_of, name_of};
 ghost use Rattle.des_tool.specs.Status.{answer_written, IsOfAnswer, IsOfFault, IsStatusOf};
-ghost use Rattle.des_tool.specs.Answer.{IsTextOf, AnswersRequest, IsAnswer};
+ghost use Rattle.des_tool.specs.Answer.{IsTextOf, IsVerdict, AnswersRequest, IsAnswer};
 ghost use Rattle.des_tool.specs.Ciphers.{in_direction, IsMadeBy};
 
 use des::cipher::{BlockCipher, KeyInit, KeyedCipher};
-use des::{Des, TdesEde2, TdesEde3, TdesEee2, TdesEee3};
+use des::{Des, TdesEde2, TdesEde3, TdesEee2, TdesEee3, WeakKeyError, weak_key_test};
 use std::alloc::{AllocError, AllocFailed, Global};
 use std::env::Env;
 use std::error::Error;
@@ -142,6 +142,9 @@ enum Command<'a> {
         key: &'a str,
         blocks: &'a str,
     },
+    Weak {
+        key: &'a str,
+    },
 }
 
 fn parse_cipher(argument: &str) -> Option<Cipher>
@@ -171,6 +174,7 @@ fn parse<'a>(arguments: &[&'a str]) -> Option<Command<'a>>
     ensures { option_map request result ≡ request_of (texts arguments.now) }
 {
     match *arguments {
+        [test, key] if test == "weak" => Some(Command::Weak { key }),
         [cipher, direction, key, blocks] => Some(Command::Blocks {
             cipher: parse_cipher(cipher)?,
             direction: parse_direction(direction)?,
@@ -189,6 +193,9 @@ fn parse<'a>(arguments: &[&'a str]) -> Option<Command<'a>>
 /// case, two a byte; no block at all is a list too. The answer is the blocks' lower-case digits, in
 /// order, and a newline.
 ///
+/// `weak KEY` tests a key of 8, 16 or 24 bytes: the answer is `WeakKey` where `weak_key_test` refuses
+/// it, else `Ok`, and a newline.
+///
 /// Every fault but `Memory` is found before any memory is asked for.
 pub fn answer(alloc: Global, arguments: &[&str]) -> Result<Vec<u8>, Fault>
     ensures fault { IfSome (fault_of (texts arguments.now)) (λ fault. result ≡ Err fault) }
@@ -203,6 +210,7 @@ pub fn answer(alloc: Global, arguments: &[&str]) -> Result<Vec<u8>, Fault>
             key,
             blocks,
         } => blocks_text(alloc, cipher, direction, key, blocks),
+        Command::Weak { key } => weak_text(alloc, key),
     }
 }
 
@@ -221,15 +229,15 @@ fn blocks_text(
         AnswersRequest (of_blocks cipher direction key.now digits.now) text.items) }
 {
     match cipher {
-        Cipher::Des => cipher_text::<Des>(alloc, direction, key, digits),
-        Cipher::Ede3 => cipher_text::<TdesEde3>(alloc, direction, key, digits),
-        Cipher::Eee3 => cipher_text::<TdesEee3>(alloc, direction, key, digits),
-        Cipher::Ede2 => cipher_text::<TdesEde2>(alloc, direction, key, digits),
-        Cipher::Eee2 => cipher_text::<TdesEee2>(alloc, direction, key, digits),
+        Cipher::Des => text_by::<Des>(alloc, direction, key, digits),
+        Cipher::Ede3 => text_by::<TdesEde3>(alloc, direction, key, digits),
+        Cipher::Eee3 => text_by::<TdesEee3>(alloc, direction, key, digits),
+        Cipher::Ede2 => text_by::<TdesEde2>(alloc, direction, key, digits),
+        Cipher::Eee2 => text_by::<TdesEee2>(alloc, direction, key, digits),
     }
 }
 
-fn cipher_text<C: KeyedCipher + Drop>(
+fn text_by<C: KeyedCipher + Drop>(
     alloc: Global,
     direction: Direction,
     key: &str,
@@ -245,30 +253,65 @@ fn cipher_text<C: KeyedCipher + Drop>(
         (bytes_of_digits key.now))
         digits.now text.items) }
 {
-    let cipher = parse_key::<C>(key)?;
+    let cipher: C = parse_cipher_key(key)?;
     let mut blocks = parse_blocks(alloc, digits)?;
     answer_each(&cipher, direction, blocks.as_mut_slice());
     text_of(alloc, blocks.as_slice())
 }
 
+fn weak_text(alloc: Global, digits: &str) -> Result<Vec<u8>, Fault>
+    ensures fault { IfSome (tested_key_fault digits.now) (λ fault. result ≡ Err fault) }
+    ensures memory { IfNone (tested_key_fault digits.now)
+        (IfErr result (λ fault. fault ≡ Fault.Memory)) }
+    ensures answer { IfOk result (λ text.
+        IsVerdict (bytes_of_digits digits.now) text.items) }
+{
+    let size = match digits.len() {
+        16 => 8,
+        32 => 16,
+        48 => 24,
+        _ => return Err(Fault::KeyLength),
+    };
+    let mut buffer = [0u8; LONGEST_KEY];
+    let key = &mut buffer[..size];
+    parse_key(digits, key)?;
+    let text = match weak_key_test(key) {
+        Ok(()) => b"Ok\n".as_slice(),
+        Err(WeakKeyError) => b"WeakKey\n".as_slice(),
+    };
+    Ok(Vec::from_slice(alloc, text)?)
+}
+
 // The cipher of the key that the digits write.
-fn parse_key<C: KeyInit + Drop>(digits: &str) -> Result<C, Fault>
+fn parse_cipher_key<C: KeyInit + Drop>(digits: &str) -> Result<C, Fault>
     requires { C.KEY_SIZE ≤ LONGEST_KEY }
     ensures fault { IfSome (key_fault C.KEY_SIZE digits.now) (λ fault. result ≡ Err fault) }
     ensures accepted { IfNone (key_fault C.KEY_SIZE digits.now) (IsOk result) }
     ensures key { OnOk result (IsKey C.KEY_SIZE (bytes_of_digits digits.now)) }
     ensures made { IfOk result (λ cipher. C.is_made_from cipher (bytes_of_digits digits.now)) }
 {
-    if digits.len() != 2 * C::KEY_SIZE {
+    let mut buffer = [0u8; LONGEST_KEY];
+    let key = &mut buffer[..C::KEY_SIZE];
+    parse_key(digits, key)?;
+    Ok(C::new_from_slice(key).unwrap())
+}
+
+// Reads the key that the digits write, of the length of `key`.
+fn parse_key(digits: &str, key: &mut [u8]) -> Result<(), Fault>
+    requires { length key.old ≤ LONGEST_KEY }
+    ensures fault { IfSome (key_fault (length key.old) digits.now) (λ fault. result ≡ Err fault) }
+    ensures accepted { IfNone (key_fault (length key.old) digits.now) (IsOk result) }
+    ensures key { OnOk result (key.new ≡ bytes_of_digits digits.now) }
+    ensures is_key { OnOk result (IsKey (length key.old) (bytes_of_digits digits.now)) }
+{
+    if digits.len() != 2 * key.len() {
         return Err(Fault::KeyLength);
     }
     if !are_digits(digits) {
         return Err(Fault::KeyText);
     }
-    let mut buffer = [0u8; LONGEST_KEY];
-    let key = &mut buffer[..C::KEY_SIZE];
     decode(digits.as_bytes(), key);
-    Ok(C::new_from_slice(key).unwrap())
+    Ok(())
 }
 
 // The argument is taken whole before any memory is asked for, so only memory fails after that.

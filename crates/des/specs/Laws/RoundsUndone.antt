@@ -2,9 +2,9 @@
 use Rattle.std.proofs.Common.{◌≡◌, ℕ, List, [], ◌∷◌, ◌++◌, Bool, length, take, drop, reverse, refl, sym, ap, ap₂, ◌∙◌, length-append, length-drop, length-take-le, take-append-drop, take_at, drop_at, arith}
 use Rattle.std.proofs.lemmas.List.{reverse-append, reverse-reverse}
 use Rattle.des.specs.Bits.{bits_of_bytes, select, xor_bits}
-use Rattle.des.specs.Tables.{initial_permutation}
+use Rattle.des.specs.Tables.{initial_permutation, final_permutation}
 use Rattle.des.specs.CipherFunction.{cipher_function}
-use Rattle.des.specs.Rounds.{final_permutation, after_rounds, swapped, through_rounds, answer_by}
+use Rattle.des.specs.Rounds.{after_rounds, swapped, through_rounds, answer_by}
 use Rattle.des.specs.Blocks.{IsBlock, block_of_bits}
 use Rattle.des.specs.Laws.Selections.{length-select, length-xor_bits, length-cipher_function, xor_bits-xor_bits, select-initial_permutation, select-final_permutation}
 use Rattle.des.specs.Laws.BlockBits.{IsBlock-block_of_bits, bits_of_bytes-block_of_bits, block_of_bits-bits_of_bytes, length-bits_of_block}

@@ -6,8 +6,7 @@ use Rattle.std.proofs.lemmas.Simd.{map-map}
 use Rattle.std.proofs.Math.ListN.{get_or-map}
 use Rattle.std.proofs.Math.Path.{fun_ext}
 use Rattle.des.specs.Bits.{bit, select, xor, xor_bits}
-use Rattle.des.specs.Tables.{initial_permutation, permutation}
-use Rattle.des.specs.Rounds.{final_permutation}
+use Rattle.des.specs.Tables.{initial_permutation, permutation, final_permutation}
 use Rattle.des.specs.CipherFunction.{cipher_function}
 
 -- a selection has as many bits as its list of positions

@@ -3,10 +3,11 @@
 ghost use Rattle.std.specs.Prelude.{◌≡◌, ℕ, List, codes, Some, refl, ⊤};
 ghost use Rattle.std.specs.Fmt.{DisplaysOnOk, DisplaysStyledOnOk};
 ghost use Rattle.des.specs.Relations.{IsTheOne, HasOneAnswerEachWay, IsGraphOf};
-ghost use Rattle.des.specs.Triple.{part, through, EnciphersEde3};
+ghost use Rattle.des.specs.Triple.{through, EnciphersEde3};
+ghost use Rattle.des.specs.Blocks.{part};
 ghost use Rattle.des.specs.Des.{IsDesOf, encrypted as des_encrypted, decrypted as des_decrypted};
 ghost use Rattle.des.specs.Des.{encryption as des_encryption, decryption as des_decryption};
-ghost use Rattle.des.specs.Laws.DesPasses.{IsPass-ede, Agree-ede, Agree-ede_back};
+ghost use Rattle.des.specs.Laws.TriplePasses.{IsPass-ede, Agree-ede, Agree-ede_back};
 
 use super::{decrypt_ede, encrypt_ede, key_part};
 use crate::cipher::{
@@ -40,12 +41,13 @@ impl KeyInit for TdesEde3 {
     ghost is_made_from = { λ cipher key. IsDesOf cipher.first (part 1 key)
         × IsDesOf cipher.second (part 2 key) × IsDesOf cipher.third (part 3 key) };
 
-    /// The cipher of a key of 24 bytes.
+    /// The cipher of a key of 24 bytes, bit 1 the most significant bit of the first. Its parts are
+    /// bytes 1 to 8, 9 to 16 and 17 to 24, each a key of `Des`.
     fn new(key: &[u8; 24]) -> TdesEde3
         ensures made { ⟦<TdesEde3 as KeyInit>⟧.is_made_from result key.now }
         ensures one_answer_each_way { HasOneAnswerEachWay (EnciphersEde3 key.now) }
         ensures encryption { IsGraphOf (⟦<TdesEde3 as KeyedCipher>⟧.encryption key.now)
-            (λ x y. EnciphersEde3 key.now x y) }
+            (EnciphersEde3 key.now) }
         ensures decryption { IsGraphOf (⟦<TdesEde3 as KeyedCipher>⟧.decryption key.now)
             (λ y x. EnciphersEde3 key.now x y) }
     {
@@ -83,7 +85,9 @@ impl BlockCipherEncrypt for TdesEde3 {
     ghost encrypted = { λ cipher. through (des_encrypted cipher.first)
         (des_decrypted cipher.second) (des_encrypted cipher.third) };
 
-    /// Encrypts a block of 8 bytes in place, bit 1 the most significant bit of the first byte.
+    /// Encrypts a block of 8 bytes in place, bit 1 the most significant bit of the first byte: it
+    /// is enciphered under the first part of the key, deciphered under the second and enciphered
+    /// under the third (FIPS 46-3, triple data encryption algorithm).
     fn encrypt_block(&self, block: &mut [u8; 8])
         ensures encrypted { block.new
             ≡ ⟦<TdesEde3 as BlockCipherEncrypt>⟧.encrypted self.now block.old }
@@ -98,7 +102,9 @@ impl BlockCipherDecrypt for TdesEde3 {
     ghost decrypted = { λ cipher. through (des_decrypted cipher.third)
         (des_encrypted cipher.second) (des_decrypted cipher.first) };
 
-    /// Decrypts a block of 8 bytes in place, bit 1 the most significant bit of the first byte.
+    /// Decrypts a block of 8 bytes in place, bit 1 the most significant bit of the first byte: it
+    /// is deciphered under the third part of the key, enciphered under the second and deciphered
+    /// under the first (FIPS 46-3, triple data encryption algorithm).
     fn decrypt_block(&self, block: &mut [u8; 8])
         ensures decrypted { block.new
             ≡ ⟦<TdesEde3 as BlockCipherDecrypt>⟧.decrypted self.now block.old }

@@ -3,10 +3,11 @@
 ghost use Rattle.std.specs.Prelude.{◌≡◌, ℕ, List, codes, Some, refl, ⊤};
 ghost use Rattle.std.specs.Fmt.{DisplaysOnOk, DisplaysStyledOnOk};
 ghost use Rattle.des.specs.Relations.{IsTheOne, HasOneAnswerEachWay, IsGraphOf};
-ghost use Rattle.des.specs.Triple.{part, through, EnciphersEee2};
+ghost use Rattle.des.specs.Triple.{through, EnciphersEee2};
+ghost use Rattle.des.specs.Blocks.{part};
 ghost use Rattle.des.specs.Des.{IsDesOf, encrypted as des_encrypted, decrypted as des_decrypted};
 ghost use Rattle.des.specs.Des.{encryption as des_encryption, decryption as des_decryption};
-ghost use Rattle.des.specs.Laws.DesPasses.{IsPass-eee, Agree-eee, Agree-eee_back};
+ghost use Rattle.des.specs.Laws.TriplePasses.{IsPass-eee, Agree-eee, Agree-eee_back};
 
 use super::{decrypt_eee, encrypt_eee, key_part};
 use crate::cipher::{
@@ -39,12 +40,13 @@ impl KeyInit for TdesEee2 {
     ghost is_made_from = { λ cipher key. IsDesOf cipher.first (part 1 key)
         × IsDesOf cipher.second (part 2 key) };
 
-    /// The cipher of a key of 16 bytes.
+    /// The cipher of a key of 16 bytes, bit 1 the most significant bit of the first. Its parts are
+    /// bytes 1 to 8 and 9 to 16, each a key of `Des`.
     fn new(key: &[u8; 16]) -> TdesEee2
         ensures made { ⟦<TdesEee2 as KeyInit>⟧.is_made_from result key.now }
         ensures one_answer_each_way { HasOneAnswerEachWay (EnciphersEee2 key.now) }
         ensures encryption { IsGraphOf (⟦<TdesEee2 as KeyedCipher>⟧.encryption key.now)
-            (λ x y. EnciphersEee2 key.now x y) }
+            (EnciphersEee2 key.now) }
         ensures decryption { IsGraphOf (⟦<TdesEee2 as KeyedCipher>⟧.decryption key.now)
             (λ y x. EnciphersEee2 key.now x y) }
     {
@@ -81,7 +83,9 @@ impl BlockCipherEncrypt for TdesEee2 {
     ghost encrypted = { λ cipher. through (des_encrypted cipher.first)
         (des_encrypted cipher.second) (des_encrypted cipher.first) };
 
-    /// Encrypts a block of 8 bytes in place, bit 1 the most significant bit of the first byte.
+    /// Encrypts a block of 8 bytes in place, bit 1 the most significant bit of the first byte: it
+    /// is enciphered under the first part of the key, enciphered under the second and enciphered
+    /// under the first.
     fn encrypt_block(&self, block: &mut [u8; 8])
         ensures encrypted { block.new
             ≡ ⟦<TdesEee2 as BlockCipherEncrypt>⟧.encrypted self.now block.old }
@@ -96,7 +100,9 @@ impl BlockCipherDecrypt for TdesEee2 {
     ghost decrypted = { λ cipher. through (des_decrypted cipher.first)
         (des_decrypted cipher.second) (des_decrypted cipher.first) };
 
-    /// Decrypts a block of 8 bytes in place, bit 1 the most significant bit of the first byte.
+    /// Decrypts a block of 8 bytes in place, bit 1 the most significant bit of the first byte: it
+    /// is deciphered under the first part of the key, deciphered under the second and deciphered
+    /// under the first.
     fn decrypt_block(&self, block: &mut [u8; 8])
         ensures decrypted { block.new
             ≡ ⟦<TdesEee2 as BlockCipherDecrypt>⟧.decrypted self.now block.old }

@@ -11,7 +11,7 @@ const BLOCK: &str = "0123456789ABCDEF";
 const ANSWER: &str = "85e813540f0ab405\n";
 
 // More writes than a test asks for, so that none is refused.
-const NEVER: usize = 1000;
+const ENOUGH: usize = 1000;
 
 // Takes one byte a write, and no memory for it. It refuses one write, after so many that it takes,
 // and may refuse to be flushed.
@@ -42,7 +42,7 @@ impl Page {
 impl Write for Page {
     fn write(&mut self, buf: &[u8]) -> io::Result<usize> {
         if self.takes == 0 {
-            self.takes = NEVER;
+            self.takes = ENOUGH;
             return Err(io::Error::from(ErrorKind::BrokenPipe));
         }
         self.takes -= 1;
@@ -63,23 +63,23 @@ impl Write for Page {
     }
 }
 
-// A process with these arguments, the program's own name among them.
+// A process whose arguments, the program's own name first, stand on a line with a space between two.
 #[derive(Drop)]
 struct Process<'a> {
-    arguments: &'a [&'a str],
+    line: &'a [u8],
 }
 
 impl Env for Process<'_> {
     fn arg(&self, i: usize, buf: &mut [u8]) -> Result<usize, FillError> {
-        let Some(argument) = self.arguments.get(i) else {
+        let mut arguments = self.line.split(|byte| *byte == b' ');
+        let Some(argument) = arguments.nth(i) else {
             return Err(FillError::NotPresent);
         };
-        let bytes = argument.as_bytes();
-        if bytes.len() > buf.len() {
+        if argument.len() > buf.len() {
             return Err(FillError::TooLong);
         }
-        buf[..bytes.len()].copy_from_slice(bytes);
-        Ok(bytes.len())
+        buf[..argument.len()].copy_from_slice(argument);
+        Ok(argument.len())
     }
 
     fn var(&self, _name: &str, _buf: &mut [u8]) -> Result<usize, FillError> {
@@ -198,7 +198,7 @@ fn answers_many_blocks(rt: HostRuntime) -> Result<(), Fail> {
 fn stops_at_a_refused_write(rt: HostRuntime) -> Result<(), Fail> {
     let answer = Ok(Vec::from_slice(rt.alloc(), ANSWER.as_bytes())?);
     for takes in 0..ANSWER.len() {
-        let (mut out, mut err) = (Page::new(takes, true), Page::new(NEVER, true));
+        let (mut out, mut err) = (Page::new(takes, true), Page::new(ENOUGH, true));
         assert_eq!(rt;
             show(&answer, &mut out, &mut err),
             4,
@@ -206,7 +206,7 @@ fn stops_at_a_refused_write(rt: HostRuntime) -> Result<(), Fail> {
         );
         assert_eq!(rt; out.text(), &ANSWER.as_bytes()[..takes]);
     }
-    let (mut out, mut err) = (Page::new(ANSWER.len(), true), Page::new(NEVER, true));
+    let (mut out, mut err) = (Page::new(ANSWER.len(), true), Page::new(ENOUGH, true));
     assert_eq!(rt; show(&answer, &mut out, &mut err), 0);
     assert_eq!(rt; out.text(), ANSWER.as_bytes());
     Ok(())
@@ -216,7 +216,7 @@ fn stops_at_a_refused_write(rt: HostRuntime) -> Result<(), Fail> {
 fn finishes_answers(rt: HostRuntime) -> Result<(), Fail> {
     let answer = Ok(Vec::from_slice(rt.alloc(), ANSWER.as_bytes())?);
     for (flushes, status) in [(true, 0), (false, 4)] {
-        let (mut out, mut err) = (Page::new(NEVER, flushes), Page::new(NEVER, true));
+        let (mut out, mut err) = (Page::new(ENOUGH, flushes), Page::new(ENOUGH, true));
         let code = finish(&answer, &mut out, &mut err);
         assert_eq!(rt; code, ExitCode::from(status));
         assert_eq!(rt; out.text(), ANSWER.as_bytes());
@@ -229,17 +229,17 @@ fn finishes_answers(rt: HostRuntime) -> Result<(), Fail> {
 #[test]
 fn finishes_faults(rt: HostRuntime) {
     let lines = [
-        (Fault::Usage, NEVER, "Usage\n", 2),
-        (Fault::KeyLength, NEVER, "KeyLength\n", 2),
-        (Fault::KeyText, NEVER, "KeyText\n", 2),
-        (Fault::BlockLength, NEVER, "BlockLength\n", 2),
-        (Fault::BlockText, NEVER, "BlockText\n", 2),
-        (Fault::Memory, NEVER, "Memory\n", 3),
+        (Fault::Usage, ENOUGH, "Usage\n", 2),
+        (Fault::KeyLength, ENOUGH, "KeyLength\n", 2),
+        (Fault::KeyText, ENOUGH, "KeyText\n", 2),
+        (Fault::BlockLength, ENOUGH, "BlockLength\n", 2),
+        (Fault::BlockText, ENOUGH, "BlockText\n", 2),
+        (Fault::Memory, ENOUGH, "Memory\n", 3),
         (Fault::Usage, 3, "Usa", 2),
         (Fault::Memory, 0, "", 3),
     ];
     for (fault, takes, reported, status) in lines {
-        let (mut out, mut err) = (Page::new(NEVER, true), Page::new(takes, true));
+        let (mut out, mut err) = (Page::new(ENOUGH, true), Page::new(takes, true));
         let code = finish(&Err(fault), &mut out, &mut err);
         assert_eq!(rt; code, ExitCode::from(status));
         assert_eq!(rt; err.text(), reported.as_bytes());
@@ -247,97 +247,83 @@ fn finishes_faults(rt: HostRuntime) {
     }
 }
 
-// A direction, blocks, how many writes `out` takes, what it takes, and the exit status.
+// A line, what goes to standard output and to standard error, and the exit status.
+#[rattlefmt::skip]
+const LINES: [(&str, &str, &str, u8); 18] = [
+    ("des_tool des encrypt 133457799BBCDFF1 0123456789ABCDEF", ANSWER, "", 0),
+    ("des_tool des decrypt 133457799BBCDFF1 85E813540F0AB405", "0123456789abcdef\n", "", 0),
+    ("des_tool des encrypt 133457799BBCDFF1 ", "\n", "", 0),
+    ("des_tool weak 0000000000000000", "Ok\n", "", 0),
+    ("des_tool weak 0101010101010101", "WeakKey\n", "", 0),
+    ("des_tool weak 02020202020202020303030303030303", "Ok\n", "", 0),
+    ("des_tool weak 010203040506070811121314151617180102030405060708", "WeakKey\n", "", 0),
+    ("", "", "Usage\n", 2),
+    ("des_tool weak", "", "Usage\n", 2),
+    ("des_tool weak 0101010101010101 0101010101010101", "", "Usage\n", 2),
+    ("des_tool DES encrypt 133457799BBCDFF1 0123456789ABCDEF", "", "Usage\n", 2),
+    ("des_tool weak 01", "", "KeyLength\n", 2),
+    ("des_tool des encrypt 133457799BBCDFF 0123456789ABCDEF", "", "KeyLength\n", 2),
+    ("des_tool ede3 encrypt 133457799bbcdff1133457799bbcdff1 0123456789abcdef", "", "KeyLength\n", 2),
+    ("des_tool weak gggggggggggggggggggggggggggggggggggggggggggggggg", "", "KeyText\n", 2),
+    ("des_tool des encrypt 133457799BBCDFFg 0123456789ABCDEF", "", "KeyText\n", 2),
+    ("des_tool des encrypt 133457799BBCDFF1 0123456789ABCDEF0", "", "BlockLength\n", 2),
+    ("des_tool des encrypt 133457799BBCDFF1 0x0123456789ABCD", "", "BlockText\n", 2),
+];
+
 #[test]
-fn runs_to_answers(rt: HostRuntime) {
-    let lines = [
-        ("encrypt", BLOCK, NEVER, ANSWER, 0),
-        (
-            "decrypt",
-            "85E813540F0AB405",
-            NEVER,
-            "0123456789abcdef\n",
-            0,
-        ),
-        ("encrypt", "", NEVER, "\n", 0),
-        ("encrypt", BLOCK, 4, "85e8", 4),
-    ];
-    for (direction, blocks, takes, written, status) in lines {
-        let arguments = ["des_tool", "des", direction, KEY, blocks];
+fn runs_lines(rt: HostRuntime) {
+    for (line, written, reported, status) in LINES {
         let process = Process {
-            arguments: &arguments,
+            line: line.as_bytes(),
         };
-        let (mut out, mut err) = (Page::new(takes, true), Page::new(NEVER, true));
+        let (mut out, mut err) = (Page::new(ENOUGH, true), Page::new(ENOUGH, true));
         let code = run(&(process, rt.alloc()), &mut out, &mut err);
-        assert_eq!(rt; code, ExitCode::from(status));
-        assert_eq!(rt; out.text(), written.as_bytes());
-        assert!(rt; err.text().is_empty());
+        assert_eq!(rt; code, ExitCode::from(status), "{line}");
+        assert_eq!(rt; out.text(), written.as_bytes(), "{line}");
+        assert_eq!(rt; err.text(), reported.as_bytes(), "{line}");
     }
 }
 
 #[test]
-fn runs_to_faults(rt: HostRuntime) {
-    let lines: [(&[&str], &str); 10] = [
-        (&[], "Usage\n"),
-        (&["des_tool", "des", "encrypt", KEY], "Usage\n"),
-        (
-            &["des_tool", "des", "encrypt", KEY, BLOCK, BLOCK],
-            "Usage\n",
-        ),
-        (&["des_tool", "DES", "encrypt", KEY, BLOCK], "Usage\n"),
-        (&["des_tool", "des", "encipher", KEY, BLOCK], "Usage\n"),
-        (
-            &["des_tool", "des", "encrypt", "133457799BBCDFF", "0"],
-            "KeyLength\n",
-        ),
-        (
-            &[
-                "des_tool",
-                "ede3",
-                "encrypt",
-                "133457799bbcdff1133457799bbcdff1",
-                BLOCK,
-            ],
-            "KeyLength\n",
-        ),
-        (
-            &["des_tool", "des", "encrypt", "133457799BBCDF\u{e9}", "0"],
-            "KeyText\n",
-        ),
-        (
-            &["des_tool", "des", "encrypt", KEY, "0123456789ABCDEg0"],
-            "BlockLength\n",
-        ),
-        (
-            &["des_tool", "des", "encrypt", KEY, "0x0123456789ABCD"],
-            "BlockText\n",
-        ),
-    ];
-    for (arguments, reported) in lines {
-        let (mut out, mut err) = (Page::new(NEVER, true), Page::new(NEVER, true));
-        let code = run(&(Process { arguments }, rt.alloc()), &mut out, &mut err);
-        assert_eq!(rt; code, ExitCode::from(2));
-        assert_eq!(rt; err.text(), reported.as_bytes());
-        assert!(rt; out.text().is_empty());
-    }
+fn runs_on_arguments_that_are_not_text(rt: HostRuntime) {
+    let process = Process {
+        line: b"des_tool weak \xff".as_slice(),
+    };
+    let (mut out, mut err) = (Page::new(ENOUGH, true), Page::new(ENOUGH, true));
+    let code = run(&(process, rt.alloc()), &mut out, &mut err);
+    assert_eq!(rt; code, ExitCode::from(2));
+    assert_eq!(rt; err.text(), b"Usage\n".as_slice());
+}
+
+#[test]
+fn runs_to_an_output_that_fails(rt: HostRuntime) {
+    let process = Process {
+        line: LINES[0].0.as_bytes(),
+    };
+    let (mut out, mut err) = (Page::new(4, true), Page::new(ENOUGH, true));
+    let code = run(&(process, rt.alloc()), &mut out, &mut err);
+    assert_eq!(rt; code, ExitCode::from(4));
+    assert_eq!(rt; out.text(), b"85e8".as_slice());
+    assert!(rt; err.text().is_empty());
 }
 
 // This test holds whichever request for memory is refused.
 #[test]
 fn reports_a_refused_request_for_memory(rt: HostRuntime) {
-    let arguments = ["des_tool", "des", "encrypt", KEY, BLOCK];
-    let process = Process {
-        arguments: &arguments,
-    };
-    let (mut out, mut err) = (Page::new(NEVER, true), Page::new(NEVER, true));
-    let code = run(&(process, rt.alloc()), &mut out, &mut err);
-    let is_refused = code != ExitCode::SUCCESS;
-    let (written, reported, status) = if is_refused {
-        ("", "Memory\n", 3)
-    } else {
-        (ANSWER, "", 0)
-    };
-    assert_eq!(rt; code, ExitCode::from(status));
-    assert_eq!(rt; out.text(), written.as_bytes());
-    assert_eq!(rt; err.text(), reported.as_bytes());
+    for (line, answer, _, _) in [LINES[0], LINES[4]] {
+        let process = Process {
+            line: line.as_bytes(),
+        };
+        let (mut out, mut err) = (Page::new(ENOUGH, true), Page::new(ENOUGH, true));
+        let code = run(&(process, rt.alloc()), &mut out, &mut err);
+        let is_refused = code != ExitCode::SUCCESS;
+        let (written, reported, status) = if is_refused {
+            ("", "Memory\n", 3)
+        } else {
+            (answer, "", 0)
+        };
+        assert_eq!(rt; code, ExitCode::from(status));
+        assert_eq!(rt; out.text(), written.as_bytes());
+        assert_eq!(rt; err.text(), reported.as_bytes());
+    }
 }

@@ -1,6 +1,6 @@
 use Rattle.std.proofs.Common.{ap, sym, ◌∙◌, arith}
 use Rattle.des.specs.Bits.{bits_of_bytes, bits_of_word, select}
-use Rattle.des.specs.Rounds.{final_permutation}
+use Rattle.des.specs.Tables.{final_permutation}
 use Rattle.des.specs.Laws.BitLists.{length-bits_of, bits_of_bytes-to_be}
 use Rattle.des.specs.Laws.Selections.{select-final_permutation}
 use Rattle.des.proofs.HalfWords.{bits_of_word-rotate_left}

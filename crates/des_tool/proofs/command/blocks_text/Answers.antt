@@ -1,8 +1,10 @@
-use Rattle.std.proofs.Common.{ℕ, List}
+use Rattle.std.proofs.Common.{ℕ, List, Result, IfOk}
+use Rattle.std.specs.declared.vec.Vec.{Vec}
+use Rattle.std.specs.declared.alloc.Global.{Global}
+use Rattle.des_tool.specs.declared.command.Fault.{Fault}
 use Rattle.std.proofs.lemmas.Result.{IfOk-weaker}
-use Rattle.des.specs.Blocks.{IsKey}
+use Rattle.des.specs.Blocks.{IsKey, part}
 use Rattle.des.specs.Des.{encryption, decryption}
-use Rattle.des.specs.Triple.{part}
 use Rattle.des.proofs.Graphs.{IsGraphOf-encryption, IsGraphOf-decryption, HasOneAnswerEachWay-key}
 use Rattle.des.proofs.TripleGraphs.{AnswerBy, ede, ede_back, eee, eee_back, AnswerBy-Ede3, AnswerBy-Eee3, AnswerBy-Ede2, AnswerBy-Eee2}
 use Rattle.des_tool.specs.declared.command.Cipher.{Cipher}
@@ -51,32 +53,35 @@ by_relation cipher direction key =
     IsTextOf-made direction (encryption_by cipher) (decryption_by cipher) (key_size_of cipher) key (relation_of cipher key)
     (λ is_key. (answer_by cipher key is_key).encryption) (λ is_key. (answer_by cipher key is_key).decryption)
 
+-- the same of what the call of the cipher's text gave
+answered : (cipher : Cipher) (direction : Direction) (key digits : List ℕ) (result : Result (Vec ℕ Global) Fault)
+    → IfOk result (λ text. IsTextOf
+    (IsMadeBy (in_direction direction (encryption_by cipher) (decryption_by cipher)) (key_size_of cipher) key) digits text.items)
+    → IfOk result (λ text. IsTextOf (ReadIn direction (relation_of cipher key)) digits text.items)
+answered cipher direction key digits result =
+    IfOk-weaker result _ _ (λ text. by_relation cipher direction key digits text.items)
+
 pub returns-in-Des-clause-answer : goal.returns-in-Des-clause-answer
 returns-in-Des-clause-answer c =
     let key = bytes_of_digits c.args.key.now in
-    rw c.in-Des.is
-    (IfOk-weaker c.cipher_text.result _ _ (λ text. by_relation Des c.args.direction key c.args.digits.now text.items) c.cipher_text.ensures.answer)
+    rw c.in-Des.is (answered Des c.args.direction key c.args.digits.now c.text_by.result c.text_by.ensures.answer)
 
 pub returns-in-Ede3-clause-answer : goal.returns-in-Ede3-clause-answer
 returns-in-Ede3-clause-answer c =
     let key = bytes_of_digits c.args.key.now in
-    rw c.in-Ede3.is
-    (IfOk-weaker c.cipher_text-in-Ede3.result _ _ (λ text. by_relation Ede3 c.args.direction key c.args.digits.now text.items) c.cipher_text-in-Ede3.ensures.answer)
+    rw c.in-Ede3.is (answered Ede3 c.args.direction key c.args.digits.now c.text_by-in-Ede3.result c.text_by-in-Ede3.ensures.answer)
 
 pub returns-in-Eee3-clause-answer : goal.returns-in-Eee3-clause-answer
 returns-in-Eee3-clause-answer c =
     let key = bytes_of_digits c.args.key.now in
-    rw c.in-Eee3.is
-    (IfOk-weaker c.cipher_text-in-Eee3.result _ _ (λ text. by_relation Eee3 c.args.direction key c.args.digits.now text.items) c.cipher_text-in-Eee3.ensures.answer)
+    rw c.in-Eee3.is (answered Eee3 c.args.direction key c.args.digits.now c.text_by-in-Eee3.result c.text_by-in-Eee3.ensures.answer)
 
 pub returns-in-Ede2-clause-answer : goal.returns-in-Ede2-clause-answer
 returns-in-Ede2-clause-answer c =
     let key = bytes_of_digits c.args.key.now in
-    rw c.in-Ede2.is
-    (IfOk-weaker c.cipher_text-in-Ede2.result _ _ (λ text. by_relation Ede2 c.args.direction key c.args.digits.now text.items) c.cipher_text-in-Ede2.ensures.answer)
+    rw c.in-Ede2.is (answered Ede2 c.args.direction key c.args.digits.now c.text_by-in-Ede2.result c.text_by-in-Ede2.ensures.answer)
 
 pub returns-in-Eee2-clause-answer : goal.returns-in-Eee2-clause-answer
 returns-in-Eee2-clause-answer c =
     let key = bytes_of_digits c.args.key.now in
-    rw c.in-Eee2.is
-    (IfOk-weaker c.cipher_text-in-Eee2.result _ _ (λ text. by_relation Eee2 c.args.direction key c.args.digits.now text.items) c.cipher_text-in-Eee2.ensures.answer)
+    rw c.in-Eee2.is (answered Eee2 c.args.direction key c.args.digits.now c.text_by-in-Eee2.result c.text_by-in-Eee2.ensures.answer)

@@ -13,5 +13,5 @@ returns-clause-decrypted c =
 
 pub returns-clause-deciphers : goal.returns-clause-deciphers
 returns-clause-deciphers c key of_key =
-    IsTheOne-decrypted c.args.self.now key c.args.block.now c.run_rounds.new.block of_key c.run_rounds.ensures.block
+    IsTheOne-decrypted c.args.self.now key c.args.block.now c.run_rounds.new.block of_key c.run_rounds.ensures.was_block
     (returns-clause-decrypted c)

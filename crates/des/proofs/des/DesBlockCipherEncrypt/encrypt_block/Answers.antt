@@ -10,5 +10,5 @@ returns-clause-encrypted c =
 
 pub returns-clause-enciphers : goal.returns-clause-enciphers
 returns-clause-enciphers c key of_key =
-    IsTheOne-encrypted c.args.self.now key c.args.block.now c.run_rounds.new.block of_key c.run_rounds.ensures.block
+    IsTheOne-encrypted c.args.self.now key c.args.block.now c.run_rounds.new.block of_key c.run_rounds.ensures.was_block
     (returns-clause-encrypted c)

@@ -1,4 +1,4 @@
-use Rattle.des.specs.Triple.{part}
+use Rattle.des.specs.Blocks.{part}
 use Rattle.des.proofs.tdes.ede3.TdesEde3BlockCipherDecrypt.decrypt_block.Goals as goal
 
 pub returns-clause-deciphers : goal.returns-clause-deciphers

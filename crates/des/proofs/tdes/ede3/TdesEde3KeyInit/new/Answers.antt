@@ -1,21 +1,22 @@
-use Rattle.des.specs.Triple.{part, EnciphersEde3}
+use Rattle.des.specs.Triple.{EnciphersEde3}
+use Rattle.des.specs.Blocks.{part}
 use Rattle.des.proofs.TripleGraphs.{AnswerBy, ede, ede_back, AnswerBy-ede}
 use Rattle.des.proofs.tdes.ede3.TdesEde3KeyInit.new.Goals as goal
 use Rattle.des.proofs.tdes.ede3.TdesEde3KeyInit.new.Goals.{After-new-3}
 
 -- the key answers by its relation, since its parts answer by theirs
-answer_by : (c : After-new-3) → let key = c.args.key.now in
+by_parts : (c : After-new-3) → let key = c.args.key.now in
     AnswerBy (ede (part 1 key) (part 2 key) (part 3 key)) (ede_back (part 1 key) (part 2 key) (part 3 key)) (λ x y. EnciphersEde3 key x y)
-answer_by c =
+by_parts c =
     AnswerBy-ede (part 1 c.args.key.now) (part 2 c.args.key.now) (part 3 c.args.key.now)
     (rw c.key_part.ensures at c.new.ensures.encryption) (rw c.key_part-2.ensures at c.new-2.ensures.decryption)
     (rw c.key_part-3.ensures at c.new-3.ensures.encryption)
 
 pub returns-clause-one_answer_each_way : goal.returns-clause-one_answer_each_way
-returns-clause-one_answer_each_way c = (answer_by c).one_answer_each_way
+returns-clause-one_answer_each_way c = (by_parts c).one_answer_each_way
 
 pub returns-clause-encryption : goal.returns-clause-encryption
-returns-clause-encryption c = (answer_by c).encryption
+returns-clause-encryption c = (by_parts c).encryption
 
 pub returns-clause-decryption : goal.returns-clause-decryption
-returns-clause-decryption c = (answer_by c).decryption
+returns-clause-decryption c = (by_parts c).decryption

@@ -1,4 +1,4 @@
-use Rattle.des.specs.Triple.{part}
+use Rattle.des.specs.Blocks.{part}
 use Rattle.des.proofs.tdes.eee3.TdesEee3BlockCipherDecrypt.decrypt_block.Goals as goal
 
 pub returns-clause-deciphers : goal.returns-clause-deciphers

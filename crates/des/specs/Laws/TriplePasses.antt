@@ -1,29 +1,10 @@
--- `Des` is a pass, and what follows for three of them. Nothing here speaks of how a `Des` computes but the first three
--- lemmas, which are its laws as a block cipher.
-use Rattle.std.proofs.Common.{ℕ, List, reverse}
+-- Three values of `Des`, one after another, by the laws of `Des` alone.
+use Rattle.std.proofs.Common.{ℕ, List}
 use Rattle.des.specs.declared.des.Des.{Des}
-use Rattle.des.specs.Bits.{bits_of_bytes}
-use Rattle.des.specs.KeySchedule.{key_schedule}
-use Rattle.des.specs.RoundKeyWords.{round_keys_of}
 use Rattle.des.specs.Des.{IsDesOf, encrypted, decrypted, encryption, decryption}
 use Rattle.des.specs.Triple.{through}
 use Rattle.des.specs.Laws.Passes.{IsPass, IsPass-turned, IsPass-through, Agree, Agree-through}
-use Rattle.des.specs.Laws.RoundsUndone.{IsPass-answer_by}
-use Rattle.des.specs.Laws.HeldRoundKeys.{answer_by-held}
-
--- a cipher is a pass, and so is a key
-pub IsPass-Des : (cipher : Des) → IsPass (encrypted cipher) (decrypted cipher)
-IsPass-Des cipher = IsPass-answer_by (round_keys_of cipher.round_keys)
-
-pub IsPass-key : (key : List ℕ) → IsPass (encryption key) (decryption key)
-IsPass-key key = IsPass-answer_by (key_schedule (bits_of_bytes key))
-
--- a cipher of a key answers as the key does, in each direction
-Agree-encrypted : (cipher : Des) (key : List ℕ) → IsDesOf cipher key → Agree (encrypted cipher) (encryption key)
-Agree-encrypted cipher key made = record { at = λ block is_block. answer_by-held (λ keys. keys) cipher.round_keys key block made.1 }
-
-Agree-decrypted : (cipher : Des) (key : List ℕ) → IsDesOf cipher key → Agree (decrypted cipher) (decryption key)
-Agree-decrypted cipher key made = record { at = λ block is_block. answer_by-held reverse cipher.round_keys key block made.1 }
+use Rattle.des.specs.Laws.DesLaws.{IsPass-Des, Agree-encrypted, Agree-decrypted}
 
 -- what three ciphers answer by each form, in each direction
 module _ (first second third : Des) where

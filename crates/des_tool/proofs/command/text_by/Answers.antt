@@ -4,7 +4,7 @@ use Rattle.std.proofs.lemmas.Result.{IfOk-weaker}
 use Rattle.des_tool.specs.Ciphers.{in_direction}
 use Rattle.des_tool.specs.Digits.{bytes_of_digits}
 use Rattle.des_tool.proofs.BlockAnswers.{AnswersEach-map, in_direction-same}
-use Rattle.des_tool.proofs.command.cipher_text.Goals as goal
+use Rattle.des_tool.proofs.command.text_by.Goals as goal
 
 pub returns-clause-answer : goal.returns-clause-answer
 returns-clause-answer g c =

@@ -1,0 +1,90 @@
+-- Relations whose graph is known for passes, and what they are for a pass turned round and for three, one after another.
+use Rattle.std.proofs.Common.{◌≡◌, ℕ, List, refl, sym, ap, ◌∙◌, subst}
+use Rattle.des.specs.Blocks.{IsBlock}
+use Rattle.des.specs.Relations.{IsTheOne, HasOneAnswerEachWay, IsGraphOf}
+use Rattle.des.specs.Triple.{through}
+use Rattle.des.specs.Laws.Passes.{IsPass}
+
+-- the graph of a pass turned round is that of the pass, read from the second block to the first
+pub IsGraphOf-turned : (forth back : List ℕ → List ℕ) (Answers : List ℕ → List ℕ → Type 0) → IsPass forth back
+    → IsGraphOf forth Answers → IsGraphOf back (λ y x. Answers x y)
+IsGraphOf-turned forth back Answers pass graph = λ y x. (
+  λ related.
+      let there = (graph x y).0 related in (
+        subst IsBlock there.1 (pass.forth_is_block x there.0),
+        ap back (sym there.1) ∙ pass.back_forth x there.0,
+      ),
+  λ made.
+      (graph x y).1 (
+        subst IsBlock made.1 (pass.back_is_block y made.0),
+        ap forth (sym made.1) ∙ pass.forth_back y made.0,
+      ),
+)
+
+-- a block is answered by what the function answers to it, and by nothing else
+pub IsTheOne-graph : (answer : List ℕ → List ℕ) (Answers : List ℕ → List ℕ → Type 0) (block : List ℕ) → IsGraphOf answer Answers
+    → IsBlock block → IsTheOne (Answers block) (answer block)
+IsTheOne-graph answer Answers block graph is_block = (
+  (graph block (answer block)).1 (is_block, refl),
+  λ other related. sym ((graph block other).0 related).1,
+)
+
+-- the graph of a pass has one answer each way
+pub HasOneAnswerEachWay-graph : (forth back : List ℕ → List ℕ) (Answers : List ℕ → List ℕ → Type 0) → IsPass forth back
+    → IsGraphOf forth Answers → HasOneAnswerEachWay Answers
+HasOneAnswerEachWay-graph forth back Answers pass graph = record {
+  forwards = λ x is_block. (forth x, IsTheOne-graph forth Answers x graph is_block);
+  backwards = λ y is_block.
+      (back y, IsTheOne-graph back (λ z x. Answers x z) y (IsGraphOf-turned forth back Answers pass graph) is_block);
+}
+
+-- what relates the two ends of three relations: two blocks between
+abbrev pub Joined : (R1 R2 R3 : List ℕ → List ℕ → Type 0) → List ℕ → List ℕ → Type 0
+Joined R1 R2 R3 x y = (u : List ℕ) × ((v : List ℕ) × (R1 x u × R2 u v × R3 v y))
+
+-- the graph of three passes is the relations joined
+pub IsGraphOf-through : (f1 b1 f2 b2 f3 : List ℕ → List ℕ) (R1 R2 R3 : List ℕ → List ℕ → Type 0) → IsPass f1 b1 → IsPass f2 b2
+    → IsGraphOf f1 R1 → IsGraphOf f2 R2 → IsGraphOf f3 R3 → IsGraphOf (through f1 f2 f3) (Joined R1 R2 R3)
+IsGraphOf-through f1 b1 f2 b2 f3 R1 R2 R3 p1 p2 g1 g2 g3 = λ x y. (
+  λ joined.
+      let u = joined.0 in
+      let v = joined.1.0 in
+      let first = (g1 x u).0 joined.1.1.0 in
+      let second = (g2 u v).0 joined.1.1.1 in
+      let third = (g3 v y).0 joined.1.1.2 in (
+        first.0,
+        ap (λ (w : List ℕ). f3 (f2 w)) first.1 ∙ ap f3 second.1 ∙ third.1,
+      ),
+  λ made.
+      let u_block = p1.forth_is_block x made.0 in
+      let v_block = p2.forth_is_block (f1 x) u_block in (
+        f1 x,
+        (
+          f2 (f1 x),
+          ((g1 x (f1 x)).1 (made.0, refl), (g2 (f1 x) (f2 (f1 x))).1 (u_block, refl), (g3 (f2 (f1 x)) y).1 (v_block, made.1)),
+        ),
+      ),
+)
+
+-- the one block from end to end is the one of the third at the one of the second at the one of the first
+pub IsTheOne-through : (R1 R2 R3 : List ℕ → List ℕ → Type 0) (x u v y : List ℕ) → IsTheOne (R1 x) u → IsTheOne (R2 u) v → IsTheOne (R3 v) y
+    → IsTheOne (Joined R1 R2 R3 x) y
+IsTheOne-through R1 R2 R3 x u v y first second third = (
+  (u, (v, (first.0, second.0, third.0))),
+  λ other joined.
+      let same_u : joined.0 ≡ u = first.1 joined.0 joined.1.1.0 in
+      let P : List ℕ → Type 0 = λ w. R2 w joined.1.0 in
+      let same_v : joined.1.0 ≡ v = second.1 joined.1.0 (subst P same_u joined.1.1.1) in
+      let Q : List ℕ → Type 0 = λ w. R3 w other in
+      third.1 other (subst Q same_v joined.1.1.2),
+)
+
+-- the same read from the last relation to the first
+pub IsTheOne-back_through : (R1 R2 R3 : List ℕ → List ℕ → Type 0) (x u v y : List ℕ)
+    → IsTheOne (λ w. R3 w y) v → IsTheOne (λ w. R2 w v) u → IsTheOne (λ w. R1 w u) x
+    → IsTheOne (λ w. Joined R1 R2 R3 w y) x
+IsTheOne-back_through R1 R2 R3 x u v y third second first =
+    let turned = IsTheOne-through (λ b a. R3 a b) (λ b a. R2 a b) (λ b a. R1 a b) y v u x third second first in (
+      (turned.0.1.0, (turned.0.0, (turned.0.1.1.2, turned.0.1.1.1, turned.0.1.1.0))),
+      λ other joined. turned.1 other (joined.1.0, (joined.0, (joined.1.1.2, joined.1.1.1, joined.1.1.0))),
+    )

@@ -1,0 +1,58 @@
+ghost use Rattle.std.specs.Prelude.{◌≡◌, ◌⊎◌, length};
+
+use super::*;
+use std::test::Fail;
+
+// Whether the key of these parts is refused.
+fn refuses(parts: &[u64]) -> bool
+    requires { (length parts.now ≡ 1) ⊎ (length parts.now ≡ 2) ⊎ (length parts.now ≡ 3) }
+{
+    let mut key = [[0; 8]; 3];
+    for (bytes, part) in key.iter_mut().zip(parts) {
+        *bytes = part.to_be_bytes();
+    }
+    weak_key_test(&key.as_flattened()[..8 * parts.len()]) == Err(WeakKeyError)
+}
+
+const NO_BIT: u64 = 0x0000000000000000;
+
+const PLAIN: [u64; 3] = [0x0102030405060708, 0x1112131415161718, 0x2122232425262728];
+
+// Keys with a listed part in each place, and with equal parts in each pair of places.
+#[test]
+fn refuses_listed_and_equal_parts(rt: HostRuntime) {
+    let [a, b, _] = PLAIN;
+    let listed = [0x0101010101010101, 0xfefefefefefefefe, 0xe0e0e0e0f1f1f1f1];
+    for key in listed {
+        assert!(rt; refuses(&[key]), "{key:016x}");
+    }
+    assert!(rt; refuses(&[listed[0], NO_BIT, NO_BIT]));
+    assert!(rt; refuses(&[NO_BIT, listed[1], NO_BIT]));
+    assert!(rt; refuses(&[NO_BIT, NO_BIT, listed[2]]));
+    assert!(rt; refuses(&[listed[0], NO_BIT]));
+    assert!(rt; refuses(&[NO_BIT, listed[1]]));
+    assert!(rt; refuses(&[NO_BIT, listed[2]]));
+    assert!(rt; refuses(&[a, a]));
+    assert!(rt; refuses(&[a, a, b]));
+    assert!(rt; refuses(&[a, b, a]));
+    assert!(rt; refuses(&[b, a, a]));
+}
+
+#[test]
+fn passes_other_keys(rt: HostRuntime) {
+    assert!(rt; !refuses(&[NO_BIT]));
+    assert!(rt; !refuses(&[0x0101011f0101010e]));
+    assert!(rt; !refuses(&[0x0202020202020202, 0x0303030303030303]));
+    assert!(rt; !refuses(&PLAIN));
+}
+
+#[test]
+fn writes_its_name(rt: HostRuntime) -> Result<(), Fail> {
+    let alloc = rt.alloc();
+    assert_eq!(rt; format!(in alloc; "{WeakKeyError}")?.as_str(), "WeakKey");
+    assert_eq!(rt;
+        format!(in alloc; "{WeakKeyError:?}")?.as_str(),
+        "WeakKeyError"
+    );
+    Ok(())
+}
