@@ -39,13 +39,13 @@ HasOneAnswerEachWay-graph forth back Answers pass graph = record {
 }
 
 -- what relates the two ends of three relations: two blocks between
-abbrev pub Joined : (R1 R2 R3 : List ℕ → List ℕ → Type 0) → List ℕ → List ℕ → Type 0
-Joined R1 R2 R3 x y = (u : List ℕ) × ((v : List ℕ) × (R1 x u × R2 u v × R3 v y))
+abbrev pub Joined : (First Second Third : List ℕ → List ℕ → Type 0) → List ℕ → List ℕ → Type 0
+Joined First Second Third x y = (u : List ℕ) × ((v : List ℕ) × (First x u × Second u v × Third v y))
 
 -- the graph of three passes is the relations joined
-pub IsGraphOf-through : (f1 b1 f2 b2 f3 : List ℕ → List ℕ) (R1 R2 R3 : List ℕ → List ℕ → Type 0) → IsPass f1 b1 → IsPass f2 b2
-    → IsGraphOf f1 R1 → IsGraphOf f2 R2 → IsGraphOf f3 R3 → IsGraphOf (through f1 f2 f3) (Joined R1 R2 R3)
-IsGraphOf-through f1 b1 f2 b2 f3 R1 R2 R3 p1 p2 g1 g2 g3 = λ x y. (
+pub IsGraphOf-through : (f1 b1 f2 b2 f3 : List ℕ → List ℕ) (First Second Third : List ℕ → List ℕ → Type 0) → IsPass f1 b1 → IsPass f2 b2
+    → IsGraphOf f1 First → IsGraphOf f2 Second → IsGraphOf f3 Third → IsGraphOf (through f1 f2 f3) (Joined First Second Third)
+IsGraphOf-through f1 b1 f2 b2 f3 First Second Third p1 p2 g1 g2 g3 = λ x y. (
   λ joined.
       let u = joined.0 in
       let v = joined.1.0 in
@@ -67,24 +67,24 @@ IsGraphOf-through f1 b1 f2 b2 f3 R1 R2 R3 p1 p2 g1 g2 g3 = λ x y. (
 )
 
 -- the one block from end to end is the one of the third at the one of the second at the one of the first
-pub IsTheOne-through : (R1 R2 R3 : List ℕ → List ℕ → Type 0) (x u v y : List ℕ) → IsTheOne (R1 x) u → IsTheOne (R2 u) v → IsTheOne (R3 v) y
-    → IsTheOne (Joined R1 R2 R3 x) y
-IsTheOne-through R1 R2 R3 x u v y first second third = (
+pub IsTheOne-through : (First Second Third : List ℕ → List ℕ → Type 0) (x u v y : List ℕ)
+    → IsTheOne (First x) u → IsTheOne (Second u) v → IsTheOne (Third v) y → IsTheOne (Joined First Second Third x) y
+IsTheOne-through First Second Third x u v y first second third = (
   (u, (v, (first.0, second.0, third.0))),
   λ other joined.
       let same_u : joined.0 ≡ u = first.1 joined.0 joined.1.1.0 in
-      let P : List ℕ → Type 0 = λ w. R2 w joined.1.0 in
+      let P : List ℕ → Type 0 = λ w. Second w joined.1.0 in
       let same_v : joined.1.0 ≡ v = second.1 joined.1.0 (subst P same_u joined.1.1.1) in
-      let Q : List ℕ → Type 0 = λ w. R3 w other in
+      let Q : List ℕ → Type 0 = λ w. Third w other in
       third.1 other (subst Q same_v joined.1.1.2),
 )
 
 -- the same read from the last relation to the first
-pub IsTheOne-back_through : (R1 R2 R3 : List ℕ → List ℕ → Type 0) (x u v y : List ℕ)
-    → IsTheOne (λ w. R3 w y) v → IsTheOne (λ w. R2 w v) u → IsTheOne (λ w. R1 w u) x
-    → IsTheOne (λ w. Joined R1 R2 R3 w y) x
-IsTheOne-back_through R1 R2 R3 x u v y third second first =
-    let turned = IsTheOne-through (λ b a. R3 a b) (λ b a. R2 a b) (λ b a. R1 a b) y v u x third second first in (
+pub IsTheOne-back_through : (First Second Third : List ℕ → List ℕ → Type 0) (x u v y : List ℕ)
+    → IsTheOne (λ w. Third w y) v → IsTheOne (λ w. Second w v) u → IsTheOne (λ w. First w u) x
+    → IsTheOne (λ w. Joined First Second Third w y) x
+IsTheOne-back_through First Second Third x u v y third second first =
+    let turned = IsTheOne-through (λ b a. Third a b) (λ b a. Second a b) (λ b a. First a b) y v u x third second first in (
       (turned.0.1.0, (turned.0.0, (turned.0.1.1.2, turned.0.1.1.1, turned.0.1.1.0))),
       λ other joined. turned.1 other (joined.1.0, (joined.0, (joined.1.1.2, joined.1.1.1, joined.1.1.0))),
     )

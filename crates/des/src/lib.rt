@@ -14,4 +14,4 @@ pub mod weak_key;
 
 pub use des::Des;
 pub use tdes::{TdesEde2, TdesEde3, TdesEee2, TdesEee3};
-pub use weak_key::{WeakKeyError, weak_key_test};
+pub use weak_key::{WEAK_KEYS, WeakKeyError, weak_key_test};

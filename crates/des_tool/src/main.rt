@@ -1,5 +1,5 @@
-//! The program `des_tool`: it enciphers and deciphers blocks that its arguments write in
-//! hexadecimal digits.
+//! The program `des_tool`: it enciphers and deciphers blocks, and tests keys, that its arguments
+//! write in hexadecimal digits.
 #![tactic(auto)]
 
 mod command;
