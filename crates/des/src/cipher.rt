@@ -319,4 +319,4 @@ pub trait KeyedCipher: KeyInit + BlockCipher {
 }
 
 #[cfg(test)]
-mod tests;
+pub(crate) mod tests;

@@ -17,17 +17,17 @@ const ENOUGH: usize = 1000;
 // and may refuse to be flushed.
 #[derive(Drop)]
 struct Page {
-    bytes: [u8; 64],
+    bytes: [u8; 256],
     taken: usize,
     takes: usize,
     flushes: bool,
-    ghost within: { taken ≤ 64 },
+    ghost within: { taken ≤ 256 },
 }
 
 impl Page {
     fn new(takes: usize, flushes: bool) -> Page {
         Page {
-            bytes: [0; 64],
+            bytes: [0; 256],
             taken: 0,
             takes,
             flushes,
@@ -180,66 +180,72 @@ fn decrypts_blocks(rt: HostRuntime) -> Result<(), Fail> {
 
 #[test]
 fn answers_many_blocks(rt: HostRuntime) -> Result<(), Fail> {
-    let mut blocks = String::new(rt.alloc());
-    for _ in 0..3000 {
-        blocks.push_str(BLOCK)?;
+    for count in [5usize, 3000] {
+        let mut blocks = String::new(rt.alloc());
+        for _ in 0..count {
+            blocks.push_str(BLOCK)?;
+        }
+        let text = answer(rt.alloc(), &["des", "encrypt", KEY, blocks.as_str()])?;
+        let (answers, end) = text.as_slice().as_chunks::<16>();
+        assert_eq!(rt; answers.len(), count);
+        for block in answers {
+            assert_eq!(rt; block, b"85e813540f0ab405");
+        }
+        assert_eq!(rt; end, b"\n".as_slice());
     }
-    let text = answer(rt.alloc(), &["des", "encrypt", KEY, blocks.as_str()])?;
-    let (answers, end) = text.as_slice().as_chunks::<16>();
-    assert_eq!(rt; answers.len(), 3000);
-    for block in answers {
-        assert_eq!(rt; block, b"85e813540f0ab405");
-    }
-    assert_eq!(rt; end, b"\n".as_slice());
     Ok(())
 }
 
+// An answer of eight blocks, so long that it takes many writes.
+const LONG_ANSWER: &str = "3fa40e8a984d48156a271787ab8883f9893d51ec4b563b533fa40e8a984d4815\
+6a271787ab8883f9893d51ec4b563b533fa40e8a984d48156a271787ab8883f9\n";
+
 #[test]
 fn stops_at_a_refused_write(rt: HostRuntime) -> Result<(), Fail> {
-    let answer = Ok(Vec::from_slice(rt.alloc(), ANSWER.as_bytes())?);
-    for takes in 0..ANSWER.len() {
-        let (mut out, mut err) = (Page::new(takes, true), Page::new(ENOUGH, true));
-        assert_eq!(rt;
-            show(&answer, &mut out, &mut err),
-            4,
-            "after {takes} writes"
-        );
-        assert_eq!(rt; out.text(), &ANSWER.as_bytes()[..takes]);
+    for text in [ANSWER, LONG_ANSWER] {
+        let answer = Ok(Vec::from_slice(rt.alloc(), text.as_bytes())?);
+        for takes in 0..text.len() {
+            let (mut out, mut err) = (Page::new(takes, true), Page::new(ENOUGH, true));
+            let status = show(&answer, &mut out, &mut err);
+            assert_eq!(rt; status, 4, "after {takes} writes");
+            assert_eq!(rt; out.text(), &text.as_bytes()[..takes]);
+        }
     }
-    let (mut out, mut err) = (Page::new(ANSWER.len(), true), Page::new(ENOUGH, true));
-    assert_eq!(rt; show(&answer, &mut out, &mut err), 0);
-    assert_eq!(rt; out.text(), ANSWER.as_bytes());
     Ok(())
 }
 
 #[test]
 fn finishes_answers(rt: HostRuntime) -> Result<(), Fail> {
-    let answer = Ok(Vec::from_slice(rt.alloc(), ANSWER.as_bytes())?);
-    for (flushes, status) in [(true, 0), (false, 4)] {
-        let (mut out, mut err) = (Page::new(ENOUGH, flushes), Page::new(ENOUGH, true));
-        let code = finish(&answer, &mut out, &mut err);
-        assert_eq!(rt; code, ExitCode::from(status));
-        assert_eq!(rt; out.text(), ANSWER.as_bytes());
-        assert!(rt; err.text().is_empty());
+    for text in ["\n", ANSWER, LONG_ANSWER] {
+        let answer = Ok(Vec::from_slice(rt.alloc(), text.as_bytes())?);
+        for (flushes, status) in [(true, 0), (false, 4)] {
+            let (mut out, mut err) = (Page::new(ENOUGH, flushes), Page::new(ENOUGH, true));
+            let code = finish(&answer, &mut out, &mut err);
+            assert_eq!(rt; code, ExitCode::from(status));
+            assert_eq!(rt; out.text(), text.as_bytes());
+            assert!(rt; err.text().is_empty());
+        }
     }
     Ok(())
 }
 
-// A fault, how many writes `err` takes, what it takes, and the exit status.
+// A fault, how many writes `err` takes, whether it is flushed, what it takes, and the exit status.
+const FAULTS: [(Fault, usize, bool, &str, u8); 9] = [
+    (Fault::Usage, ENOUGH, true, "Usage\n", 2),
+    (Fault::KeyLength, ENOUGH, true, "KeyLength\n", 2),
+    (Fault::KeyText, ENOUGH, true, "KeyText\n", 2),
+    (Fault::BlockLength, ENOUGH, true, "BlockLength\n", 2),
+    (Fault::BlockText, ENOUGH, true, "BlockText\n", 2),
+    (Fault::Memory, ENOUGH, true, "Memory\n", 3),
+    (Fault::Usage, ENOUGH, false, "Usage\n", 2),
+    (Fault::Usage, 3, true, "Usa", 2),
+    (Fault::Memory, 0, true, "", 3),
+];
+
 #[test]
 fn finishes_faults(rt: HostRuntime) {
-    let lines = [
-        (Fault::Usage, ENOUGH, "Usage\n", 2),
-        (Fault::KeyLength, ENOUGH, "KeyLength\n", 2),
-        (Fault::KeyText, ENOUGH, "KeyText\n", 2),
-        (Fault::BlockLength, ENOUGH, "BlockLength\n", 2),
-        (Fault::BlockText, ENOUGH, "BlockText\n", 2),
-        (Fault::Memory, ENOUGH, "Memory\n", 3),
-        (Fault::Usage, 3, "Usa", 2),
-        (Fault::Memory, 0, "", 3),
-    ];
-    for (fault, takes, reported, status) in lines {
-        let (mut out, mut err) = (Page::new(ENOUGH, true), Page::new(takes, true));
+    for (fault, takes, flushes, reported, status) in FAULTS {
+        let (mut out, mut err) = (Page::new(ENOUGH, true), Page::new(takes, flushes));
         let code = finish(&Err(fault), &mut out, &mut err);
         assert_eq!(rt; code, ExitCode::from(status));
         assert_eq!(rt; err.text(), reported.as_bytes());
@@ -249,10 +255,11 @@ fn finishes_faults(rt: HostRuntime) {
 
 // A line, what goes to standard output and to standard error, and the exit status.
 #[rattlefmt::skip]
-const LINES: [(&str, &str, &str, u8); 18] = [
+const LINES: [(&str, &str, &str, u8); 19] = [
     ("des_tool des encrypt 133457799BBCDFF1 0123456789ABCDEF", ANSWER, "", 0),
     ("des_tool des decrypt 133457799BBCDFF1 85E813540F0AB405", "0123456789abcdef\n", "", 0),
     ("des_tool des encrypt 133457799BBCDFF1 ", "\n", "", 0),
+    ("des_tool ede2 decrypt 133457799bbcdff1133457799bbcdff1 ", "\n", "", 0),
     ("des_tool weak 0000000000000000", "Ok\n", "", 0),
     ("des_tool weak 0101010101010101", "WeakKey\n", "", 0),
     ("des_tool weak 02020202020202020303030303030303", "Ok\n", "", 0),
@@ -310,7 +317,7 @@ fn runs_to_an_output_that_fails(rt: HostRuntime) {
 // This test holds whichever request for memory is refused.
 #[test]
 fn reports_a_refused_request_for_memory(rt: HostRuntime) {
-    for (line, answer, _, _) in [LINES[0], LINES[4]] {
+    for (line, answer, _, _) in [LINES[0], LINES[5]] {
         let process = Process {
             line: line.as_bytes(),
         };
