@@ -88,3 +88,12 @@ IsTheOne-back_through First Second Third x u v y third second first =
       (turned.0.1.0, (turned.0.0, (turned.0.1.1.2, turned.0.1.1.1, turned.0.1.1.0))),
       λ other joined. turned.1 other (joined.1.0, (joined.0, (joined.1.1.2, joined.1.1.1, joined.1.1.0))),
     )
+
+-- where a fact holds, the relation with the fact beside it is as the relation is
+module _ (Fact : Type 0) (fact : Fact) where
+  pub IsGraphOf-beside : (answer : List ℕ → List ℕ) (Answers : List ℕ → List ℕ → Type 0) → IsGraphOf answer Answers
+      → IsGraphOf answer (λ x y. Fact × Answers x y)
+  IsGraphOf-beside answer Answers graph = λ x y. (λ related. (graph x y).0 related.1, λ made. (fact, (graph x y).1 made))
+
+  pub IsTheOne-beside : (P : List ℕ → Type 0) (block : List ℕ) → IsTheOne P block → IsTheOne (λ other. Fact × P other) block
+  IsTheOne-beside P block one = ((fact, one.0), λ other related. one.1 other related.1)

@@ -6,9 +6,9 @@ use Rattle.des.specs.Blocks.{IsKey, part}
 use Rattle.des.specs.Relations.{IsTheOne, HasOneAnswerEachWay, IsGraphOf}
 use Rattle.des.specs.Enciphering.{Enciphers}
 use Rattle.des.specs.Des.{encryption, decryption}
-use Rattle.des.specs.Triple.{through, Ede3, Eee3, EnciphersEde3, EnciphersEee3, EnciphersEde2, EnciphersEee2}
+use Rattle.des.specs.Triple.{through, Ede3, Eee3, Ede2, Eee2, EnciphersEde3, EnciphersEee3, EnciphersEde2, EnciphersEee2}
 use Rattle.des.specs.Laws.Passes.{IsPass, IsPass-turned, IsPass-through}
-use Rattle.des.proofs.PassGraphs.{IsTheOne-back_through, IsTheOne-through, IsGraphOf-through, HasOneAnswerEachWay-graph, IsGraphOf-turned}
+use Rattle.des.proofs.PassGraphs.{IsTheOne-back_through, IsTheOne-through, IsGraphOf-through, HasOneAnswerEachWay-graph, IsGraphOf-turned, IsGraphOf-beside, IsTheOne-beside}
 use Rattle.des.specs.Laws.DesLaws.{IsPass-key}
 use Rattle.des.proofs.Graphs.{IsGraphOf-encryption, IsGraphOf-decryption}
 
@@ -75,6 +75,22 @@ module _ (k1 k2 k3 x u v y : List ℕ) where
       → IsTheOne (λ a. Eee3 k1 k2 k3 a y) x
   IsTheOne-eee_back = IsTheOne-back_through (λ a b. Enciphers k1 a b) (λ a b. Enciphers k2 a b) (λ a b. Enciphers k3 a b) x u v y
 
+-- where a fact holds, so do they by the relation with the fact beside it
+pub AnswerBy-beside : (Fact : Type 0) (forth back : List ℕ → List ℕ) (Answers : List ℕ → List ℕ → Type 0) → Fact
+    → AnswerBy forth back Answers → AnswerBy forth back (λ x y. Fact × Answers x y)
+AnswerBy-beside Fact forth back Answers fact by = record {
+  one_answer_each_way = record {
+    forwards = λ x is_block.
+        let there = by.one_answer_each_way.forwards x is_block in
+        (there.0, IsTheOne-beside Fact fact (λ y. Answers x y) there.0 there.1);
+    backwards = λ y is_block.
+        let there = by.one_answer_each_way.backwards y is_block in
+        (there.0, IsTheOne-beside Fact fact (λ x. Answers x y) there.0 there.1);
+  };
+  encryption = IsGraphOf-beside Fact fact forth Answers by.encryption;
+  decryption = IsGraphOf-beside Fact fact back (λ y x. Answers x y) by.decryption;
+}
+
 -- a part of a key is a key, so it answers by the DES relation
 module _ (n size : ℕ) (key : List ℕ) (is_key : IsKey size key) (from : 1 ≤ n) (within : 8 * n ≤ size) where
   IsKey-part : IsKey 8 (part n key)
@@ -93,23 +109,27 @@ module _ (n size : ℕ) (key : List ℕ) (is_key : IsKey size key) (from : 1 ≤
 pub AnswerBy-Ede3 : (key : List ℕ) → IsKey 24 key
     → AnswerBy (ede (part 1 key) (part 2 key) (part 3 key)) (ede_back (part 1 key) (part 2 key) (part 3 key)) (λ x y. EnciphersEde3 key x y)
 AnswerBy-Ede3 key is_key =
-    AnswerBy-ede (part 1 key) (part 2 key) (part 3 key) (encrypts 1 24 key is_key (lit≤ tt) (lit≤ tt))
-    (decrypts 2 24 key is_key (lit≤ tt) (lit≤ tt)) (encrypts 3 24 key is_key (lit≤ tt) (lit≤ tt))
+    AnswerBy-beside (IsKey 24 key) _ _ (λ x y. Ede3 (part 1 key) (part 2 key) (part 3 key) x y) is_key
+    (AnswerBy-ede (part 1 key) (part 2 key) (part 3 key) (encrypts 1 24 key is_key (lit≤ tt) (lit≤ tt))
+    (decrypts 2 24 key is_key (lit≤ tt) (lit≤ tt)) (encrypts 3 24 key is_key (lit≤ tt) (lit≤ tt)))
 
 pub AnswerBy-Eee3 : (key : List ℕ) → IsKey 24 key
     → AnswerBy (eee (part 1 key) (part 2 key) (part 3 key)) (eee_back (part 1 key) (part 2 key) (part 3 key)) (λ x y. EnciphersEee3 key x y)
 AnswerBy-Eee3 key is_key =
-    AnswerBy-eee (part 1 key) (part 2 key) (part 3 key) (encrypts 1 24 key is_key (lit≤ tt) (lit≤ tt))
-    (encrypts 2 24 key is_key (lit≤ tt) (lit≤ tt)) (encrypts 3 24 key is_key (lit≤ tt) (lit≤ tt))
+    AnswerBy-beside (IsKey 24 key) _ _ (λ x y. Eee3 (part 1 key) (part 2 key) (part 3 key) x y) is_key
+    (AnswerBy-eee (part 1 key) (part 2 key) (part 3 key) (encrypts 1 24 key is_key (lit≤ tt) (lit≤ tt))
+    (encrypts 2 24 key is_key (lit≤ tt) (lit≤ tt)) (encrypts 3 24 key is_key (lit≤ tt) (lit≤ tt)))
 
 pub AnswerBy-Ede2 : (key : List ℕ) → IsKey 16 key
     → AnswerBy (ede (part 1 key) (part 2 key) (part 1 key)) (ede_back (part 1 key) (part 2 key) (part 1 key)) (λ x y. EnciphersEde2 key x y)
 AnswerBy-Ede2 key is_key =
-    AnswerBy-ede (part 1 key) (part 2 key) (part 1 key) (encrypts 1 16 key is_key (lit≤ tt) (lit≤ tt))
-    (decrypts 2 16 key is_key (lit≤ tt) (lit≤ tt)) (encrypts 1 16 key is_key (lit≤ tt) (lit≤ tt))
+    AnswerBy-beside (IsKey 16 key) _ _ (λ x y. Ede2 (part 1 key) (part 2 key) x y) is_key
+    (AnswerBy-ede (part 1 key) (part 2 key) (part 1 key) (encrypts 1 16 key is_key (lit≤ tt) (lit≤ tt))
+    (decrypts 2 16 key is_key (lit≤ tt) (lit≤ tt)) (encrypts 1 16 key is_key (lit≤ tt) (lit≤ tt)))
 
 pub AnswerBy-Eee2 : (key : List ℕ) → IsKey 16 key
     → AnswerBy (eee (part 1 key) (part 2 key) (part 1 key)) (eee_back (part 1 key) (part 2 key) (part 1 key)) (λ x y. EnciphersEee2 key x y)
 AnswerBy-Eee2 key is_key =
-    AnswerBy-eee (part 1 key) (part 2 key) (part 1 key) (encrypts 1 16 key is_key (lit≤ tt) (lit≤ tt))
-    (encrypts 2 16 key is_key (lit≤ tt) (lit≤ tt)) (encrypts 1 16 key is_key (lit≤ tt) (lit≤ tt))
+    AnswerBy-beside (IsKey 16 key) _ _ (λ x y. Eee2 (part 1 key) (part 2 key) x y) is_key
+    (AnswerBy-eee (part 1 key) (part 2 key) (part 1 key) (encrypts 1 16 key is_key (lit≤ tt) (lit≤ tt))
+    (encrypts 2 16 key is_key (lit≤ tt) (lit≤ tt)) (encrypts 1 16 key is_key (lit≤ tt) (lit≤ tt)))

@@ -1,7 +1,7 @@
 -- The triple ciphers, as relations joined: three passes of DES, each read as the letter in the name says. FIPS 46-3
 -- defines EDE (triple data encryption algorithm); the Rust crate defines EEE in the same way.
 use Rattle.std.specs.Prelude.{ℕ, List}
-use Rattle.des.specs.Blocks.{part}
+use Rattle.des.specs.Blocks.{IsKey, part}
 use Rattle.des.specs.Enciphering.{Enciphers}
 
 -- encryption, decryption, encryption: x to u under the first part, u from v under the second, v to y under the third
@@ -21,16 +21,16 @@ Eee2 k1 k2 x y = Eee3 k1 k2 k1 x y
 
 -- the same of a key as bytes, 24 for three parts and 16 for two
 abbrev pub EnciphersEde3 : List ℕ → List ℕ → List ℕ → Type 0
-EnciphersEde3 key x y = Ede3 (part 1 key) (part 2 key) (part 3 key) x y
+EnciphersEde3 key x y = IsKey 24 key × Ede3 (part 1 key) (part 2 key) (part 3 key) x y
 
 abbrev pub EnciphersEee3 : List ℕ → List ℕ → List ℕ → Type 0
-EnciphersEee3 key x y = Eee3 (part 1 key) (part 2 key) (part 3 key) x y
+EnciphersEee3 key x y = IsKey 24 key × Eee3 (part 1 key) (part 2 key) (part 3 key) x y
 
 abbrev pub EnciphersEde2 : List ℕ → List ℕ → List ℕ → Type 0
-EnciphersEde2 key x y = Ede2 (part 1 key) (part 2 key) x y
+EnciphersEde2 key x y = IsKey 16 key × Ede2 (part 1 key) (part 2 key) x y
 
 abbrev pub EnciphersEee2 : List ℕ → List ℕ → List ℕ → Type 0
-EnciphersEee2 key x y = Eee2 (part 1 key) (part 2 key) x y
+EnciphersEee2 key x y = IsKey 16 key × Eee2 (part 1 key) (part 2 key) x y
 
 -- three functions on blocks, one after another
 abbrev pub through : (List ℕ → List ℕ) → (List ℕ → List ℕ) → (List ℕ → List ℕ) → List ℕ → List ℕ

@@ -4,7 +4,7 @@ ghost use Rattle.std.specs.Prelude.{◌≡◌, ℕ, List, codes, Some, refl, ⊤
 ghost use Rattle.std.specs.Fmt.{DisplaysOnOk, DisplaysStyledOnOk};
 ghost use Rattle.des.specs.Relations.{IsTheOne, HasOneAnswerEachWay, IsGraphOf};
 ghost use Rattle.des.specs.Triple.{through, EnciphersEde3};
-ghost use Rattle.des.specs.Blocks.{part};
+ghost use Rattle.des.specs.Blocks.{IsKey, part};
 ghost use Rattle.des.specs.Des.{IsDesOf, encrypted as des_encrypted, decrypted as des_decrypted};
 ghost use Rattle.des.specs.Des.{encryption as des_encryption, decryption as des_decryption};
 ghost use Rattle.des.specs.Laws.TriplePasses.{IsPass-ede, Agree-ede, Agree-ede_back};
@@ -38,7 +38,7 @@ impl KeySizeUser for TdesEde3 {
 }
 
 impl KeyInit for TdesEde3 {
-    ghost is_made_from = { λ cipher key. IsDesOf cipher.first (part 1 key)
+    ghost is_made_from = { λ cipher key. IsKey 24 key × IsDesOf cipher.first (part 1 key)
         × IsDesOf cipher.second (part 2 key) × IsDesOf cipher.third (part 3 key) };
 
     /// The cipher of a key of 24 bytes, bit 1 the most significant bit of the first. Its parts are
@@ -138,11 +138,11 @@ impl KeyedCipher for TdesEde3 {
 
     ghost encrypts_by_key = { λ cipher key block _ made is_block.
         (Agree-ede cipher.first cipher.second cipher.third (part 1 key) (part 2 key) (part 3 key)
-        made.0 made.1 made.2).at block is_block };
+        made.1 made.2 made.3).at block is_block };
 
     ghost decrypts_by_key = { λ cipher key block _ made is_block.
         (Agree-ede_back cipher.first cipher.second cipher.third (part 1 key) (part 2 key) (part 3 key)
-        made.0 made.1 made.2).at block is_block };
+        made.1 made.2 made.3).at block is_block };
 }
 
 impl Clone for TdesEde3 {

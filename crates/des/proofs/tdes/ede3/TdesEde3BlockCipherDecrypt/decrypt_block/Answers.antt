@@ -1,5 +1,10 @@
-use Rattle.des.specs.Blocks.{part}
+use Rattle.des.specs.Blocks.{IsKey, part}
+use Rattle.des.specs.Triple.{Ede3}
+use Rattle.des.proofs.PassGraphs.{IsTheOne-beside}
 use Rattle.des.proofs.tdes.ede3.TdesEde3BlockCipherDecrypt.decrypt_block.Goals as goal
 
 pub returns-clause-deciphers : goal.returns-clause-deciphers
-returns-clause-deciphers c key made = c.decrypt_ede.ensures.deciphers (part 1 key) (part 2 key) (part 3 key) made.0 made.1 made.2
+returns-clause-deciphers c key made =
+    IsTheOne-beside (IsKey 24 key) made.0 (λ answer. Ede3 (part 1 key) (part 2 key) (part 3 key) answer c.args.block.now)
+    c.decrypt_ede.new.block
+    (c.decrypt_ede.ensures.deciphers (part 1 key) (part 2 key) (part 3 key) made.1 made.2 made.3)

@@ -1,5 +1,10 @@
-use Rattle.des.specs.Blocks.{part}
+use Rattle.des.specs.Blocks.{IsKey, part}
+use Rattle.des.specs.Triple.{Ede3}
+use Rattle.des.proofs.PassGraphs.{IsTheOne-beside}
 use Rattle.des.proofs.tdes.ede3.TdesEde3BlockCipherEncrypt.encrypt_block.Goals as goal
 
 pub returns-clause-enciphers : goal.returns-clause-enciphers
-returns-clause-enciphers c key made = c.encrypt_ede.ensures.enciphers (part 1 key) (part 2 key) (part 3 key) made.0 made.1 made.2
+returns-clause-enciphers c key made =
+    IsTheOne-beside (IsKey 24 key) made.0 (λ answer. Ede3 (part 1 key) (part 2 key) (part 3 key) c.args.block.now answer)
+    c.encrypt_ede.new.block
+    (c.encrypt_ede.ensures.enciphers (part 1 key) (part 2 key) (part 3 key) made.1 made.2 made.3)
