@@ -9,6 +9,8 @@ pub mod RoundKeyWords
 pub mod Rounds
 pub mod Des
 pub mod Triple
+pub mod Complement
+pub mod Parity
 pub mod WeakKeys
 pub mod Positions
 pub mod Laws
