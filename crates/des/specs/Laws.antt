@@ -6,5 +6,9 @@ pub mod BlockBits
 pub mod Passes
 pub mod RoundsUndone
 pub mod HeldRoundKeys
+pub mod ComplementBits
+pub mod ComplementRounds
+pub mod ComplementPasses
 pub mod DesLaws
+pub mod ComplementedKeys
 pub mod TriplePasses

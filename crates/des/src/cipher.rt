@@ -6,6 +6,7 @@
 
 ghost use Rattle.std.specs.Prelude.{◌≡◌, ◌↔◌, ◌≤◌, ℕ, List, length, map, codes, Some, IsSome, IfSome, IsOk, IfOk, OnOk, OnErr};
 ghost use Rattle.des.specs.Blocks.{AreBytes, IsKey, IsBlock};
+ghost use Rattle.des.specs.Complement.{complement};
 
 use std::error::Error;
 use std::fmt;
@@ -316,6 +317,18 @@ pub trait KeyedCipher: KeyInit + BlockCipher {
     ghost decrypts_by_key: { (cipher : Self) (key block : List ℕ)
         → IsKey Self.KEY_SIZE key → Self.is_made_from cipher key
         → IsBlock block → Self.decrypted cipher block ≡ decryption key block };
+}
+
+/// A block cipher that answers complements with complements: with every bit of the key complemented,
+/// the answer to the complemented block is the complemented answer, in each direction.
+pub trait Complementing: KeyedCipher {
+    ghost encryption_complements: { (key block : List ℕ) → IsKey Self.KEY_SIZE key → IsBlock block
+        → Self.encryption (complement key) (complement block)
+        ≡ complement (Self.encryption key block) };
+
+    ghost decryption_complements: { (key block : List ℕ) → IsKey Self.KEY_SIZE key → IsBlock block
+        → Self.decryption (complement key) (complement block)
+        ≡ complement (Self.decryption key block) };
 }
 
 #[cfg(test)]

@@ -12,8 +12,8 @@ ghost use Rattle.des.specs.Rounds.{answer_by};
 ghost use Rattle.des.specs.RoundKeyWords.{HoldSomeRoundKeys, round_keys_of};
 
 use crate::cipher::{
-    AlgorithmName, BlockCipher, BlockCipherDecrypt, BlockCipherEncrypt, BlockSizeUser, KeyInit,
-    KeySizeUser, KeyedCipher, ParBlocksSizeUser,
+    AlgorithmName, BlockCipher, BlockCipherDecrypt, BlockCipherEncrypt, BlockSizeUser,
+    Complementing, KeyInit, KeySizeUser, KeyedCipher, ParBlocksSizeUser,
 };
 use crate::utils;
 use std::alloc::AllocError;
@@ -61,6 +61,21 @@ fn run_rounds<'a, I: Iterator<Item = &'a u64>>(block: &mut [u8; 8], round_keys: 
 pub struct Des {
     round_keys: [u64; 16],
     ghost scheduled: { ∥ HoldSomeRoundKeys round_keys ∥₁ },
+}
+
+impl Des {
+    ghost use Rattle.des.specs.Des.{IsDesOf};
+    ghost use Rattle.des.specs.RoundKeyWords.{HoldRoundKeys};
+
+    /// The round keys K(1) to K(16) of the key that the cipher was made from, each in the first 48
+    /// bits of its word, with zeros after them (FIPS 46-3, key schedule). They do not tell the parity
+    /// bits of the key.
+    pub fn round_keys(&self) -> &[u64; 16]
+        ensures { (key : List ℕ) → IsDesOf self.now key
+            → HoldRoundKeys result.now (bits_of_bytes key) }
+    {
+        &self.round_keys
+    }
 }
 
 impl KeySizeUser for Des {
@@ -182,6 +197,16 @@ impl KeyedCipher for Des {
 
     ghost decrypts_by_key = { λ cipher key block _ made _.
         answer_by-held reverse cipher.round_keys key block made.1 };
+}
+
+impl Complementing for Des {
+    ghost use Rattle.des.specs.Laws.ComplementedKeys.{Complements-encryption, Complements-decryption};
+
+    ghost encryption_complements = { λ key block is_key is_block.
+        (Complements-encryption key is_key.0).at block is_block };
+
+    ghost decryption_complements = { λ key block is_key is_block.
+        (Complements-decryption key is_key.0).at block is_block };
 }
 
 impl Clone for Des {

@@ -56,7 +56,7 @@ number_of-bits_of (suc n) x =
     (sym (mod-pow-add x 1 n))
 
 -- a list of n bits writes a number below 2 ^ n
-number_of-lt : (bits : List Bool) → number_of bits < 2 ^ length bits
+pub number_of-lt : (bits : List Bool) → number_of bits < 2 ^ length bits
 unfolding number_of
 number_of-lt [] = omega arith
 number_of-lt (bit ∷ bits) = grind (arith, number_of-lt bits, pow-suc 2 (length bits))

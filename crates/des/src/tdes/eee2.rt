@@ -8,11 +8,12 @@ ghost use Rattle.des.specs.Blocks.{IsKey, part};
 ghost use Rattle.des.specs.Des.{IsDesOf, encrypted as des_encrypted, decrypted as des_decrypted};
 ghost use Rattle.des.specs.Des.{encryption as des_encryption, decryption as des_decryption};
 ghost use Rattle.des.specs.Laws.TriplePasses.{IsPass-eee, Agree-eee, Agree-eee_back};
+ghost use Rattle.des.specs.Laws.ComplementedKeys.{Complements-eee, Complements-eee_back};
 
 use super::{decrypt_eee, encrypt_eee, key_part};
 use crate::cipher::{
-    AlgorithmName, BlockCipher, BlockCipherDecrypt, BlockCipherEncrypt, BlockSizeUser, KeyInit,
-    KeySizeUser, KeyedCipher, ParBlocksSizeUser,
+    AlgorithmName, BlockCipher, BlockCipherDecrypt, BlockCipherEncrypt, BlockSizeUser,
+    Complementing, KeyInit, KeySizeUser, KeyedCipher, ParBlocksSizeUser,
 };
 use crate::des::Des;
 use std::alloc::AllocError;
@@ -141,6 +142,14 @@ impl KeyedCipher for TdesEee2 {
     ghost decrypts_by_key = { λ cipher key block _ made is_block.
         (Agree-eee_back cipher.first cipher.second cipher.first (part 1 key) (part 2 key) (part 1 key)
         made.1 made.2 made.1).at block is_block };
+}
+
+impl Complementing for TdesEee2 {
+    ghost encryption_complements = { λ key block is_key is_block.
+        (Complements-eee 16 1 2 1 refl key is_key).at block is_block };
+
+    ghost decryption_complements = { λ key block is_key is_block.
+        (Complements-eee_back 16 1 2 1 refl key is_key).at block is_block };
 }
 
 impl Clone for TdesEee2 {
