@@ -19,7 +19,7 @@ pub drop-bits_of : (m n x : ℕ) → drop m (bits_of (m + n) x) ≡ bits_of n x
 drop-bits_of m n x = rw bits_of-split (drop_at (bits_of m (x / 2 ^ n)) (bits_of n x) m (length-bits_of m (x / 2 ^ n)))
 
 -- the bit at an index from 0, counted from the most significant
-get_or-bits_of : (n x i : ℕ) → i < n → get_or (bits_of n x) i false ≡ (bit_at x (n - 1 - i) == 1)
+pub get_or-bits_of : (n x i : ℕ) → i < n → get_or (bits_of n x) i false ≡ (bit_at x (n - 1 - i) == 1)
 unfolding bits_of
 get_or-bits_of zero x i within = absurd (omega arith)
 get_or-bits_of (suc n) x zero within = ap (λ (k : ℕ). bit_at x k == 1) (omega arith)

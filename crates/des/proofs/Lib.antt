@@ -13,3 +13,6 @@ pub mod PassGraphs
 pub mod Graphs
 pub mod TripleGraphs
 pub mod KeyParts
+pub mod ParityBits
+pub mod KeySelections
+pub mod AgreeingKeys

@@ -56,7 +56,7 @@ abbrev entry_at : Box → ℕ → ℕ → ℕ
 entry_at box row column = slice_index (slice_index_or box row []) column
 
 -- two functions with the same values at each number below a numeral
-same_below : (f g : ℕ → ℕ) (n x : ℕ) → agree_below (λ y. f y == g y) (λ y. true) n ≡ true → x < n → f x ≡ g x
+pub same_below : (f g : ℕ → ℕ) (n x : ℕ) → agree_below (λ y. f y == g y) (λ y. true) n ≡ true → x < n → f x ≡ g x
 same_below f g n x each below = eqb-true (f x) (g x) (agree_below_at (λ y. f y == g y) (λ y. true) n x each below)
 
 -- the entry of a box for the lowest six bits of a number: the first and the last of them write its row, the others its column

@@ -1,7 +1,14 @@
 //! The weak key test: keys under which DES has few different round keys, and keys of triple DES that
 //! amount to fewer passes.
 
-ghost use Rattle.std.specs.Prelude.{◌≡◌, ◌↔◌, ◌⊎◌, length, codes, Some, IsErr};
+ghost use Rattle.std.specs.Prelude.{◌≡◌, ◌↔◌, ◌⊎◌, ◌/◌, ◌%◌, ℕ, List, length, codes, Some, IsErr, IsTrue, count_ones};
+ghost use Rattle.des.specs.Bits.{bits_of_bytes};
+ghost use Rattle.des.specs.Blocks.{IsKey};
+ghost use Rattle.des.specs.Relations.{IsTheOne};
+ghost use Rattle.des.specs.KeySchedule.{key_schedule};
+ghost use Rattle.des.specs.Enciphering.{Enciphers};
+ghost use Rattle.des.specs.Triple.{Ede3};
+ghost use Rattle.des.specs.Parity.{HasOddParity, AgreeOutsideParity};
 ghost use Rattle.des.specs.WeakKeys.{listed_keys, IsRefused};
 
 use std::error::Error;
@@ -61,6 +68,45 @@ pub fn weak_key_test(key: &[u8]) -> Result<(), WeakKeyError>
         }
     }
     Ok(())
+}
+
+// The byte with its lowest bit such that the number of its ones is odd.
+fn byte_with_odd_parity(byte: u8) -> u8
+    ensures half { result / 2 ≡ byte / 2 }
+    ensures odd { count_ones result % 2 ≡ 1 }
+{
+    if byte.count_ones() % 2 == 0 {
+        byte ^ 1
+    } else {
+        byte
+    }
+}
+
+/// The key of 8 bytes that agrees with `key` in all bits but the lowest of each byte and has odd
+/// parity: in each byte the number of ones is odd (FIPS 46-3, introduction).
+pub fn with_odd_parity(key: &[u8; 8]) -> [u8; 8]
+    ensures { IsTheOne
+        (λ other. IsKey 8 other × AgreeOutsideParity key.now other × HasOddParity other) result }
+{
+    key.map(byte_with_odd_parity)
+}
+
+/// Whether two keys of 8 bytes agree in all bits but the lowest of each byte, the parity bits 8, 16,
+/// .., 64. Such keys are one: they have the same round keys, and DES under the one is DES under the
+/// other. Beside each other in a key of `TdesEde3` they undo each other, which leaves single DES.
+pub fn equal_but_parity(first: &[u8; 8], second: &[u8; 8]) -> bool
+    ensures agree { IsTrue result ↔ AgreeOutsideParity first.now second.now }
+    ensures same_round_keys { IsTrue result
+        ↔ (key_schedule (bits_of_bytes first.now) ≡ key_schedule (bits_of_bytes second.now)) }
+    ensures same_relation { IsTrue result → (x y : List ℕ)
+        → Enciphers first.now x y ↔ Enciphers second.now x y }
+    ensures first_parts_undone { IsTrue result → (key x y : List ℕ)
+        → Ede3 first.now second.now key x y ↔ Enciphers key x y }
+    ensures last_parts_undone { IsTrue result → (key x y : List ℕ)
+        → Ede3 key first.now second.now x y ↔ Enciphers key x y }
+{
+    let differing = u64::from_be_bytes(*first) ^ u64::from_be_bytes(*second);
+    differing & 0xfefefefefefefefe == 0
 }
 
 #[cfg(test)]

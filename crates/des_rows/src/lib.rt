@@ -3,3 +3,4 @@
 #![tactic(auto)]
 
 pub mod check_value;
+pub mod odd_ciphers;

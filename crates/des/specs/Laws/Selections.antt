@@ -39,7 +39,7 @@ xor_bits-xor_bits (first ∷ bits) (other ∷ others) same = ap₂ ◌∷◌ (xo
 
 -- one list of positions in place of two: what `outer` selects from a selection by `inner`, with a position
 -- past the end of the bits where `outer` goes past the end of `inner`
-composed : ℕ → List ℕ → List ℕ → List ℕ
+abbrev pub composed : ℕ → List ℕ → List ℕ → List ℕ
 composed past outer inner = map (λ position. slice_index_or inner (position - 1) past) outer
 
 -- a bit of a selection is the bit at the composed position
@@ -52,9 +52,9 @@ bit-select past inner bits below position =
     ∙ get_or-map (bit bits) inner (position - 1) past
 
 -- a selection from a selection is the selection by the composed positions
-select-select : (past : ℕ) (outer inner : List ℕ) (bits : List Bool) → length bits < past
+pub select-select : (past : ℕ) (outer inner : List ℕ) (bits : List Bool) → length bits < past
     → select outer (select inner bits) ≡ select (composed past outer inner) bits
-unfolding select composed
+unfolding select
 select-select past outer inner bits below =
     ap (λ (read : ℕ → Bool). map read outer) (fun_ext (bit-select past inner bits below))
     ∙ sym (map-map (bit bits) (λ position. slice_index_or inner (position - 1) past) outer)
@@ -78,10 +78,8 @@ select-composed outer inner n bits size counts =
 
 -- the initial permutation undoes the final one
 pub select-initial_permutation : (bits : List Bool) → length bits ≡ 64 → select initial_permutation (select final_permutation bits) ≡ bits
-unfolding composed
 select-initial_permutation bits size = select-composed initial_permutation final_permutation 64 bits size refl
 
 -- the final permutation undoes the initial one
 pub select-final_permutation : (bits : List Bool) → length bits ≡ 64 → select final_permutation (select initial_permutation bits) ≡ bits
-unfolding composed
 select-final_permutation bits size = select-composed final_permutation initial_permutation 64 bits size refl

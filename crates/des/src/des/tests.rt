@@ -6,14 +6,17 @@ use std::test::Fail;
 // Key, plaintext, ciphertext. The first is the worked example of J. Orlin Grabbe, "The DES
 // Algorithm Illustrated"; the next four are a key whose sixteen round keys are equal (NBS Special
 // Publication 500-20), both ways, and keys of no bit and of every bit, as they stand in the tests
-// of many libraries; the rest are the substitution table test of NBS Special Publication 500-20,
-// which reaches all 512 entries of the boxes. OpenSSL answers the same to all.
-const ANSWERS: [(u64, u64, u64); 24] = [
+// of many libraries; then come the complements of the worked example, and its key with other parity
+// bits; the rest are the substitution table test of NBS Special Publication 500-20, which reaches
+// all 512 entries of the boxes. OpenSSL answers the same to all.
+const ANSWERS: [(u64, u64, u64); 26] = [
     (0x133457799bbcdff1, 0x0123456789abcdef, 0x85e813540f0ab405),
     (0x0101010101010101, 0x8000000000000000, 0x95f8a5e5dd31d900),
     (0x0101010101010101, 0x95f8a5e5dd31d900, 0x8000000000000000),
     (0x0000000000000000, 0x0000000000000000, 0x8ca64de9c1b123a7),
     (0xffffffffffffffff, 0xffffffffffffffff, 0x7359b2163e4edc58),
+    (0xeccba8866443200e, 0xfedcba9876543210, 0x7a17ecabf0f54bfa),
+    (0x123556789abddef0, 0x0123456789abcdef, 0x85e813540f0ab405),
     (0x7ca110454a1a6e57, 0x01a1d6d039776742, 0x690f5b0d9a26939b),
     (0x0131d9619dc1376e, 0x5cd54ca83def57da, 0x7a389d10354bd271),
     (0x07a1133e4a0b2686, 0x0248d43806f67172, 0x868ebb51cab4599a),
@@ -64,6 +67,15 @@ fn answers_known_blocks(rt: HostRuntime) {
             "decrypting under {key:016x}"
         );
     }
+}
+
+// The first and the last round key of the worked example.
+#[test]
+fn gives_its_round_keys(rt: HostRuntime) {
+    let cipher = Des::new(&0x133457799bbcdff1u64.to_be_bytes());
+    let round_keys = cipher.round_keys();
+    assert_eq!(rt; round_keys[0], 0x1b02effc70720000);
+    assert_eq!(rt; round_keys[15], 0xcb3d8b0e17f50000);
 }
 
 #[test]

@@ -3,7 +3,7 @@ ghost use Rattle.std.specs.Prelude.{◌≤◌, length};
 use super::*;
 use crate::cipher::tests::is_debugged_as;
 use crate::cipher::{
-    AlgorithmName, BlockCipher, InvalidLength, KeyInit, KeyedCipher, NotEqualError,
+    AlgorithmName, BlockCipher, Complementing, InvalidLength, KeyInit, KeyedCipher, NotEqualError,
     ParBlocksSizeUser,
 };
 use std::test::Fail;
@@ -37,17 +37,37 @@ const PLAINTEXT: [[u8; 8]; 3] = [*b"The qufc", *b"k brown ", *b"fox jump"];
 // Whether lists go there and back under the key of the parts.
 fn lists_there_and_back<C: KeyedCipher + Drop>(
     parts: &[u64],
+    plaintext: [u64; 3],
     ciphertext: [u64; 3],
 ) -> Result<bool, Fail>
     requires { length parts.now ≤ 3 }
 {
     let cipher: C = cipher_of(parts)?;
+    let plaintext: [[u8; 8]; 3] = plaintext.map(u64::to_be_bytes);
+    let ciphertext: [[u8; 8]; 3] = ciphertext.map(u64::to_be_bytes);
     let mut answers = [[0xa5; 8]; 3];
-    cipher.encrypt_blocks_b2b(&PLAINTEXT, &mut answers)?;
+    cipher.encrypt_blocks_b2b(&plaintext, &mut answers)?;
     let mut blocks = answers;
     cipher.decrypt_blocks(&mut blocks);
-    let ciphertext: [[u8; 8]; 3] = ciphertext.map(u64::to_be_bytes);
-    Ok(answers == ciphertext && blocks == PLAINTEXT)
+    Ok(answers == ciphertext && blocks == plaintext)
+}
+
+// Whether the list goes there and back under the first `count` parts, and the complements of all
+// three under the complemented key.
+fn answers_lists_of<C: Complementing + Drop>(
+    count: usize,
+    ciphertext: [u64; 3],
+) -> Result<bool, Fail>
+    requires { count ≤ 3 }
+{
+    let plaintext = PLAINTEXT.map(u64::from_be_bytes);
+    let itself = lists_there_and_back::<C>(&PARTS[..count], plaintext, ciphertext)?;
+    let complement = lists_there_and_back::<C>(
+        &PARTS.map(|part| !part)[..count],
+        plaintext.map(|block| !block),
+        ciphertext.map(|block| !block),
+    )?;
+    Ok(itself && complement)
 }
 
 // The answers of `TdesEde3` stand in the publication; those of the others are OpenSSL's, of
@@ -55,13 +75,13 @@ fn lists_there_and_back<C: KeyedCipher + Drop>(
 #[test]
 fn answers_lists(rt: HostRuntime) -> Result<(), Fail> {
     let ede3 = [0xa826fd8ce53b855f, 0xcce21c8112256fe6, 0x68d5c05dd9b6b900];
-    assert!(rt; lists_there_and_back::<TdesEde3>(&PARTS, ede3)?);
+    assert!(rt; answers_lists_of::<TdesEde3>(3, ede3)?);
     let eee3 = [0xce2719ff408a7afa, 0xc3f4683ad32c6b5b, 0xec6ad3d6da9dc9b3];
-    assert!(rt; lists_there_and_back::<TdesEee3>(&PARTS, eee3)?);
+    assert!(rt; answers_lists_of::<TdesEee3>(3, eee3)?);
     let ede2 = [0xc44862f70cf2fbdc, 0x9077d0909fa91b88, 0x4cabd61fc58e0cbb];
-    assert!(rt; lists_there_and_back::<TdesEde2>(&PARTS[..2], ede2)?);
+    assert!(rt; answers_lists_of::<TdesEde2>(2, ede2)?);
     let eee2 = [0x500013533151e90c, 0x7314612fb856088e, 0x28b61bd250fe2d39];
-    assert!(rt; lists_there_and_back::<TdesEee2>(&PARTS[..2], eee2)?);
+    assert!(rt; answers_lists_of::<TdesEee2>(2, eee2)?);
     Ok(())
 }
 
@@ -94,6 +114,22 @@ fn equal_parts_answer_as_one(rt: HostRuntime) -> Result<(), Fail> {
         block_there_and_back(&cipher, first_bit),
         (weak_answer, first_bit)
     );
+    Ok(())
+}
+
+// Parts that differ in parity bits alone are equal parts: two passes cancel, and the third answers
+// as NBS Special Publication 500-20 says.
+#[test]
+fn parts_equal_but_parity_answer_as_one(rt: HostRuntime) -> Result<(), Fail> {
+    let (example, twin, weak) = (0x133457799bbcdff1, 0x123556789abddef0, 0x0101010101010101);
+    let first_bit = 0x8000000000000000;
+    for parts in [[example, twin, weak], [weak, example, twin]] {
+        let cipher: TdesEde3 = cipher_of(&parts)?;
+        assert_eq!(rt;
+            block_there_and_back(&cipher, first_bit),
+            (0x95f8a5e5dd31d900, first_bit)
+        );
+    }
     Ok(())
 }
 

@@ -47,6 +47,40 @@ fn passes_other_keys(rt: HostRuntime) {
     assert!(rt; !refuses(&PLAIN));
 }
 
+// The value of `with_odd_parity`, as words.
+fn word_with_odd_parity(key: u64) -> u64 {
+    u64::from_be_bytes(with_odd_parity(&key.to_be_bytes()))
+}
+
+// The value of `equal_but_parity`, for words.
+fn words_equal_but_parity(first: u64, second: u64) -> bool {
+    equal_but_parity(&first.to_be_bytes(), &second.to_be_bytes())
+}
+
+#[test]
+fn gives_odd_parity(rt: HostRuntime) {
+    assert_eq!(rt; word_with_odd_parity(NO_BIT), 0x0101010101010101);
+    assert_eq!(rt;
+        word_with_odd_parity(0xffffffffffffffff),
+        0xfefefefefefefefe
+    );
+    assert_eq!(rt;
+        word_with_odd_parity(0x133457799bbcdff1),
+        0x133457799bbcdff1
+    );
+    assert_eq!(rt;
+        word_with_odd_parity(0x123556789abddef0),
+        0x133457799bbcdff1
+    );
+}
+
+#[test]
+fn compares_keys_but_for_parity(rt: HostRuntime) {
+    assert!(rt; words_equal_but_parity(0x133457799bbcdff1, 0x123556789abddef0));
+    assert!(rt; !words_equal_but_parity(NO_BIT, 0x8000000000000000));
+    assert!(rt; !words_equal_but_parity(NO_BIT, 0x0000000000000002));
+}
+
 #[test]
 fn writes_its_name(rt: HostRuntime) -> Result<(), Fail> {
     let alloc = rt.alloc();

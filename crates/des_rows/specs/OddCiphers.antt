@@ -1,0 +1,32 @@
+-- Ciphers that are none, for generic code: what they answer, and the lemmas that their laws stand on.
+use Rattle.std.proofs.Common.{◌≡◌, ℕ, ◌%◌, ◌^◌, ◌<◌, List, refl, arith, bit_xor, mod-eq_of_lt}
+use Rattle.std.specs.Int.{w64, to_be_bytes, from_be_bytes}
+use Rattle.std.specs.Int.Bits.{xor_self, xor_assoc, xor_zero_r}
+use Rattle.std.proofs.lemmas.Nat.{xor_lt, from_be_bytes-to_be_bytes_8}
+use Rattle.des.specs.Blocks.{IsBlock}
+use Rattle.des.specs.Laws.BlockBits.{IsBlock-to_be_bytes, from_be_bytes-lt, to_be_bytes-from_be_bytes}
+
+-- the block whose word is that of a block xor that of a key
+unfoldable pub xored : List ℕ → List ℕ → List ℕ
+xored key block = to_be_bytes w64 (bit_xor (from_be_bytes w64 block) (from_be_bytes w64 key % 2 ^ 64))
+
+-- it is a block
+pub IsBlock-xored : (key block : List ℕ) → IsBlock (xored key block)
+unfolding xored
+IsBlock-xored key block = IsBlock-to_be_bytes (bit_xor (from_be_bytes w64 block) (from_be_bytes w64 key % 2 ^ 64))
+
+-- twice the same key makes the block again
+pub xored-xored : (key block : List ℕ) → IsBlock block → xored key (xored key block) ≡ block
+unfolding xored
+xored-xored key block is_block =
+    let k : ℕ = from_be_bytes w64 key % 2 ^ 64 in
+    let b : ℕ = from_be_bytes w64 block in
+    let below : bit_xor b k < 2 ^ 64 = xor_lt 64 b k (from_be_bytes-lt block is_block) (omega arith) in
+    rw (from_be_bytes-to_be_bytes_8 (bit_xor b k) below, xor_assoc b k k, xor_self k, xor_zero_r b)
+    (to_be_bytes-from_be_bytes block is_block)
+
+-- two words make it
+pub xored-words : (key block : List ℕ) (k b : ℕ) → k < 2 ^ 64 → k ≡ from_be_bytes w64 key → b ≡ from_be_bytes w64 block
+    → to_be_bytes w64 (bit_xor b k) ≡ xored key block
+unfolding xored
+xored-words key block k b below k_same b_same = rw (← b_same, ← k_same, mod-eq_of_lt below) refl
