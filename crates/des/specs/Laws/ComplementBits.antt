@@ -38,7 +38,8 @@ pub IsKey-complement : (n : ℕ) (key : List ℕ) → IsKey n key → IsKey n (c
 IsKey-complement n key is_key = (length-map key complement_of_byte ∙ is_key.0, AreBytes-complement key)
 
 -- the block of complemented bits is the complement of the block
-pub block_of_bits-complement : (bits : List Bool) → length bits ≡ 64 → block_of_bits (complement_bits bits) ≡ complement (block_of_bits bits)
+pub block_of_bits-complement : (bits : List Bool) → length bits ≡ 64
+    → block_of_bits (complement_bits bits) ≡ complement (block_of_bits bits)
 block_of_bits-complement bits width =
     let other : List ℕ = complement (block_of_bits bits) in
     let its_bits : bits_of_bytes other ≡ complement_bits bits =
@@ -52,7 +53,8 @@ abbrev are_within : ℕ → List ℕ → Bool
 are_within n positions = list_all (λ position. nat_lt (position - 1) n) positions
 
 -- a bit of the complement is the other one
-bit-complement : (bits : List Bool) (position : ℕ) → position - 1 < length bits → bit (complement_bits bits) position ≡ not (bit bits position)
+bit-complement : (bits : List Bool) (position : ℕ) → position - 1 < length bits
+    → bit (complement_bits bits) position ≡ not (bit bits position)
 bit-complement bits position within = get_or-map not bits (position - 1) false false within
 
 -- a selection from the complement is the complement of the selection

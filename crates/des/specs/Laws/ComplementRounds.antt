@@ -37,7 +37,8 @@ length-halves : (key : List Bool) → length (c_half key) + length (d_half key) 
 unfolding c_half d_half
 length-halves key =
     let chosen : List Bool = select permuted_choice_1 key in
-    omega (arith, ap length (take-append-drop 28 chosen), length-append (take 28 chosen) (drop 28 chosen), length-select permuted_choice_1 key)
+    let parts : length (take 28 chosen ++ drop 28 chosen) ≡ length chosen = ap length (take-append-drop 28 chosen) in
+    omega (arith, parts, length-append (take 28 chosen) (drop 28 chosen), length-select permuted_choice_1 key)
 
 -- the halves of a complemented key are the complements of its halves
 c_half-complement : (key : List Bool) → length key ≡ 64 → c_half (complement_bits key) ≡ complement_bits (c_half key)
@@ -54,21 +55,23 @@ d_half-complement key width =
 round_key-complement : (key : List Bool) (i : ℕ) → length key ≡ 64 → round_key (complement_bits key) i ≡ complement_bits (round_key key i)
 unfolding round_key
 round_key-complement key i width =
-    let c : List Bool = rotate (c_half key) (shifts_through i) in
-    let d : List Bool = rotate (d_half key) (shifts_through i) in
+    let shifts : ℕ = shifts_through i in
+    let c : List Bool = rotate (c_half key) shifts in
+    let d : List Bool = rotate (d_half key) shifts in
     let size : length (c ++ d) ≡ 56 =
-    omega (arith, length-append c d, length-halves key, length-rotate (c_half key) (shifts_through i), length-rotate (d_half key) (shifts_through i)) in
+    omega (arith, length-append c d, length-halves key, length-rotate (c_half key) shifts, length-rotate (d_half key) shifts) in
     rw (
       c_half-complement key width,
       d_half-complement key width,
-      rotate-complement (c_half key) (shifts_through i),
-      rotate-complement (d_half key) (shifts_through i),
+      rotate-complement (c_half key) shifts,
+      rotate-complement (d_half key) shifts,
       ← map-append not c d,
     )
     (select-complement 56 permuted_choice_2 (c ++ d) size refl)
 
 -- the round keys of a complemented key are the complements of its round keys
-pub key_schedule-complement : (key : List Bool) → length key ≡ 64 → key_schedule (complement_bits key) ≡ map complement_bits (key_schedule key)
+pub key_schedule-complement : (key : List Bool) → length key ≡ 64
+    → key_schedule (complement_bits key) ≡ map complement_bits (key_schedule key)
 unfolding key_schedule
 key_schedule-complement key width =
     ap (λ (each : ℕ → List Bool). map each (range_with_len 1 16)) (fun_ext (λ i. round_key-complement key i width))
