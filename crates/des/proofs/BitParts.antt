@@ -1,11 +1,12 @@
 -- Parts of a number's list of bits: its first and its last bits and each of them, and what shifts, `|` and `^`
 -- make of them.
-use Rattle.std.proofs.Common.{◌≡◌, ℕ, zero, suc, ◌+◌, ◌-◌, ◌*◌, ◌/◌, ◌%◌, ◌^◌, ◌<◌, ◌≤◌, ◌==◌, Bool, false, List, ◌∷◌, ◌++◌, take, drop, get_or, bit_and, bit_or, bit_xor, length, refl, ap, ap₂, sym, ◌∙◌, arith, add-zero, pow_pos, take_at, drop_at}
+use Rattle.std.proofs.Common.{◌≡◌, ℕ, zero, suc, ◌+◌, ◌-◌, ◌*◌, ◌/◌, ◌%◌, ◌^◌, ◌<◌, ◌≤◌, ◌==◌, Bool, true, false, List, ◌∷◌, ◌++◌, take, drop, get_or, bit_and, bit_or, bit_xor, length, refl, ap, ap₂, sym, ◌∙◌, arith, add-zero, pow_pos, take_at, drop_at}
 use Rattle.std.specs.Int.{bit_at}
 use Rattle.std.specs.Int.Bits.{or_zero_r}
 use Rattle.std.proofs.lemmas.Nat.{shl-shr, mod-pow-add, and_mask, or_shifted, xor_shr}
 use Rattle.std.proofs.Math.Nat.{mul-mod_left}
 use Rattle.std.proofs.lemmas.Nat.Bits.{bit_at-zero, bit_at-lt, bit_at_xor}
+use Rattle.std.proofs.lemmas.Bool.{eqb-true, agree_below, agree_below_at}
 use Rattle.std.proofs.lemmas.Bool.Decides.{nat_tests}
 use Rattle.des.specs.Bits.{bits_of, zeros, bit, xor, xor_bits}
 use Rattle.des.specs.Laws.BitLists.{length-bits_of, bits_of-cat, bits_of-split, bits_of-mod, number_of-bits_of}
@@ -85,3 +86,9 @@ pub take-bits_of_xor : (m n a b : ℕ)
     → take m (bits_of (m + n) (bit_xor a b)) ≡ xor_bits (take m (bits_of (m + n) a)) (take m (bits_of (m + n) b))
 take-bits_of_xor m n a b =
     rw (take-bits_of m n (bit_xor a b), take-bits_of m n a, take-bits_of m n b, xor_shr) (bits_of-xor m (a / 2 ^ n) (b / 2 ^ n))
+
+-- ---- tests at numbers
+
+-- two functions with the same values at each number below a numeral
+pub same_below : (f g : ℕ → ℕ) (n x : ℕ) → agree_below (λ y. f y == g y) (λ y. true) n ≡ true → x < n → f x ≡ g x
+same_below f g n x each below = eqb-true (f x) (g x) (agree_below_at (λ y. f y == g y) (λ y. true) n x each below)

@@ -21,7 +21,8 @@ use Rattle.des.specs.Laws.BlockBits.{length-bits_of_block}
 abbrev rotated : List ℕ → ℕ → List ℕ
 rotated positions n = drop n positions ++ take n positions
 
--- the positions of the key that round key i takes: permuted choice 2 of the rotated halves of permuted choice 1
+-- the positions of the key that round key i takes: permuted choice 2 of the rotated halves of permuted choice 1. The
+-- shifts are written out, so that the positions compute; 65 is a position past the end of a key
 abbrev pub round_key_positions : ℕ → List ℕ
 round_key_positions i =
     let shifts = sum (take i left_shifts) in

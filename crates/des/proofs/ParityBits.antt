@@ -1,5 +1,5 @@
 -- The parity bits of bytes and of words, the lowest bit of each byte: keys of eight bytes agree outside parity exactly
--- where the halves of their bytes are equal, and exactly where their words are equal under the mask of the other bits.
+-- where the upper bits of their bytes are equal, and exactly where their words are equal under the mask of the other bits.
 use Rattle.std.proofs.Common.{◌≡◌, ◌↔◌, ℕ, zero, suc, ◌+◌, ◌-◌, ◌*◌, ◌/◌, ◌%◌, ◌<◌, ◌==◌, min, false, List, [], ◌∷◌, ◌++◌, length, get_or, slice_index, bit_and, bit_xor, count_ones, IsTrue, refl, ap, ap₂, sym, ◌∙◌, arith}
 use Rattle.std.specs.Int.{bit_at, w64, from_be_bytes}
 use Rattle.std.specs.Int.Bits.{xor_zero_r}
@@ -15,8 +15,7 @@ use Rattle.des.specs.Blocks.{IsKey}
 use Rattle.des.specs.Parity.{HasOddParity, AgreeOutsideParity}
 use Rattle.des.specs.Relations.{IsTheOne}
 use Rattle.des.specs.Laws.BitLists.{length-bits_of, bits_of_bytes-from_be}
-use Rattle.des.proofs.BitParts.{IsPositionIn, get_or-bits_of, bit-bits_of}
-use Rattle.des.proofs.Substitution.{same_below}
+use Rattle.des.proofs.BitParts.{IsPositionIn, get_or-bits_of, bit-bits_of, same_below}
 
 -- two bits are equal where their tests are
 same_from_tests : (a b : ℕ) → a < 2 → b < 2 → (a == 1) ≡ (b == 1) → a ≡ b
@@ -44,14 +43,14 @@ bit-bits_of_bytes : (bytes : List ℕ) (position i j : ℕ) → i < length bytes
 bit-bits_of_bytes bytes position i j within below same =
     ap (λ (k : ℕ). get_or (bits_of_bytes bytes) k false) same ∙ get_or-bits_of_bytes bytes i j within below
 
--- the halves of the bytes of two keys are equal, byte by byte
-abbrev pub HaveEqualHalves : List ℕ → List ℕ → Type 0
-HaveEqualHalves key other = (i : ℕ) → i < 8 → get_or key i 0 / 2 ≡ get_or other i 0 / 2
+-- the upper seven bits of two keys are equal, byte by byte
+abbrev pub HaveEqualUpperBits : List ℕ → List ℕ → Type 0
+HaveEqualUpperBits key other = (i : ℕ) → i < 8 → get_or key i 0 / 2 ≡ get_or other i 0 / 2
 
--- keys that agree outside parity have equal halves
-halves_from_AgreeOutsideParity : (key other : List ℕ) → IsKey 8 key → IsKey 8 other → AgreeOutsideParity key other
-    → HaveEqualHalves key other
-halves_from_AgreeOutsideParity key other is_key is_other agree i below =
+-- keys that agree outside parity have equal upper bits
+upper_bits_from_AgreeOutsideParity : (key other : List ℕ) → IsKey 8 key → IsKey 8 other → AgreeOutsideParity key other
+    → HaveEqualUpperBits key other
+upper_bits_from_AgreeOutsideParity key other is_key is_other agree i below =
     let x : ℕ = get_or key i 0 in
     let y : ℕ = get_or other i 0 in
     let x_byte : x < 256 = is_key.1 i 0 (omega arith) in
@@ -69,10 +68,10 @@ halves_from_AgreeOutsideParity key other is_key is_other agree i below =
     ∙ rw place (same_from_tests (bit_at x (7 - j)) (bit_at y (7 - j)) (bit_at-lt x (7 - j)) (bit_at-lt y (7 - j)) tests)
     ∙ bit_at-suc y k)
 
--- keys with equal halves agree outside parity
-AgreeOutsideParity_from_halves : (key other : List ℕ) → IsKey 8 key → IsKey 8 other → HaveEqualHalves key other
+-- keys with equal upper bits agree outside parity
+AgreeOutsideParity_from_upper_bits : (key other : List ℕ) → IsKey 8 key → IsKey 8 other → HaveEqualUpperBits key other
     → AgreeOutsideParity key other
-AgreeOutsideParity_from_halves key other is_key is_other halves position low high apart =
+AgreeOutsideParity_from_upper_bits key other is_key is_other upper position low high apart =
     let i : ℕ = (position - 1) / 8 in
     let j : ℕ = (position - 1) % 8 in
     let inside : j < 7 = omega arith in
@@ -80,29 +79,29 @@ AgreeOutsideParity_from_halves key other is_key is_other halves position low hig
     let x : ℕ = get_or key i 0 in
     let y : ℕ = get_or other i 0 in
     let same : bit_at x (7 - j) ≡ bit_at y (7 - j) =
-    rw place (bit_at-suc x (6 - j) ∙ ap (λ (half : ℕ). bit_at half (6 - j)) (halves i (omega arith)) ∙ sym (bit_at-suc y (6 - j))) in
+    rw place (bit_at-suc x (6 - j) ∙ ap (λ (upper : ℕ). bit_at upper (6 - j)) (upper i (omega arith)) ∙ sym (bit_at-suc y (6 - j))) in
     bit-bits_of_bytes key position i j (omega arith) (omega arith) (omega arith)
     ∙ ap (λ (b : ℕ). b == 1) same
     ∙ sym (bit-bits_of_bytes other position i j (omega arith) (omega arith) (omega arith))
 
--- keys of eight bytes agree outside parity exactly where the halves of their bytes are equal
-pub AgreeOutsideParity-halves : (key other : List ℕ) → IsKey 8 key → IsKey 8 other
-    → AgreeOutsideParity key other ↔ HaveEqualHalves key other
-AgreeOutsideParity-halves key other is_key is_other =
-    (halves_from_AgreeOutsideParity key other is_key is_other, AgreeOutsideParity_from_halves key other is_key is_other)
+-- keys of eight bytes agree outside parity exactly where the upper bits of their bytes are equal
+pub AgreeOutsideParity-upper_bits : (key other : List ℕ) → IsKey 8 key → IsKey 8 other
+    → AgreeOutsideParity key other ↔ HaveEqualUpperBits key other
+AgreeOutsideParity-upper_bits key other is_key is_other =
+    (upper_bits_from_AgreeOutsideParity key other is_key is_other, AgreeOutsideParity_from_upper_bits key other is_key is_other)
 
--- numbers with equal halves and odd numbers of ones are equal
-same_from_half : (x y : ℕ) → x / 2 ≡ y / 2 → count_ones x % 2 ≡ 1 → count_ones y % 2 ≡ 1 → x ≡ y
-same_from_half x y half x_odd y_odd = omega (arith, ones_step x, ones_step y, ap count_ones half)
+-- numbers with equal upper bits and odd numbers of ones are equal
+same_from_upper_bits : (x y : ℕ) → x / 2 ≡ y / 2 → count_ones x % 2 ≡ 1 → count_ones y % 2 ≡ 1 → x ≡ y
+same_from_upper_bits x y upper x_odd y_odd = omega (arith, ones_step x, ones_step y, ap count_ones upper)
 
 -- the other lowest bit turns an even number of ones into an odd one
 pub count_ones-xor_one : (x : ℕ) → count_ones x % 2 ≡ 0 → count_ones (bit_xor x 1) % 2 ≡ 1
 count_ones-xor_one x even =
-    let half : bit_xor x 1 / 2 ≡ x / 2 = xor_shr x 1 1 ∙ xor_zero_r (x / 2) in
+    let upper : bit_xor x 1 / 2 ≡ x / 2 = xor_shr x 1 1 ∙ xor_zero_r (x / 2) in
     let lowest : bit_xor x 1 % 2 ≡ (x % 2 + 1) % 2 = sym (bit_at_lowest (bit_xor x 1)) ∙ bit_at_xor x 1 0 ∙ rw (bit_at_lowest x) in
-    omega (arith, ones_step (bit_xor x 1), ones_step x, ap count_ones half)
+    omega (arith, ones_step (bit_xor x 1), ones_step x, ap count_ones upper)
 
--- eight bytes, each with the half of the key's and an odd number of ones, are the one key that agrees with it outside
+-- eight bytes, each with the upper bits of the key's and an odd number of ones, are the one key that agrees with it outside
 -- parity and has odd parity
 pub IsTheOne-odd_parity : (key result : List ℕ) → length key ≡ 8 → ((i : ℕ) → slice_index key i < 256) → length result ≡ 8
     → ((i : ℕ) → i < 8 → (slice_index result i / 2 ≡ slice_index key i / 2) × (count_ones (slice_index result i) % 2 ≡ 1))
@@ -115,13 +114,13 @@ IsTheOne-odd_parity key result eight small result_eight each =
     ) in
     let odd : HasOddParity result =
     All-from_get_or (λ byte. count_ones byte % 2 ≡ 1) result 0 (λ i within. (each i (omega arith)).1) in (
-      (is_result, (AgreeOutsideParity-halves key result is_key is_result).1 (λ i below. sym (each i below).0), odd),
+      (is_result, (AgreeOutsideParity-upper_bits key result is_key is_result).1 (λ i below. sym (each i below).0), odd),
       λ other given.
-          let halves : HaveEqualHalves key other = (AgreeOutsideParity-halves key other is_key given.0).0 given.1 in
+          let upper : HaveEqualUpperBits key other = (AgreeOutsideParity-upper_bits key other is_key given.0).0 given.1 in
           ext_get_or 0 other result (omega arith)
           (λ i within.
           let below : i < 8 = omega arith in
-          same_from_half (slice_index other i) (slice_index result i) (sym (halves i below) ∙ sym (each i below).0)
+          same_from_upper_bits (slice_index other i) (slice_index result i) (sym (upper i below) ∙ sym (each i below).0)
           (given.2 i 0 within) (each i below).1),
     )
 

@@ -1,14 +1,14 @@
 -- The substitution box by box, with rows and columns as numbers.
-use Rattle.std.proofs.Common.{◌≡◌, ℕ, ◌+◌, ◌-◌, ◌*◌, ◌/◌, ◌%◌, ◌^◌, ◌<◌, ◌==◌, nat_lt, List, [], ◌∷◌, ◌++◌, Bool, true, take, drop, slice_index, slice_index_or, bit_and, bit_or, refl, sym, ap, ap₂, ◌∙◌, arith}
+use Rattle.std.proofs.Common.{◌≡◌, ℕ, ◌+◌, ◌-◌, ◌*◌, ◌/◌, ◌%◌, ◌^◌, ◌<◌, nat_lt, List, [], ◌∷◌, ◌++◌, Bool, true, take, drop, slice_index, slice_index_or, bit_and, bit_or, refl, sym, ap, ap₂, ◌∙◌, arith}
 use Rattle.std.specs.Int.Bits.{mask_lt}
-use Rattle.std.proofs.lemmas.Bool.{eqb-true, ltb-true, agree_below, agree_below_at}
+use Rattle.std.proofs.lemmas.Bool.{ltb-true, agree_below, agree_below_at}
 use Rattle.std.proofs.lemmas.Nat.{or_shifted, or_lt, and_le_r, shl_whole, pow-add}
 use Rattle.std.proofs.lemmas.List.{append_assoc, drop-drop, drop-take, take-take, drop_more}
 use Rattle.des.specs.Bits.{bits_of, bits_of_word, number_of, bit}
 use Rattle.des.specs.Tables.{Box, selection_functions}
 use Rattle.des.specs.CipherFunction.{box_entry, substitute_by}
 use Rattle.des.specs.Laws.BitLists.{bits_of-cat}
-use Rattle.des.proofs.BitParts.{bits_of-and_mask, take-bits_of, drop-bits_of}
+use Rattle.des.proofs.BitParts.{bits_of-and_mask, take-bits_of, drop-bits_of, same_below}
 
 -- the group of six bits of a word that box i replaces
 take-drop-bits_of_word : (i x : ℕ) → i < 8 → take 6 (drop (6 * i) (take 48 (bits_of_word x))) ≡ bits_of 6 (x / 2 ^ (58 - 6 * i))
@@ -54,10 +54,6 @@ row_of-lt group =
 -- the entry at a row and a column
 abbrev entry_at : Box → ℕ → ℕ → ℕ
 entry_at box row column = slice_index (slice_index_or box row []) column
-
--- two functions with the same values at each number below a numeral
-pub same_below : (f g : ℕ → ℕ) (n x : ℕ) → agree_below (λ y. f y == g y) (λ y. true) n ≡ true → x < n → f x ≡ g x
-same_below f g n x each below = eqb-true (f x) (g x) (agree_below_at (λ y. f y == g y) (λ y. true) n x each below)
 
 -- the entry of a box for the lowest six bits of a number: the first and the last of them write its row, the others its column
 box_entry-bits_of : (box : Box) (x : ℕ) → box_entry box (bits_of 6 x) ≡ entry_at box (row_of (group_of x)) (column_of (group_of x))

@@ -1,4 +1,4 @@
--- The parity bits of a key of eight bytes: bits 8, 16, .., 64, the last bit of each byte (FIPS 46-3, introduction).
+-- The parity bits of a key of eight bytes: bits 8, 16, .., 64, the last bit of each byte (FIPS 46-3, key schedule).
 use Rattle.std.specs.Prelude.{◌≡◌, ℕ, ◌%◌, ◌≤◌, List, count_ones}
 use Rattle.std.specs.List.{All}
 use Rattle.des.specs.Bits.{bit, bits_of_bytes}

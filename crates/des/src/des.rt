@@ -69,7 +69,7 @@ impl Des {
 
     /// The round keys K(1) to K(16) of the key that the cipher was made from, each in the first 48
     /// bits of its word, with zeros after them (FIPS 46-3, key schedule). They do not tell the parity
-    /// bits of the key.
+    /// bits of the key; whoever has them has all its other bits.
     pub fn round_keys(&self) -> &[u64; 16]
         ensures { (key : List ℕ) → IsDesOf self.now key
             → HoldRoundKeys result.now (bits_of_bytes key) }

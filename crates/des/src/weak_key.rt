@@ -1,5 +1,5 @@
 //! The weak key test: keys under which DES has few different round keys, and keys of triple DES that
-//! amount to fewer passes.
+//! amount to fewer passes. And the parity bits of keys, which are no part of what a key does.
 
 ghost use Rattle.std.specs.Prelude.{◌≡◌, ◌↔◌, ◌⊎◌, ◌/◌, ◌%◌, ℕ, List, length, codes, Some, IsErr, IsTrue, count_ones};
 ghost use Rattle.des.specs.Bits.{bits_of_bytes};
@@ -55,7 +55,8 @@ impl fmt::Display for WeakKeyError {
 impl Error for WeakKeyError {}
 
 /// Refuses a key of 8, 16 or 24 bytes where one of its parts of 8 bytes is listed in `WEAK_KEYS`, or
-/// where two of its parts have equal bytes. Parts are compared whole, parity bits included.
+/// where two of its parts have equal bytes. Parts are compared whole, parity bits included: give them
+/// odd parity by `with_odd_parity` first where it is not sure.
 pub fn weak_key_test(key: &[u8]) -> Result<(), WeakKeyError>
     requires { (length key.now ≡ 8) ⊎ (length key.now ≡ 16) ⊎ (length key.now ≡ 24) }
     ensures listed { WEAK_KEYS ≡ listed_keys }
@@ -72,7 +73,7 @@ pub fn weak_key_test(key: &[u8]) -> Result<(), WeakKeyError>
 
 // The byte with its lowest bit such that the number of its ones is odd.
 fn byte_with_odd_parity(byte: u8) -> u8
-    ensures half { result / 2 ≡ byte / 2 }
+    ensures upper_bits { result / 2 ≡ byte / 2 }
     ensures odd { count_ones result % 2 ≡ 1 }
 {
     if byte.count_ones() % 2 == 0 {
@@ -83,7 +84,7 @@ fn byte_with_odd_parity(byte: u8) -> u8
 }
 
 /// The key of 8 bytes that agrees with `key` in all bits but the lowest of each byte and has odd
-/// parity: in each byte the number of ones is odd (FIPS 46-3, introduction).
+/// parity: in each byte the number of ones is odd (FIPS 46-3, key schedule).
 pub fn with_odd_parity(key: &[u8; 8]) -> [u8; 8]
     ensures { IsTheOne
         (λ other. IsKey 8 other × AgreeOutsideParity key.now other × HasOddParity other) result }
@@ -92,8 +93,9 @@ pub fn with_odd_parity(key: &[u8; 8]) -> [u8; 8]
 }
 
 /// Whether two keys of 8 bytes agree in all bits but the lowest of each byte, the parity bits 8, 16,
-/// .., 64. Such keys are one: they have the same round keys, and DES under the one is DES under the
-/// other. Beside each other in a key of `TdesEde3` they undo each other, which leaves single DES.
+/// .., 64, which permuted choice 1 does not take (FIPS 46-3, key schedule). Such keys are one: they
+/// have the same round keys, and DES under the one is DES under the other. Beside each other in a
+/// key of `TdesEde3` they undo each other, which leaves single DES.
 pub fn equal_but_parity(first: &[u8; 8], second: &[u8; 8]) -> bool
     ensures agree { IsTrue result ↔ AgreeOutsideParity first.now second.now }
     ensures same_round_keys { IsTrue result

@@ -1,4 +1,4 @@
--- Ciphers that are none, for generic code: what they answer, and the lemmas that their laws stand on.
+-- Ciphers that keep the laws and hide nothing, for generic code: what they answer, and the lemmas that their laws stand on.
 use Rattle.std.proofs.Common.{◌≡◌, ℕ, ◌%◌, ◌^◌, ◌<◌, List, refl, arith, bit_xor, mod-eq_of_lt}
 use Rattle.std.specs.Int.{w64, to_be_bytes, from_be_bytes}
 use Rattle.std.specs.Int.Bits.{xor_self, xor_assoc, xor_zero_r}
@@ -6,11 +6,12 @@ use Rattle.std.proofs.lemmas.Nat.{xor_lt, from_be_bytes-to_be_bytes_8}
 use Rattle.des.specs.Blocks.{IsBlock}
 use Rattle.des.specs.Laws.BlockBits.{IsBlock-to_be_bytes, from_be_bytes-lt, to_be_bytes-from_be_bytes}
 
--- the block whose word is that of a block xor that of a key
+-- the block whose word is that of a block xor that of a key. In a law a key may be any list of numbers, so the lowest
+-- 64 bits of what it writes are taken
 unfoldable pub xored : List ℕ → List ℕ → List ℕ
 xored key block = to_be_bytes w64 (bit_xor (from_be_bytes w64 block) (from_be_bytes w64 key % 2 ^ 64))
 
--- it is a block
+-- the xor with a key is a block
 pub IsBlock-xored : (key block : List ℕ) → IsBlock (xored key block)
 unfolding xored
 IsBlock-xored key block = IsBlock-to_be_bytes (bit_xor (from_be_bytes w64 block) (from_be_bytes w64 key % 2 ^ 64))
@@ -25,7 +26,7 @@ xored-xored key block is_block =
     rw (from_be_bytes-to_be_bytes_8 (bit_xor b k) below, xor_assoc b k k, xor_self k, xor_zero_r b)
     (to_be_bytes-from_be_bytes block is_block)
 
--- two words make it
+-- the bytes of the xor of two words are the xor of their bytes
 pub xored-words : (key block : List ℕ) (k b : ℕ) → k < 2 ^ 64 → k ≡ from_be_bytes w64 key → b ≡ from_be_bytes w64 block
     → to_be_bytes w64 (bit_xor b k) ≡ xored key block
 unfolding xored

@@ -42,7 +42,7 @@ bits_of_bytes-block_of_bits bits width =
 slice_index-lt : (bytes : List ℕ) → AreBytes bytes → (i : ℕ) → slice_index bytes i < 256
 slice_index-lt bytes are_bytes i = grind (arith, are_bytes i 0, get_or_past bytes i 0)
 
--- the word that a block's bytes write
+-- the word that a block's bytes write is below 2 ^ 64
 pub from_be_bytes-lt : (block : List ℕ) → IsBlock block → from_be_bytes w64 block < 2 ^ 64
 from_be_bytes-lt block is_block =
     let small : (i : ℕ) → slice_index block i < 256 = slice_index-lt block is_block.1 in

@@ -57,6 +57,8 @@ fn words_equal_but_parity(first: u64, second: u64) -> bool {
     equal_but_parity(&first.to_be_bytes(), &second.to_be_bytes())
 }
 
+// The key of the worked example of J. Orlin Grabbe, "The DES Algorithm Illustrated", whose bytes have
+// odd parity, the same with each lowest bit turned, and keys of no bit and of every bit.
 #[test]
 fn gives_odd_parity(rt: HostRuntime) {
     assert_eq!(rt; word_with_odd_parity(NO_BIT), 0x0101010101010101);
@@ -77,8 +79,13 @@ fn gives_odd_parity(rt: HostRuntime) {
 #[test]
 fn compares_keys_but_for_parity(rt: HostRuntime) {
     assert!(rt; words_equal_but_parity(0x133457799bbcdff1, 0x123556789abddef0));
-    assert!(rt; !words_equal_but_parity(NO_BIT, 0x8000000000000000));
-    assert!(rt; !words_equal_but_parity(NO_BIT, 0x0000000000000002));
+    for i in 0..64u32 {
+        assert_eq!(rt;
+            words_equal_but_parity(NO_BIT, 1 << i),
+            i % 8 == 0,
+            "bit {i}"
+        );
+    }
 }
 
 #[test]

@@ -1,4 +1,5 @@
-//! The block of the two words is their xor: 0f xor 00 is 0f, and f0 xor ff is 0f again.
+//! The answers are the xor of key and block, by hand. The second key and block are the complements of
+//! the first, and the answer is the same one: no complement.
 
 use super::XorKey;
 use des::cipher::{BlockCipherDecrypt, BlockCipherEncrypt, KeyInit};
