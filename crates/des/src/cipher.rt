@@ -319,8 +319,8 @@ pub trait KeyedCipher: KeyInit + BlockCipher {
         → IsBlock block → Self.decrypted cipher block ≡ decryption key block };
 }
 
-/// A block cipher that answers complements with complements: with every bit of the key complemented,
-/// the answer to the complemented block is the complemented answer, in each direction.
+/// A block cipher whose keys answer complements with complements: with every bit of the key
+/// complemented, the answer to the complemented block is the complemented answer, in each direction.
 pub trait Complementing: KeyedCipher {
     ghost encryption_complements: { (key block : List ℕ) → IsKey Self.KEY_SIZE key → IsBlock block
         → Self.encryption (complement key) (complement block)

@@ -3,4 +3,5 @@
 #![tactic(auto)]
 
 pub mod check_value;
+pub mod complements;
 pub mod odd_ciphers;

@@ -1,10 +1,11 @@
 -- Complements of bits and of bytes, and what selections and additions make of them.
-use Rattle.std.proofs.Common.{◌≡◌, ℕ, ◌-◌, ◌<◌, nat_lt, not, List, [], ◌∷◌, ◌++◌, Bool, true, false, length, refl, ap₂, ◌∙◌, sym, arith}
+use Rattle.std.proofs.Common.{◌≡◌, ℕ, ◌-◌, ◌<◌, ◌==◌, nat_lt, not, List, [], ◌∷◌, ◌++◌, Bool, true, false, length, refl, ap₂, ◌∙◌, sym, arith}
 use Rattle.std.specs.List.{list_all}
 use Rattle.std.proofs.lemmas.List.{length-map, map-append, get_or-map}
 use Rattle.std.proofs.lemmas.List.Elements.{All-nil, All-cons}
+use Rattle.std.proofs.lemmas.Bool.{eqb-true, agree_below_at}
 use Rattle.std.proofs.lemmas.Bool.Decides.{nat_tests}
-use Rattle.des.specs.Bits.{bit, bits_of, bits_of_bytes, select, xor, xor_bits}
+use Rattle.des.specs.Bits.{bit, bits_of, bits_of_bytes, number_of, select, xor, xor_bits}
 use Rattle.des.specs.Blocks.{AreBytes, IsKey, block_of_bits}
 use Rattle.des.specs.Complement.{complement_bits, complement_of_byte, complement}
 use Rattle.des.specs.Laws.BitLists.{bits_of-number_of, number_of-lt}
@@ -17,7 +18,13 @@ bits_of-complement_of_byte : (byte : ℕ) → bits_of 8 (complement_of_byte byte
 unfolding bits_of complement_of_byte
 bits_of-complement_of_byte byte = bits_of-number_of (complement_bits (bits_of 8 byte))
 
--- so has the complement of bytes
+-- it is what is left of 255
+pub complement_of_byte-rest : (byte : ℕ) → byte < 256 → complement_of_byte byte ≡ 255 - byte
+unfolding bits_of number_of complement_of_byte
+complement_of_byte-rest byte small =
+    eqb-true _ _ (agree_below_at (λ b. complement_of_byte b == 255 - b) (λ b. true) 256 byte refl small)
+
+-- the complement of bytes has their bits, each the other one
 pub bits_of_bytes-complement : (bytes : List ℕ) → bits_of_bytes (complement bytes) ≡ complement_bits (bits_of_bytes bytes)
 unfolding bits_of_bytes
 bits_of_bytes-complement [] = refl

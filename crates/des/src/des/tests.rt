@@ -134,6 +134,12 @@ fn goes_there_and_back_by_the_traits(rt: HostRuntime) -> Result<(), Fail> {
 #[test]
 fn answers_lists(rt: HostRuntime) {
     let cipher = Des::new(&KEY);
+    let mut answer = [0xa5; 8];
+    cipher.encrypt_block_b2b(&PLAINTEXT[0], &mut answer);
+    assert_eq!(rt; u64::from_be_bytes(answer), CIPHERTEXT[0]);
+    let mut back = [0xa5; 8];
+    cipher.decrypt_block_b2b(&answer, &mut back);
+    assert_eq!(rt; back, PLAINTEXT[0]);
     let mut blocks = PLAINTEXT;
     cipher.encrypt_blocks(&mut blocks);
     assert_eq!(rt; blocks, ciphertext());
