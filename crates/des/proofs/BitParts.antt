@@ -73,7 +73,7 @@ sum_test : (a b : ℕ) → a < 2 → b < 2 → ((a + b) % 2 == 1) ≡ xor (a == 
 sum_test a b p q = grind (arith, nat_tests)
 
 -- the xor of two numbers has the xor of their bits
-bits_of-xor : (n a b : ℕ) → bits_of n (bit_xor a b) ≡ xor_bits (bits_of n a) (bits_of n b)
+pub bits_of-xor : (n a b : ℕ) → bits_of n (bit_xor a b) ≡ xor_bits (bits_of n a) (bits_of n b)
 unfolding bits_of xor_bits
 bits_of-xor zero a b = refl
 bits_of-xor (suc n) a b =

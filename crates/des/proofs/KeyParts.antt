@@ -8,7 +8,7 @@ use Rattle.std.proofs.lemmas.List.{get_or-take, get_or_default, drop-drop, lengt
 use Rattle.std.proofs.lemmas.List.Elements.{contains_decides, Decides-contains, Contains-get_or}
 use Rattle.std.proofs.lemmas.Slice.Eq.{slice_eq-Decides}
 use Rattle.des.specs.Blocks.{part}
-use Rattle.des.specs.WeakKeys.{listed_keys, IsRefused}
+use Rattle.des.specs.WeakKeys.{listed_keys, IsRefusedByList}
 use lib.Pointwise.{pointwise}
 use Rattle.std.specs.Prelude.{nat_eq}
 
@@ -41,14 +41,14 @@ module _ (key : List ℕ) (parts : List (List ℕ)) (cut : parts ≡ first_chunk
   part_of n is_part = part_at (n - 1) (omega (arith, is_part.0, is_part.1)) ∙ ap (λ (m : ℕ). part m key) (omega (arith, is_part.0))
 
   -- a listed part refuses the key
-  pub IsRefused-listed : (i : ℕ) → i < length key / 8 → Contains listed_keys (get_or parts i []) → IsRefused key
-  IsRefused-listed i within listed =
+  pub IsRefusedByList-listed : (i : ℕ) → i < length key / 8 → Contains listed_keys (get_or parts i []) → IsRefusedByList key
+  IsRefusedByList-listed i within listed =
       let P : List ℕ → Type 0 = λ p. Contains listed_keys p in
       inl (i + 1, ((omega arith, omega arith), subst P (part_at i within) listed))
 
   -- and so does a part that is equal to one before it
-  pub IsRefused-equal : (i : ℕ) → i < length key / 8 → Contains (take i parts) (get_or parts i []) → IsRefused key
-  IsRefused-equal i within among =
+  pub IsRefusedByList-equal : (i : ℕ) → i < length key / 8 → Contains (take i parts) (get_or parts i []) → IsRefusedByList key
+  IsRefusedByList-equal i within among =
       let k : ℕ = among.0 in
       let later : List ℕ = get_or parts i [] in
       let before : k < i = omega (arith, among.1, length-take-le i parts (omega (arith, count))) in
@@ -59,7 +59,7 @@ module _ (key : List ℕ) (parts : List (List ℕ)) (cut : parts ≡ first_chunk
 
   -- where no part is listed, and none is equal to one before it, the key is not refused
   pub not_refused : ((i : ℕ) → i < length key / 8
-      → ¬ (Contains listed_keys (get_or parts i [])) × ¬ (Contains (take i parts) (get_or parts i []))) → ¬ (IsRefused key)
+      → ¬ (Contains listed_keys (get_or parts i [])) × ¬ (Contains (take i parts) (get_or parts i []))) → ¬ (IsRefusedByList key)
   not_refused each refused = elim refused [
     | inl listed ↦
         let n : ℕ = listed.0 in

@@ -2,6 +2,7 @@ mod KnownAnswers
 pub mod BitParts
 pub mod HalfWords
 pub mod Places
+pub mod LinearWords
 pub mod Permuting
 pub mod Substitution
 pub mod Rotation
@@ -12,6 +13,18 @@ pub mod RoundsOnWords
 pub mod PassGraphs
 pub mod Graphs
 pub mod TripleGraphs
+pub mod Walks
+pub mod Repeating
+pub mod DistinctCounts
+pub mod RoundKeyPlaces
+pub mod RotatedHalves
+pub mod ConstantHalves
+pub mod RoundKeyCounts
+pub mod ReversedRoundKeys
+pub mod PartnerKeys
+pub mod PartnerWords
+pub mod HalfPatterns
+pub mod ListedKeys
 pub mod KeyParts
 pub mod ParityBits
 pub mod KeySelections

@@ -80,7 +80,7 @@ trace_from_run (key ∷ keys) (left ∷ right ∷ next ∷ h) size run =
 trace_from_run keys h size run = absurd (omega arith)
 
 -- round key i + 1 is at place i of the key schedule
-half_block-key_schedule : (key : List Bool) (i : ℕ) → i < 16 → half_block (key_schedule key) i ≡ round_key key (suc i)
+pub half_block-key_schedule : (key : List Bool) (i : ℕ) → i < 16 → half_block (key_schedule key) i ≡ round_key key (suc i)
 unfolding key_schedule
 half_block-key_schedule key i below = get_or-map-range_with_len (round_key key) 1 16 i (suc i) [] below (one-add i)
 

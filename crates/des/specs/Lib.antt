@@ -11,6 +11,7 @@ pub mod Des
 pub mod Triple
 pub mod Complement
 pub mod Parity
+pub mod KeyHalves
 pub mod WeakKeys
 pub mod Positions
 pub mod Laws

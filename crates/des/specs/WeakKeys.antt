@@ -2,7 +2,9 @@
 -- that a few round keys recur.
 use Rattle.std.specs.Prelude.{◌≡◌, ◌<◌, ◌≤◌, ◌*◌, ◌⊎◌, ℕ, List, [], ◌∷◌, length, map, Contains}
 use Rattle.std.specs.Int.{w64, to_be_bytes}
-use Rattle.des.specs.Blocks.{part}
+use Rattle.des.specs.Blocks.{IsKey, part}
+use Rattle.des.specs.KeyHalves.{HasListedHalves}
+use Rattle.des.specs.Parity.{HasOddParity}
 
 -- the listed keys, as words, four a line
 abbrev pub listed_words : List ℕ
@@ -28,18 +30,27 @@ listed_words =
 abbrev pub listed_keys : List (List ℕ)
 listed_keys = map (to_be_bytes w64) listed_words
 
+-- the listed class: the keys of eight bytes with odd parity whose halves, rotated left by two, are themselves or their
+-- complements
+abbrev pub IsListed : List ℕ → Type 0
+IsListed key = IsKey 8 key × HasOddParity key × HasListedHalves key
+
 -- n is the number of a part of the key, from 1
 abbrev pub IsPartOf : List ℕ → ℕ → Type 0
 IsPartOf key n = (1 ≤ n) × (8 * n ≤ length key)
 
--- some part of the key is listed
-abbrev pub HasListedPart : List ℕ → Type 0
-HasListedPart key = (n : ℕ) × (IsPartOf key n × Contains listed_keys (part n key))
+-- some part of the key is such
+abbrev pub HasPart : (List ℕ → Type 0) → List ℕ → Type 0
+HasPart P key = (n : ℕ) × (IsPartOf key n × P (part n key))
 
 -- two parts of the key have equal bytes
 abbrev pub HasEqualParts : List ℕ → Type 0
 HasEqualParts key = (m : ℕ) × ((n : ℕ) × (IsPartOf key m × IsPartOf key n × (m < n) × (part m key ≡ part n key)))
 
--- the key is refused: a part is listed, or two parts are equal
+-- the key is refused: a part is of the listed class, or two parts are equal
 abbrev pub IsRefused : List ℕ → Type 0
-IsRefused key = HasListedPart key ⊎ HasEqualParts key
+IsRefused key = HasPart IsListed key ⊎ HasEqualParts key
+
+-- the same by the list: a part is one of the listed keys, or two parts are equal
+abbrev pub IsRefusedByList : List ℕ → Type 0
+IsRefusedByList key = HasPart (λ part. Contains listed_keys part) key ⊎ HasEqualParts key

@@ -1,6 +1,8 @@
 //! The block cipher `Des` (FIPS 46-3).
 
-ghost use Rattle.std.specs.Prelude.{◌≡◌, ℕ, List, ◌++◌, take, drop, codes, Some};
+ghost use Rattle.std.specs.Prelude.{◌≡◌, ◌<◌, ◌^◌, ℕ, List, ◌++◌, take, drop, nat_eq, codes, Some};
+ghost use Rattle.std.specs.List.{All};
+ghost use Rattle.std.specs.Set.{distinct_count};
 ghost use Rattle.std.specs.Iterator.{IsFinite, AlwaysYields};
 ghost use Rattle.std.specs.Fmt.{DisplaysOnOk, DisplaysStyledOnOk};
 ghost use Rattle.des.specs.Bits.{bits_of_bytes, bits_of_word, select};
@@ -53,6 +55,20 @@ fn run_rounds<'a, I: Iterator<Item = &'a u64>>(block: &mut [u8; 8], round_keys: 
     *block = last_block(halves);
 }
 
+// How many different words there are: each is counted where it stands last.
+fn count_distinct(words: &[u64; 16]) -> u8
+    ensures are_words { All (λ word. word < 2 ^ 64) words.now }
+    ensures count { result ≡ distinct_count nat_eq words.now }
+{
+    let mut distinct = 0;
+    for (i, word) in words.iter().enumerate() {
+        if !words[i + 1..].contains(word) {
+            distinct += 1;
+        }
+    }
+    distinct
+}
+
 /// DES under one key: the key's sixteen round keys.
 ///
 /// A key has 8 bytes, bit 1 the most significant bit of the first. Every key is taken, weak ones
@@ -64,8 +80,10 @@ pub struct Des {
 }
 
 impl Des {
+    ghost use Rattle.std.specs.Prelude.{◌↔◌, ◌≤◌};
     ghost use Rattle.des.specs.Des.{IsDesOf};
     ghost use Rattle.des.specs.RoundKeyWords.{HoldRoundKeys};
+    ghost use Rattle.des.specs.KeyHalves.{HalvesRepeat, HasListedHalves};
 
     /// The round keys K(1) to K(16) of the key that the cipher was made from, each in the first 48
     /// bits of its word, with zeros after them (FIPS 46-3, key schedule). They do not tell the parity
@@ -75,6 +93,25 @@ impl Des {
             → HoldRoundKeys result.now (bits_of_bytes key) }
     {
         &self.round_keys
+    }
+
+    /// The number of different words among the sixteen round keys, wherever among them they stand.
+    ///
+    /// By the halves C and D of the key (FIPS 46-3, key schedule): it is 1 exactly where both are
+    /// unchanged by rotation by one; else 2 where both are unchanged by rotation by two; else 4 where
+    /// each, rotated left by two, is itself or its complement; and at most 4 where both repeat every
+    /// four bits.
+    pub fn distinct_round_keys(&self) -> u8
+        ensures count { result ≡ distinct_count nat_eq self.now.round_keys }
+        ensures one { (key : List ℕ) → IsDesOf self.now key → (result ≡ 1) ↔ HalvesRepeat 1 key }
+        ensures two { (key : List ℕ) → IsDesOf self.now key
+            → HalvesRepeat 2 key → ¬ (HalvesRepeat 1 key) → result ≡ 2 }
+        ensures four { (key : List ℕ) → IsDesOf self.now key
+            → HasListedHalves key → ¬ (HalvesRepeat 2 key) → result ≡ 4 }
+        ensures at_most_four { (key : List ℕ) → IsDesOf self.now key
+            → HalvesRepeat 4 key → result ≤ 4 }
+    {
+        count_distinct(&self.round_keys)
     }
 }
 

@@ -1,16 +1,19 @@
 //! The weak key test: keys under which DES has few different round keys, and keys of triple DES that
 //! amount to fewer passes. And the parity bits of keys, which are no part of what a key does.
 
-ghost use Rattle.std.specs.Prelude.{◌≡◌, ◌↔◌, ◌⊎◌, ◌/◌, ◌%◌, ℕ, List, length, codes, Some, IsErr, IsTrue, count_ones};
-ghost use Rattle.des.specs.Bits.{bits_of_bytes};
+ghost use Rattle.std.specs.Prelude.{◌≡◌, ◌↔◌, ◌⊎◌, ◌/◌, ◌%◌, ◌-◌, ◌≤◌, ◌++◌, ℕ, Bool, List, length, codes, Some, IsErr, IsTrue, count_ones};
+ghost use Rattle.std.specs.List.{All};
+ghost use Rattle.des.specs.Bits.{bits_of_bytes, bits_of_word, zeros};
 ghost use Rattle.des.specs.Blocks.{IsKey};
 ghost use Rattle.des.specs.Relations.{IsTheOne};
-ghost use Rattle.des.specs.KeySchedule.{key_schedule};
+ghost use Rattle.des.specs.KeySchedule.{rotate, round_key, key_schedule};
+ghost use Rattle.des.specs.KeyHalves.{ArePartners};
 ghost use Rattle.des.specs.Enciphering.{Enciphers};
 ghost use Rattle.des.specs.Triple.{Ede3};
 ghost use Rattle.des.specs.Parity.{HasOddParity, AgreeOutsideParity};
-ghost use Rattle.des.specs.WeakKeys.{listed_keys, IsRefused};
+ghost use Rattle.des.specs.WeakKeys.{listed_keys, IsRefused, IsRefusedByList};
 
+use crate::utils;
 use std::error::Error;
 use std::fmt;
 
@@ -57,9 +60,14 @@ impl Error for WeakKeyError {}
 /// Refuses a key of 8, 16 or 24 bytes where one of its parts of 8 bytes is listed in `WEAK_KEYS`, or
 /// where two of its parts have equal bytes. Parts are compared whole, parity bits included: give them
 /// odd parity by `with_odd_parity` first where it is not sure.
+///
+/// The listed keys are exactly those with odd parity in every byte whose halves C and D (FIPS 46-3,
+/// key schedule), each rotated left by two, equal themselves or their complements.
 pub fn weak_key_test(key: &[u8]) -> Result<(), WeakKeyError>
     requires { (length key.now ≡ 8) ⊎ (length key.now ≡ 16) ⊎ (length key.now ≡ 24) }
     ensures listed { WEAK_KEYS ≡ listed_keys }
+    ensures odd_parity { All HasOddParity WEAK_KEYS }
+    ensures refused_by_list { IsErr result ↔ IsRefusedByList key.now }
     ensures refused { IsErr result ↔ IsRefused key.now }
 {
     let (parts, _) = key.as_chunks::<8>();
@@ -109,6 +117,35 @@ pub fn equal_but_parity(first: &[u8; 8], second: &[u8; 8]) -> bool
 {
     let differing = u64::from_be_bytes(*first) ^ u64::from_be_bytes(*second);
     differing & 0xfefefefefefefefe == 0
+}
+
+// The halves C and D in the first 56 bits of a word, each rotated left by one place.
+fn rotate_halves(halves: u64) -> u64
+    ensures { (c d : List Bool) → length c ≡ 28 → length d ≡ 28
+        → bits_of_word halves ≡ (c ++ d) ++ zeros 8
+        → bits_of_word result ≡ (rotate c 1 ++ rotate d 1) ++ zeros 8 }
+{
+    ((halves << 1) & 0xffffffeffffffe00) | ((halves >> 27) & 0x0000001000000100)
+}
+
+/// Whether the second of two keys of 8 bytes is a partner of the first: both halves C and D of the
+/// first (FIPS 46-3, key schedule) are unchanged by rotation by two, and those of the second are
+/// those of the first, rotated left by one. DES under the second key then undoes DES under the
+/// first, and DES twice under a key that is its own partner changes nothing.
+pub fn is_partner(first: &[u8; 8], second: &[u8; 8]) -> bool
+    ensures partners { IsTrue result ↔ ArePartners first.now second.now }
+    ensures reversed_round_keys { IsTrue result
+        ↔ ((i : ℕ) → 1 ≤ i → i ≤ 16 → round_key (bits_of_bytes second.now) i
+        ≡ round_key (bits_of_bytes first.now) (17 - i)) }
+    ensures undone { IsTrue result → (x y : List ℕ)
+        → Enciphers first.now x y ↔ Enciphers second.now y x }
+    ensures twice { IsTrue result → first.now ≡ second.now → (x y z : List ℕ)
+        → Enciphers first.now x y → Enciphers first.now y z → z ≡ x }
+{
+    let halves = utils::pc1(u64::from_be_bytes(*first));
+    let partner = utils::pc1(u64::from_be_bytes(*second));
+    let rotated = rotate_halves(halves);
+    rotate_halves(rotated) == halves && partner == rotated
 }
 
 #[cfg(test)]

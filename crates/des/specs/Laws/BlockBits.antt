@@ -39,7 +39,7 @@ bits_of_bytes-block_of_bits bits width =
     rw (bits_of_bytes-to_be (number_of bits), ← width) (bits_of-number_of bits)
 
 -- the number at an index of bytes, or 0 past the end, is a byte
-slice_index-lt : (bytes : List ℕ) → AreBytes bytes → (i : ℕ) → slice_index bytes i < 256
+pub slice_index-lt : (bytes : List ℕ) → AreBytes bytes → (i : ℕ) → slice_index bytes i < 256
 slice_index-lt bytes are_bytes i = grind (arith, are_bytes i 0, get_or_past bytes i 0)
 
 -- the word that a block's bytes write is below 2 ^ 64

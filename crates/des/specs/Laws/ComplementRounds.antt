@@ -26,7 +26,7 @@ rotate-complement half n =
     rw (drop-map not n half, take-map not n half) (sym (map-append not (drop n half) (take n half)))
 
 -- rotation keeps the length
-length-rotate : (half : List Bool) (n : ℕ) → length (rotate half n) ≡ length half
+pub length-rotate : (half : List Bool) (n : ℕ) → length (rotate half n) ≡ length half
 unfolding rotate
 length-rotate half n =
     let parts : length (take n half ++ drop n half) ≡ length half = ap length (take-append-drop n half) in

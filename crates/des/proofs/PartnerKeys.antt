@@ -1,0 +1,116 @@
+-- Partner keys: the one's round keys are the other's in the opposite order, so the one enciphers as the other deciphers.
+use Rattle.std.proofs.Common.{◌≡◌, ◌↔◌, ℕ, suc, ◌-◌, ◌<◌, ◌≤◌, List, [], Bool, length, reverse, IsTrue, refl, sym, ap, ◌∙◌, subst, arith}
+use Rattle.std.proofs.lemmas.List.{reverse-reverse, length-reverse, get_or-reverse, ext_get_or}
+use Rattle.des.specs.Bits.{bits_of_bytes}
+use Rattle.des.specs.Blocks.{IsKey, IsBlock}
+use Rattle.des.specs.Des.{encryption, decryption}
+use Rattle.des.specs.Enciphering.{half_block, Enciphers}
+use Rattle.des.specs.KeySchedule.{round_key, key_schedule}
+use Rattle.des.specs.KeyHalves.{ArePartners}
+use Rattle.des.specs.Rounds.{answer_by}
+use Rattle.des.proofs.RoundKeys.{length-c_half, length-d_half}
+use Rattle.des.proofs.Traces.{length-key_schedule, half_block-key_schedule}
+use Rattle.des.proofs.Graphs.{IsGraphOf-encryption, IsGraphOf-decryption}
+use Rattle.des.proofs.RoundKeyPlaces.{key_schedule-halves}
+use Rattle.des.proofs.ReversedRoundKeys.{reversed_from_turned, turned_from_reversed}
+
+-- two keys are partners exactly where the one's round keys are the other's in the opposite order
+pub reversed_round_keys : (key partner : List ℕ) → IsKey 8 key → IsKey 8 partner
+    → ArePartners key partner ↔ (key_schedule (bits_of_bytes partner) ≡ reverse (key_schedule (bits_of_bytes key)))
+reversed_round_keys key partner is_key partner_is_key = (
+  λ partners.
+      key_schedule-halves (bits_of_bytes partner)
+      ∙ reversed_from_turned _ _ _ _ (length-c_half (bits_of_bytes key)) (length-d_half (bits_of_bytes key))
+      (partners.repeats.0, partners.repeats.1, partners.c_rotated, partners.d_rotated)
+      ∙ ap reverse (sym (key_schedule-halves (bits_of_bytes key))),
+  λ reversed.
+      let turned =
+      turned_from_reversed _ _ _ _
+      (length-c_half (bits_of_bytes key))
+      (length-d_half (bits_of_bytes key))
+      (length-c_half (bits_of_bytes partner))
+      (length-d_half (bits_of_bytes partner))
+      (sym (key_schedule-halves (bits_of_bytes partner)) ∙ reversed ∙ ap reverse (key_schedule-halves (bits_of_bytes key))) in
+      record { repeats = (turned.0, turned.1); c_rotated = turned.2; d_rotated = turned.3 },
+)
+
+-- a list of round keys is that of another key in the opposite order exactly where each is the one with the number from
+-- the end
+reversed_by_number : (key partner : List Bool) → (key_schedule partner ≡ reverse (key_schedule key))
+    ↔ ((i : ℕ) → 1 ≤ i → i ≤ 16 → round_key partner i ≡ round_key key (17 - i))
+reversed_by_number key partner =
+    let count = length-key_schedule key in
+    let from_end : (j : ℕ) → j < 16 → half_block (reverse (key_schedule key)) j ≡ round_key key (17 - suc j) =
+    λ j below.
+    let place : length (key_schedule key) - 1 - j ≡ 15 - j = omega (arith, count) in
+    get_or-reverse (key_schedule key) j [] (omega (arith, count))
+    ∙ ap (half_block (key_schedule key)) place
+    ∙ half_block-key_schedule key (15 - j) (omega arith)
+    ∙ ap (round_key key) (omega arith) in (
+      λ reversed i from to.
+          let number : i ≡ suc (i - 1) = omega arith in
+          ap (round_key partner) number
+          ∙ sym (half_block-key_schedule partner (i - 1) (omega arith))
+          ∙ ap (λ keys. half_block keys (i - 1)) reversed
+          ∙ from_end (i - 1) (omega arith)
+          ∙ ap (λ (n : ℕ). round_key key (17 - n)) (sym number),
+      λ each.
+          ext_get_or [] (key_schedule partner) (reverse (key_schedule key)) (omega (arith, count, length-key_schedule partner, length-reverse (key_schedule key)))
+          (λ j below.
+          let within : j < 16 = omega (arith, length-key_schedule partner) in
+          half_block-key_schedule partner j within ∙ each (suc j) (omega arith) (omega arith) ∙ sym (from_end j within)),
+    )
+
+-- the same of partners
+pub reversed_numbers : (key partner : List ℕ) → IsKey 8 key → IsKey 8 partner → ArePartners key partner
+    ↔ ((i : ℕ) → 1 ≤ i → i ≤ 16 → round_key (bits_of_bytes partner) i ≡ round_key (bits_of_bytes key) (17 - i))
+reversed_numbers key partner is_key partner_is_key =
+    let by_lists = reversed_round_keys key partner is_key partner_is_key in
+    let by_number = reversed_by_number (bits_of_bytes key) (bits_of_bytes partner) in
+    (λ partners. by_number.0 (by_lists.0 partners), λ each. by_lists.1 (by_number.1 each))
+
+-- decryption under a partner is encryption under the key
+decryption-partner : (key partner : List ℕ) → IsKey 8 key → IsKey 8 partner → ArePartners key partner → (block : List ℕ)
+    → decryption partner block ≡ encryption key block
+decryption-partner key partner is_key partner_is_key partners block =
+    ap (λ keys. answer_by keys block)
+    (ap reverse ((reversed_round_keys key partner is_key partner_is_key).0 partners) ∙ reverse-reverse (key_schedule (bits_of_bytes key)))
+
+-- DES under a key takes a block to another exactly where DES under its partner takes the other to the first
+pub Enciphers-partners : (key partner : List ℕ) → IsKey 8 key → IsKey 8 partner → ArePartners key partner → (x y : List ℕ)
+    → Enciphers key x y ↔ Enciphers partner y x
+Enciphers-partners key partner is_key partner_is_key partners x y =
+    let same : decryption partner x ≡ encryption key x = decryption-partner key partner is_key partner_is_key partners x in
+    let forth = IsGraphOf-encryption key is_key x y in
+    let back = IsGraphOf-decryption partner partner_is_key x y in (
+      λ enciphers. let made = forth.0 enciphers in back.1 (made.0, same ∙ made.1),
+      λ enciphers. let made = back.0 enciphers in forth.1 (made.0, sym same ∙ made.1),
+    )
+
+-- DES twice under a key that is its own partner takes each block to itself
+pub Enciphers-own_partner : (key : List ℕ) → IsKey 8 key → ArePartners key key → (x y z : List ℕ) → Enciphers key x y → Enciphers key y z
+    → z ≡ x
+Enciphers-own_partner key is_key partners x y z first second =
+    let back = (IsGraphOf-encryption key is_key y x).0 ((Enciphers-partners key key is_key is_key partners x y).0 first) in
+    let forth = (IsGraphOf-encryption key is_key y z).0 second in
+    sym forth.1 ∙ back.1
+
+-- and each block is taken to one that is taken back to it
+pub Enciphers-there_and_back : (key : List ℕ) → IsKey 8 key → ArePartners key key → (x : List ℕ) → IsBlock x
+    → (y : List ℕ) × (Enciphers key x y × Enciphers key y x)
+Enciphers-there_and_back key is_key partners x is_block =
+    let y : List ℕ = encryption key x in
+    let first : Enciphers key x y = (IsGraphOf-encryption key is_key x y).1 (is_block, refl) in
+    (y, (first, (Enciphers-partners key key is_key is_key partners x y).0 first))
+
+-- what a test that tells partners says besides
+pub told_by_partners : (result : Bool) (key partner : List ℕ) → IsKey 8 key → IsKey 8 partner → IsTrue result ↔ ArePartners key partner
+    → (IsTrue result ↔ ((i : ℕ) → 1 ≤ i → i ≤ 16 → round_key (bits_of_bytes partner) i ≡ round_key (bits_of_bytes key) (17 - i)))
+    × (IsTrue result → (x y : List ℕ) → Enciphers key x y ↔ Enciphers partner y x)
+    × (IsTrue result → key ≡ partner → (x y z : List ℕ) → Enciphers key x y → Enciphers key y z → z ≡ x)
+told_by_partners result key partner is_key partner_is_key told =
+    let by_number = reversed_numbers key partner is_key partner_is_key in (
+      (λ yes. by_number.0 (told.0 yes), λ each. told.1 (by_number.1 each)),
+      λ yes. Enciphers-partners key partner is_key partner_is_key (told.0 yes),
+      λ yes same. Enciphers-own_partner key is_key (subst (ArePartners key) (sym same) (told.0 yes)),
+    )
