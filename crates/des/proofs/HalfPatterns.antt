@@ -12,7 +12,8 @@ abbrev half_pattern : Bool → List Bool → List Bool
 half_pattern sign front = repeated (xor sign) 14 front
 
 -- a half of the listed class is the pattern of some sign and its first two bits
-half_pattern-from_listed : (half : List Bool) → length half ≡ 28 → IsListedHalf half → (sign : Bool) × (half ≡ half_pattern sign (take 2 half))
+half_pattern-from_listed : (half : List Bool) → length half ≡ 28 → IsListedHalf half
+    → (sign : Bool) × (half ≡ half_pattern sign (take 2 half))
 half_pattern-from_listed half size listed = elim listed [
   | inl same ↦ (false, repeated_from_rotate (xor false) 2 13 half size (same ∙ sym (map-id half)))
   | inr other ↦ (true, repeated_from_rotate (xor true) 2 13 half size other)

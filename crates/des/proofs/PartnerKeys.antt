@@ -55,7 +55,8 @@ reversed_by_number key partner =
           ∙ from_end (i - 1) (omega arith)
           ∙ ap (λ (n : ℕ). round_key key (17 - n)) (sym number),
       λ each.
-          ext_get_or [] (key_schedule partner) (reverse (key_schedule key)) (omega (arith, count, length-key_schedule partner, length-reverse (key_schedule key)))
+          ext_get_or [] (key_schedule partner) (reverse (key_schedule key))
+          (omega (arith, count, length-key_schedule partner, length-reverse (key_schedule key)))
           (λ j below.
           let within : j < 16 = omega (arith, length-key_schedule partner) in
           half_block-key_schedule partner j within ∙ each (suc j) (omega arith) (omega arith) ∙ sym (from_end j within)),

@@ -62,7 +62,8 @@ ArePartners-words : (key partner : List ℕ) (halves once twice other : ℕ)
     → HoldsHalves twice (rotate (rotate (c_half (bits_of_bytes key)) 1) 1) (rotate (rotate (d_half (bits_of_bytes key)) 1) 1)
     → HoldsHalves other (c_half (bits_of_bytes partner)) (d_half (bits_of_bytes partner))
     → ArePartners key partner ↔ ((twice ≡ halves) × (other ≡ once))
-ArePartners-words key partner halves once twice other halves_small once_small twice_small other_small holds holds_once holds_twice holds_other =
+ArePartners-words key partner halves once twice other halves_small once_small twice_small other_small
+    holds holds_once holds_twice holds_other =
     let c : List Bool = c_half (bits_of_bytes key) in
     let d : List Bool = d_half (bits_of_bytes key) in
     let c_size : length c ≡ 28 = length-c_half (bits_of_bytes key) in
@@ -95,8 +96,8 @@ pub ArePartners-by_words : (key partner : List ℕ) (key_word partner_word halve
     → bits_of_word other ≡ select permuted_choice_1 (bits_of_word partner_word) ++ zeros 8
     → Rotates halves once → Rotates once twice
     → ArePartners key partner ↔ ((twice ≡ halves) × (other ≡ once))
-ArePartners-by_words key partner key_word partner_word halves other once twice is_key partner_is_key key_same partner_same halves_small once_small
-    twice_small other_small halves_chosen other_chosen rotates_once rotates_twice =
+ArePartners-by_words key partner key_word partner_word halves other once twice is_key partner_is_key key_same partner_same
+    halves_small once_small twice_small other_small halves_chosen other_chosen rotates_once rotates_twice =
     let c : List Bool = c_half (bits_of_bytes key) in
     let d : List Bool = d_half (bits_of_bytes key) in
     let c_size : length c ≡ 28 = length-c_half (bits_of_bytes key) in

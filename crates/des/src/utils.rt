@@ -108,14 +108,14 @@ fn permute(word: u64, sources: &[u8], targets: &[u8]) -> u64
 
 /// The initial permutation IP of the 64 bits of `input` (FIPS 46-3, enciphering).
 pub fn ip(input: u64) -> u64
-    ensures { bits_of_word result ≡ select initial_permutation (bits_of_word input) }
+    ensures selected { bits_of_word result ≡ select initial_permutation (bits_of_word input) }
 {
     permute(input, &IP, &PLACES)
 }
 
 /// The final permutation: the word whose initial permutation is `input` (FIPS 46-3, enciphering).
 pub fn fp(input: u64) -> u64
-    ensures { select initial_permutation (bits_of_word result) ≡ bits_of_word input }
+    ensures selected { select initial_permutation (bits_of_word result) ≡ bits_of_word input }
 {
     permute(input, &PLACES, &IP)
 }
@@ -123,7 +123,8 @@ pub fn fp(input: u64) -> u64
 /// The permuted choice 1 of a key of 64 bits (FIPS 46-3, key schedule): the halves C and D, of 28
 /// bits each, in the first 56 bits. No parity bit of the key (bits 8, 16, .., 64) is chosen.
 pub fn pc1(key: u64) -> u64
-    ensures { bits_of_word result ≡ select permuted_choice_1 (bits_of_word key) ++ zeros 8 }
+    ensures selected { bits_of_word result
+        ≡ select permuted_choice_1 (bits_of_word key) ++ zeros 8 }
 {
     permute(key, &PC1, &PLACES[..56])
 }
@@ -132,7 +133,7 @@ pub fn pc1(key: u64) -> u64
 /// are zero (FIPS 46-3, key schedule): a round key, in the first 48 bits.
 pub fn pc2(halves: u64) -> u64
     requires { halves % 2 ^ 8 ≡ 0 }
-    ensures { bits_of_word result
+    ensures selected { bits_of_word result
         ≡ select permuted_choice_2 (take 56 (bits_of_word halves)) ++ zeros 16 }
 {
     permute(halves, &PC2, &PLACES[..48])
@@ -142,7 +143,7 @@ pub fn pc2(halves: u64) -> u64
 /// zero (FIPS 46-3, cipher function), in the first 48 bits.
 pub fn e(half_block: u64) -> u64
     requires { half_block % 2 ^ 32 ≡ 0 }
-    ensures { bits_of_word result
+    ensures selected { bits_of_word result
         ≡ select expansion (take 32 (bits_of_word half_block)) ++ zeros 16 }
 {
     permute(half_block, &E, &PLACES[..48])
@@ -152,7 +153,8 @@ pub fn e(half_block: u64) -> u64
 /// cipher function), in the first 32 bits.
 pub fn p(input: u64) -> u64
     requires { input % 2 ^ 32 ≡ 0 }
-    ensures { bits_of_word result ≡ select permutation (take 32 (bits_of_word input)) ++ zeros 32 }
+    ensures selected { bits_of_word result
+        ≡ select permutation (take 32 (bits_of_word input)) ++ zeros 32 }
 {
     permute(input, &P, &PLACES[..32])
 }

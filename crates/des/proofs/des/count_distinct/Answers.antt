@@ -11,7 +11,8 @@ loop-i-preserved c =
     let i = c.loop-i.i in
     let later = distinct_count nat_eq (drop (i + 1) words) in
     let here : distinct_count nat_eq (drop i words) ≡ (if c.contains.result then 0 else 1) + later =
-    distinct_count-drop words i c.contains.result (omega (arith, c.loop-i-test.true, c.told-words)) (rw c.told-words c.contains.ensures.value) in
+    distinct_count-drop words i c.contains.result (omega (arith, c.loop-i-test.true, c.told-words))
+    (rw c.told-words c.contains.ensures.value) in
     elim c.if-not-contains.branch [
       | then-not-contains w ↦
           let counted : distinct_count nat_eq (drop i words) ≡ 1 + later = rw w.if-not-contains.true at here in

@@ -6,6 +6,6 @@ use Rattle.des.proofs.des.first_halves.Goals as goal
 
 pub returns : goal.returns
 returns c =
-    c.ip.ensures
+    c.ip.ensures.selected
     ∙ ap (λ (word : ℕ). select initial_permutation (bits_of_word word)) c.from_be_bytes.ensures
     ∙ ap (select initial_permutation) (sym (bits_of_bytes-from_be c.args.block.now (omega arith) c.fits-block))

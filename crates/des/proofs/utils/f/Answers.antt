@@ -32,9 +32,9 @@ returns c =
     let key = take 48 (bits_of_word c.args.key) in
     let boxed = take 48 (bits_of_word (bit_xor c.e.result c.args.key)) in
     let expanded : take 48 (bits_of_word c.e.result) ≡ select expansion half =
-    rw c.e.ensures (take_at (select expansion half) (zeros 16) 48 (length-select expansion half)) in
+    rw c.e.ensures.selected (take_at (select expansion half) (zeros 16) 48 (length-select expansion half)) in
     let mixed : boxed ≡ xor_bits (select expansion half) key =
     rw expanded at (take-bits_of_xor 48 16 c.e.result c.args.key) in
     let replaced : take 32 (bits_of_word c.apply_sboxes.result) ≡ substitute (xor_bits (select expansion half) key) =
     rw (c.apply_sboxes.ensures, ← mixed) (take_at (substitute boxed) (zeros 32) 32 (length-substitute boxed)) in
-    rw replaced at c.p.ensures
+    rw replaced at c.p.ensures.selected

@@ -14,8 +14,8 @@ loop-i-init c =
     record {
       c_within = shr_below halves 28 36 c.pc1-halves.type_inv;
       d_within = mask_lt (halves / 2 ^ 8) 28;
-      c_rotated = rw rotate-shifts_through_zero (c_half-in_word halves key c.pc1-halves.ensures);
-      d_rotated = rw rotate-shifts_through_zero (d_half-in_word halves key c.pc1-halves.ensures);
+      c_rotated = rw rotate-shifts_through_zero (c_half-in_word halves key c.pc1-halves.ensures.selected);
+      d_rotated = rw rotate-shifts_through_zero (d_half-in_word halves key c.pc1-halves.ensures.selected);
       sixteen = refl;
       made = λ k h. absurd (omega arith);
     }
@@ -39,7 +39,7 @@ loop-i-preserved c =
           below_more _ _
           (λ k h. let ne : k ≢ i = omega arith in rw get_or-set_other (so_far.made k h))
           (let lt : i < length c.loop-i.keys = omega arith in
-          rw (get_or-set_same, c.pc2.ensures, chosen));
+          rw (get_or-set_same, c.pc2.ensures.selected, chosen));
     }
 
 pub returns : goal.returns

@@ -3,4 +3,4 @@ use Rattle.des.proofs.Places.{select-all_places}
 use Rattle.des.proofs.utils.ip.Goals as goal
 
 pub returns : goal.returns
-returns c = sym (select-all_places c.permute.result) ∙ c.permute.ensures.moved
+returns c = record { selected = sym (select-all_places c.permute.result) ∙ c.permute.ensures.moved }

@@ -17,7 +17,7 @@ returns-then-rotate_halves-halves c =
     ArePartners-by_words a b c.from_be_bytes.result c.from_be_bytes-2.result c.pc1-halves.result c.pc1-partner.result
     c.rotate_halves-rotated.result c.rotate_halves.result a_key b_key c.from_be_bytes.ensures c.from_be_bytes-2.ensures
     c.pc1-halves.type_inv c.rotate_halves-rotated.type_inv c.rotate_halves.type_inv c.pc1-partner.type_inv
-    c.pc1-halves.ensures c.pc1-partner.ensures c.rotate_halves-rotated.ensures c.rotate_halves.ensures in
+    c.pc1-halves.ensures.selected c.pc1-partner.ensures.selected c.rotate_halves-rotated.ensures c.rotate_halves.ensures in
     let partners : IsTrue (nat_eq c.pc1-partner.result c.rotate_halves-rotated.result) ↔ ArePartners a b = (
       λ yes. by_words.1 (c.if-rotate_halves-halves.true, eqb-true _ _ yes),
       λ partners. eq-eqb _ _ (by_words.0 partners).1,
@@ -35,7 +35,7 @@ returns-else-rotate_halves-halves c =
     ArePartners-by_words a b c.from_be_bytes.result c.from_be_bytes-2.result c.pc1-halves.result c.pc1-partner.result
     c.rotate_halves-rotated.result c.rotate_halves.result a_key b_key c.from_be_bytes.ensures c.from_be_bytes-2.ensures
     c.pc1-halves.type_inv c.rotate_halves-rotated.type_inv c.rotate_halves.type_inv c.pc1-partner.type_inv
-    c.pc1-halves.ensures c.pc1-partner.ensures c.rotate_halves-rotated.ensures c.rotate_halves.ensures in
+    c.pc1-halves.ensures.selected c.pc1-partner.ensures.selected c.rotate_halves-rotated.ensures c.rotate_halves.ensures in
     let partners : IsTrue (nat_eq c.rotate_halves.result c.pc1-halves.result) ↔ ArePartners a b = (
       λ yes. absurd (c.if-rotate_halves-halves.false (eqb-true _ _ yes)),
       λ partners. eq-eqb _ _ (by_words.0 partners).0,
