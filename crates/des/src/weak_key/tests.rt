@@ -1,7 +1,9 @@
 ghost use Rattle.std.specs.Prelude.{◌≡◌, ◌⊎◌, length};
 
 use super::*;
+use crate::cipher::KeyInit;
 use crate::cipher::tests::is_displayed_as;
+use crate::des::Des;
 use std::test::Fail;
 
 // Whether the key of these parts is refused.
@@ -86,6 +88,94 @@ fn compares_keys_but_for_parity(rt: HostRuntime) {
             "bit {i}"
         );
     }
+}
+
+// The number of different round keys of a key.
+fn round_keys_of(key: &[u8; 8]) -> u8 {
+    Des::new(key).distinct_round_keys()
+}
+
+// The value of `is_partner`, for words.
+fn words_are_partners(first: u64, second: u64) -> bool {
+    is_partner(&first.to_be_bytes(), &second.to_be_bytes())
+}
+
+// The pairs of semi-weak keys and the weak keys are those of NBS Special Publication 500-20; parity
+// bits do not count; the last key is none of them.
+#[test]
+fn tells_partners(rt: HostRuntime) {
+    assert!(rt; words_are_partners(0x01fe01fe01fe01fe, 0xfe01fe01fe01fe01));
+    assert!(rt; words_are_partners(0x011f011f010e010e, 0x1f011f010e010e01));
+    assert!(rt; words_are_partners(0x1f011f010e010e01, 0x011f011f010e010e));
+    assert!(rt; !words_are_partners(0x01fe01fe01fe01fe, 0x01fe01fe01fe01fe));
+    assert!(rt; words_are_partners(0x0101010101010101, 0x0101010101010101));
+    assert!(rt; words_are_partners(NO_BIT, 0x0101010101010101));
+    let key = 0x01011f1f01010e0eu64.to_be_bytes();
+    assert!(rt; !WEAK_KEYS.iter().any(|other| is_partner(&key, other)));
+}
+
+// The weak keys have one round key, the semi-weak two (NBS Special Publication 500-20). The first and
+// the last key are those of no bit and of the worked example of J. Orlin Grabbe, "The DES Algorithm
+// Illustrated", which prints its sixteen round keys; the others are by the halves of the key.
+#[test]
+fn counts_round_keys(rt: HostRuntime) {
+    assert_eq!(rt; round_keys_of(&NO_BIT.to_be_bytes()), 1);
+    assert_eq!(rt; round_keys_of(&0x0101010101010101u64.to_be_bytes()), 1);
+    assert_eq!(rt; round_keys_of(&0x01fe01fe01fe01feu64.to_be_bytes()), 2);
+    assert_eq!(rt; round_keys_of(&0x01011f1f01010e0eu64.to_be_bytes()), 4);
+    assert_eq!(rt; round_keys_of(&0x0101011f0101010eu64.to_be_bytes()), 4);
+    assert_eq!(rt; round_keys_of(&0x133457799bbcdff1u64.to_be_bytes()), 16);
+}
+
+// The halves C and D of a key, 28 bits each.
+fn halves(key: &[u8; 8]) -> (u64, u64) {
+    let halves = utils::pc1(u64::from_be_bytes(*key));
+    (halves >> 36, (halves >> 8) & 0x000000000fffffff)
+}
+
+// How many different elements there are.
+fn distinct(items: &[u64]) -> usize {
+    (0..items.len())
+        .filter(|&i| !items[..i].contains(&items[i]))
+        .count()
+}
+
+// The numbers of the listed keys: 4 weak, 12 semi-weak and 48 more keys, and eight halves.
+#[test]
+fn lists_sixty_four_keys(rt: HostRuntime) {
+    assert_eq!(rt; distinct(&WEAK_KEYS.map(u64::from_be_bytes)), 64);
+    for (count, keys) in [(1, 4), (2, 12), (4, 48)] {
+        let with_count = WEAK_KEYS.iter().filter(|key| round_keys_of(key) == count);
+        assert_eq!(rt; with_count.count(), keys, "{count} round keys");
+    }
+    assert_eq!(rt; distinct(&WEAK_KEYS.map(|key| halves(&key).0)), 8);
+    assert_eq!(rt; distinct(&WEAK_KEYS.map(|key| halves(&key).1)), 8);
+}
+
+// The key of odd parity whose halves C and D repeat these four bits each, by permuted choice 1: the
+// bytes 8 to 5 begin with a bit of C four times and have one of D three times after it, the bytes 4 to
+// 1 begin with one of C three times and have one of D four times after it.
+fn repeating_key(c: u64, d: u64) -> u64 {
+    let mut key = 0;
+    for i in 0..4u32 {
+        let c_bit = (c >> (3 - i)) & 1;
+        let d_bit = (d >> (3 - i)) & 1;
+        key |= (c_bit * 0xf0 + d_bit * 0x0e) << (8 * i);
+        key |= (c_bit * 0xe0 + d_bit * 0x1e) << (8 * i + 32);
+    }
+    word_with_odd_parity(key)
+}
+
+// Of the 256 keys of odd parity whose halves repeat every four bits, all but the 64 listed ones pass.
+#[test]
+fn passes_other_repeating_keys(rt: HostRuntime) {
+    for i in 0..256u64 {
+        let key = repeating_key(i / 16, i % 16).to_be_bytes();
+        assert_eq!(rt; halves(&key), (i / 16 * 0x1111111, i % 16 * 0x1111111));
+        assert!(rt; round_keys_of(&key) <= 4);
+    }
+    let passing = (0..256u64).filter(|&i| !refuses(&[repeating_key(i / 16, i % 16)]));
+    assert_eq!(rt; passing.count(), 192);
 }
 
 #[test]
