@@ -18,9 +18,13 @@ links = zip (places 0) (places 1) ++ zip (places 7) (places 8)
 abbrev walks : List (List ℕ)
 walks = (range_with_len 24 5 ++ range_with_len 1 23) ∷ d_places ∷ []
 
--- the halves are unchanged by rotation by one: all bits of each are equal
+-- both halves are unchanged by rotation by n
+abbrev pub AreUnchanged : ℕ → List Bool → List Bool → Type 0
+AreUnchanged n c d = (rotate c n ≡ c) × (rotate d n ≡ d)
+
+-- all bits of each half are equal
 abbrev AreConstant : List Bool → List Bool → Type 0
-AreConstant c d = (rotate c 1 ≡ c) × (rotate d 1 ≡ d)
+AreConstant c d = AreUnchanged 1 c d
 
 -- halves with a value at each place are constant, where their round keys are copies of one
 constant-placed : (round_key : List Bool) (value : ℕ → Bool)
@@ -40,6 +44,6 @@ constant-placed round_key value same =
 
 -- halves whose round keys are copies of one are unchanged by rotation by one
 pub constant_halves : (round_key c d : List Bool) → length c ≡ 28 → length d ≡ 28 → schedule_of_halves c d ≡ replicate 16 round_key
-    → (rotate c 1 ≡ c) × (rotate d 1 ≡ d)
+    → AreUnchanged 1 c d
 constant_halves round_key =
     from_places (λ c d. schedule_of_halves c d ≡ replicate 16 round_key → AreConstant c d) (constant-placed round_key)

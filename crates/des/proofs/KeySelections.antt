@@ -1,5 +1,5 @@
 -- The round keys as selections from the key by lists of positions: keys have the same round keys just where they agree
--- at the positions that the lists have.
+-- at the positions that the lists have. What a round key takes from the halves C and D is in `RoundKeyPlaces`.
 use Rattle.std.proofs.Common.{◌≡◌, ℕ, ◌%◌, ◌≤◌, ◌==◌, ◌&&◌, not, nat_le, Bool, true, List, [], ◌∷◌, ◌++◌, map, length, take, drop, refl, sym, ap, ap₂, ◌∙◌, arith, inl, inr}
 use Rattle.std.specs.Prelude.{sum}
 use Rattle.std.specs.List.{list_all, list_any, range_with_len}

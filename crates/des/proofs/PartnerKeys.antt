@@ -1,8 +1,8 @@
 -- Partner keys: the one's round keys are the other's in the opposite order, so the one enciphers as the other deciphers.
-use Rattle.std.proofs.Common.{◌≡◌, ◌↔◌, ℕ, suc, ◌-◌, ◌<◌, ◌≤◌, List, [], Bool, length, reverse, IsTrue, refl, sym, ap, ◌∙◌, subst, arith}
+use Rattle.std.proofs.Common.{◌≡◌, ◌↔◌, ℕ, suc, ◌-◌, ◌<◌, ◌≤◌, List, [], Bool, length, reverse, IsTrue, sym, ap, ◌∙◌, subst, arith}
 use Rattle.std.proofs.lemmas.List.{reverse-reverse, length-reverse, get_or-reverse, ext_get_or}
 use Rattle.des.specs.Bits.{bits_of_bytes}
-use Rattle.des.specs.Blocks.{IsKey, IsBlock}
+use Rattle.des.specs.Blocks.{IsKey}
 use Rattle.des.specs.Des.{encryption, decryption}
 use Rattle.des.specs.Enciphering.{half_block, Enciphers}
 use Rattle.des.specs.KeySchedule.{round_key, key_schedule}
@@ -15,7 +15,7 @@ use Rattle.des.proofs.RoundKeyPlaces.{key_schedule-halves}
 use Rattle.des.proofs.ReversedRoundKeys.{reversed_from_turned, turned_from_reversed}
 
 -- two keys are partners exactly where the one's round keys are the other's in the opposite order
-pub reversed_round_keys : (key partner : List ℕ) → IsKey 8 key → IsKey 8 partner
+reversed_round_keys : (key partner : List ℕ) → IsKey 8 key → IsKey 8 partner
     → ArePartners key partner ↔ (key_schedule (bits_of_bytes partner) ≡ reverse (key_schedule (bits_of_bytes key)))
 reversed_round_keys key partner is_key partner_is_key = (
   λ partners.
@@ -63,7 +63,7 @@ reversed_by_number key partner =
     )
 
 -- the same of partners
-pub reversed_numbers : (key partner : List ℕ) → IsKey 8 key → IsKey 8 partner → ArePartners key partner
+reversed_numbers : (key partner : List ℕ) → IsKey 8 key → IsKey 8 partner → ArePartners key partner
     ↔ ((i : ℕ) → 1 ≤ i → i ≤ 16 → round_key (bits_of_bytes partner) i ≡ round_key (bits_of_bytes key) (17 - i))
 reversed_numbers key partner is_key partner_is_key =
     let by_lists = reversed_round_keys key partner is_key partner_is_key in
@@ -78,7 +78,7 @@ decryption-partner key partner is_key partner_is_key partners block =
     (ap reverse ((reversed_round_keys key partner is_key partner_is_key).0 partners) ∙ reverse-reverse (key_schedule (bits_of_bytes key)))
 
 -- DES under a key takes a block to another exactly where DES under its partner takes the other to the first
-pub Enciphers-partners : (key partner : List ℕ) → IsKey 8 key → IsKey 8 partner → ArePartners key partner → (x y : List ℕ)
+Enciphers-partners : (key partner : List ℕ) → IsKey 8 key → IsKey 8 partner → ArePartners key partner → (x y : List ℕ)
     → Enciphers key x y ↔ Enciphers partner y x
 Enciphers-partners key partner is_key partner_is_key partners x y =
     let same : decryption partner x ≡ encryption key x = decryption-partner key partner is_key partner_is_key partners x in
@@ -89,20 +89,12 @@ Enciphers-partners key partner is_key partner_is_key partners x y =
     )
 
 -- DES twice under a key that is its own partner takes each block to itself
-pub Enciphers-own_partner : (key : List ℕ) → IsKey 8 key → ArePartners key key → (x y z : List ℕ) → Enciphers key x y → Enciphers key y z
+Enciphers-own_partner : (key : List ℕ) → IsKey 8 key → ArePartners key key → (x y z : List ℕ) → Enciphers key x y → Enciphers key y z
     → z ≡ x
 Enciphers-own_partner key is_key partners x y z first second =
     let back = (IsGraphOf-encryption key is_key y x).0 ((Enciphers-partners key key is_key is_key partners x y).0 first) in
     let forth = (IsGraphOf-encryption key is_key y z).0 second in
     sym forth.1 ∙ back.1
-
--- and each block is taken to one that is taken back to it
-pub Enciphers-there_and_back : (key : List ℕ) → IsKey 8 key → ArePartners key key → (x : List ℕ) → IsBlock x
-    → (y : List ℕ) × (Enciphers key x y × Enciphers key y x)
-Enciphers-there_and_back key is_key partners x is_block =
-    let y : List ℕ = encryption key x in
-    let first : Enciphers key x y = (IsGraphOf-encryption key is_key x y).1 (is_block, refl) in
-    (y, (first, (Enciphers-partners key key is_key is_key partners x y).0 first))
 
 -- what a test that tells partners says besides
 pub told_by_partners : (result : Bool) (key partner : List ℕ) → IsKey 8 key → IsKey 8 partner → IsTrue result ↔ ArePartners key partner

@@ -1,13 +1,13 @@
 -- Partners by words: the words that hold the halves C and D of two keys tell whether the keys are partners.
-use Rattle.std.proofs.Common.{◌≡◌, ◌↔◌, ℕ, ◌^◌, ◌<◌, List, ◌++◌, Bool, length, take, drop, sym, ap, ap₂, ◌∙◌, arith, length-append, take_at, drop_at, take-append-drop}
+use Rattle.std.proofs.Common.{◌≡◌, ◌↔◌, ℕ, ◌^◌, ◌<◌, List, ◌++◌, Bool, length, take, drop, slice_index, sym, ap, ap₂, ◌∙◌, arith, length-append, take_at, drop_at, take-append-drop}
 use Rattle.std.specs.Int.{w64, from_be_bytes}
-use Rattle.std.proofs.Math.Nat.{mod-eq_of_lt}
+use Rattle.std.proofs.lemmas.List.Elements.{All-from_get_or}
 use Rattle.des.specs.Bits.{bits_of_word, bits_of_bytes, number_of, select, zeros}
 use Rattle.des.specs.Blocks.{IsKey}
 use Rattle.des.specs.Tables.{permuted_choice_1}
 use Rattle.des.specs.KeySchedule.{rotate, c_half, d_half}
 use Rattle.des.specs.KeyHalves.{ArePartners}
-use Rattle.des.specs.Laws.BitLists.{number_of-bits_of, bits_of_bytes-from_be}
+use Rattle.des.specs.Laws.BitLists.{number_of-bits_of_word, bits_of_bytes-from_be}
 use Rattle.des.specs.Laws.BlockBits.{slice_index-lt}
 use Rattle.des.specs.Laws.ComplementRounds.{length-rotate}
 use Rattle.des.proofs.Rotation.{rotate-rotate}
@@ -34,7 +34,7 @@ HoldsHalves-permuted_choice_1 key key_word word is_key same chosen =
 -- words are equal where their bits are
 same_word : (a b : ℕ) → a < 2 ^ 64 → b < 2 ^ 64 → bits_of_word a ≡ bits_of_word b → a ≡ b
 same_word a b a_small b_small same =
-    sym (number_of-bits_of 64 a ∙ mod-eq_of_lt a_small) ∙ ap number_of same ∙ number_of-bits_of 64 b ∙ mod-eq_of_lt b_small
+    sym (number_of-bits_of_word a a_small) ∙ ap number_of same ∙ number_of-bits_of_word b b_small
 
 -- two words that hold halves are equal exactly where the halves are
 same_halves : (a b : ℕ) (c d c_other d_other : List Bool) → a < 2 ^ 64 → b < 2 ^ 64 → length c ≡ 28 → length d ≡ 28
@@ -88,16 +88,20 @@ ArePartners-words key partner halves once twice other halves_small once_small tw
           record { repeats = (sym c_twice ∙ repeats.0, sym d_twice ∙ repeats.1); c_rotated = rotated.0; d_rotated = rotated.1 },
     )
 
--- the same of two keys as bytes, by what permuted choice 1 and the rotation by one make of their words
-pub ArePartners-by_words : (key partner : List ℕ) (key_word partner_word halves other once twice : ℕ) → IsKey 8 key → IsKey 8 partner
+-- the same of two keys of eight bytes, by what permuted choice 1 and the rotation by one make of their words
+pub ArePartners-by_words : (key partner : List ℕ) (key_word partner_word halves other once twice : ℕ)
+    → length key ≡ 8 → length partner ≡ 8 → ((i : ℕ) → slice_index key i < 256) → ((i : ℕ) → slice_index partner i < 256)
     → key_word ≡ from_be_bytes w64 key → partner_word ≡ from_be_bytes w64 partner
     → halves < 2 ^ 64 → once < 2 ^ 64 → twice < 2 ^ 64 → other < 2 ^ 64
     → bits_of_word halves ≡ select permuted_choice_1 (bits_of_word key_word) ++ zeros 8
     → bits_of_word other ≡ select permuted_choice_1 (bits_of_word partner_word) ++ zeros 8
     → Rotates halves once → Rotates once twice
-    → ArePartners key partner ↔ ((twice ≡ halves) × (other ≡ once))
-ArePartners-by_words key partner key_word partner_word halves other once twice is_key partner_is_key key_same partner_same
+    → IsKey 8 key × IsKey 8 partner × (ArePartners key partner ↔ ((twice ≡ halves) × (other ≡ once)))
+ArePartners-by_words key partner key_word partner_word halves other once twice eight partner_eight small partner_small key_same partner_same
     halves_small once_small twice_small other_small halves_chosen other_chosen rotates_once rotates_twice =
+    let is_key : IsKey 8 key = (eight, All-from_get_or (λ byte. byte < 256) key 0 (λ i within. small i)) in
+    let partner_is_key : IsKey 8 partner =
+    (partner_eight, All-from_get_or (λ byte. byte < 256) partner 0 (λ i within. partner_small i)) in
     let c : List Bool = c_half (bits_of_bytes key) in
     let d : List Bool = d_half (bits_of_bytes key) in
     let c_size : length c ≡ 28 = length-c_half (bits_of_bytes key) in
@@ -105,6 +109,9 @@ ArePartners-by_words key partner key_word partner_word halves other once twice i
     let holds : HoldsHalves halves c d = HoldsHalves-permuted_choice_1 key key_word halves is_key key_same halves_chosen in
     let holds_once : HoldsHalves once (rotate c 1) (rotate d 1) = rotates_once c d c_size d_size holds in
     let holds_twice : HoldsHalves twice (rotate (rotate c 1) 1) (rotate (rotate d 1) 1) =
-    rotates_twice (rotate c 1) (rotate d 1) (length-rotate c 1 ∙ c_size) (length-rotate d 1 ∙ d_size) holds_once in
-    ArePartners-words key partner halves once twice other halves_small once_small twice_small other_small holds holds_once holds_twice
-    (HoldsHalves-permuted_choice_1 partner partner_word other partner_is_key partner_same other_chosen)
+    rotates_twice (rotate c 1) (rotate d 1) (length-rotate c 1 ∙ c_size) (length-rotate d 1 ∙ d_size) holds_once in (
+      is_key,
+      partner_is_key,
+      ArePartners-words key partner halves once twice other halves_small once_small twice_small other_small holds holds_once holds_twice
+          (HoldsHalves-permuted_choice_1 partner partner_word other partner_is_key partner_same other_chosen),
+    )

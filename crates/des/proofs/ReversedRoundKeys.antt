@@ -58,7 +58,7 @@ other_places = map (λ place. 56 + place) (flat_map (λ places. places) schedule
 abbrev own_places : List ℕ
 own_places = flat_map (λ places. places) (reverse schedule_places)
 
--- from each of those to the one of these in its place
+-- from each place of the other halves to the place of the first halves whose bit the round keys have at the same spot
 abbrev links : List Link
 links = zip other_places own_places
 

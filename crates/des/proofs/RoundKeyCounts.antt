@@ -7,18 +7,17 @@ use Rattle.std.proofs.lemmas.Simd.{map-map}
 use Rattle.std.proofs.lemmas.List.Elements.{All-head, All-tail}
 use Rattle.std.proofs.lemmas.List.{map-id, length-take-le}
 use Rattle.std.proofs.lemmas.Bool.{and_parts, eqb-true, leb-true}
-use Rattle.std.proofs.Math.Nat.{mod-eq_of_lt}
 use Rattle.des.specs.Bits.{select, number_of, bits_of_word, zeros}
 use Rattle.des.specs.Tables.{permuted_choice_2}
 use Rattle.des.specs.KeySchedule.{c_half, d_half, rotate, key_schedule}
 use Rattle.des.specs.RoundKeyWords.{HoldRoundKeys, round_keys_of}
 use Rattle.des.specs.KeyHalves.{IsListedHalf}
-use Rattle.des.specs.Laws.BitLists.{number_of-bits_of}
+use Rattle.des.specs.Laws.BitLists.{number_of-bits_of_word}
 use Rattle.des.specs.Laws.HeldRoundKeys.{round_keys_of-HoldRoundKeys}
 use Rattle.des.proofs.RoundKeys.{length-c_half, length-d_half}
 use Rattle.des.proofs.DistinctCounts.{distinct_count-pos, distinct_count-map, copies_of_one}
 use Rattle.des.proofs.RoundKeyPlaces.{key_at, shifts, schedule_of_halves, key_schedule-halves}
-use Rattle.des.proofs.ConstantHalves.{constant_halves}
+use Rattle.des.proofs.ConstantHalves.{AreUnchanged, constant_halves}
 use Rattle.des.proofs.Repeating.{repeated, repeated_from_rotate, rotate_remainder, at_all_bits, at_bits}
 
 -- the word that holds a round key
@@ -30,9 +29,7 @@ numbers_of_bits : (words : List ℕ) → All (λ word. word < 2 ^ 64) words → 
 numbers_of_bits [] small = refl
 numbers_of_bits (word ∷ words) small =
     let P : ℕ → Type 0 = λ w. w < 2 ^ 64 in
-    let first : number_of (bits_of_word word) ≡ word =
-    number_of-bits_of 64 word ∙ mod-eq_of_lt (All-head P word words small) in
-    ap₂ ◌∷◌ first (numbers_of_bits words (All-tail P word words small))
+    ap₂ ◌∷◌ (number_of-bits_of_word word (All-head P word words small)) (numbers_of_bits words (All-tail P word words small))
 
 -- words that hold the round keys of a key are the words of the round keys that its halves give
 words_of_halves : (words : List ℕ) (key : List Bool) → All (λ word. word < 2 ^ 64) words → HoldRoundKeys words key
@@ -100,7 +97,7 @@ module _ (words : List ℕ) (key : List Bool) (small : All (λ word. word < 2 ^ 
   count-pos = rw count_of_halves (distinct_count-pos (map word_of (schedule_of_halves (c_half key) (d_half key))) (omega arith))
 
   -- where there is one, the halves are unchanged by rotation by one
-  constant_from_one : distinct_count nat_eq words ≡ 1 → (rotate (c_half key) 1 ≡ c_half key) × (rotate (d_half key) 1 ≡ d_half key)
+  constant_from_one : distinct_count nat_eq words ≡ 1 → AreUnchanged 1 (c_half key) (d_half key)
   unfolding round_keys_of
   constant_from_one one =
       let first : ℕ = word_of (key_at (c_half key) (d_half key) 1) in
@@ -117,12 +114,12 @@ module _ (words : List ℕ) (key : List Bool) (small : All (λ word. word < 2 ^ 
       rw count_of_halves (word_count-le n (c_half key) (d_half key) positive (length-c_half key) (length-d_half key) c_same d_same)
 
   -- there is one exactly where the halves are unchanged by rotation by one
-  pub one_round_key : (distinct_count nat_eq words ≡ 1) ↔ ((rotate (c_half key) 1 ≡ c_half key) × (rotate (d_half key) 1 ≡ d_half key))
+  pub one_round_key : (distinct_count nat_eq words ≡ 1) ↔ AreUnchanged 1 (c_half key) (d_half key)
   one_round_key = (constant_from_one, λ same. omega (arith, count-pos, count-le 1 (omega arith) same.0 same.1))
 
   -- there are two where they are unchanged by rotation by two, but not both by one
   pub two_round_keys : rotate (c_half key) 2 ≡ c_half key → rotate (d_half key) 2 ≡ d_half key
-      → ¬ ((rotate (c_half key) 1 ≡ c_half key) × (rotate (d_half key) 1 ≡ d_half key)) → distinct_count nat_eq words ≡ 2
+      → ¬ (AreUnchanged 1 (c_half key) (d_half key)) → distinct_count nat_eq words ≡ 2
   two_round_keys c_same d_same more =
       let not_one : ¬ (distinct_count nat_eq words ≡ 1) = λ one. more (constant_from_one one) in
       omega (arith, count-pos, not_one, count-le 2 (omega arith) c_same d_same)
@@ -133,7 +130,7 @@ module _ (words : List ℕ) (key : List Bool) (small : All (λ word. word < 2 ^ 
 
   -- there are four where rotation by two leaves each half unchanged or turns it into its complement, but not both unchanged
   pub four_round_keys : IsListedHalf (c_half key) → IsListedHalf (d_half key)
-      → ¬ ((rotate (c_half key) 2 ≡ c_half key) × (rotate (d_half key) 2 ≡ d_half key)) → distinct_count nat_eq words ≡ 4
+      → ¬ (AreUnchanged 2 (c_half key) (d_half key)) → distinct_count nat_eq words ≡ 4
   unfolding rotate select number_of
   four_round_keys c_listed d_listed more =
       let kept : Bool → Bool = λ b. b in

@@ -1,4 +1,5 @@
--- The round keys from the halves C and D, and the places in the two halves, 1 to 28 and 29 to 56, that each takes.
+-- The round keys from the halves C and D, and the places in the two halves, 1 to 28 and 29 to 56, that each takes. What
+-- a round key takes from the key itself is in `KeySelections`.
 use Rattle.std.proofs.Common.{◌≡◌, ℕ, ◌+◌, ◌-◌, ◌%◌, List, [], ◌∷◌, ◌++◌, Bool, if◌then◌else◌, nat_le, map, length, refl, ap, ◌∙◌, subst, arith, take, length-append}
 use Rattle.std.specs.List.{range_with_len}
 use Rattle.std.proofs.lemmas.List.{take_at, drop_at, take_all}
@@ -11,7 +12,7 @@ use Rattle.des.specs.Laws.Selections.{select-range_with_len}
 abbrev pub key_at : List Bool → List Bool → ℕ → List Bool
 key_at c d n = select permuted_choice_2 (rotate c n ++ rotate d n)
 
--- the left shifts before each round key, together
+-- the left shifts before each round key, together, written out so that places compute; `key_schedule-halves` compares them
 abbrev pub shifts : List ℕ
 shifts = 1 ∷ 2 ∷ 4 ∷ 6 ∷ 8 ∷ 10 ∷ 12 ∷ 14 ∷ 15 ∷ 17 ∷ 19 ∷ 21 ∷ 23 ∷ 25 ∷ 27 ∷ 28 ∷ []
 

@@ -75,7 +75,7 @@ value_on_walk value links here (there ∷ walk) position same walked among = eli
 ]
 
 -- a value that is the same at both ends of each link is the same at all positions of a walk
-pub walk_same : (value : ℕ → Bool) (links : List Link) (walk : List ℕ) → IsSameAlong value links → is_walk links walk ≡ true
+walk_same : (value : ℕ → Bool) (links : List Link) (walk : List ℕ) → IsSameAlong value links → is_walk links walk ≡ true
     → (here there : ℕ) → is_among walk here ≡ true → is_among walk there ≡ true → value here ≡ value there
 walk_same value links [] same walked here there among_here among_there = absurd (cc)
 walk_same value links (first ∷ walk) same walked here there among_here among_there =

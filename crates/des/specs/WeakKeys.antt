@@ -1,5 +1,5 @@
--- The keys that the weak key test refuses, as the Rust crate `des` lists them: those whose halves C and D repeat so
--- that a few round keys recur.
+-- The keys that the weak key test refuses: those with a listed part (the list of the Rust crate `des`, and the class that
+-- it is, whose halves C and D repeat so that a few round keys recur), and those with equal parts.
 use Rattle.std.specs.Prelude.{◌≡◌, ◌<◌, ◌≤◌, ◌*◌, ◌⊎◌, ℕ, List, [], ◌∷◌, length, map, Contains}
 use Rattle.std.specs.Int.{w64, to_be_bytes}
 use Rattle.des.specs.Blocks.{IsKey, part}

@@ -55,7 +55,8 @@ fn run_rounds<'a, I: Iterator<Item = &'a u64>>(block: &mut [u8; 8], round_keys: 
     *block = last_block(halves);
 }
 
-// How many different words there are: each is counted where it stands last.
+// How many different words there are: each is counted where it stands last. That they are words is
+// said too, since what is said of a `Des` does not tell it of its round keys.
 fn count_distinct(words: &[u64; 16]) -> u8
     ensures are_words { All (λ word. word < 2 ^ 64) words.now }
     ensures count { result ≡ distinct_count nat_eq words.now }
@@ -89,7 +90,8 @@ impl Des {
     /// bits of its word, with zeros after them (FIPS 46-3, key schedule). They do not tell the parity
     /// bits of the key; whoever has them has all its other bits.
     pub fn round_keys(&self) -> &[u64; 16]
-        ensures { (key : List ℕ) → IsDesOf self.now key
+        ensures words { result.now ≡ self.now.round_keys }
+        ensures held { (key : List ℕ) → IsDesOf self.now key
             → HoldRoundKeys result.now (bits_of_bytes key) }
     {
         &self.round_keys

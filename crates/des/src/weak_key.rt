@@ -1,5 +1,5 @@
-//! The weak key test: keys under which DES has few different round keys, and keys of triple DES that
-//! amount to fewer passes. And the parity bits of keys, which are no part of what a key does.
+//! The weak key test: keys under which DES has few different round keys, and keys with equal parts;
+//! the parity bits of keys, which are no part of what a key does; and keys that undo each other.
 
 ghost use Rattle.std.specs.Prelude.{◌≡◌, ◌↔◌, ◌⊎◌, ◌/◌, ◌%◌, ◌-◌, ◌≤◌, ◌++◌, ℕ, Bool, List, length, codes, Some, IsErr, IsTrue, count_ones};
 ghost use Rattle.std.specs.List.{All};

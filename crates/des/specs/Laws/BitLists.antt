@@ -1,5 +1,5 @@
 -- Numbers and bytes, and their lists of bits.
-use Rattle.std.proofs.Common.{◌≡◌, ℕ, zero, suc, ◌+◌, ◌*◌, ◌/◌, ◌%◌, ◌^◌, ◌<◌, ◌==◌, Bool, true, false, if◌then◌else◌, List, [], ◌∷◌, ◌++◌, length, slice_index, refl, ap, ap₂, sym, ◌∙◌, arith, suc-add, zero-add, add_comm, shr-shr, lt-suc_self, one-add, pow-suc, one-mul, zero-mul, length-append, mul-suc, div-one, pow-add}
+use Rattle.std.proofs.Common.{◌≡◌, ℕ, zero, suc, ◌+◌, ◌*◌, ◌/◌, ◌%◌, ◌^◌, ◌<◌, ◌==◌, Bool, true, false, if◌then◌else◌, List, [], ◌∷◌, ◌++◌, length, slice_index, refl, ap, ap₂, sym, ◌∙◌, arith, suc-add, zero-add, add_comm, shr-shr, lt-suc_self, one-add, pow-suc, one-mul, zero-mul, length-append, mul-suc, div-one, pow-add, mod-eq_of_lt}
 use Rattle.std.specs.Int.{bit_at, w64, to_be_bytes, from_be_bytes, byte_at, bytes_high_first}
 use Rattle.std.proofs.lemmas.Nat.{shr_split, shr_high, mod_low, mod-pow-add, be_bytes_8}
 use Rattle.std.proofs.lemmas.Nat.Bits.{bit_at-lt, bit_at_cat_low}
@@ -54,6 +54,10 @@ number_of-bits_of zero x = omega arith
 number_of-bits_of (suc n) x =
     rw (length-bits_of n x, number_of-bits_of n x, digit_worth (bit_at x n) (2 ^ n) (bit_at-lt x n), ← one-add n)
     (sym (mod-pow-add x 1 n))
+
+-- the bits of a word write it
+pub number_of-bits_of_word : (word : ℕ) → word < 2 ^ 64 → number_of (bits_of_word word) ≡ word
+number_of-bits_of_word word below = number_of-bits_of 64 word ∙ mod-eq_of_lt below
 
 -- a list of n bits writes a number below 2 ^ n
 pub number_of-lt : (bits : List Bool) → number_of bits < 2 ^ length bits
