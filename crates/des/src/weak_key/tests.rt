@@ -144,6 +144,7 @@ fn distinct(items: &[u64]) -> usize {
 #[test]
 fn lists_sixty_four_keys(rt: HostRuntime) {
     assert_eq!(rt; distinct(&WEAK_KEYS.map(u64::from_be_bytes)), 64);
+    assert_eq!(rt; crate::WEAK_KEYS, WEAK_KEYS);
     for (count, keys) in [(1, 4), (2, 12), (4, 48)] {
         let with_count = WEAK_KEYS.iter().filter(|key| round_keys_of(key) == count);
         assert_eq!(rt; with_count.count(), keys, "{count} round keys");
