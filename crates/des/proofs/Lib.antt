@@ -3,7 +3,10 @@ pub mod BitParts
 pub mod HalfWords
 pub mod Places
 pub mod LinearWords
+pub mod LinearTerms
 pub mod Permuting
+pub mod SwappedWords
+pub mod ExpandedWords
 pub mod Substitution
 pub mod Rotation
 pub mod RoundKeys

@@ -1,7 +1,7 @@
 -- The positions 1, 2, .. in order: what they select, and a word whose bits after them are zero.
 use Rattle.std.proofs.Common.{◌≡◌, ℕ, suc, ◌+◌, ◌-◌, ◌<◌, ◌≤◌, ◌==◌, ◌&&◌, nat_le, List, [], ◌∷◌, ◌++◌, Bool, true, false, length, take, drop, refl, sym, ap₂, ◌∙◌, sub-one, take-append-drop, arith}
 use Rattle.std.specs.List.{list_all, range_with_len}
-use Rattle.std.proofs.lemmas.List.{take_all, get_or-take, length-drop, length-replicate, ext_get_or, places}
+use Rattle.std.proofs.lemmas.List.{get_or-take, length-drop, length-replicate, ext_get_or, places}
 use Rattle.std.proofs.lemmas.List.FromFn.{get_or-range_with_len, length-range_with_len}
 use Rattle.std.proofs.lemmas.List.Folds.{list_any_none}
 use Rattle.std.proofs.lemmas.Bool.{ne_eqb}
@@ -25,7 +25,7 @@ drop-clear n m bits width clear =
     (λ i below. grind (arith, places, sub-one, clear (suc (n + i))))
 
 -- a word with some bits in its first n places, and zeros elsewhere
-pub bits_of_word-placed : (n word : ℕ) (chosen : List Bool) → n ≤ 64 → select (range_with_len 1 n) (bits_of_word word) ≡ chosen
+bits_of_word-placed : (n word : ℕ) (chosen : List Bool) → n ≤ 64 → select (range_with_len 1 n) (bits_of_word word) ≡ chosen
     → ((i : ℕ) → 1 ≤ i → i ≤ 64 → is_among (range_with_len 1 n) i ≡ false → bit (bits_of_word word) i ≡ false)
     → bits_of_word word ≡ chosen ++ zeros (64 - n)
 bits_of_word-placed n word chosen within moved clear =
@@ -35,12 +35,6 @@ bits_of_word-placed n word chosen within moved clear =
     let rest : drop n bits ≡ zeros (64 - n) =
     drop-clear n (64 - n) bits (omega arith) (λ i low high. clear i (omega arith) (omega arith) (is_among-range_with_len n i low)) in
     sym (take-append-drop n bits) ∙ ap₂ ◌++◌ front rest
-
--- all 64 positions select the whole word
-pub select-all_places : (word : ℕ) → select (range_with_len 1 64) (bits_of_word word) ≡ bits_of_word word
-select-all_places word =
-    let width : length (bits_of_word word) ≡ 64 = length-bits_of 64 word in
-    select-range_with_len 0 64 (bits_of_word word) (omega arith) ∙ take_all 64 (bits_of_word word) (omega arith)
 
 -- whether each is a position in n bits
 abbrev are_positions_in : ℕ → List ℕ → Bool
@@ -52,7 +46,7 @@ pub position_parts : (n position : ℕ) (positions : List ℕ) → are_positions
 position_parts n position positions inside = grind (arith, nat_tests)
 
 -- positions in n bits select from the first n
-select-take : (n : ℕ) (positions : List ℕ) (bits : List Bool) → are_positions_in n positions ≡ true
+pub select-take : (n : ℕ) (positions : List ℕ) (bits : List Bool) → are_positions_in n positions ≡ true
     → select positions (take n bits) ≡ select positions bits
 unfolding select
 select-take n [] bits inside = refl

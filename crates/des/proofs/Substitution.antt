@@ -1,14 +1,15 @@
--- The substitution box by box, with rows and columns as numbers.
-use Rattle.std.proofs.Common.{◌≡◌, ℕ, ◌+◌, ◌-◌, ◌*◌, ◌/◌, ◌%◌, ◌^◌, ◌<◌, nat_lt, List, [], ◌∷◌, ◌++◌, Bool, true, take, drop, slice_index, slice_index_or, bit_and, bit_or, refl, sym, ap, ap₂, ◌∙◌, arith}
+-- The substitution box by box, with the entries as the list of the boxes has them.
+use Rattle.std.proofs.Common.{◌≡◌, ℕ, ◌+◌, ◌-◌, ◌*◌, ◌/◌, ◌%◌, ◌^◌, ◌<◌, nat_lt, ◌==◌, List, [], ◌++◌, Bool, true, take, drop, slice_index, slice_index_or, bit_and, bit_or, refl, sym, ap, ◌∙◌, arith}
 use Rattle.std.specs.Int.Bits.{mask_lt}
-use Rattle.std.proofs.lemmas.Bool.{ltb-true, agree_below, agree_below_at}
-use Rattle.std.proofs.lemmas.Nat.{or_shifted, or_lt, and_le_r, shl_whole, pow-add}
+use Rattle.std.proofs.lemmas.Bool.{ltb-true, eqb-true, agree_below, agree_below_at}
+use Rattle.std.proofs.lemmas.Nat.{or_shifted, shl_whole, pow-add}
 use Rattle.std.proofs.lemmas.List.{append_assoc, drop-drop, drop-take, take-take, drop_more}
-use Rattle.des.specs.Bits.{bits_of, bits_of_word, number_of, bit}
-use Rattle.des.specs.Tables.{Box, selection_functions}
+use Rattle.des.specs.Bits.{bits_of, bits_of_word, number_of}
+use Rattle.des.specs.Tables.{selection_functions}
 use Rattle.des.specs.CipherFunction.{box_entry, substitute_by}
+use Rattle.des.specs.BoxesInOrder.{boxes_in_order}
 use Rattle.des.specs.Laws.BitLists.{bits_of-cat}
-use Rattle.des.proofs.BitParts.{bits_of-and_mask, take-bits_of, drop-bits_of, same_below}
+use Rattle.des.proofs.BitParts.{bits_of-and_mask, take-bits_of, drop-bits_of}
 
 -- the group of six bits of a word that box i replaces
 take-drop-bits_of_word : (i x : ℕ) → i < 8 → take 6 (drop (6 * i) (take 48 (bits_of_word x))) ≡ bits_of 6 (x / 2 ^ (58 - 6 * i))
@@ -38,46 +39,30 @@ substitute_by-drop i x below =
 abbrev pub group_of : ℕ → ℕ
 group_of x = bit_and x 63
 
--- the row of a box that a group chooses
-abbrev row_of : ℕ → ℕ
-row_of group = bit_or (bit_and (group / 16) 2) (bit_and group 1)
+-- the entry of box i for a group, as a number, as the list of the boxes has it
+abbrev listed_entry : ℕ → ℕ → ℕ
+listed_entry i group = slice_index (slice_index_or boxes_in_order i []) group
 
--- the column of a box that a group chooses
-abbrev column_of : ℕ → ℕ
-column_of group = bit_and (group / 2) 15
-
--- the row is one of four
-pub row_of-lt : (group : ℕ) → row_of group < 4
-row_of-lt group =
-    or_lt 2 (bit_and (group / 16) 2) (bit_and group 1) (omega (arith, and_le_r (group / 16) 2)) (omega (arith, and_le_r group 1))
-
--- the entry at a row and a column
-abbrev entry_at : Box → ℕ → ℕ → ℕ
-entry_at box row column = slice_index (slice_index_or box row []) column
-
--- the entry of a box for the lowest six bits of a number: the first and the last of them write its row, the others its column
-box_entry-bits_of : (box : Box) (x : ℕ) → box_entry box (bits_of 6 x) ≡ entry_at box (row_of (group_of x)) (column_of (group_of x))
-unfolding bits_of number_of box_entry
-box_entry-bits_of box x =
-    let row : ℕ → ℕ = λ y. let bits : List Bool = bits_of 6 y in number_of (bit bits 1 ∷ bit bits 6 ∷ []) in
-    let column : ℕ → ℕ = λ y. let bits : List Bool = bits_of 6 y in number_of (bit bits 2 ∷ bit bits 3 ∷ bit bits 4 ∷ bit bits 5 ∷ []) in
-    let within : group_of x < 64 = mask_lt x 6 in
-    ap (box_entry box) (sym (bits_of-and_mask 6 x))
-    ∙ ap₂ (entry_at box)
-    (same_below row (λ y. row_of y) 64 (group_of x) refl within)
-    (same_below column (λ y. column_of y) 64 (group_of x) refl within)
+-- it is the entry of the box for the group's six bits
+listed_entry-box_entry : (i x : ℕ) → i < 8
+    → box_entry (slice_index_or selection_functions i []) (bits_of 6 x) ≡ listed_entry i (group_of x)
+unfolding box_entry bits_of number_of
+listed_entry-box_entry i x below =
+    let agrees : ℕ → ℕ → Bool = λ j group. box_entry (slice_index_or selection_functions j []) (bits_of 6 group) == listed_entry j group in
+    let box_agrees : ℕ → Bool = λ j. agree_below (agrees j) (λ group. true) 64 in
+    let each : box_agrees i ≡ true = agree_below_at box_agrees (λ j. true) 8 i refl below in
+    ap (box_entry (slice_index_or selection_functions i [])) (sym (bits_of-and_mask 6 x))
+    ∙ eqb-true _ _ (agree_below_at (agrees i) (λ group. true) 64 (group_of x) each (mask_lt x 6))
 
 -- the entry of box i for a word
 abbrev pub entry_for : ℕ → ℕ → ℕ
-entry_for i x =
-    let group = group_of (x / 2 ^ (58 - 6 * i)) in
-    entry_at (slice_index_or selection_functions i []) (row_of group) (column_of group)
+entry_for i x = listed_entry i (group_of (x / 2 ^ (58 - 6 * i)))
 
 -- the entry of box i for a word is below 16
 entry_for-lt : (i x : ℕ) → i < 8 → entry_for i x < 16
+unfolding box_entry bits_of number_of
 entry_for-lt i x below =
-    let small : ℕ → ℕ → Bool = λ j group.
-    nat_lt (entry_at (slice_index_or selection_functions j []) (row_of group) (column_of group)) 16 in
+    let small : ℕ → ℕ → Bool = λ j group. nat_lt (listed_entry j group) 16 in
     let small_box : ℕ → Bool = λ j. agree_below (small j) (λ group. true) 64 in
     let each : small_box i ≡ true = agree_below_at small_box (λ j. true) 8 i refl below in
     let shifted : ℕ = x / 2 ^ (58 - 6 * i) in
@@ -112,7 +97,7 @@ bits_of-with_entry i x output whole within below so_far =
       count,
       bits_of-cat (4 * i) 4 output (entry_for i x) small,
       append_assoc,
-      ← box_entry-bits_of (slice_index_or selection_functions i []) (x / 2 ^ (58 - 6 * i)),
+      ← listed_entry-box_entry i (x / 2 ^ (58 - 6 * i)) within,
       ← substitute_by-drop i x within,
     )
     so_far

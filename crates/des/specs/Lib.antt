@@ -1,6 +1,9 @@
 pub mod Bits
 pub mod Tables
 pub mod CipherFunction
+pub mod SwapForms
+pub mod TermForms
+pub mod BoxesInOrder
 pub mod KeySchedule
 pub mod Blocks
 pub mod Relations

@@ -7,37 +7,14 @@ ghost use Rattle.std.specs.Prelude.{◌≡◌, ◌%◌, ◌^◌, ◌<◌, ◌≤
 ghost use Rattle.des.specs.Bits.{bits_of, bits_of_word, bit, select, zeros, xor_bits};
 ghost use Rattle.des.specs.Tables.{initial_permutation, permuted_choice_1, permuted_choice_2, expansion, permutation};
 ghost use Rattle.des.specs.CipherFunction.{substitute, cipher_function};
+ghost use Rattle.des.specs.SwapForms.{delta_swapped, swap_form_of_ip, swap_form_of_fp, swap_form_of_pc1};
+ghost use Rattle.des.specs.TermForms.{term_form_of_e};
+ghost use Rattle.des.specs.BoxesInOrder.{boxes_in_order};
 ghost use Rattle.des.specs.KeySchedule.{rotate};
 ghost use Rattle.des.specs.RoundKeyWords.{HoldRoundKeys};
 ghost use Rattle.des.specs.Positions.{are_positions, are_distinct, is_among};
 
-use crate::consts::{SBOX_ROWS, SHIFTS};
-
-// The initial permutation IP (FIPS 46-3, enciphering).
-#[rattlefmt::skip]
-const IP: [u8; 64] = [
-    58, 50, 42, 34, 26, 18, 10, 2,
-    60, 52, 44, 36, 28, 20, 12, 4,
-    62, 54, 46, 38, 30, 22, 14, 6,
-    64, 56, 48, 40, 32, 24, 16, 8,
-    57, 49, 41, 33, 25, 17, 9, 1,
-    59, 51, 43, 35, 27, 19, 11, 3,
-    61, 53, 45, 37, 29, 21, 13, 5,
-    63, 55, 47, 39, 31, 23, 15, 7,
-];
-
-// The bit selection table E (FIPS 46-3, cipher function).
-#[rattlefmt::skip]
-const E: [u8; 48] = [
-    32, 1, 2, 3, 4, 5,
-    4, 5, 6, 7, 8, 9,
-    8, 9, 10, 11, 12, 13,
-    12, 13, 14, 15, 16, 17,
-    16, 17, 18, 19, 20, 21,
-    20, 21, 22, 23, 24, 25,
-    24, 25, 26, 27, 28, 29,
-    28, 29, 30, 31, 32, 1,
-];
+use crate::consts::{SBOXES, SHIFTS};
 
 // The permutation P (FIPS 46-3, cipher function).
 #[rattlefmt::skip]
@@ -46,19 +23,6 @@ const P: [u8; 32] = [
     1, 15, 23, 26, 5, 18, 31, 10,
     2, 8, 24, 14, 32, 27, 3, 9,
     19, 13, 30, 6, 22, 11, 4, 25,
-];
-
-// Permuted choice 1 (FIPS 46-3, key schedule).
-#[rattlefmt::skip]
-const PC1: [u8; 56] = [
-    57, 49, 41, 33, 25, 17, 9,
-    1, 58, 50, 42, 34, 26, 18,
-    10, 2, 59, 51, 43, 35, 27,
-    19, 11, 3, 60, 52, 44, 36,
-    63, 55, 47, 39, 31, 23, 15,
-    7, 62, 54, 46, 38, 30, 22,
-    14, 6, 61, 53, 45, 37, 29,
-    21, 13, 5, 28, 20, 12, 4,
 ];
 
 // Permuted choice 2 (FIPS 46-3, key schedule).
@@ -106,18 +70,38 @@ fn permute(word: u64, sources: &[u8], targets: &[u8]) -> u64
     permuted
 }
 
+/// Exchanges the bits of `a` under `mask` with those `delta` places above them, for a mask where
+/// these do not overlap and do not leave the word. A bit shifted out of the 64 bits is dropped.
+pub fn delta_swap(a: u64, delta: u32, mask: u64) -> u64
+    requires { delta < 64 }
+    ensures { result ≡ delta_swapped a delta mask }
+{
+    let b = (a ^ (a >> delta)) & mask;
+    a ^ b ^ (b << delta)
+}
+
 /// The initial permutation IP of the 64 bits of `input` (FIPS 46-3, enciphering).
 pub fn ip(input: u64) -> u64
     ensures selected { bits_of_word result ≡ select initial_permutation (bits_of_word input) }
+    ensures swapped { result ≡ swap_form_of_ip input }
 {
-    permute(input, &IP, &PLACES)
+    let word = delta_swap(input, 9, 0x0055005500550055);
+    let word = delta_swap(word, 18, 0x0000333300003333);
+    let word = delta_swap(word, 36, 0x000000000f0f0f0f);
+    let word = delta_swap(word, 24, 0x00000000ff00ff00);
+    delta_swap(word, 24, 0x000000ff000000ff)
 }
 
 /// The final permutation: the word whose initial permutation is `input` (FIPS 46-3, enciphering).
 pub fn fp(input: u64) -> u64
     ensures selected { select initial_permutation (bits_of_word result) ≡ bits_of_word input }
+    ensures swapped { result ≡ swap_form_of_fp input }
 {
-    permute(input, &PLACES, &IP)
+    let output = delta_swap(input, 24, 0x000000ff000000ff);
+    let output = delta_swap(output, 24, 0x00000000ff00ff00);
+    let output = delta_swap(output, 36, 0x000000000f0f0f0f);
+    let output = delta_swap(output, 18, 0x0000333300003333);
+    delta_swap(output, 9, 0x0055005500550055)
 }
 
 /// The permuted choice 1 of a key of 64 bits (FIPS 46-3, key schedule): the halves C and D, of 28
@@ -125,8 +109,17 @@ pub fn fp(input: u64) -> u64
 pub fn pc1(key: u64) -> u64
     ensures selected { bits_of_word result
         ≡ select permuted_choice_1 (bits_of_word key) ++ zeros 8 }
+    ensures swapped { result ≡ swap_form_of_pc1 key }
 {
-    permute(key, &PC1, &PLACES[..56])
+    let halves = delta_swap(key, 2, 0x3333000033330000);
+    let halves = delta_swap(halves, 4, 0x0f0f0f0f00000000);
+    let halves = delta_swap(halves, 8, 0x009a000a00a200a8);
+    let halves = delta_swap(halves, 16, 0x00006c6c0000cccc);
+    let halves = delta_swap(halves, 1, 0x1045500500550550);
+    let halves = delta_swap(halves, 32, 0x00000000f0f0f5fa);
+    let halves = delta_swap(halves, 8, 0x00550055006a00aa);
+    let halves = delta_swap(halves, 2, 0x0000333330000300);
+    halves & 0xffffffffffffff00
 }
 
 /// The permuted choice 2 of the halves C and D in the first 56 bits of `halves`, whose other 8 bits
@@ -145,8 +138,18 @@ pub fn e(half_block: u64) -> u64
     requires { half_block % 2 ^ 32 ≡ 0 }
     ensures selected { bits_of_word result
         ≡ select expansion (take 32 (bits_of_word half_block)) ++ zeros 16 }
+    ensures terms { result ≡ term_form_of_e half_block }
 {
-    permute(half_block, &E, &PLACES[..48])
+    ((half_block << 31) & 0x8000000000000000)
+        | ((half_block >> 1) & 0x7c00000000000000)
+        | ((half_block >> 3) & 0x03f0000000000000)
+        | ((half_block >> 5) & 0x000fc00000000000)
+        | ((half_block >> 7) & 0x00003f0000000000)
+        | ((half_block >> 9) & 0x000000fc00000000)
+        | ((half_block >> 11) & 0x00000003f0000000)
+        | ((half_block >> 13) & 0x000000000fc00000)
+        | ((half_block >> 15) & 0x00000000003e0000)
+        | ((half_block >> 47) & 0x0000000000010000)
 }
 
 /// The permutation P of the first 32 bits of `input`, whose other 32 bits are zero (FIPS 46-3,
@@ -162,14 +165,14 @@ pub fn p(input: u64) -> u64
 /// The substitution of the first 48 bits of `input` by the boxes S1 to S8 (FIPS 46-3, S-boxes), in
 /// the first 32 bits. The low 16 bits of `input` do not count.
 pub fn apply_sboxes(input: u64) -> u64
-    ensures { bits_of_word result ≡ substitute (take 48 (bits_of_word input)) ++ zeros 32 }
+    ensures boxes { SBOXES ≡ boxes_in_order }
+    ensures substituted { bits_of_word result
+        ≡ substitute (take 48 (bits_of_word input)) ++ zeros 32 }
 {
     let mut output = 0;
-    for (i, sbox) in SBOX_ROWS.iter().enumerate() {
+    for (i, sbox) in SBOXES.iter().enumerate() {
         let group = (input >> (58 - 6 * i)) & 0x000000000000003f;
-        let row = ((group >> 4) & 0x0000000000000002) | (group & 0x0000000000000001);
-        let column = (group >> 1) & 0x000000000000000f;
-        output = (output << 4) | u64::from(sbox[row as usize][column as usize]);
+        output = (output << 4) | u64::from(sbox[group as usize]);
     }
     output << 32
 }

@@ -17,6 +17,29 @@ fn first_steps(rt: HostRuntime) {
     assert_eq!(rt; fp(0x0a4cd99543423234), 0x85e813540f0ab405);
 }
 
+// Single bits, and all of them.
+#[test]
+fn bits_of_permutations(rt: HostRuntime) {
+    assert_eq!(rt; ip(0x8000000000000000), 0x0000000001000000);
+    assert_eq!(rt; fp(0x0000000001000000), 0x8000000000000000);
+    assert_eq!(rt; pc1(0x0101010101010101), 0x0000000000000000);
+    assert_eq!(rt; pc1(0xffffffffffffffff), 0xffffffffffffff00);
+    assert_eq!(rt; e(0x8000000000000000), 0x4000000000010000);
+    assert_eq!(rt; e(0x0000000100000000), 0x8000000000020000);
+}
+
+#[test]
+fn one_exchange(rt: HostRuntime) {
+    assert_eq!(rt; delta_swap(1, 1, 1), 2);
+    assert_eq!(rt; delta_swap(1, 63, 1), 0x8000000000000000);
+}
+
+// Row 0 and column 12 of S1.
+#[test]
+fn an_entry_of_a_box(rt: HostRuntime) {
+    assert_eq!(rt; SBOXES[0][24], 5);
+}
+
 #[test]
 fn round_keys(rt: HostRuntime) {
     let keys = gen_keys(0x133457799bbcdff1);

@@ -1,8 +1,5 @@
-use Rattle.std.proofs.Common.{arith, refl}
-use Rattle.des.proofs.Places.{bits_of_word-placed_from}
+use Rattle.des.proofs.ExpandedWords.{bits_of_word-term_form_of_e}
 use Rattle.des.proofs.utils.e.Goals as goal
 
-pub returns : goal.returns
-returns c = record {
-  selected = bits_of_word-placed_from 32 48 _ _ _ (omega arith) refl c.permute.ensures.moved c.permute.ensures.zero_elsewhere;
-}
+pub returns-clause-selected : goal.returns-clause-selected
+returns-clause-selected c = bits_of_word-term_form_of_e c.args.half_block c.ranges.half_block.fits
