@@ -3,6 +3,9 @@ pub mod BitParts
 pub mod HalfWords
 pub mod Places
 pub mod LinearWords
+pub mod LinearUnder
+pub mod Gathers
+pub mod ChoiceTerms
 pub mod Permuting
 pub mod Substitution
 pub mod Rotation

@@ -43,7 +43,7 @@ select-all_places word =
     select-range_with_len 0 64 (bits_of_word word) (omega arith) ∙ take_all 64 (bits_of_word word) (omega arith)
 
 -- whether each is a position in n bits
-abbrev are_positions_in : ℕ → List ℕ → Bool
+abbrev pub are_positions_in : ℕ → List ℕ → Bool
 are_positions_in n positions = list_all (λ position. nat_le 1 position && nat_le position n) positions
 
 -- what the test of positions says of the first, and of the rest
@@ -52,7 +52,7 @@ pub position_parts : (n position : ℕ) (positions : List ℕ) → are_positions
 position_parts n position positions inside = grind (arith, nat_tests)
 
 -- positions in n bits select from the first n
-select-take : (n : ℕ) (positions : List ℕ) (bits : List Bool) → are_positions_in n positions ≡ true
+pub select-take : (n : ℕ) (positions : List ℕ) (bits : List Bool) → are_positions_in n positions ≡ true
     → select positions (take n bits) ≡ select positions bits
 unfolding select
 select-take n [] bits inside = refl

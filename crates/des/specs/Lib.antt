@@ -14,4 +14,5 @@ pub mod Parity
 pub mod KeyHalves
 pub mod WeakKeys
 pub mod Positions
+pub mod TermForms
 pub mod Laws
