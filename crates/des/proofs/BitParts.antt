@@ -53,7 +53,7 @@ mod-zeros m n x front size same =
     rw (← number_of-bits_of n x, ← drop-bits_of m n x, same, last, ← bits_of-zero n, number_of-bits_of n 0) (omega (arith, pow_pos n))
 
 -- a shift to the left by k places in j + k bits keeps the lowest j bits
-shl-mod : (j k x : ℕ) → x * 2 ^ k % 2 ^ (j + k) ≡ x % 2 ^ j * 2 ^ k
+pub shl-mod : (j k x : ℕ) → x * 2 ^ k % 2 ^ (j + k) ≡ x % 2 ^ j * 2 ^ k
 shl-mod j k x = rw (mod-pow-add (x * 2 ^ k) j k, shl-shr x k, mul-mod_left x (2 ^ k)) (add-zero (x % 2 ^ j * 2 ^ k))
 
 -- a number of n bits put in the place that a shift to the left made

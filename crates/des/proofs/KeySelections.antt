@@ -11,7 +11,7 @@ use Rattle.des.specs.Tables.{permuted_choice_1, permuted_choice_2, left_shifts}
 use Rattle.des.specs.KeySchedule.{c_half, d_half, rotate, shifts_through, round_key, key_schedule}
 use Rattle.des.specs.Blocks.{IsKey}
 use Rattle.des.specs.Parity.{AgreeOutsideParity}
-use Rattle.des.specs.Positions.{is_among}
+use Rattle.des.proofs.Places.{is_among}
 use Rattle.des.specs.Laws.Selections.{composed, select-select}
 use Rattle.des.specs.Laws.BlockBits.{length-bits_of_block}
 

@@ -3,10 +3,10 @@ pub mod BitParts
 pub mod HalfWords
 pub mod Places
 pub mod LinearWords
-pub mod LinearTerms
-pub mod Permuting
+pub mod LinearUnder
+pub mod Gathers
+pub mod TermSelections
 pub mod SwappedWords
-pub mod ExpandedWords
 pub mod Substitution
 pub mod Rotation
 pub mod RoundKeys

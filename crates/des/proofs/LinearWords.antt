@@ -1,8 +1,8 @@
 -- Linear maps of words, which take the xor of two words to the xor of their images: masks, shifts and what is made of
 -- them. Such a map selects bits by a list of positions where it does so for the words with one bit.
-use Rattle.std.proofs.Common.{◌≡◌, ℕ, zero, suc, ◌+◌, ◌-◌, ◌*◌, ◌/◌, ◌%◌, ◌^◌, ◌<◌, min, Bool, false, List, [], ◌∷◌, ◌++◌, map, length, get_or, bit_and, bit_or, bit_xor, refl, ap, ap₂, sym, ◌∙◌, arith, add-zero, zero-add, one-mul, pow_pos, pow-suc, inl, inr}
+use Rattle.std.proofs.Common.{◌≡◌, ℕ, zero, suc, ◌+◌, ◌-◌, ◌*◌, ◌/◌, ◌%◌, ◌^◌, ◌<◌, min, Bool, false, List, [], ◌∷◌, ◌++◌, map, length, get_or, bit_and, bit_xor, refl, ap, ap₂, sym, ◌∙◌, arith, add-zero, zero-add, one-mul, pow_pos, pow-suc, inl, inr}
 use Rattle.std.specs.Int.{bit_at}
-use Rattle.std.specs.Int.Bits.{xor_disjoint, or_add_and, xor_shifted}
+use Rattle.std.specs.Int.Bits.{xor_shifted}
 use Rattle.std.specs.List.{range_with_len}
 use Rattle.std.proofs.lemmas.List.{get_or-map}
 use Rattle.std.proofs.lemmas.List.FromFn.{get_or-map-range_with_len, length-map-range_with_len}
@@ -86,24 +86,6 @@ and-masked a b m n apart =
     (λ i.
     let none : min (bit_at m i) (bit_at n i) ≡ 0 = sym (bit_at_and m n i) ∙ ap (λ y. bit_at y i) apart ∙ bit_at-zero i in
     simp (bit_at_and, bit_at-zero) (omega (arith, none)))
-
--- the or of words under masks that share no bit is their xor
-pub or-masked : (a b m n : ℕ) → bit_and m n ≡ 0 → bit_or (bit_and a m) (bit_and b n) ≡ bit_xor (bit_and a m) (bit_and b n)
-or-masked a b m n apart =
-    let none = and-masked a b m n apart in
-    omega (arith, none, or_add_and (bit_and a m) (bit_and b n), xor_disjoint (bit_and a m) (bit_and b n) none)
-
--- the or of two linear maps under masks that share no bit is linear
-pub IsLinear-or : {f g : ℕ → ℕ} → (m n : ℕ) → bit_and m n ≡ 0 → IsLinear f → IsLinear g
-    → IsLinear (λ x. bit_or (bit_and (f x) m) (bit_and (g x) n))
-IsLinear-or {f} {g} m n apart first second =
-    let both = IsLinear-xor (IsLinear-mask m first) (IsLinear-mask n second) in
-    record {
-      sums = λ a b.
-          or-masked (f (bit_xor a b)) (g (bit_xor a b)) m n apart
-          ∙ both.sums a b
-          ∙ sym (ap₂ bit_xor (or-masked (f a) (g a) m n apart) (or-masked (f b) (g b) m n apart));
-    }
 
 -- ---- the bits that a linear map selects
 

@@ -3,7 +3,8 @@ use Rattle.std.proofs.Common.{◌≡◌, ℕ, ◌*◌, ◌/◌, ◌%◌, ◌^◌
 use Rattle.std.specs.List.{range_with_len}
 use Rattle.des.specs.Bits.{bits_of, bits_of_word, zeros, select}
 use Rattle.des.specs.KeySchedule.{rotate}
-use Rattle.des.proofs.LinearWords.{IsLinear-id, IsLinear-shl, IsLinear-shr, IsLinear-or, select-from_units}
+use Rattle.des.proofs.LinearWords.{IsLinear-id, IsLinear-shl, IsLinear-shr, select-from_units}
+use Rattle.des.proofs.LinearUnder.{IsLinearUnder-mask, IsLinearUnder-or}
 use Rattle.des.proofs.RoundKeyPlaces.{from_places}
 
 -- both halves of a word, rotated
@@ -20,7 +21,8 @@ rotated_halves-select : (x : ℕ) → x < 2 ^ 64
 unfolding bits_of select
 rotated_halves-select =
     select-from_units rotated_halves rotated_positions 8
-    (IsLinear-or 0xffffffeffffffe00 0x0000001000000100 refl (IsLinear-shl 1 IsLinear-id) (IsLinear-shr 27 IsLinear-id))
+    (IsLinearUnder-or (IsLinearUnder-mask 0xffffffeffffffe00 (IsLinear-shl 1 IsLinear-id))
+    (IsLinearUnder-mask 0x0000001000000100 (IsLinear-shr 27 IsLinear-id)) refl).linear
     refl
 
 -- what the positions select from two halves is the halves, rotated

@@ -3,7 +3,7 @@ use Rattle.std.proofs.Common.{◌≡◌, ℕ, ◌==◌, ◌&&◌, ◌||◌, List
 use Rattle.std.specs.List.{All, zip, list_all, list_any}
 use Rattle.std.proofs.lemmas.List.Elements.{All-nil, All-cons, All-head, All-tail}
 use Rattle.std.proofs.lemmas.Bool.{eqb-true, and_parts, or_cases}
-use Rattle.des.specs.Positions.{is_among}
+use Rattle.des.proofs.Places.{is_among}
 
 -- a link: a pair of positions
 abbrev pub Link : Type 0

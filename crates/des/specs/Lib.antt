@@ -16,5 +16,4 @@ pub mod Complement
 pub mod Parity
 pub mod KeyHalves
 pub mod WeakKeys
-pub mod Positions
 pub mod Laws

@@ -3,72 +3,17 @@
 //! A word stands for 64 bits, bit 1 the most significant. A shorter list of bits stands in the
 //! first bits of a word, with zeros after it.
 
-ghost use Rattle.std.specs.Prelude.{◌≡◌, ◌%◌, ◌^◌, ◌<◌, ◌≤◌, ◌++◌, ℕ, length, take, drop, IsTrue, IsFalse, false};
-ghost use Rattle.des.specs.Bits.{bits_of, bits_of_word, bit, select, zeros, xor_bits};
+ghost use Rattle.std.specs.Prelude.{◌≡◌, ◌%◌, ◌^◌, ◌<◌, ◌≤◌, ◌++◌, take, drop};
+ghost use Rattle.des.specs.Bits.{bits_of, bits_of_word, select, zeros, xor_bits};
 ghost use Rattle.des.specs.Tables.{initial_permutation, permuted_choice_1, permuted_choice_2, expansion, permutation};
 ghost use Rattle.des.specs.CipherFunction.{substitute, cipher_function};
 ghost use Rattle.des.specs.SwapForms.{delta_swapped, swap_form_of_ip, swap_form_of_fp, swap_form_of_pc1};
-ghost use Rattle.des.specs.TermForms.{term_form_of_e};
+ghost use Rattle.des.specs.TermForms.{gathered, term_form_of_e, term_form_of_pc2, term_form_of_p};
 ghost use Rattle.des.specs.BoxesInOrder.{boxes_in_order};
 ghost use Rattle.des.specs.KeySchedule.{rotate};
 ghost use Rattle.des.specs.RoundKeyWords.{HoldRoundKeys};
-ghost use Rattle.des.specs.Positions.{are_positions, are_distinct, is_among};
 
 use crate::consts::{SBOXES, SHIFTS};
-
-// The permutation P (FIPS 46-3, cipher function).
-#[rattlefmt::skip]
-const P: [u8; 32] = [
-    16, 7, 20, 21, 29, 12, 28, 17,
-    1, 15, 23, 26, 5, 18, 31, 10,
-    2, 8, 24, 14, 32, 27, 3, 9,
-    19, 13, 30, 6, 22, 11, 4, 25,
-];
-
-// Permuted choice 2 (FIPS 46-3, key schedule).
-#[rattlefmt::skip]
-const PC2: [u8; 48] = [
-    14, 17, 11, 24, 1, 5,
-    3, 28, 15, 6, 21, 10,
-    23, 19, 12, 4, 26, 8,
-    16, 7, 27, 20, 13, 2,
-    41, 52, 31, 37, 47, 55,
-    30, 40, 51, 45, 33, 48,
-    44, 49, 39, 56, 34, 53,
-    46, 42, 50, 36, 29, 32,
-];
-
-// The positions of a word's bits, in order.
-#[rattlefmt::skip]
-const PLACES: [u8; 64] = [
-    1, 2, 3, 4, 5, 6, 7, 8,
-    9, 10, 11, 12, 13, 14, 15, 16,
-    17, 18, 19, 20, 21, 22, 23, 24,
-    25, 26, 27, 28, 29, 30, 31, 32,
-    33, 34, 35, 36, 37, 38, 39, 40,
-    41, 42, 43, 44, 45, 46, 47, 48,
-    49, 50, 51, 52, 53, 54, 55, 56,
-    57, 58, 59, 60, 61, 62, 63, 64,
-];
-
-// The word whose bit `targets[i]` is bit `sources[i]` of `word`, for each i, and whose other bits
-// are zero.
-fn permute(word: u64, sources: &[u8], targets: &[u8]) -> u64
-    requires same_length { length sources.now ≡ length targets.now }
-    requires sources_in_word { IsTrue (are_positions sources.now) }
-    requires targets_in_word { IsTrue (are_positions targets.now) }
-    requires targets_distinct { IsTrue (are_distinct targets.now) }
-    ensures moved { select targets.now (bits_of_word result)
-        ≡ select sources.now (bits_of_word word) }
-    ensures zero_elsewhere { (i : ℕ) → 1 ≤ i → i ≤ 64 → IsFalse (is_among targets.now i)
-        → bit (bits_of_word result) i ≡ false }
-{
-    let mut permuted = 0;
-    for (&source, &target) in sources.iter().zip(targets) {
-        permuted |= ((word >> (64 - source)) & 1) << (64 - target);
-    }
-    permuted
-}
 
 /// Exchanges the bits of `a` under `mask` with those `delta` places above them, for a mask where
 /// these do not overlap and do not leave the word. A bit shifted out of the 64 bits is dropped.
@@ -122,14 +67,36 @@ pub fn pc1(key: u64) -> u64
     halves & 0xffffffffffffff00
 }
 
+// The bits of `word` under `mask`, moved by several distances at once: the product with a sum of
+// powers of two is the sum of copies that each of them shifts, and its bits under `kept` stay.
+#[inline]
+fn gather(word: u64, mask: u64, factor: u64, kept: u64) -> u64
+    ensures { result ≡ gathered word mask factor kept }
+{
+    (word & mask).wrapping_mul(factor) & kept
+}
+
 /// The permuted choice 2 of the halves C and D in the first 56 bits of `halves`, whose other 8 bits
 /// are zero (FIPS 46-3, key schedule): a round key, in the first 48 bits.
+#[rattlefmt::skip]
 pub fn pc2(halves: u64) -> u64
     requires { halves % 2 ^ 8 ≡ 0 }
     ensures selected { bits_of_word result
         ≡ select permuted_choice_2 (take 56 (bits_of_word halves)) ++ zeros 16 }
+    ensures terms { result ≡ term_form_of_pc2 halves }
 {
-    permute(halves, &PC2, &PLACES[..48])
+    // In the second and the last call of `gather` copies can meet and carry, but into no bit kept.
+    let word = halves.rotate_left(61);
+    ((word & 0x0021000002000000) >> 7)
+        | ((word & 0x0008020010080000) << 1)
+        | (word & 0x0002200000000000)
+        | ((word & 0x0000000000100020) << 19)
+        | gather(word.rotate_left(54), 0x0005312400000011, 0x0000000094200201, 0xea40100880000000)
+        | gather(word.rotate_left(7), 0x0022110000012001, 0x0001000000610006, 0x1185004400000000)
+        | gather(word.rotate_left(6), 0x0000520040200002, 0x00000080000000c1, 0x0028811000200000)
+        | gather(word, 0x01000004c0011100, 0x0000000000004284, 0x0400082244400000)
+        | gather(word.rotate_left(60), 0x0000000000820280, 0x0000000000089001, 0x0000000110880000)
+        | gather(word.rotate_left(49), 0x0000000000024084, 0x0000000002040005, 0x000000000a030000)
 }
 
 /// The expansion E of the half block in the first 32 bits of `half_block`, whose other 32 bits are
@@ -154,12 +121,24 @@ pub fn e(half_block: u64) -> u64
 
 /// The permutation P of the first 32 bits of `input`, whose other 32 bits are zero (FIPS 46-3,
 /// cipher function), in the first 32 bits.
+#[rattlefmt::skip]
 pub fn p(input: u64) -> u64
     requires { input % 2 ^ 32 ≡ 0 }
     ensures selected { bits_of_word result
         ≡ select permutation (take 32 (bits_of_word input)) ++ zeros 32 }
+    ensures terms { result ≡ term_form_of_p input }
 {
-    permute(input, &P, &PLACES[..32])
+    let word = input.rotate_left(44);
+    ((word & 0x0000000000200000) << 32)
+        | ((word & 0x0000000000480000) << 13)
+        | ((word & 0x0000088000000000) << 12)
+        | ((word & 0x0000002020120000) << 25)
+        | ((word & 0x0000000442000000) << 14)
+        | ((word & 0x0000000001800000) << 37)
+        | ((word & 0x0000000004000000) << 24)
+        | gather(word, 0x0000020280015000, 0x0000020080800083, 0x02000a6400000000)
+        | gather(word.rotate_left(29), 0x01001400000000aa, 0x0000210210008081, 0x0902c01200000000)
+        | gather(word, 0x0000000910040000, 0x0000000c04000020, 0x8410010000000000)
 }
 
 /// The substitution of the first 48 bits of `input` by the boxes S1 to S8 (FIPS 46-3, S-boxes), in

@@ -46,3 +46,18 @@ fn round_keys(rt: HostRuntime) {
     assert_eq!(rt; keys[0], 0x1b02effc70720000);
     assert_eq!(rt; keys[15], 0xcb3d8b0e17f50000);
 }
+
+// Permuted choice 2 where several partial products fall on one place, and where a bit is dropped.
+#[test]
+fn partial_products_meet(rt: HostRuntime) {
+    assert_eq!(rt; pc2(0xffffffffffffff00), 0xffffffffffff0000);
+    assert_eq!(rt; pc2(0x0000001000000200), 0x0100000400000000);
+    assert_eq!(rt; pc2(0x0000001000000000), 0x0100000000000000);
+    assert_eq!(rt; pc2(0x0000000102000000), 0x0000000002010000);
+    assert_eq!(rt; pc2(0x0080000000000000), 0);
+}
+
+#[test]
+fn first_bit_permuted(rt: HostRuntime) {
+    assert_eq!(rt; p(0x8000000000000000), 0x0080000000000000);
+}

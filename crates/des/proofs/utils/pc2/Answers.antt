@@ -1,8 +1,29 @@
-use Rattle.std.proofs.Common.{arith, refl}
-use Rattle.des.proofs.Places.{bits_of_word-placed_from}
+use Rattle.std.proofs.Common.{refl, ap, ◌∙◌}
+use Rattle.des.specs.Bits.{bits_of_word}
+use Rattle.des.specs.TermForms.{term_form_of_pc2}
+use Rattle.des.proofs.TermSelections.{term_form_of_pc2-select}
 use Rattle.des.proofs.utils.pc2.Goals as goal
 
-pub returns : goal.returns
-returns c = record {
-  selected = bits_of_word-placed_from 56 48 _ _ _ (omega arith) refl c.permute.ensures.moved c.permute.ensures.zero_elsewhere;
-}
+-- the body is the terms, and they make the selection
+pub returns-clause-terms : goal.returns-clause-terms
+unfolding term_form_of_pc2
+returns-clause-terms c =
+    rw (
+      c.gather.ensures,
+      c.gather-2.ensures,
+      c.gather-3.ensures,
+      c.gather-4.ensures,
+      c.gather-5.ensures,
+      c.gather-6.ensures,
+      c.rotate_left.ensures,
+      c.rotate_left-2.ensures,
+      c.rotate_left-3.ensures,
+      c.rotate_left-4.ensures,
+      c.rotate_left-5.ensures,
+      c.rotate_left-word.ensures,
+    )
+    refl
+
+pub returns-clause-selected : goal.returns-clause-selected
+returns-clause-selected c =
+    ap bits_of_word (returns-clause-terms c) ∙ term_form_of_pc2-select c.args.halves c.ranges.halves.fits c.requires
