@@ -1,8 +1,10 @@
 -- Ciphers that keep the laws and hide nothing, for generic code: what they answer, and the lemmas that their laws stand on.
-use Rattle.std.proofs.Common.{◌≡◌, ℕ, ◌%◌, ◌^◌, ◌<◌, List, refl, arith, bit_xor, mod-eq_of_lt}
+use Rattle.std.proofs.Common.{◌≡◌, ℕ, ◌%◌, ◌^◌, ◌<◌, ◌-◌, List, length, reverse, refl, ◌∙◌, arith, bit_xor, mod-eq_of_lt}
 use Rattle.std.specs.Int.{w64, to_be_bytes, from_be_bytes}
 use Rattle.std.specs.Int.Bits.{xor_self, xor_assoc, xor_zero_r}
 use Rattle.std.proofs.lemmas.Nat.{xor_lt, from_be_bytes-to_be_bytes_8}
+use Rattle.std.proofs.lemmas.List.{length-reverse, get_or-reverse}
+use Rattle.std.proofs.lemmas.List.Elements.{All-from_get_or}
 use Rattle.des.specs.Blocks.{IsBlock}
 use Rattle.des.specs.Laws.BlockBits.{IsBlock-to_be_bytes, from_be_bytes-lt, to_be_bytes-from_be_bytes}
 
@@ -31,3 +33,12 @@ pub xored-words : (key block : List ℕ) (k b : ℕ) → k < 2 ^ 64 → k ≡ fr
     → to_be_bytes w64 (bit_xor b k) ≡ xored key block
 unfolding xored
 xored-words key block k b below k_same b_same = rw (← b_same, ← k_same, mod-eq_of_lt below) refl
+
+-- the bytes of a block in the opposite order are a block
+pub IsBlock-reverse : (block : List ℕ) → IsBlock block → IsBlock (reverse block)
+IsBlock-reverse block is_block =
+    let count : length (reverse block) ≡ length block = length-reverse block in (
+      count ∙ is_block.0,
+      All-from_get_or (λ byte. byte < 256) (reverse block) 0 (λ i within.
+          rw (get_or-reverse block i 0 (omega (arith, count))) (is_block.1 (length block - 1 - i) 0 (omega (arith, count)))),
+    )

@@ -5,3 +5,4 @@
 pub mod check_value;
 pub mod complements;
 pub mod odd_ciphers;
+pub mod there_and_back;
