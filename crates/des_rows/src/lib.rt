@@ -4,4 +4,6 @@
 
 pub mod check_value;
 pub mod complements;
+#[cfg(test)]
+mod hostile;
 pub mod odd_ciphers;
