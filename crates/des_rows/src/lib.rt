@@ -4,5 +4,7 @@
 
 pub mod check_value;
 pub mod complements;
+#[cfg(test)]
+mod hostile;
 pub mod odd_ciphers;
 pub mod there_and_back;

@@ -1,0 +1,109 @@
+//! What `answer` makes of blocks, against outside answers.
+
+use super::*;
+use std::test::Fail;
+
+// A cipher, its key, a plaintext, and the ciphertext: the worked example of J. Orlin Grabbe, "The DES
+// Algorithm Illustrated", which keys of equal parts answer too; FIPS 81, appendix B, "Now is the time
+// for all "; and NIST Special Publication 800-67, appendix B, "The qufck brown fox jump", whose
+// answers by the other triple ciphers are OpenSSL's: of `des-ede` for `ede2`, and of three runs of
+// DES for the EEE forms.
+const ANSWERS: [(&str, &str, &str, &str); 9] = [
+    (
+        "des",
+        "133457799BBCDFF1",
+        "0123456789ABCDEF",
+        "85e813540f0ab405",
+    ),
+    (
+        "des",
+        "133457799bbcdff1",
+        "0123456789abcdef",
+        "85e813540f0ab405",
+    ),
+    (
+        "des",
+        "133457799BBCDFF1",
+        "0123456789ABCDEF0123456789aBcDeF",
+        "85e813540f0ab40585e813540f0ab405",
+    ),
+    (
+        "des",
+        "0123456789ABCDEF",
+        "4e6f77206973207468652074696d6520666f7220616c6c20",
+        "3fa40e8a984d48156a271787ab8883f9893d51ec4b563b53",
+    ),
+    (
+        "ede3",
+        "0123456789abcdef23456789abcdef01456789abcdef0123",
+        "54686520717566636b2062726f776e20666f78206a756d70",
+        "a826fd8ce53b855fcce21c8112256fe668d5c05dd9b6b900",
+    ),
+    (
+        "eee3",
+        "0123456789abcdef23456789abcdef01456789abcdef0123",
+        "54686520717566636b2062726f776e20666f78206a756d70",
+        "ce2719ff408a7afac3f4683ad32c6b5bec6ad3d6da9dc9b3",
+    ),
+    (
+        "ede2",
+        "0123456789abcdef23456789abcdef01",
+        "54686520717566636b2062726f776e20666f78206a756d70",
+        "c44862f70cf2fbdc9077d0909fa91b884cabd61fc58e0cbb",
+    ),
+    (
+        "eee2",
+        "0123456789abcdef23456789abcdef01",
+        "54686520717566636b2062726f776e20666f78206a756d70",
+        "500013533151e90c7314612fb856088e28b61bd250fe2d39",
+    ),
+    (
+        "ede2",
+        "133457799bbcdff1133457799bbcdff1",
+        "0123456789abcdef",
+        "85e813540f0ab405",
+    ),
+];
+
+#[test]
+fn encrypts_blocks(rt: HostRuntime) -> Result<(), Fail> {
+    for (cipher, key, plaintext, ciphertext) in ANSWERS {
+        let text = answer(rt.alloc(), &[cipher, "encrypt", key, plaintext])?;
+        let (newline, digits) = text.as_slice().split_last().ok_or("no newline")?;
+        assert_eq!(rt; *newline, b'\n');
+        assert_eq!(rt; digits, ciphertext.as_bytes(), "{cipher}");
+    }
+    Ok(())
+}
+
+#[test]
+fn decrypts_blocks(rt: HostRuntime) -> Result<(), Fail> {
+    for (cipher, key, plaintext, ciphertext) in ANSWERS {
+        let text = answer(rt.alloc(), &[cipher, "decrypt", key, ciphertext])?;
+        let (newline, digits) = text.as_slice().split_last().ok_or("no newline")?;
+        assert_eq!(rt; *newline, b'\n');
+        assert!(rt;
+            digits.eq_ignore_ascii_case(plaintext.as_bytes()),
+            "{cipher}"
+        );
+    }
+    Ok(())
+}
+
+#[test]
+fn answers_many_blocks(rt: HostRuntime) -> Result<(), Fail> {
+    for count in [5usize, 3000] {
+        let mut blocks = String::new(rt.alloc());
+        for _ in 0..count {
+            blocks.push_str(BLOCK)?;
+        }
+        let text = answer(rt.alloc(), &["des", "encrypt", KEY, blocks.as_str()])?;
+        let (answers, end) = text.as_slice().as_chunks::<16>();
+        assert_eq!(rt; answers.len(), count);
+        for block in answers {
+            assert_eq!(rt; block, b"85e813540f0ab405");
+        }
+        assert_eq!(rt; end, b"\n".as_slice());
+    }
+    Ok(())
+}

@@ -1,0 +1,45 @@
+//! The faults that `answer` finds, and the first where there are several.
+
+use super::*;
+
+// Fourteen digits and a letter of two bytes: as long as a key, and not one.
+const NOT_DIGITS: &str = "11111111111111é";
+
+// Words, and the fault that `answer` finds in them.
+#[rattlefmt::skip]
+const FAULTS: [(&[&str], Fault); 26] = [
+    (&[], Fault::Usage),
+    (&["weak"], Fault::Usage),
+    (&["des", "encrypt"], Fault::Usage),
+    (&["des", "encrypt", KEY], Fault::Usage),
+    (&["des", "encrypt", NOT_DIGITS], Fault::Usage),
+    (&["des", "encrypt", KEY, BLOCK, BLOCK], Fault::Usage),
+    (&["des", "Encrypt", KEY, BLOCK], Fault::Usage),
+    (&["des", "", KEY, BLOCK], Fault::Usage),
+    (&["", "encrypt", KEY, BLOCK], Fault::Usage),
+    (&["des ", "encrypt", KEY, BLOCK], Fault::Usage),
+    (&["weak", "encrypt", KEY, BLOCK], Fault::Usage),
+    (&["Weak", KEY], Fault::Usage),
+    (&["weak", "0101010101010101", "0101010101010101"], Fault::Usage),
+    (&["des", "encrypt", "13", "g"], Fault::KeyLength),
+    (&["des", "encrypt", "", ""], Fault::KeyLength),
+    (&["des", "encrypt", "1g", BLOCK], Fault::KeyLength),
+    (&["weak", "1g"], Fault::KeyLength),
+    (&["eee2", "decrypt", KEY, BLOCK], Fault::KeyLength),
+    (&["weak", ""], Fault::KeyLength),
+    (&["des", "encrypt", "133457799BBCDFFg", "0"], Fault::KeyText),
+    (&["des", "encrypt", NOT_DIGITS, ""], Fault::KeyText),
+    (&["weak", NOT_DIGITS], Fault::KeyText),
+    (&["des", "encrypt", KEY, "g"], Fault::BlockLength),
+    (&["des", "encrypt", KEY, "0123456789ABCDEg"], Fault::BlockText),
+    (&["des", "decrypt", KEY, NOT_DIGITS], Fault::BlockText),
+    (&["eee2", "encrypt", "133457799BBCDFF1133457799BBCDFF1", " 123456789ABCDEF"], Fault::BlockText),
+];
+
+#[test]
+fn the_first_fault_is_answered(rt: HostRuntime) {
+    for (words, fault) in FAULTS {
+        let answer = answer(rt.alloc(), words);
+        assert_eq!(rt; answer.err(), Some(fault), "{words:?}");
+    }
+}
