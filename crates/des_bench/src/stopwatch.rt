@@ -1,0 +1,37 @@
+//! The time that a call takes of the processor.
+
+ghost use Rattle.std.specs.Prelude.{◌≤◌};
+
+use std::io;
+use std::time::{Clock, CpuClock, Duration, Instant};
+
+// The most runs of which a figure is the least.
+const MOST_RUNS: u32 = 1000;
+
+// The time by the clock after which no further run begins: the eighteen figures of the table then
+// take two seconds, with fewer runs on a machine that is slow or busy.
+const SHARE_MILLIS: u64 = 100;
+
+/// The nanoseconds of processor time that each of the `calls` of a run takes, in the quickest of
+/// some runs. What other processes take meanwhile does not count.
+pub fn nanos_of_call<K: Clock + CpuClock, F: FnMut()>(
+    clock: &K,
+    calls: u32,
+    mut run: F,
+) -> io::Result<u128>
+    requires calls { 1 ≤ calls }
+    requires run { F.IsAlwaysCallable run }
+{
+    let share = Duration::from_millis(SHARE_MILLIS);
+    let begun = Instant::now(clock)?;
+    let mut least = Duration::MAX;
+    for _ in 0..MOST_RUNS {
+        let start = clock.thread_cpu_time()?;
+        run();
+        least = least.min(clock.thread_cpu_time()?.saturating_sub(start));
+        if begun.elapsed(clock)? > share {
+            break;
+        }
+    }
+    Ok((least / calls).as_nanos())
+}

@@ -1,0 +1,141 @@
+//! The table of all figures: a row for each cipher, and one for the weak key test.
+//!
+//! What the timed calls answer is joined in the number below the table, so that no compiler can
+//! leave a call out. A run of blocks begins with what the run before it made of them.
+
+ghost use Rattle.std.specs.Prelude.{◌≡◌, ◌≤◌, ◌⊎◌, length};
+
+use crate::stopwatch::nanos_of_call;
+use des::cipher::{AlgorithmName, BlockCipherEncrypt, KeyInit, KeyedCipher};
+use des::{Des, TdesEde2, TdesEde3, TdesEee2, TdesEee3, weak_key_test};
+use std::alloc::AllocGlobal;
+use std::fmt::Display;
+use std::io;
+use std::io::Write;
+use std::time::{Clock, CpuClock};
+
+// The bytes of the longest key that a cipher has.
+const LONGEST_KEY: usize = 24;
+
+// How many keys a run goes through.
+const KEYS: usize = 256;
+
+// How many blocks a run goes through.
+const BLOCKS: usize = 1024;
+
+/// Times every cipher and the weak key test, and writes the figures to `out`.
+pub fn write_table<R: AllocGlobal + Clock + CpuClock, W: Write>(
+    rt: &R,
+    out: &mut W,
+) -> io::Result<()> {
+    let keys = mixed_keys();
+    write_row(out, "ns", &["encrypt", "decrypt", "new"])?;
+    let mut joined = 0;
+    joined ^= write_cipher::<Des>(rt, &keys, out)?;
+    joined ^= write_cipher::<TdesEde3>(rt, &keys, out)?;
+    joined ^= write_cipher::<TdesEee3>(rt, &keys, out)?;
+    joined ^= write_cipher::<TdesEde2>(rt, &keys, out)?;
+    joined ^= write_cipher::<TdesEee2>(rt, &keys, out)?;
+    write_row(out, "ns", &["8 bytes", "16 bytes", "24 bytes"])?;
+    joined ^= write_weak_key_test(rt, &keys, out)?;
+    writeln!(out, "{joined:016x}")?;
+    out.flush()
+}
+
+// Keys that pass the weak key test: what DES makes of blocks, each of the one before it.
+fn mixed_keys() -> [[u8; LONGEST_KEY]; KEYS] {
+    let mut keys = [[0u8; LONGEST_KEY]; KEYS];
+    let cipher = Des::new(b"Cukvashe");
+    let mut block = [0u8; 8];
+    for key in keys.iter_mut() {
+        for part in key.as_chunks_mut::<8>().0 {
+            cipher.encrypt_block(&mut block);
+            *part = block;
+        }
+    }
+    keys
+}
+
+// Writes the row of a cipher, and joins the blocks that its calls ended with.
+fn write_cipher<C: KeyedCipher + AlgorithmName + Drop>(
+    rt: &(impl AllocGlobal + Clock + CpuClock),
+    keys: &[[u8; LONGEST_KEY]; KEYS],
+    out: &mut impl Write,
+) -> io::Result<u64>
+    requires { C.KEY_SIZE ≤ LONGEST_KEY }
+{
+    let cipher: C = cipher_of_key(&keys[0]);
+    let mut blocks = [[0u8; 8]; BLOCKS];
+    let encrypt = nanos_of_call(rt, BLOCKS as u32, || cipher.encrypt_blocks(&mut blocks))?;
+    let decrypt = nanos_of_call(rt, BLOCKS as u32, || cipher.decrypt_blocks(&mut blocks))?;
+    let mut ciphers: Vec<C> = Vec::with_capacity(rt.alloc(), KEYS)?;
+    for key in keys {
+        ciphers.push(cipher_of_key(key))?;
+    }
+    let new = nanos_of_call(
+        rt,
+        KEYS as u32,
+        ||
+            requires { C.KEY_SIZE ≤ LONGEST_KEY }
+        { make_ciphers(ciphers.as_mut_slice(), keys) },
+    )?;
+    for (cipher, block) in ciphers.iter().zip(blocks.iter_mut()) {
+        cipher.encrypt_block(block);
+    }
+    write_row(out, C::NAME, &[encrypt, decrypt, new])?;
+    Ok(joined(&blocks))
+}
+
+// The cipher of the first bytes of a key, as many as it takes: `new`, which `new_from_slice` calls.
+fn cipher_of_key<C: KeyInit + Drop>(key: &[u8; LONGEST_KEY]) -> C
+    requires { C.KEY_SIZE ≤ LONGEST_KEY }
+{
+    C::new_from_slice(&key[..C::KEY_SIZE]).unwrap()
+}
+
+fn make_ciphers<C: KeyInit + Drop>(ciphers: &mut [C], keys: &[[u8; LONGEST_KEY]])
+    requires { C.KEY_SIZE ≤ LONGEST_KEY }
+{
+    for (cipher, key) in ciphers.iter_mut().zip(keys) {
+        *cipher = cipher_of_key(key);
+    }
+}
+
+// The sum of the blocks, bit by bit modulo 2.
+fn joined(blocks: &[[u8; 8]]) -> u64 {
+    blocks
+        .iter()
+        .fold(0, |sum, block| sum ^ u64::from_be_bytes(*block))
+}
+
+// Writes the row of the weak key test, and joins how many keys passed in each run.
+fn write_weak_key_test(
+    rt: &(impl Clock + CpuClock),
+    keys: &[[u8; LONGEST_KEY]; KEYS],
+    out: &mut impl Write,
+) -> io::Result<u64> {
+    let mut passed = 0;
+    let one = nanos_of_call(rt, KEYS as u32, || passed ^= count_passed(keys, 8))?;
+    let two = nanos_of_call(rt, KEYS as u32, || passed ^= count_passed(keys, 16))?;
+    let three = nanos_of_call(rt, KEYS as u32, || passed ^= count_passed(keys, 24))?;
+    write_row(out, "weak_key_test", &[one, two, three])?;
+    Ok(passed)
+}
+
+// How many of the keys, each cut to its first `size` bytes, the weak key test lets pass.
+fn count_passed(keys: &[[u8; LONGEST_KEY]], size: usize) -> u64
+    requires { (size ≡ 8) ⊎ (size ≡ 16) ⊎ (size ≡ 24) }
+{
+    let mut passed: u64 = 0;
+    for key in keys {
+        if weak_key_test(&key[..size]).is_ok() {
+            passed = passed.wrapping_add(1);
+        }
+    }
+    passed
+}
+
+fn write_row<T: Display>(out: &mut impl Write, name: &str, figures: &[T; 3]) -> io::Result<()> {
+    let [first, second, third] = figures;
+    writeln!(out, "{name:<16}{first:>10}{second:>10}{third:>10}")
+}
