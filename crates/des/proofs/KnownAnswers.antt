@@ -6,6 +6,7 @@ use Rattle.std.proofs.lemmas.List.Elements.{All-nil, All-cons}
 use Rattle.des.specs.Bits.{bits_of, bits_of_word, bits_of_bytes, number_of, zeros, select, xor_bits}
 use Rattle.des.specs.Tables.{initial_permutation, permuted_choice_1, permuted_choice_2, expansion, permutation, final_permutation}
 use Rattle.des.specs.CipherFunction.{box_entry, substitute_by, substitute, cipher_function}
+use Rattle.des.specs.SwapForms.{delta_swapped}
 use Rattle.des.specs.KeySchedule.{c_half, d_half, rotate, shifts_through, round_key, key_schedule}
 use Rattle.des.specs.Enciphering.{IsDes}
 use Rattle.des.specs.Rounds.{after_rounds, through_rounds}
@@ -68,6 +69,18 @@ permutation-example = refl
 cipher_function-example : cipher_function (bits_of 32 0xf0aaf0aa) (bits_of 48 0x1b02effc7072) ≡ bits_of 32 0x234aa9bb
 unfolding bits_of select substitute_by box_entry number_of cipher_function xor_bits
 cipher_function-example = refl
+
+-- ---- an exchange of bits, by hand
+
+-- the last bit of a word goes one place up
+delta_swapped-near : delta_swapped 0x0000000000000001 1 0x0000000000000001 ≡ 0x0000000000000002
+unfolding delta_swapped
+delta_swapped-near = refl
+
+-- and from one end of the word to the other
+delta_swapped-far : delta_swapped 0x0000000000000001 63 0x0000000000000001 ≡ 0x8000000000000000
+unfolding delta_swapped
+delta_swapped-far = refl
 
 -- ---- whole encryptions
 

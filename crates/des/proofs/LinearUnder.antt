@@ -23,7 +23,7 @@ and-same x mask = same_from_bits (bit_and (bit_and x mask) mask) (bit_and x mask
 pub IsLinearUnder-mask : {f : ℕ → ℕ} → (mask : ℕ) → IsLinear f → IsLinearUnder mask (λ x. bit_and (f x) mask)
 IsLinearUnder-mask {f} mask linear = record { linear = IsLinear-mask mask linear; under = λ x. and-same (f x) mask }
 
--- an image is no greater than the mask
+-- a number under a mask of 64 bits is below 2 ^ 64
 lt-of_under : (y mask : ℕ) → mask < 2 ^ 64 → bit_and y mask ≡ y → y < 2 ^ 64
 lt-of_under y mask fits under = omega (arith, under, and_le_r y mask)
 
@@ -77,7 +77,7 @@ IsLinearUnder-rotate {mask} {f} k test map =
       under = λ x. and_mask (rotate_left w64 (f x) k) 64 ∙ mod-eq_of_lt (rotate_left-lt (f x) k (below x));
     }
 
--- the or of words under masks that share no bit is under the or of the masks
+-- the or of words under masks is under the or of the masks
 under-or : (a b m n : ℕ) → bit_and a m ≡ a → bit_and b n ≡ b → bit_and (bit_or a b) (bit_or m n) ≡ bit_or a b
 under-or a b m n a_under b_under =
     same_from_bits (bit_and (bit_or a b) (bit_or m n)) (bit_or a b)

@@ -3,7 +3,7 @@
 use Rattle.std.specs.Prelude.{ℕ, ◌*◌, ◌/◌, ◌%◌, ◌^◌, List, [], ◌∷◌, bit_and, bit_xor, reverse}
 use Rattle.std.specs.List.{fold}
 
--- the bits of a word under a mask, exchanged with those delta places above them
+-- the bits of a word under a mask, exchanged with those delta places above them, for a mask where these do not overlap
 unfoldable pub delta_swapped : ℕ → ℕ → ℕ → ℕ
 delta_swapped word delta mask =
     let differing = bit_and (bit_xor word (word / 2 ^ delta)) mask in

@@ -17,7 +17,7 @@ fn first_steps(rt: HostRuntime) {
     assert_eq!(rt; fp(0x0a4cd99543423234), 0x85e813540f0ab405);
 }
 
-// Single bits, and all of them.
+// Single bits, and all of them, by hand from the tables of FIPS 46-3.
 #[test]
 fn bits_of_permutations(rt: HostRuntime) {
     assert_eq!(rt; ip(0x8000000000000000), 0x0000000001000000);
@@ -28,6 +28,7 @@ fn bits_of_permutations(rt: HostRuntime) {
     assert_eq!(rt; e(0x0000000100000000), 0x8000000000020000);
 }
 
+// By hand: bit 64 goes one place up, and to the front.
 #[test]
 fn one_exchange(rt: HostRuntime) {
     assert_eq!(rt; delta_swap(1, 1, 1), 2);
@@ -47,9 +48,10 @@ fn round_keys(rt: HostRuntime) {
     assert_eq!(rt; keys[15], 0xcb3d8b0e17f50000);
 }
 
-// Permuted choice 2 where several partial products fall on one place, and where a bit is dropped.
+// Permuted choice 2 where copies of bits fall on one place, and where a bit is dropped, by hand from
+// the table of FIPS 46-3.
 #[test]
-fn partial_products_meet(rt: HostRuntime) {
+fn copies_meet(rt: HostRuntime) {
     assert_eq!(rt; pc2(0xffffffffffffff00), 0xffffffffffff0000);
     assert_eq!(rt; pc2(0x0000001000000200), 0x0100000400000000);
     assert_eq!(rt; pc2(0x0000001000000000), 0x0100000000000000);
@@ -57,6 +59,7 @@ fn partial_products_meet(rt: HostRuntime) {
     assert_eq!(rt; pc2(0x0080000000000000), 0);
 }
 
+// By hand from the table of FIPS 46-3, where bit 1 is the ninth.
 #[test]
 fn first_bit_permuted(rt: HostRuntime) {
     assert_eq!(rt; p(0x8000000000000000), 0x0080000000000000);
