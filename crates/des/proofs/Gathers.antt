@@ -143,11 +143,6 @@ IsLinearUnder-test {f} step mask kept test map =
 
 -- ---- the terms of a selection
 
--- the bits under a mask
-pub IsLinearUnder-masked : {whole : ℕ} → {f : ℕ → ℕ} → (mask : ℕ) → is_linear_under (λ y. y) mask mask ≡ true
-    → IsLinearUnder whole f → IsLinearUnder mask (λ x. bit_and (f x) mask)
-IsLinearUnder-masked mask test map = IsLinearUnder-test (λ y. y) mask mask test map.linear
-
 -- the bits under a mask, shifted to the left
 pub IsLinearUnder-shifted_left : {whole : ℕ} → {f : ℕ → ℕ} → (mask places : ℕ)
     → is_linear_under (λ y. y * 2 ^ places % 2 ^ 64) mask (mask * 2 ^ places % 2 ^ 64) ≡ true

@@ -8,7 +8,7 @@ use Rattle.des.specs.TermForms.{term_form_of_e, term_form_of_pc2, term_form_of_p
 use Rattle.des.proofs.Places.{select-take}
 use Rattle.des.proofs.LinearWords.{IsLinear-id, IsLinear-shl, IsLinear-shr, select-from_units}
 use Rattle.des.proofs.LinearUnder.{IsLinearUnder, IsLinearUnder-mask, IsLinearUnder-rotate, IsLinearUnder-or}
-use Rattle.des.proofs.Gathers.{IsLinearUnder-masked, IsLinearUnder-shifted_left, IsLinearUnder-shifted_right, IsLinearUnder-gathered}
+use Rattle.des.proofs.Gathers.{IsLinearUnder-shifted_left, IsLinearUnder-shifted_right, IsLinearUnder-gathered}
 
 -- a word whose last k bits are zero is under the mask of the others
 high_mask-same : (k x : ℕ) → k ≤ 64 → x < 2 ^ 64 → x % 2 ^ k ≡ 0 → bit_and x (2 ^ 64 - 2 ^ k) ≡ x
@@ -48,7 +48,7 @@ linear-pc2 =
     (IsLinearUnder-or (IsLinearUnder-or (IsLinearUnder-or (IsLinearUnder-or
     (IsLinearUnder-shifted_right 0x0021000002000000 7 refl word)
     (IsLinearUnder-shifted_left 0x0008020010080000 1 refl word) refl)
-    (IsLinearUnder-masked 0x0002200000000000 refl word) refl)
+    (IsLinearUnder-mask 0x0002200000000000 word.linear) refl)
     (IsLinearUnder-shifted_left 0x0000000000100020 19 refl word) refl)
     (IsLinearUnder-gathered 0x0005312400000011 0x0000000094200201 0xea40100880000000 refl (IsLinearUnder-rotate 54 refl word)) refl)
     (IsLinearUnder-gathered 0x0022110000012001 0x0001000000610006 0x1185004400000000 refl (IsLinearUnder-rotate 7 refl word)) refl)
