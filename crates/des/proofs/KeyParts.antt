@@ -1,23 +1,11 @@
 -- The parts of a key: a list of them that is searched place by place, and the keys that the weak key test refuses.
-use Rattle.std.proofs.Common.{◌≡◌, ℕ, zero, suc, ◌+◌, ◌-◌, ◌*◌, ◌/◌, ◌<◌, ◌≤◌, Bool, List, [], length, take, drop, get_or, inl, inr, refl, sym, ap, ◌∙◌, subst, arith}
+use Rattle.std.proofs.Common.{◌≡◌, ℕ, zero, suc, ◌+◌, ◌-◌, ◌*◌, ◌/◌, ◌<◌, ◌≤◌, List, [], length, take, drop, get_or, inl, inr, refl, sym, ap, ◌∙◌, subst, arith}
 use Rattle.std.specs.Simd.{first_chunks}
-use Rattle.std.specs.List.{Contains, IsAnyAnswer}
-use Rattle.std.specs.Bool.{Decides}
-use Rattle.std.proofs.lemmas.Bool.Decides.{Decides-eqb}
 use Rattle.std.proofs.lemmas.List.{get_or-take, get_or_default, drop-drop, length-take-le}
-use Rattle.std.proofs.lemmas.List.Elements.{contains_decides, Decides-contains, Contains-get_or}
-use Rattle.std.proofs.lemmas.Slice.Eq.{slice_eq-Decides}
+use Rattle.std.proofs.lemmas.List.Elements.{Contains-get_or}
 use Rattle.des.specs.Blocks.{part}
+use Rattle.des.specs.Parity.{AgreeOutsideParity, ContainsAgreeing}
 use Rattle.des.specs.WeakKeys.{listed_keys, IsRefusedByList}
-use lib.Pointwise.{pointwise}
-use Rattle.std.specs.Prelude.{nat_eq}
-
--- what a search of a list of keys says
-pub Decides-contains_key : (keys : List (List ℕ)) (key : List ℕ) (r : Bool) → IsAnyAnswer (λ other t. pointwise nat_eq other key ≡ t) keys r
-    → Decides r (Contains keys key)
-Decides-contains_key keys key r cases =
-    Decides-contains keys key r
-    (contains_decides (pointwise nat_eq) (λ a b. slice_eq-Decides Decides-eqb a b (pointwise nat_eq a b) refl) keys key r cases)
 
 -- the chunk at an index is the part of the next number
 get_or-first_chunks : (k i : ℕ) (s : List ℕ) → i < k → get_or (first_chunks 8 k s) i [] ≡ take 8 (drop (8 * i) s)
@@ -40,44 +28,49 @@ module _ (key : List ℕ) (parts : List (List ℕ)) (cut : parts ≡ first_chunk
   part_of : (n : ℕ) → (1 ≤ n) × (8 * n ≤ length key) → get_or parts (n - 1) [] ≡ part n key
   part_of n is_part = part_at (n - 1) (omega (arith, is_part.0, is_part.1)) ∙ ap (λ (m : ℕ). part m key) (omega (arith, is_part.0))
 
-  -- a listed part refuses the key
-  pub IsRefusedByList-listed : (i : ℕ) → i < length key / 8 → Contains listed_keys (get_or parts i []) → IsRefusedByList key
+  -- a part that agrees with a listed key outside parity refuses the key
+  pub IsRefusedByList-listed : (i : ℕ) → i < length key / 8 → ContainsAgreeing listed_keys (get_or parts i []) → IsRefusedByList key
   IsRefusedByList-listed i within listed =
-      let P : List ℕ → Type 0 = λ p. Contains listed_keys p in
+      let P : List ℕ → Type 0 = ContainsAgreeing listed_keys in
       inl (i + 1, ((omega arith, omega arith), subst P (part_at i within) listed))
 
-  -- and so does a part that is equal to one before it
-  pub IsRefusedByList-equal : (i : ℕ) → i < length key / 8 → Contains (take i parts) (get_or parts i []) → IsRefusedByList key
-  IsRefusedByList-equal i within among =
-      let k : ℕ = among.0 in
-      let later : List ℕ = get_or parts i [] in
-      let before : k < i = omega (arith, among.1, length-take-le i parts (omega (arith, count))) in
-      let same : get_or parts k [] ≡ later =
-      get_or_default parts k [] later (omega (arith, count)) ∙ sym (get_or-take i parts k later before) ∙ among.2 in
-      let equal : part (k + 1) key ≡ part (i + 1) key = sym (part_at k (omega arith)) ∙ same ∙ part_at i within in
-      inr (k + 1, (i + 1, ((omega arith, omega arith), (omega arith, omega arith), omega arith, equal)))
+  -- and so does a part that agrees with one before it
+  pub IsRefusedByList-agreeing : (i : ℕ) → i < length key / 8 → ContainsAgreeing (take i parts) (get_or parts i [])
+      → IsRefusedByList key
+  IsRefusedByList-agreeing i within found =
+      let k : ℕ = found.1.0.0 in
+      let other : List ℕ = found.0 in
+      let before : k < i = omega (arith, found.1.0.1, length-take-le i parts (omega (arith, count))) in
+      let earlier : part (k + 1) key ≡ other =
+      sym (part_at k (omega arith))
+      ∙ get_or_default parts k [] other (omega (arith, count))
+      ∙ sym (get_or-take i parts k other before)
+      ∙ found.1.0.2 in
+      let agree : AgreeOutsideParity (part (k + 1) key) (part (i + 1) key) = rw (earlier, ← part_at i within) found.1.1 in
+      inr (k + 1, (i + 1, ((omega arith, omega arith), (omega arith, omega arith), omega arith, agree)))
 
-  -- where no part is listed, and none is equal to one before it, the key is not refused
+  -- where no part agrees with a listed key, and none with a part before it, the key is not refused
   pub not_refused : ((i : ℕ) → i < length key / 8
-      → ¬ (Contains listed_keys (get_or parts i [])) × ¬ (Contains (take i parts) (get_or parts i []))) → ¬ (IsRefusedByList key)
+      → ¬ (ContainsAgreeing listed_keys (get_or parts i [])) × ¬ (ContainsAgreeing (take i parts) (get_or parts i [])))
+      → ¬ (IsRefusedByList key)
   not_refused each refused = elim refused [
     | inl listed ↦
         let n : ℕ = listed.0 in
         let is_part : (1 ≤ n) × (8 * n ≤ length key) = listed.1.0 in
         let within : n - 1 < length key / 8 = omega arith in
-        let P : List ℕ → Type 0 = λ p. Contains listed_keys p in
+        let P : List ℕ → Type 0 = ContainsAgreeing listed_keys in
         (each (n - 1) within).0 (subst P (sym (part_of n is_part)) listed.1.1)
-    | inr equal ↦
-        let m : ℕ = equal.0 in
-        let n : ℕ = equal.1.0 in
-        let m_part : (1 ≤ m) × (8 * m ≤ length key) = equal.1.1.0 in
-        let n_part : (1 ≤ n) × (8 * n ≤ length key) = equal.1.1.1 in
-        let less : m < n = equal.1.1.2 in
+    | inr agreeing ↦
+        let m : ℕ = agreeing.0 in
+        let n : ℕ = agreeing.1.0 in
+        let m_part : (1 ≤ m) × (8 * m ≤ length key) = agreeing.1.1.0 in
+        let n_part : (1 ≤ n) × (8 * n ≤ length key) = agreeing.1.1.1 in
+        let less : m < n = agreeing.1.1.2 in
         let before : m - 1 < n - 1 = omega arith in
         let front : List (List ℕ) = take (n - 1) parts in
-        let same : get_or front (m - 1) [] ≡ get_or parts (n - 1) [] =
-        get_or-take (n - 1) parts (m - 1) [] before ∙ part_of m m_part ∙ equal.1.1.3 ∙ sym (part_of n n_part) in
-        let P : List ℕ → Type 0 = λ p. Contains front p in
-        (each (n - 1) (omega arith)).1
-        (subst P same (Contains-get_or front (m - 1) [] (omega (arith, length-take-le (n - 1) parts (omega (arith, count))))))
+        let earlier : get_or front (m - 1) [] ≡ part m key = get_or-take (n - 1) parts (m - 1) [] before ∙ part_of m m_part in
+        let contained = Contains-get_or front (m - 1) [] (omega (arith, length-take-le (n - 1) parts (omega (arith, count)))) in
+        let agree : AgreeOutsideParity (get_or front (m - 1) []) (get_or parts (n - 1) []) =
+        rw (earlier, part_of n n_part) agreeing.1.1.3 in
+        (each (n - 1) (omega arith)).1 (get_or front (m - 1) [], (contained, agree))
   ]

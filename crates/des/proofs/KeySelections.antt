@@ -82,6 +82,18 @@ select-agreeing key other (position ∷ positions) agree outside =
     grind (arith, nat_tests) in
     ap₂ ◌∷◌ (agree position parts.0 parts.1 parts.2) (select-agreeing key other positions agree parts.3)
 
+-- they have the same halves C and D
+pub halves-agreeing : (key other : List ℕ) → AgreeOutsideParity key other
+    → (c_half (bits_of_bytes key) ≡ c_half (bits_of_bytes other)) × (d_half (bits_of_bytes key) ≡ d_half (bits_of_bytes other))
+halves-agreeing key other agree = (
+  c_half-select (bits_of_bytes key)
+      ∙ select-agreeing key other (take 28 permuted_choice_1) agree refl
+      ∙ sym (c_half-select (bits_of_bytes other)),
+  d_half-select (bits_of_bytes key)
+      ∙ select-agreeing key other (drop 28 permuted_choice_1) agree refl
+      ∙ sym (d_half-select (bits_of_bytes other)),
+)
+
 -- they have the same round keys of rounds whose positions are outside parity
 round_keys-agreeing : (key other : List ℕ) → IsKey 8 key → IsKey 8 other → AgreeOutsideParity key other → (numbers : List ℕ)
     → list_all (λ i. are_outside_parity (round_key_positions i)) numbers ≡ true

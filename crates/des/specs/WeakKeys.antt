@@ -1,10 +1,11 @@
 -- The keys that the weak key test refuses: those with a listed part (the list of the Rust crate `des`, and the class that
--- it is, whose halves C and D repeat so that a few round keys recur), and those with equal parts.
-use Rattle.std.specs.Prelude.{◌≡◌, ◌<◌, ◌≤◌, ◌*◌, ◌⊎◌, ℕ, List, [], ◌∷◌, length, map, Contains}
+-- it is, whose halves C and D repeat so that a few round keys recur), and those with two parts that are one key. Parity bits
+-- do not count.
+use Rattle.std.specs.Prelude.{◌<◌, ◌≤◌, ◌*◌, ◌⊎◌, ℕ, List, [], ◌∷◌, length, map}
 use Rattle.std.specs.Int.{w64, to_be_bytes}
 use Rattle.des.specs.Blocks.{IsKey, part}
 use Rattle.des.specs.KeyHalves.{HasListedHalves}
-use Rattle.des.specs.Parity.{HasOddParity}
+use Rattle.des.specs.Parity.{AgreeOutsideParity, ContainsAgreeing}
 
 -- the listed keys, as words, four a line
 abbrev pub listed_words : List ℕ
@@ -30,10 +31,9 @@ listed_words =
 abbrev pub listed_keys : List (List ℕ)
 listed_keys = map (to_be_bytes w64) listed_words
 
--- the listed class: the keys of eight bytes with odd parity whose halves, rotated left by two, are themselves or their
--- complements
+-- the listed class: the keys of eight bytes whose halves, rotated left by two, are themselves or their complements
 abbrev pub IsListed : List ℕ → Type 0
-IsListed key = IsKey 8 key × HasOddParity key × HasListedHalves key
+IsListed key = IsKey 8 key × HasListedHalves key
 
 -- n is the number of a part of the key, from 1
 abbrev pub IsPartOf : List ℕ → ℕ → Type 0
@@ -43,14 +43,15 @@ IsPartOf key n = (1 ≤ n) × (8 * n ≤ length key)
 abbrev pub HasPart : (List ℕ → Type 0) → List ℕ → Type 0
 HasPart P key = (n : ℕ) × (IsPartOf key n × P (part n key))
 
--- two parts of the key have equal bytes
-abbrev pub HasEqualParts : List ℕ → Type 0
-HasEqualParts key = (m : ℕ) × ((n : ℕ) × (IsPartOf key m × IsPartOf key n × (m < n) × (part m key ≡ part n key)))
+-- two parts of the key agree outside parity
+abbrev pub HasAgreeingParts : List ℕ → Type 0
+HasAgreeingParts key =
+    (m : ℕ) × ((n : ℕ) × (IsPartOf key m × IsPartOf key n × (m < n) × AgreeOutsideParity (part m key) (part n key)))
 
--- the key is refused: a part is of the listed class, or two parts are equal
+-- the key is refused: a part is of the listed class, or two parts agree outside parity
 abbrev pub IsRefused : List ℕ → Type 0
-IsRefused key = HasPart IsListed key ⊎ HasEqualParts key
+IsRefused key = HasPart IsListed key ⊎ HasAgreeingParts key
 
--- the same by the list: a part is one of the listed keys, or two parts are equal
+-- the same by the list: a part agrees outside parity with one of the listed keys, or two parts do
 abbrev pub IsRefusedByList : List ℕ → Type 0
-IsRefusedByList key = HasPart (λ part. Contains listed_keys part) key ⊎ HasEqualParts key
+IsRefusedByList key = HasPart (ContainsAgreeing listed_keys) key ⊎ HasAgreeingParts key

@@ -2,7 +2,6 @@
 //! the parity bits of keys, which are no part of what a key does; and keys that undo each other.
 
 ghost use Rattle.std.specs.Prelude.{◌≡◌, ◌↔◌, ◌⊎◌, ◌/◌, ◌%◌, ◌-◌, ◌≤◌, ◌++◌, ℕ, Bool, List, length, codes, Some, IsErr, IsTrue, count_ones};
-ghost use Rattle.std.specs.List.{All};
 ghost use Rattle.des.specs.Bits.{bits_of_bytes, bits_of_word, zeros};
 ghost use Rattle.des.specs.Blocks.{IsKey};
 ghost use Rattle.des.specs.Relations.{IsTheOne};
@@ -10,7 +9,7 @@ ghost use Rattle.des.specs.KeySchedule.{rotate, round_key, key_schedule};
 ghost use Rattle.des.specs.KeyHalves.{ArePartners};
 ghost use Rattle.des.specs.Enciphering.{Enciphers};
 ghost use Rattle.des.specs.Triple.{Ede3};
-ghost use Rattle.des.specs.Parity.{HasOddParity, AgreeOutsideParity};
+ghost use Rattle.des.specs.Parity.{HasOddParity, AgreeOutsideParity, ContainsAgreeing};
 ghost use Rattle.des.specs.WeakKeys.{listed_keys, IsRefused, IsRefusedByList};
 
 use crate::utils;
@@ -57,22 +56,28 @@ impl fmt::Display for WeakKeyError {
 
 impl Error for WeakKeyError {}
 
+// Whether one of the keys agrees with `key` outside parity.
+fn contains_but_parity(keys: &[[u8; 8]], key: &[u8; 8]) -> bool
+    ensures { IsTrue result ↔ ContainsAgreeing keys.now key.now }
+{
+    keys.iter().any(|other| equal_but_parity(other, key))
+}
+
 /// Refuses a key of 8, 16 or 24 bytes where one of its parts of 8 bytes is listed in `WEAK_KEYS`, or
-/// where two of its parts have equal bytes. Parts are compared whole, parity bits included: give them
-/// odd parity by `with_odd_parity` first where it is not sure.
+/// where two of its parts are one key. Parity bits (the lowest bit of each byte) do not count: keys
+/// that differ in them alone are one key.
 ///
-/// The listed keys are exactly those with odd parity in every byte whose halves C and D (FIPS 46-3,
-/// key schedule), each rotated left by two, equal themselves or their complements.
+/// The keys so listed are exactly those whose halves C and D (FIPS 46-3, key schedule), each rotated
+/// left by two, equal themselves or their complements.
 pub fn weak_key_test(key: &[u8]) -> Result<(), WeakKeyError>
     requires { (length key.now ≡ 8) ⊎ (length key.now ≡ 16) ⊎ (length key.now ≡ 24) }
     ensures listed { WEAK_KEYS ≡ listed_keys }
-    ensures odd_parity { All HasOddParity WEAK_KEYS }
     ensures refused_by_list { IsErr result ↔ IsRefusedByList key.now }
     ensures refused { IsErr result ↔ IsRefused key.now }
 {
     let (parts, _) = key.as_chunks::<8>();
     for (i, part) in parts.iter().enumerate() {
-        if WEAK_KEYS.contains(part) || parts[..i].contains(part) {
+        if contains_but_parity(&WEAK_KEYS, part) || contains_but_parity(&parts[..i], part) {
             return Err(WeakKeyError);
         }
     }

@@ -41,11 +41,17 @@ fn refuses_listed_and_equal_parts(rt: HostRuntime) {
     assert!(rt; refuses(&[b, a, a]));
 }
 
+// Parity bits do not count: the key of no bit is a listed key but for them, and the two parts are one.
+#[test]
+fn refuses_whatever_the_parity(rt: HostRuntime) {
+    assert!(rt; refuses(&[NO_BIT]));
+    assert!(rt; refuses(&[0x0202020202020202, 0x0303030303030303]));
+}
+
 #[test]
 fn passes_other_keys(rt: HostRuntime) {
-    assert!(rt; !refuses(&[NO_BIT]));
     assert!(rt; !refuses(&[0x0101011f0101010e]));
-    assert!(rt; !refuses(&[0x0202020202020202, 0x0303030303030303]));
+    assert!(rt; !refuses(&[0x133457799bbcdff1]));
     assert!(rt; !refuses(&PLAIN));
 }
 
@@ -138,6 +144,13 @@ fn distinct(items: &[u64]) -> usize {
     (0..items.len())
         .filter(|&i| !items[..i].contains(&items[i]))
         .count()
+}
+
+#[test]
+fn lists_keys_of_odd_parity(rt: HostRuntime) {
+    for byte in WEAK_KEYS.as_flattened() {
+        assert_eq!(rt; byte.count_ones() % 2, 1, "{byte:02x}");
+    }
 }
 
 // The numbers of the listed keys: 4 weak, 12 semi-weak and 48 more keys, and eight halves.

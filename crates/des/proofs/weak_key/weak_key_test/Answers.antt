@@ -1,50 +1,43 @@
-use Rattle.std.proofs.Common.{◌/◌, ◌<◌, [], length, take, get_or, arith, refl, below_more}
+use Rattle.std.proofs.Common.{◌/◌, ◌<◌, length, arith, refl, below_more}
+use Rattle.std.proofs.Math.Facts.{Fits-lt-pow}
 use Rattle.std.proofs.lemmas.Bool.Decides.{not_from_Decides}
-use Rattle.des.specs.WeakKeys.{listed_keys}
-use Rattle.des.proofs.KeyParts.{Decides-contains_key, IsRefusedByList-listed, IsRefusedByList-equal, not_refused}
-use Rattle.des.proofs.ListedKeys.{HasOddParity-listed, refused_by_class}
+use Rattle.std.proofs.lemmas.List.Elements.{All-from_get_or}
+use Rattle.des.specs.Blocks.{AreBytes}
+use Rattle.des.proofs.KeyParts.{IsRefusedByList-listed, IsRefusedByList-agreeing, not_refused}
+use Rattle.des.proofs.ListedKeys.{refused_by_class}
 use Rattle.des.proofs.weak_key.weak_key_test.Goals as goal
-use Rattle.des.proofs.weak_key.weak_key_test.Goals.{then-contains-via-then-contains, then-contains-via-else-contains+then-contains-2}
+use Rattle.des.proofs.weak_key.weak_key_test.Goals.{then-contains_but_parity-via-then-contains_but_parity, then-contains_but_parity-via-else-contains_but_parity+then-contains_but_parity-2}
 
-pub returns-then-contains-clause-odd_parity : goal.returns-then-contains-clause-odd_parity
-returns-then-contains-clause-odd_parity c = HasOddParity-listed
-
-pub returns-then-contains-clause-refused_by_list : goal.returns-then-contains-clause-refused_by_list
-returns-then-contains-clause-refused_by_list c =
+pub returns-then-contains_but_parity-clause-refused_by_list : goal.returns-then-contains_but_parity-clause-refused_by_list
+returns-then-contains_but_parity-clause-refused_by_list c =
     let key = c.args.key.now in
     let parts = c.as_chunks.result.0.now in
     let i = c.loop-i.i in
-    let part = get_or parts i [] in
     let within : i < length key / 8 = omega (arith, c.as_chunks.ensures.front_len) in (
-      λ _. elim c.then-contains.branch [
-        | then-contains-via-then-contains w ↦
+      λ _. elim c.then-contains_but_parity.branch [
+        | then-contains_but_parity-via-then-contains_but_parity w ↦
             IsRefusedByList-listed key parts c.as_chunks.ensures.front c.as_chunks.ensures.front_len i within
-            ((Decides-contains_key listed_keys part c.contains.result c.contains.ensures.cases).0 w.if-contains.true)
-        | then-contains-via-else-contains+then-contains-2 w ↦
-            IsRefusedByList-equal key parts c.as_chunks.ensures.front c.as_chunks.ensures.front_len i within
-            ((Decides-contains_key (take i parts) part w.contains-else-contains.result w.contains-else-contains.ensures.cases).0
-            w.if-contains-2.true)
+            (c.contains_but_parity.ensures.0 w.if-contains_but_parity.true)
+        | then-contains_but_parity-via-else-contains_but_parity+then-contains_but_parity-2 w ↦
+            IsRefusedByList-agreeing key parts c.as_chunks.ensures.front c.as_chunks.ensures.front_len i within
+            (w.contains_but_parity-else-contains_but_parity.ensures.0 w.if-contains_but_parity-2.true)
       ],
       λ _. refl,
     )
 
-pub returns-then-contains-clause-refused : goal.returns-then-contains-clause-refused
-returns-then-contains-clause-refused c = refused_by_class c.args.key.now _ (returns-then-contains-clause-refused_by_list c)
+pub returns-then-contains_but_parity-clause-refused : goal.returns-then-contains_but_parity-clause-refused
+returns-then-contains_but_parity-clause-refused c =
+    let key = c.args.key.now in
+    let bytes : AreBytes key = All-from_get_or (λ byte. byte < 256) key 0 (λ i within. Fits-lt-pow (c.type_inv.key i)) in
+    refused_by_class key _ bytes (returns-then-contains_but_parity-clause-refused_by_list c)
 
 pub loop-i-preserved : goal.loop-i-preserved
 loop-i-preserved c =
-    let parts = c.as_chunks.result.0.now in
-    let part = get_or parts c.loop-i.i [] in
     below_more _ _ c.loop-i.invariant (
-      not_from_Decides c.contains.result (Decides-contains_key listed_keys part c.contains.result c.contains.ensures.cases)
-          c.if-contains.false,
-      not_from_Decides c.contains-else-contains.result
-          (Decides-contains_key (take c.loop-i.i parts) part c.contains-else-contains.result c.contains-else-contains.ensures.cases)
-          c.if-contains-2.false,
+      not_from_Decides c.contains_but_parity.result c.contains_but_parity.ensures c.if-contains_but_parity.false,
+      not_from_Decides c.contains_but_parity-else-contains_but_parity.result c.contains_but_parity-else-contains_but_parity.ensures
+          c.if-contains_but_parity-2.false,
     )
-
-pub returns-clause-odd_parity : goal.returns-clause-odd_parity
-returns-clause-odd_parity c = HasOddParity-listed
 
 pub returns-clause-refused_by_list : goal.returns-clause-refused_by_list
 returns-clause-refused_by_list c =
@@ -57,4 +50,7 @@ returns-clause-refused_by_list c =
     )
 
 pub returns-clause-refused : goal.returns-clause-refused
-returns-clause-refused c = refused_by_class c.args.key.now _ (returns-clause-refused_by_list c)
+returns-clause-refused c =
+    let key = c.args.key.now in
+    let bytes : AreBytes key = All-from_get_or (λ byte. byte < 256) key 0 (λ i within. Fits-lt-pow (c.type_inv.key i)) in
+    refused_by_class key _ bytes (returns-clause-refused_by_list c)

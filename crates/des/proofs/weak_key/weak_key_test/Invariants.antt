@@ -1,9 +1,9 @@
 use Rattle.std.proofs.Common.{ℕ, ◌<◌, [], get_or, take}
-use Rattle.std.specs.List.{Contains}
+use Rattle.des.specs.Parity.{ContainsAgreeing}
 use Rattle.des.specs.WeakKeys.{listed_keys}
 use Rattle.des.proofs.weak_key.weak_key_test.Given as goal
 
--- no part so far is listed, and none is equal to a part before it
+-- no part so far agrees with a listed key, and none with a part before it
 abbrev pub invariant-loop-i : goal.invariant-loop-i
 invariant-loop-i l =
-    (k : ℕ) → k < l.i → ¬ (Contains listed_keys (get_or l.parts k [])) × ¬ (Contains (take k l.parts) (get_or l.parts k []))
+    (k : ℕ) → k < l.i → ¬ (ContainsAgreeing listed_keys (get_or l.parts k [])) × ¬ (ContainsAgreeing (take k l.parts) (get_or l.parts k []))
