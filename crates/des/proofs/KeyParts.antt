@@ -1,11 +1,11 @@
 -- The parts of a key: a list of them that is searched place by place, and the keys that the weak key test refuses.
-use Rattle.std.proofs.Common.{◌≡◌, ℕ, zero, suc, ◌+◌, ◌-◌, ◌*◌, ◌/◌, ◌<◌, ◌≤◌, List, [], length, take, drop, get_or, inl, inr, refl, sym, ap, ◌∙◌, subst, arith}
+use Rattle.std.proofs.Common.{◌≡◌, ℕ, zero, suc, ◌+◌, ◌-◌, ◌*◌, ◌/◌, ◌<◌, List, [], length, take, drop, get_or, inl, inr, refl, sym, ap, ◌∙◌, subst, arith}
 use Rattle.std.specs.Simd.{first_chunks}
 use Rattle.std.proofs.lemmas.List.{get_or-take, get_or_default, drop-drop, length-take-le}
 use Rattle.std.proofs.lemmas.List.Elements.{Contains-get_or}
 use Rattle.des.specs.Blocks.{part}
 use Rattle.des.specs.Parity.{AgreeOutsideParity, ContainsAgreeing}
-use Rattle.des.specs.WeakKeys.{listed_keys, IsRefusedByList}
+use Rattle.des.specs.WeakKeys.{listed_keys, IsPartOf, IsRefusedByList}
 
 -- the chunk at an index is the part of the next number
 get_or-first_chunks : (k i : ℕ) (s : List ℕ) → i < k → get_or (first_chunks 8 k s) i [] ≡ take 8 (drop (8 * i) s)
@@ -25,7 +25,7 @@ module _ (key : List ℕ) (parts : List (List ℕ)) (cut : parts ≡ first_chunk
       ∙ get_or-first_chunks (length key / 8) i key within
       ∙ ap (λ (n : ℕ). take 8 (drop (8 * n) key)) (omega arith)
 
-  part_of : (n : ℕ) → (1 ≤ n) × (8 * n ≤ length key) → get_or parts (n - 1) [] ≡ part n key
+  part_of : (n : ℕ) → IsPartOf key n → get_or parts (n - 1) [] ≡ part n key
   part_of n is_part = part_at (n - 1) (omega (arith, is_part.0, is_part.1)) ∙ ap (λ (m : ℕ). part m key) (omega (arith, is_part.0))
 
   -- a part that agrees with a listed key outside parity refuses the key
@@ -56,15 +56,15 @@ module _ (key : List ℕ) (parts : List (List ℕ)) (cut : parts ≡ first_chunk
   not_refused each refused = elim refused [
     | inl listed ↦
         let n : ℕ = listed.0 in
-        let is_part : (1 ≤ n) × (8 * n ≤ length key) = listed.1.0 in
+        let is_part : IsPartOf key n = listed.1.0 in
         let within : n - 1 < length key / 8 = omega arith in
         let P : List ℕ → Type 0 = ContainsAgreeing listed_keys in
         (each (n - 1) within).0 (subst P (sym (part_of n is_part)) listed.1.1)
     | inr agreeing ↦
         let m : ℕ = agreeing.0 in
         let n : ℕ = agreeing.1.0 in
-        let m_part : (1 ≤ m) × (8 * m ≤ length key) = agreeing.1.1.0 in
-        let n_part : (1 ≤ n) × (8 * n ≤ length key) = agreeing.1.1.1 in
+        let m_part : IsPartOf key m = agreeing.1.1.0 in
+        let n_part : IsPartOf key n = agreeing.1.1.1 in
         let less : m < n = agreeing.1.1.2 in
         let before : m - 1 < n - 1 = omega arith in
         let front : List (List ℕ) = take (n - 1) parts in

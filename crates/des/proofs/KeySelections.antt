@@ -1,6 +1,6 @@
 -- The round keys as selections from the key by lists of positions: keys have the same round keys just where they agree
 -- at the positions that the lists have. What a round key takes from the halves C and D is in `RoundKeyPlaces`.
-use Rattle.std.proofs.Common.{◌≡◌, ℕ, ◌%◌, ◌≤◌, ◌==◌, ◌&&◌, not, nat_le, Bool, true, List, [], ◌∷◌, ◌++◌, map, length, take, drop, refl, sym, ap, ap₂, ◌∙◌, arith, inl, inr}
+use Rattle.std.proofs.Common.{◌≡◌, ℕ, ◌%◌, ◌≤◌, ◌==◌, ◌&&◌, ◌||◌, not, nat_le, Bool, true, List, [], ◌∷◌, ◌++◌, map, length, take, drop, refl, sym, ap, ap₂, ◌∙◌, arith, inl, inr}
 use Rattle.std.specs.Prelude.{sum}
 use Rattle.std.specs.List.{list_all, list_any, range_with_len}
 use Rattle.std.proofs.lemmas.List.{map-append, take-map, drop-map}
@@ -114,7 +114,7 @@ pub key_schedule-agreeing : (key other : List ℕ) → IsKey 8 key → IsKey 8 o
 unfolding key_schedule
 key_schedule-agreeing key other is_key other_is_key agree = round_keys-agreeing key other is_key other_is_key agree rounds refl
 
--- ---- keys with the same round keys agree outside parity
+-- ---- keys with the same halves, and keys with the same round keys, agree outside parity
 
 -- equal selections have the same bit at each position that they take
 bit-from_select : (key other : List Bool) (positions : List ℕ) → select positions key ≡ select positions other
@@ -127,6 +127,28 @@ bit-from_select key other (first ∷ positions) same position among =
     elim (or_cases (first == position) (is_among positions position) among) [
       | inl found ↦ rw (← eqb-true first position found) here
       | inr later ↦ bit-from_select key other positions rest position later
+    ]
+
+-- permuted choice 1 takes a position for C or for D
+abbrev is_chosen : ℕ → Bool
+is_chosen position = is_among (take 28 permuted_choice_1) position || is_among (drop 28 permuted_choice_1) position
+
+-- each position up to 64 is chosen just if eight does not divide it
+is_chosen-outside_parity : (position : ℕ) → position ≤ 64 → is_chosen position ≡ not (position % 8 == 0)
+is_chosen-outside_parity position within = agree_below_at is_chosen (λ n. not (n % 8 == 0)) 65 position refl (omega arith)
+
+-- keys with the same halves C and D agree outside parity
+pub AgreeOutsideParity-halves : (key other : List ℕ) → c_half (bits_of_bytes key) ≡ c_half (bits_of_bytes other)
+    → d_half (bits_of_bytes key) ≡ d_half (bits_of_bytes other) → AgreeOutsideParity key other
+AgreeOutsideParity-halves key other same_c same_d position from within outside =
+    let a : List Bool = bits_of_bytes key in
+    let b : List Bool = bits_of_bytes other in
+    let c : List ℕ = take 28 permuted_choice_1 in
+    let d : List ℕ = drop 28 permuted_choice_1 in
+    let chosen = is_chosen-outside_parity position within ∙ not_from_false (position % 8 == 0) (ne_eqb (position % 8) 0 outside) in
+    elim (or_cases (is_among c position) (is_among d position) chosen) [
+      | inl in_c ↦ bit-from_select a b c (sym (c_half-select a) ∙ same_c ∙ c_half-select b) position in_c
+      | inr in_d ↦ bit-from_select a b d (sym (d_half-select a) ∙ same_d ∙ d_half-select b) position in_d
     ]
 
 -- equal round keys of some rounds have the same bit at each position that one of them takes

@@ -1,6 +1,6 @@
--- The keys that the weak key test refuses: those with a listed part (the list of the Rust crate `des`, and the class that
--- it is, whose halves C and D repeat so that a few round keys recur), and those with two parts that are one key. Parity bits
--- do not count.
+-- The keys that the weak key test refuses: those with a part of the listed class, whose halves C and D repeat so that a few
+-- round keys recur (the list of the Rust crate `des` has the keys of the class that have odd parity), and those with two
+-- parts that agree outside parity.
 use Rattle.std.specs.Prelude.{◌<◌, ◌≤◌, ◌*◌, ◌⊎◌, ℕ, List, [], ◌∷◌, length, map}
 use Rattle.std.specs.Int.{w64, to_be_bytes}
 use Rattle.des.specs.Blocks.{IsKey, part}

@@ -1,5 +1,6 @@
-//! The weak key test: keys under which DES has few different round keys, and keys with equal parts;
-//! the parity bits of keys, which are no part of what a key does; and keys that undo each other.
+//! The weak key test: keys under which DES has few different round keys, and keys two parts of which
+//! are one key; the parity bits of keys, which are no part of what a key does; and keys that undo each
+//! other.
 
 ghost use Rattle.std.specs.Prelude.{◌≡◌, ◌↔◌, ◌⊎◌, ◌/◌, ◌%◌, ◌-◌, ◌≤◌, ◌++◌, ℕ, Bool, List, length, codes, Some, IsErr, IsTrue, count_ones};
 ghost use Rattle.des.specs.Bits.{bits_of_bytes, bits_of_word, zeros};
@@ -63,12 +64,12 @@ fn contains_but_parity(keys: &[[u8; 8]], key: &[u8; 8]) -> bool
     keys.iter().any(|other| equal_but_parity(other, key))
 }
 
-/// Refuses a key of 8, 16 or 24 bytes where one of its parts of 8 bytes is listed in `WEAK_KEYS`, or
-/// where two of its parts are one key. Parity bits (the lowest bit of each byte) do not count: keys
-/// that differ in them alone are one key.
+/// Refuses a key of 8, 16 or 24 bytes where one of its parts of 8 bytes agrees with one of `WEAK_KEYS`
+/// in all bits but the lowest of each byte, the parity bits, or where two of its parts so agree. Keys
+/// that differ in parity bits alone are one cipher.
 ///
-/// The keys so listed are exactly those whose halves C and D (FIPS 46-3, key schedule), each rotated
-/// left by two, equal themselves or their complements.
+/// The keys that agree with a listed one are exactly those of 8 bytes whose halves C and D (FIPS 46-3,
+/// key schedule), each rotated left by two, equal themselves or their complements.
 pub fn weak_key_test(key: &[u8]) -> Result<(), WeakKeyError>
     requires { (length key.now ≡ 8) ⊎ (length key.now ≡ 16) ⊎ (length key.now ≡ 24) }
     ensures listed { WEAK_KEYS ≡ listed_keys }

@@ -35,6 +35,11 @@ fn refuses_listed_and_equal_parts(rt: HostRuntime) {
     assert!(rt; refuses(&[listed[0], NO_BIT]));
     assert!(rt; refuses(&[NO_BIT, listed[1]]));
     assert!(rt; refuses(&[NO_BIT, listed[2]]));
+    assert!(rt; refuses(&[listed[0], a]));
+    assert!(rt; refuses(&[a, listed[1]]));
+    assert!(rt; refuses(&[listed[0], a, b]));
+    assert!(rt; refuses(&[a, listed[1], b]));
+    assert!(rt; refuses(&[a, b, listed[2]]));
     assert!(rt; refuses(&[a, a]));
     assert!(rt; refuses(&[a, a, b]));
     assert!(rt; refuses(&[a, b, a]));
@@ -52,6 +57,7 @@ fn refuses_whatever_the_parity(rt: HostRuntime) {
 fn passes_other_keys(rt: HostRuntime) {
     assert!(rt; !refuses(&[0x0101011f0101010e]));
     assert!(rt; !refuses(&[0x133457799bbcdff1]));
+    assert!(rt; !refuses(&PLAIN[..2]));
     assert!(rt; !refuses(&PLAIN));
 }
 

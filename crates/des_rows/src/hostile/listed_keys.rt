@@ -1,4 +1,4 @@
-//! Keys that the weak key test lists, keys beside them, and keys with equal parts.
+//! Keys that the weak key test lists, the same with a bit flipped, and keys with equal parts.
 
 ghost use Rattle.std.specs.Prelude.{◌≡◌, ◌⊎◌, length};
 
@@ -6,7 +6,8 @@ use des::Des;
 use des::cipher::{BlockCipherEncrypt, KeyInit};
 use des::weak_key::{WEAK_KEYS, WeakKeyError, equal_but_parity, is_partner, weak_key_test};
 
-// Two keys that are not listed, and one that differs from the first in its eight parity bits alone.
+// Two keys that are not of the listed class, and one that differs from the first in its eight parity
+// bits alone.
 const A: [u8; 8] = [0x01, 0x02, 0x03, 0x04, 0x05, 0x06, 0x07, 0x08];
 
 const B: [u8; 8] = [0x11, 0x12, 0x13, 0x14, 0x15, 0x16, 0x17, 0x18];
@@ -33,7 +34,7 @@ fn listed_keys_are_refused_in_each_place(rt: HostRuntime) {
     assert!(rt; !refuses(&[A, B]));
 }
 
-// The same key, as the round keys show, is refused too: parity bits do not count.
+// A listed key with a parity bit flipped is the same key, as the round keys show, and is refused.
 #[test]
 fn listed_keys_with_a_parity_bit_flipped_are_refused(rt: HostRuntime) {
     for key in WEAK_KEYS {
@@ -66,6 +67,18 @@ fn parts_that_are_equal_but_for_parity_are_refused(rt: HostRuntime) {
     assert!(rt; refuses(&[A, B, A]));
     assert!(rt; refuses(&[B, A, A]));
     assert!(rt; refuses(&[A, A, A]));
+}
+
+// With one bit flipped that counts, a listed key is none of the class, and equal parts differ.
+#[test]
+fn bits_outside_parity_count(rt: HostRuntime) {
+    for bit in 0..64u32 {
+        let flip = |key: [u8; 8]| (u64::from_be_bytes(key) ^ 1 << bit).to_be_bytes();
+        for key in WEAK_KEYS {
+            assert_eq!(rt; refuses(&[flip(key)]), bit % 8 == 0, "{key:?}, bit {bit}");
+        }
+        assert_eq!(rt; refuses(&[A, flip(A)]), bit % 8 == 0, "bit {bit}");
+    }
 }
 
 // The 4 weak keys are partners of themselves, and the 12 semi-weak ones of each other in pairs (NBS

@@ -33,7 +33,7 @@ impl Env for Process<'_> {
 
 // A line, what goes to standard output and to standard error, and the exit status.
 #[rattlefmt::skip]
-pub(super) const LINES: [(&str, &str, &str, u8); 20] = [
+pub(super) const LINES: [(&str, &str, &str, u8); 21] = [
     ("des_tool des encrypt 133457799BBCDFF1 0123456789ABCDEF", ANSWER, "", 0),
     ("des_tool des decrypt 133457799BBCDFF1 85E813540F0AB405", "0123456789abcdef\n", "", 0),
     ("des_tool des encrypt 133457799BBCDFF1 ", "\n", "", 0),
@@ -43,6 +43,7 @@ pub(super) const LINES: [(&str, &str, &str, u8); 20] = [
     ("des_tool weak 02020202020202020303030303030303", "WeakKey\n", "", 0),
     ("des_tool weak 010203040506070811121314151617180102030405060708", "WeakKey\n", "", 0),
     ("des_tool weak 0101011f0101010e", "Ok\n", "", 0),
+    ("des_tool weak 010203040506070811121314151617182122232425262728", "Ok\n", "", 0),
     ("", "", "Usage\n", 2),
     ("des_tool weak", "", "Usage\n", 2),
     ("des_tool weak 0101010101010101 0101010101010101", "", "Usage\n", 2),
