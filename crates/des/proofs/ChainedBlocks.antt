@@ -1,0 +1,51 @@
+-- Lists of blocks that are chained, and functions on blocks that undo each other.
+use Rattle.std.proofs.Common.{◌≡◌, ℕ, zero, suc, ◌+◌, ◌-◌, ◌≤◌, List, [], ◌∷◌, length, get_or, refl, sym, ap, ◌∙◌, arith}
+use Rattle.std.specs.List.{All}
+use Rattle.std.proofs.lemmas.List.Elements.{All-cons, All-from_get_or}
+use Rattle.des.specs.Blocks.{IsBlock}
+use Rattle.des.specs.Cbc.{xor_blocks, block_at, block_before, Chains, Cbc, Unchains}
+use Rattle.des.proofs.XoredBlocks.{length-xor_blocks, xor_blocks-undone, IsBlock-xor_blocks}
+
+-- each block of a list of blocks is one
+pub IsBlock-block_at : (blocks : List (List ℕ)) (n : ℕ) → 1 ≤ n → n ≤ length blocks → All IsBlock blocks → IsBlock (block_at blocks n)
+IsBlock-block_at blocks n from to are_blocks = are_blocks (n - 1) [] (omega arith)
+
+-- so is the block before each
+pub IsBlock-block_before : (iv : List ℕ) (blocks : List (List ℕ)) (n : ℕ) → n ≤ length blocks → IsBlock iv → All IsBlock blocks
+    → IsBlock (block_before iv blocks n)
+IsBlock-block_before iv blocks n to is_iv are_blocks = All-cons IsBlock iv blocks is_iv are_blocks (n - 1) [] (omega arith)
+
+-- a block is the one before the next
+pub block_before-next : (iv : List ℕ) (blocks : List (List ℕ)) (n : ℕ) → 1 ≤ n → block_before iv blocks (n + 1) ≡ block_at blocks n
+block_before-next iv blocks zero from = absurd (omega arith)
+block_before-next iv blocks (suc m) from =
+    let next : suc m + 1 - 1 ≡ suc m = omega arith in
+    let this : suc m - 1 ≡ m = omega arith in
+    rw (next, this) refl
+
+-- where encryption makes blocks of blocks, the block before each place of a chained list is a block
+IsBlock-before_chained : (encryption : List ℕ → List ℕ) (iv : List ℕ) (p q : List (List ℕ)) → IsBlock iv → All IsBlock p
+    → ((block : List ℕ) → IsBlock block → IsBlock (encryption block)) → Cbc encryption iv p q
+    → (n : ℕ) → n ≤ length p → IsBlock (block_before iv q (n + 1))
+IsBlock-before_chained encryption iv p q is_iv are_blocks makes_blocks cbc zero to = is_iv
+IsBlock-before_chained encryption iv p q is_iv are_blocks makes_blocks cbc (suc m) to =
+    let same : suc m ≡ m + 1 = omega arith in
+    rw (block_before-next iv q (suc m) (omega arith), cbc.chained (suc m) (omega arith) to, same)
+    (makes_blocks _ (IsBlock-xor_blocks _ _ (IsBlock-block_at p (m + 1) (omega arith) (omega arith) are_blocks)
+    (IsBlock-before_chained encryption iv p q is_iv are_blocks makes_blocks cbc m (omega arith))))
+
+-- a chained list is unchained by what undoes the encryption
+pub Unchains-from_Cbc : (encryption decryption : List ℕ → List ℕ) (iv : List ℕ) (p q : List (List ℕ)) → IsBlock iv → All IsBlock p
+    → ((block : List ℕ) → IsBlock block → IsBlock (encryption block))
+    → ((block : List ℕ) → IsBlock block → decryption (encryption block) ≡ block) → Cbc encryption iv p q → Unchains decryption iv q p
+Unchains-from_Cbc encryption decryption iv p q is_iv are_blocks makes_blocks undoes cbc = ?
+
+-- a list that decryption unchains is chained by what undoes it
+pub Cbc-from_Unchains : (encryption decryption : List ℕ → List ℕ) (iv : List ℕ) (p q : List (List ℕ)) → IsBlock iv → All IsBlock q
+    → ((block : List ℕ) → IsBlock block → IsBlock (decryption block))
+    → ((block : List ℕ) → IsBlock block → encryption (decryption block) ≡ block) → Unchains decryption iv q p → Cbc encryption iv p q
+Cbc-from_Unchains encryption decryption iv p q is_iv are_blocks makes_blocks undoes unchains = record {
+  count = sym unchains.count;
+  widths = λ n from to. ?;
+  chained = λ n from to. ?;
+}
