@@ -1,9 +1,9 @@
 -- Lists of blocks that are chained, and functions on blocks that undo each other.
-use Rattle.std.proofs.Common.{◌≡◌, ℕ, zero, suc, ◌+◌, ◌-◌, ◌≤◌, List, [], ◌∷◌, length, get_or, refl, sym, ap, ◌∙◌, arith}
+use Rattle.std.proofs.Common.{◌≡◌, ℕ, zero, suc, ◌+◌, ◌-◌, ◌≤◌, List, [], length, refl, sym, ◌∙◌, arith}
 use Rattle.std.specs.List.{All}
-use Rattle.std.proofs.lemmas.List.Elements.{All-cons, All-from_get_or}
+use Rattle.std.proofs.lemmas.List.Elements.{All-cons}
 use Rattle.des.specs.Blocks.{IsBlock}
-use Rattle.des.specs.Cbc.{xor_blocks, block_at, block_before, Chains, Cbc, Unchains}
+use Rattle.des.specs.Cbc.{xor_blocks, block_at, block_before, Cbc, Unchains}
 use Rattle.des.proofs.XoredBlocks.{length-xor_blocks, xor_blocks-undone, IsBlock-xor_blocks}
 
 -- each block of a list of blocks is one
@@ -38,14 +38,38 @@ IsBlock-before_chained encryption iv p q is_iv are_blocks makes_blocks cbc (suc 
 pub Unchains-from_Cbc : (encryption decryption : List ℕ → List ℕ) (iv : List ℕ) (p q : List (List ℕ)) → IsBlock iv → All IsBlock p
     → ((block : List ℕ) → IsBlock block → IsBlock (encryption block))
     → ((block : List ℕ) → IsBlock block → decryption (encryption block) ≡ block) → Cbc encryption iv p q → Unchains decryption iv q p
-Unchains-from_Cbc encryption decryption iv p q is_iv are_blocks makes_blocks undoes cbc = ?
+Unchains-from_Cbc encryption decryption iv p q is_iv are_blocks makes_blocks undoes cbc = record {
+  count = sym cbc.count;
+  unchained = λ n from to.
+      let within : n ≤ length p = omega (arith, cbc.count) in
+      let again : n - 1 + 1 ≡ n = omega arith in
+      let is_block = IsBlock-block_at p n from within are_blocks in
+      let is_before = rw again at
+      (IsBlock-before_chained encryption iv p q is_iv are_blocks makes_blocks cbc (n - 1) (omega arith)) in
+      let xored = xor_blocks (block_at p n) (block_before iv q n) in
+      rw (cbc.chained n from within, undoes xored (IsBlock-xor_blocks _ _ is_block is_before))
+      (sym (xor_blocks-undone (block_at p n) (block_before iv q n) (omega arith)));
+}
 
 -- a list that decryption unchains is chained by what undoes it
 pub Cbc-from_Unchains : (encryption decryption : List ℕ → List ℕ) (iv : List ℕ) (p q : List (List ℕ)) → IsBlock iv → All IsBlock q
     → ((block : List ℕ) → IsBlock block → IsBlock (decryption block))
     → ((block : List ℕ) → IsBlock block → encryption (decryption block) ≡ block) → Unchains decryption iv q p → Cbc encryption iv p q
-Cbc-from_Unchains encryption decryption iv p q is_iv are_blocks makes_blocks undoes unchains = record {
-  count = sym unchains.count;
-  widths = λ n from to. ?;
-  chained = λ n from to. ?;
-}
+Cbc-from_Unchains encryption decryption iv p q is_iv are_blocks makes_blocks undoes unchains =
+    let deciphered = λ (n : ℕ) (from : 1 ≤ n) (to : n ≤ length p).
+    makes_blocks (block_at q n) (IsBlock-block_at q n from (omega (arith, unchains.count)) are_blocks) in
+    let before = λ (n : ℕ) (to : n ≤ length p). IsBlock-block_before iv q n (omega (arith, unchains.count)) is_iv are_blocks in
+    record {
+      count = sym unchains.count;
+      widths = λ n from to.
+          let is_block = deciphered n from to in
+          let is_before = before n to in
+          rw (unchains.unchained n from (omega (arith, unchains.count)))
+          (length-xor_blocks _ _ (omega arith) ∙ is_block.0);
+      chained = λ n from to.
+          let within : n ≤ length q = omega (arith, unchains.count) in
+          let is_block = deciphered n from to in
+          let is_before = before n to in
+          rw (unchains.unchained n from within, xor_blocks-undone (decryption (block_at q n)) (block_before iv q n) (omega arith))
+          (sym (undoes (block_at q n) (IsBlock-block_at q n from within are_blocks)));
+    }
