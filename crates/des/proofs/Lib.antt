@@ -32,3 +32,5 @@ pub mod KeyParts
 pub mod ParityBits
 pub mod KeySelections
 pub mod AgreeingKeys
+pub mod XoredBlocks
+pub mod ChainedBlocks

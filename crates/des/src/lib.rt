@@ -5,6 +5,7 @@
 //! claim is made on the time that a call takes.
 #![tactic(auto)]
 
+pub mod cbc;
 pub mod cipher;
 pub mod consts;
 pub mod des;

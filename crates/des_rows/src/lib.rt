@@ -2,6 +2,7 @@
 //! Nothing here is part of the product.
 #![tactic(auto)]
 
+pub mod chaining;
 pub mod check_value;
 pub mod complements;
 #[cfg(test)]

@@ -13,7 +13,7 @@ fn are_bytes(bytes: &[u8])
 
 // The elements of a list of blocks are blocks, since the numbers of the joined list are bytes: of a
 // list of arrays a proof knows nothing more than the lengths.
-fn are_blocks(blocks: &[[u8; 8]])
+pub(crate) fn are_blocks(blocks: &[[u8; 8]])
     ensures { All IsBlock blocks.now }
 {
     are_bytes(blocks.as_flattened());

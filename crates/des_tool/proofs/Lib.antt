@@ -1,3 +1,4 @@
 pub mod Decoding
 pub mod Chunks
 pub mod BlockAnswers
+pub mod KeyAnswers

@@ -2,6 +2,7 @@
 use Rattle.std.specs.Prelude.{◌≡◌, ◌⊎◌, ℕ, List, MatchOption, codes}
 use Rattle.std.specs.List.{concat}
 use Rattle.des.specs.Blocks.{AnswersEach}
+use Rattle.des.specs.Cbc.{Chains}
 use Rattle.des.specs.Enciphering.{Enciphers}
 use Rattle.des.specs.WeakKeys.{IsRefused}
 use Rattle.des.specs.Triple.{EnciphersEde3, EnciphersEee3, EnciphersEde2, EnciphersEee2}
@@ -10,7 +11,7 @@ use Rattle.des_tool.specs.declared.command.Cipher.TheVariants.{Des, Ede3, Eee3, 
 use Rattle.des_tool.specs.declared.command.Direction.{Direction}
 use Rattle.des_tool.specs.declared.command.Direction.TheVariants.{Encrypt, Decrypt}
 use Rattle.des_tool.specs.Digits.{bytes_of_digits, text_of_blocks}
-use Rattle.des_tool.specs.Request.{Request, of_blocks, of_weak, request_of}
+use Rattle.des_tool.specs.Request.{Request, of_blocks, of_chain, of_weak, request_of, block_cipher_of}
 
 -- what a cipher is: the relation between the bytes of a key, a block and the block that it is enciphered to
 abbrev pub relation_of : Cipher → List ℕ → List ℕ → List ℕ → Type 0
@@ -20,28 +21,31 @@ relation_of Eee3 key first last = EnciphersEee3 key first last
 relation_of Ede2 key first last = EnciphersEde2 key first last
 relation_of Eee2 key first last = EnciphersEee2 key first last
 
--- a relation of blocks, read in a direction: from the first block to the second, or from the second to the first
-abbrev pub ReadIn : Direction → (List ℕ → List ℕ → Type 0) → List ℕ → List ℕ → Type 0
-ReadIn Encrypt Relates block answer = Relates block answer
-ReadIn Decrypt Relates block answer = Relates answer block
+-- a relation of blocks, or of lists of blocks, read in a direction: from the first to the second, or from the second to
+-- the first
+abbrev pub ReadIn : {A : Type 0} → Direction → (A → A → Type 0) → A → A → Type 0
+ReadIn Encrypt Relates given answer = Relates given answer
+ReadIn Decrypt Relates given answer = Relates answer given
 
--- the text is that of the blocks which answer, block by block, the blocks that the digits write. What a cipher
--- relates are blocks, so there is one way to cut the digits' bytes
-pub record IsTextOf (Answers : List ℕ → List ℕ → Type 0) (digits text : List ℕ) : Type 0 where
+-- the text is that of the list which answers the list of blocks that the digits write. What a cipher relates are blocks,
+-- each by itself or chained, so there is one way to cut the digits' bytes
+pub record IsTextOf (Answers : List (List ℕ) → List (List ℕ) → Type 0) (digits text : List ℕ) : Type 0 where
   pub blocks : List (List ℕ)
   pub answers : List (List ℕ)
   pub joined : concat blocks ≡ bytes_of_digits digits
-  pub answered : AnswersEach Answers blocks answers
+  pub answered : Answers blocks answers
   pub written : text ≡ text_of_blocks answers
 
 -- the text says whether the weak key test refuses the key
 abbrev pub IsVerdict : List ℕ → List ℕ → Type 0
 IsVerdict key text = (IsRefused key × (text ≡ codes "WeakKey\n")) ⊎ ((¬ (IsRefused key)) × (text ≡ codes "Ok\n"))
 
--- the text answers the request, under the key that its digits write
+-- the text answers the request, under the key that its digits write: block by block, or chained from the vector
 abbrev pub AnswersRequest : Request → List ℕ → Type 0
 AnswersRequest (of_blocks cipher direction key digits) text =
-    IsTextOf (ReadIn direction (relation_of cipher (bytes_of_digits key))) digits text
+    IsTextOf (AnswersEach (ReadIn direction (relation_of cipher (bytes_of_digits key)))) digits text
+AnswersRequest (of_chain cipher direction key vector digits) text =
+    IsTextOf (ReadIn direction (Chains (relation_of (block_cipher_of cipher) (bytes_of_digits key)) (bytes_of_digits vector))) digits text
 AnswersRequest (of_weak key) text = IsVerdict (bytes_of_digits key) text
 
 -- the text answers the arguments

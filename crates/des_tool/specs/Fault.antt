@@ -3,7 +3,7 @@ use Rattle.std.specs.Prelude.{ℕ, ◌*◌, ◌%◌, ◌==◌, ◌||◌, not, if
 use Rattle.std.specs.List.{list_all}
 use Rattle.std.specs.Option.{option_map_or, option_or}
 use Rattle.hex.specs.Hex.{is_hex_digit}
-use Rattle.des_tool.specs.Request.{Request, of_blocks, of_weak, request_of, key_size_of}
+use Rattle.des_tool.specs.Request.{Request, of_blocks, of_chain, of_weak, request_of, key_size_of, block_cipher_of}
 use Rattle.des_tool.specs.declared.command.Fault.{Fault}
 use Rattle.des_tool.specs.declared.command.Fault.TheVariants.{Usage, KeyLength, KeyText, BlockLength, BlockText, Memory}
 
@@ -21,6 +21,13 @@ tested_key_fault key =
     else if not (list_all is_hex_digit key) then Some KeyText
     else None
 
+-- the first fault of the vector argument, which has to have sixteen digits
+abbrev pub vector_fault : List ℕ → Option Fault
+vector_fault vector =
+    if not (length vector == 16) then Some BlockLength
+    else if not (list_all is_hex_digit vector) then Some BlockText
+    else None
+
 -- the first fault of the blocks argument, which has to have sixteen digits for each block
 abbrev pub blocks_fault : List ℕ → Option Fault
 blocks_fault blocks =
@@ -31,6 +38,8 @@ blocks_fault blocks =
 -- the first fault of a request
 abbrev pub fault_of_request : Request → Option Fault
 fault_of_request (of_blocks cipher direction key digits) = option_or (key_fault (key_size_of cipher) key) (blocks_fault digits)
+fault_of_request (of_chain cipher direction key vector digits) =
+    option_or (key_fault (key_size_of (block_cipher_of cipher)) key) (option_or (vector_fault vector) (blocks_fault digits))
 fault_of_request (of_weak key) = tested_key_fault key
 
 -- the first fault of the arguments, but for memory

@@ -4,14 +4,17 @@ use Rattle.std.specs.Option.{option_and_then, option_map}
 use Rattle.std.specs.Borrow.{Bor}
 use Rattle.des_tool.specs.declared.command.Cipher.{Cipher}
 use Rattle.des_tool.specs.declared.command.Cipher.TheVariants.{Des, Ede3, Eee3, Ede2, Eee2}
+use Rattle.des_tool.specs.declared.command.ChainedCipher.{ChainedCipher}
+use Rattle.des_tool.specs.declared.command.ChainedCipher.TheVariants.{DesCbc, Ede3Cbc}
 use Rattle.des_tool.specs.declared.command.Direction.{Direction}
 use Rattle.des_tool.specs.declared.command.Direction.TheVariants.{Encrypt, Decrypt}
 use Rattle.des_tool.specs.declared.command.Command.{Command}
-use Rattle.des_tool.specs.declared.command.Command.TheVariants.{Blocks, Weak}
+use Rattle.des_tool.specs.declared.command.Command.TheVariants.{Blocks, Chain, Weak}
 
 -- a request, with the arguments that hold digits
 pub data Request : Type 0 where
   of_blocks : (cipher : Cipher) (direction : Direction) (key digits : List ℕ) → Request
+  of_chain : (cipher : ChainedCipher) (direction : Direction) (key vector digits : List ℕ) → Request
   of_weak : (key : List ℕ) → Request
 
 -- the texts of a `&[&str]`
@@ -28,6 +31,18 @@ cipher_of argument =
     else if bytes_eq argument (codes "eee2") then Some Eee2
     else None
 
+-- the cipher to be chained that an argument names
+abbrev pub chained_cipher_of : List ℕ → Option ChainedCipher
+chained_cipher_of argument =
+    if bytes_eq argument (codes "des-cbc") then Some DesCbc
+    else if bytes_eq argument (codes "ede3-cbc") then Some Ede3Cbc
+    else None
+
+-- the block cipher under it
+abbrev pub block_cipher_of : ChainedCipher → Cipher
+block_cipher_of DesCbc = Des
+block_cipher_of Ede3Cbc = Ede3
+
 -- the bytes of a cipher's key
 abbrev pub key_size_of : Cipher → ℕ
 key_size_of Des = 8
@@ -43,16 +58,22 @@ direction_of argument =
     else if bytes_eq argument (codes "decrypt") then Some Decrypt
     else None
 
--- the request that the arguments are, if they have a shape that is known: CIPHER DIRECTION KEY BLOCKS, or weak KEY
+-- the request that the arguments are, if they have a shape that is known: CIPHER DIRECTION KEY BLOCKS, for a cipher to be
+-- chained CIPHER DIRECTION KEY VECTOR BLOCKS, or weak KEY
 abbrev pub request_of : List (List ℕ) → Option Request
 request_of (cipher ∷ direction ∷ key ∷ digits ∷ []) =
     option_and_then
     (λ cipher. option_map (λ direction. of_blocks cipher direction key digits) (direction_of direction))
     (cipher_of cipher)
+request_of (cipher ∷ direction ∷ key ∷ vector ∷ digits ∷ []) =
+    option_and_then
+    (λ cipher. option_map (λ direction. of_chain cipher direction key vector digits) (direction_of direction))
+    (chained_cipher_of cipher)
 request_of (test ∷ key ∷ []) = if bytes_eq test (codes "weak") then Some (of_weak key) else None
 request_of _ = None
 
 -- the request that a `Command` holds
 abbrev pub request : Command → Request
 request (Blocks cipher direction key digits) = of_blocks cipher direction key.now digits.now
+request (Chain cipher direction key vector digits) = of_chain cipher direction key.now vector.now digits.now
 request (Weak key) = of_weak key.now

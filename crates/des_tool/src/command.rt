@@ -8,16 +8,17 @@ ghost use Rattle.std.specs.Io.KnownBytes.{Appends};
 ghost use Rattle.std.specs.IoError.{error_kind};
 ghost use Rattle.std.specs.Process.{exit_status};
 ghost use Rattle.hex.specs.Hex.{is_hex_digit};
-ghost use Rattle.des.specs.Blocks.{IsKey, IsBlock};
+ghost use Rattle.des.specs.Blocks.{IsKey, IsBlock, AnswersEach};
+ghost use Rattle.des.specs.Cbc.{Chains, Cbc, Unchains};
 ghost use Rattle.des_tool.specs.Digits.{bytes_of_digits, text_of_blocks};
-ghost use Rattle.des_tool.specs.Request.{of_blocks, request, request_of, cipher_of, direction_of, texts};
-ghost use Rattle.des_tool.specs.Fault.{key_fault, tested_key_fault, blocks_fault, fault_of_request, fault_of, name_of};
+ghost use Rattle.des_tool.specs.Request.{of_blocks, of_chain, request, request_of, cipher_of, chained_cipher_of, direction_of, texts};
+ghost use Rattle.des_tool.specs.Fault.{key_fault, tested_key_fault, vector_fault, blocks_fault, fault_of_request, fault_of, name_of};
 ghost use Rattle.des_tool.specs.Status.{answer_written, IsOfAnswer, IsOfFault, IsStatusOf};
-ghost use Rattle.des_tool.specs.Answer.{IsTextOf, IsVerdict, AnswersRequest, IsAnswer};
+ghost use Rattle.des_tool.specs.Answer.{ReadIn, IsTextOf, IsVerdict, AnswersRequest, IsAnswer};
 ghost use Rattle.des_tool.specs.Ciphers.{in_direction, IsMadeBy};
 
 use des::cipher::{BlockCipher, KeyInit, KeyedCipher};
-use des::{Des, TdesEde2, TdesEde3, TdesEee2, TdesEee3, WeakKeyError, weak_key_test};
+use des::{Des, TdesEde2, TdesEde3, TdesEee2, TdesEee3, WeakKeyError, cbc, weak_key_test};
 use std::alloc::{AllocError, AllocFailed, Global};
 use std::env::Env;
 use std::error::Error;
@@ -49,9 +50,9 @@ pub enum Fault {
     KeyLength,
     /// The key argument holds something that is not a hexadecimal digit.
     KeyText,
-    /// The blocks argument does not have sixteen digits for each block.
+    /// The vector argument does not have sixteen digits, or the blocks argument sixteen for each block.
     BlockLength,
-    /// The blocks argument holds something that is not a hexadecimal digit.
+    /// The vector argument or the blocks argument holds something that is not a hexadecimal digit.
     BlockText,
     /// A request for memory was refused.
     Memory,
@@ -127,6 +128,13 @@ enum Cipher {
     Eee2,
 }
 
+// A block cipher whose blocks the program chains.
+#[derive(Clone, Copy)]
+enum ChainedCipher {
+    DesCbc,
+    Ede3Cbc,
+}
+
 // Whether blocks are enciphered or deciphered.
 #[derive(Clone, Copy)]
 enum Direction {
@@ -140,6 +148,13 @@ enum Command<'a> {
         cipher: Cipher,
         direction: Direction,
         key: &'a str,
+        blocks: &'a str,
+    },
+    Chain {
+        cipher: ChainedCipher,
+        direction: Direction,
+        key: &'a str,
+        vector: &'a str,
         blocks: &'a str,
     },
     Weak {
@@ -156,6 +171,16 @@ fn parse_cipher(argument: &str) -> Option<Cipher>
         "eee3" => Some(Cipher::Eee3),
         "ede2" => Some(Cipher::Ede2),
         "eee2" => Some(Cipher::Eee2),
+        _ => None,
+    }
+}
+
+fn parse_chained_cipher(argument: &str) -> Option<ChainedCipher>
+    ensures { result ≡ chained_cipher_of argument.now }
+{
+    match argument {
+        "des-cbc" => Some(ChainedCipher::DesCbc),
+        "ede3-cbc" => Some(ChainedCipher::Ede3Cbc),
         _ => None,
     }
 }
@@ -181,6 +206,13 @@ fn parse<'a>(arguments: &[&'a str]) -> Option<Command<'a>>
             key,
             blocks,
         }),
+        [cipher, direction, key, vector, blocks] => Some(Command::Chain {
+            cipher: parse_chained_cipher(cipher)?,
+            direction: parse_direction(direction)?,
+            key,
+            vector,
+            blocks,
+        }),
         _ => None,
     }
 }
@@ -192,6 +224,10 @@ fn parse<'a>(arguments: &[&'a str]) -> Option<Command<'a>>
 /// of 24, or `ede2` or `eee2`, with one of 16. `KEY` and `BLOCKS` are hexadecimal digits in either
 /// case, two a byte; no block at all is a list too. The answer is the blocks' lower-case digits, in
 /// order, and a newline.
+///
+/// `CHAINED encrypt KEY VECTOR BLOCKS` enciphers blocks by cipher block chaining (FIPS 81), from an
+/// initialization vector of 8 bytes, and `CHAINED decrypt KEY VECTOR BLOCKS` deciphers them. `CHAINED`
+/// is `des-cbc` or `ede3-cbc`. Keys, digits and the answer are as before.
 ///
 /// `weak KEY` tests a key of 8, 16 or 24 bytes: the answer is `WeakKey` where `weak_key_test` refuses
 /// it, else `Ok`, and a newline.
@@ -210,6 +246,13 @@ pub fn answer(alloc: Global, arguments: &[&str]) -> Result<Vec<u8>, Fault>
             key,
             blocks,
         } => blocks_text(alloc, cipher, direction, key, blocks),
+        Command::Chain {
+            cipher,
+            direction,
+            key,
+            vector,
+            blocks,
+        } => chain_text(alloc, cipher, direction, key, vector, blocks),
         Command::Weak { key } => weak_text(alloc, key),
     }
 }
@@ -248,14 +291,63 @@ fn text_by<C: KeyedCipher + Drop>(
         (λ fault. result ≡ Err fault) }
     ensures memory { IfNone (option_or (key_fault C.KEY_SIZE key.now) (blocks_fault digits.now))
         (IfErr result (λ fault. fault ≡ Fault.Memory)) }
-    ensures answer { IfOk result (λ text. IsTextOf
+    ensures answer { IfOk result (λ text. IsTextOf (AnswersEach
         (IsMadeBy (in_direction direction C.encryption C.decryption) C.KEY_SIZE
-        (bytes_of_digits key.now))
+        (bytes_of_digits key.now)))
         digits.now text.items) }
 {
     let cipher: C = parse_cipher_key(key)?;
     let mut blocks = parse_blocks(alloc, digits)?;
     answer_each(&cipher, direction, blocks.as_mut_slice());
+    text_of(alloc, blocks.as_slice())
+}
+
+fn chain_text(
+    alloc: Global,
+    cipher: ChainedCipher,
+    direction: Direction,
+    key: &str,
+    vector: &str,
+    digits: &str,
+) -> Result<Vec<u8>, Fault>
+    ensures fault { IfSome
+        (fault_of_request (of_chain cipher direction key.now vector.now digits.now))
+        (λ fault. result ≡ Err fault) }
+    ensures memory { IfNone
+        (fault_of_request (of_chain cipher direction key.now vector.now digits.now))
+        (IfErr result (λ fault. fault ≡ Fault.Memory)) }
+    ensures answer { IfOk result (λ text.
+        AnswersRequest (of_chain cipher direction key.now vector.now digits.now) text.items) }
+{
+    match cipher {
+        ChainedCipher::DesCbc => chain_text_by::<Des>(alloc, direction, key, vector, digits),
+        ChainedCipher::Ede3Cbc => chain_text_by::<TdesEde3>(alloc, direction, key, vector, digits),
+    }
+}
+
+fn chain_text_by<C: KeyedCipher + Drop>(
+    alloc: Global,
+    direction: Direction,
+    key: &str,
+    vector: &str,
+    digits: &str,
+) -> Result<Vec<u8>, Fault>
+    requires { C.KEY_SIZE ≤ LONGEST_KEY }
+    ensures fault { IfSome (option_or (key_fault C.KEY_SIZE key.now)
+        (option_or (vector_fault vector.now) (blocks_fault digits.now)))
+        (λ fault. result ≡ Err fault) }
+    ensures memory { IfNone (option_or (key_fault C.KEY_SIZE key.now)
+        (option_or (vector_fault vector.now) (blocks_fault digits.now)))
+        (IfErr result (λ fault. fault ≡ Fault.Memory)) }
+    ensures answer { IfOk result (λ text. IsTextOf (ReadIn direction
+        (Chains (IsMadeBy C.encryption C.KEY_SIZE (bytes_of_digits key.now))
+        (bytes_of_digits vector.now)))
+        digits.now text.items) }
+{
+    let cipher: C = parse_cipher_key(key)?;
+    let iv = parse_vector(vector)?;
+    let mut blocks = parse_blocks(alloc, digits)?;
+    answer_chain(&cipher, direction, &iv, blocks.as_mut_slice());
     text_of(alloc, blocks.as_slice())
 }
 
@@ -314,6 +406,24 @@ fn parse_key(digits: &str, key: &mut [u8]) -> Result<(), Fault>
     Ok(())
 }
 
+// Reads the initialization vector that the digits write.
+fn parse_vector(digits: &str) -> Result<[u8; 8], Fault>
+    ensures fault { IfSome (vector_fault digits.now) (λ fault. result ≡ Err fault) }
+    ensures accepted { IfNone (vector_fault digits.now) (IsOk result) }
+    ensures vector { IfOk result (λ vector. vector ≡ bytes_of_digits digits.now) }
+    ensures is_block { OnOk result (IsBlock (bytes_of_digits digits.now)) }
+{
+    if digits.len() != 16 {
+        return Err(Fault::BlockLength);
+    }
+    if !are_digits(digits) {
+        return Err(Fault::BlockText);
+    }
+    let mut vector = [0u8; 8];
+    decode(digits.as_bytes(), &mut vector);
+    Ok(vector)
+}
+
 // The argument is taken whole before any memory is asked for, so only memory fails after that.
 fn parse_blocks(alloc: Global, digits: &str) -> Result<Vec<[u8; 8]>, Fault>
     ensures fault { IfSome (blocks_fault digits.now) (λ fault. result ≡ Err fault) }
@@ -359,6 +469,21 @@ fn answer_each<C: BlockCipher>(cipher: &C, direction: Direction, blocks: &mut [[
     match direction {
         Direction::Encrypt => cipher.encrypt_blocks(blocks),
         Direction::Decrypt => cipher.decrypt_blocks(blocks),
+    }
+}
+
+fn answer_chain<C: BlockCipher>(
+    cipher: &C,
+    direction: Direction,
+    iv: &[u8; 8],
+    blocks: &mut [[u8; 8]],
+)
+    ensures { in_direction direction (Cbc (C.encrypted cipher.now)) (Unchains (C.decrypted cipher.now))
+        iv.now blocks.old blocks.new }
+{
+    match direction {
+        Direction::Encrypt => cbc::encrypt(cipher, iv, blocks),
+        Direction::Decrypt => cbc::decrypt(cipher, iv, blocks),
     }
 }
 

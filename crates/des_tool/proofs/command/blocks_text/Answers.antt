@@ -3,10 +3,7 @@ use Rattle.std.specs.declared.vec.Vec.{Vec}
 use Rattle.std.specs.declared.alloc.Global.{Global}
 use Rattle.des_tool.specs.declared.command.Fault.{Fault}
 use Rattle.std.proofs.lemmas.Result.{IfOk-weaker}
-use Rattle.des.specs.Blocks.{IsKey, part}
-use Rattle.des.specs.Des.{encryption, decryption}
-use Rattle.des.proofs.Graphs.{IsGraphOf-encryption, IsGraphOf-decryption, HasOneAnswerEachWay-key}
-use Rattle.des.proofs.TripleGraphs.{AnswerBy, ede, ede_back, eee, eee_back, AnswerBy-Ede3, AnswerBy-Eee3, AnswerBy-Ede2, AnswerBy-Eee2}
+use Rattle.des.specs.Blocks.{AnswersEach}
 use Rattle.des_tool.specs.declared.command.Cipher.{Cipher}
 use Rattle.des_tool.specs.declared.command.Cipher.TheVariants.{Des, Ede3, Eee3, Ede2, Eee2}
 use Rattle.des_tool.specs.declared.command.Direction.{Direction}
@@ -15,40 +12,14 @@ use Rattle.des_tool.specs.Ciphers.{IsMadeBy, in_direction}
 use Rattle.des_tool.specs.Digits.{bytes_of_digits}
 use Rattle.des_tool.specs.Request.{key_size_of}
 use Rattle.des_tool.proofs.BlockAnswers.{IsTextOf-made}
+use Rattle.des_tool.proofs.KeyAnswers.{encryption_by, decryption_by, answer_by}
 use Rattle.des_tool.proofs.command.blocks_text.Goals as goal
-
--- what a key of a cipher answers by encryption, and by decryption
-abbrev encryption_by : Cipher → List ℕ → List ℕ → List ℕ
-encryption_by Des key = encryption key
-encryption_by Ede3 key = ede (part 1 key) (part 2 key) (part 3 key)
-encryption_by Eee3 key = eee (part 1 key) (part 2 key) (part 3 key)
-encryption_by Ede2 key = ede (part 1 key) (part 2 key) (part 1 key)
-encryption_by Eee2 key = eee (part 1 key) (part 2 key) (part 1 key)
-
-abbrev decryption_by : Cipher → List ℕ → List ℕ → List ℕ
-decryption_by Des key = decryption key
-decryption_by Ede3 key = ede_back (part 1 key) (part 2 key) (part 3 key)
-decryption_by Eee3 key = eee_back (part 1 key) (part 2 key) (part 3 key)
-decryption_by Ede2 key = ede_back (part 1 key) (part 2 key) (part 1 key)
-decryption_by Eee2 key = eee_back (part 1 key) (part 2 key) (part 1 key)
-
--- these are the graphs of the cipher's relation
-answer_by : (cipher : Cipher) (key : List ℕ) → IsKey (key_size_of cipher) key
-    → AnswerBy (encryption_by cipher key) (decryption_by cipher key) (λ x y. relation_of cipher key x y)
-answer_by Des key is_key = record {
-  one_answer_each_way = HasOneAnswerEachWay-key key is_key;
-  encryption = IsGraphOf-encryption key is_key;
-  decryption = IsGraphOf-decryption key is_key;
-}
-answer_by Ede3 key is_key = AnswerBy-Ede3 key is_key
-answer_by Eee3 key is_key = AnswerBy-Eee3 key is_key
-answer_by Ede2 key is_key = AnswerBy-Ede2 key is_key
-answer_by Eee2 key is_key = AnswerBy-Eee2 key is_key
 
 -- a text of what the key answers is one of what its relation gives
 by_relation : (cipher : Cipher) (direction : Direction) (key digits text : List ℕ)
-    → IsTextOf (IsMadeBy (in_direction direction (encryption_by cipher) (decryption_by cipher)) (key_size_of cipher) key) digits text
-    → IsTextOf (ReadIn direction (relation_of cipher key)) digits text
+    → IsTextOf (AnswersEach (IsMadeBy (in_direction direction (encryption_by cipher) (decryption_by cipher)) (key_size_of cipher) key))
+    digits text
+    → IsTextOf (AnswersEach (ReadIn direction (relation_of cipher key))) digits text
 by_relation cipher direction key =
     IsTextOf-made direction (encryption_by cipher) (decryption_by cipher) (key_size_of cipher) key (relation_of cipher key)
     (λ is_key. (answer_by cipher key is_key).encryption) (λ is_key. (answer_by cipher key is_key).decryption)
@@ -56,8 +27,9 @@ by_relation cipher direction key =
 -- the same of what the call of the cipher's text gave
 answered : (cipher : Cipher) (direction : Direction) (key digits : List ℕ) (result : Result (Vec ℕ Global) Fault)
     → IfOk result (λ text. IsTextOf
-    (IsMadeBy (in_direction direction (encryption_by cipher) (decryption_by cipher)) (key_size_of cipher) key) digits text.items)
-    → IfOk result (λ text. IsTextOf (ReadIn direction (relation_of cipher key)) digits text.items)
+    (AnswersEach (IsMadeBy (in_direction direction (encryption_by cipher) (decryption_by cipher)) (key_size_of cipher) key))
+    digits text.items)
+    → IfOk result (λ text. IsTextOf (AnswersEach (ReadIn direction (relation_of cipher key))) digits text.items)
 answered cipher direction key digits result =
     IfOk-weaker result _ _ (λ text. by_relation cipher direction key digits text.items)
 

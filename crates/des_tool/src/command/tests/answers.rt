@@ -90,6 +90,73 @@ fn decrypts_blocks(rt: HostRuntime) -> Result<(), Fail> {
     Ok(())
 }
 
+// A chained cipher, its key, an initialization vector, a plaintext, and the ciphertext: FIPS 81, appendix C,
+// "Now is the time for all ", which a key of equal parts answers too; a block from a vector of zeros, which
+// is answered as by the cipher itself; no block; and OpenSSL's answers by `des-ede3-cbc`.
+const CHAINED_ANSWERS: [(&str, &str, &str, &str, &str); 6] = [
+    (
+        "des-cbc",
+        "0123456789ABCDEF",
+        "1234567890ABCDEF",
+        "4e6f77206973207468652074696d6520666f7220616c6c20",
+        "e5c7cdde872bf27c43e934008c389c0f683788499a7c05f6",
+    ),
+    (
+        "ede3-cbc",
+        "0123456789ABCDEF0123456789ABCDEF0123456789ABCDEF",
+        "1234567890ABCDEF",
+        "4e6f77206973207468652074696d6520666f7220616c6c20",
+        "e5c7cdde872bf27c43e934008c389c0f683788499a7c05f6",
+    ),
+    (
+        "des-cbc",
+        "133457799BBCDFF1",
+        "0000000000000000",
+        "0123456789ABCDEF",
+        "85e813540f0ab405",
+    ),
+    ("des-cbc", "133457799BBCDFF1", "0000000000000000", "", ""),
+    (
+        "ede3-cbc",
+        "0123456789abcdef23456789abcdef01456789abcdef0123",
+        "1234567890abcdef",
+        "426c6f636b206369706865727320636861696e65642c20666976652074696d657320656967687420",
+        "1ef0802b9e2351486fc53ff74da4b526071989574d78f4496f50a89468e7c0df2b744d4b599e24e5",
+    ),
+    (
+        "ede3-cbc",
+        "133457799bbcdff1fedcba98765432100e329232ea6d0d73",
+        "fedcba9876543210",
+        "000000000000000000000000000000000000000000000000ffffffffffffffffffffffffffffffff0123456789abcdef",
+        "b4243ea4f41611eb005daf5aa24d03e9d4c525ad76d69b86067ea84e1bffd1aeb4416d2f85b6f3e7d8fa0e9ebff3d654",
+    ),
+];
+
+#[test]
+fn encrypts_chains(rt: HostRuntime) -> Result<(), Fail> {
+    for (cipher, key, vector, plaintext, ciphertext) in CHAINED_ANSWERS {
+        let text = answer(rt.alloc(), &[cipher, "encrypt", key, vector, plaintext])?;
+        let (newline, digits) = text.as_slice().split_last().ok_or("no newline")?;
+        assert_eq!(rt; *newline, b'\n');
+        assert_eq!(rt; digits, ciphertext.as_bytes(), "{cipher}");
+    }
+    Ok(())
+}
+
+#[test]
+fn decrypts_chains(rt: HostRuntime) -> Result<(), Fail> {
+    for (cipher, key, vector, plaintext, ciphertext) in CHAINED_ANSWERS {
+        let text = answer(rt.alloc(), &[cipher, "decrypt", key, vector, ciphertext])?;
+        let (newline, digits) = text.as_slice().split_last().ok_or("no newline")?;
+        assert_eq!(rt; *newline, b'\n');
+        assert!(rt;
+            digits.eq_ignore_ascii_case(plaintext.as_bytes()),
+            "{cipher}"
+        );
+    }
+    Ok(())
+}
+
 #[test]
 fn answers_many_blocks(rt: HostRuntime) -> Result<(), Fail> {
     for count in [5usize, 3000] {

@@ -7,7 +7,7 @@ const NOT_DIGITS: &str = "11111111111111é";
 
 // Words, and the fault that `answer` finds in them.
 #[rattlefmt::skip]
-const FAULTS: [(&[&str], Fault); 26] = [
+const FAULTS: [(&[&str], Fault); 42] = [
     (&[], Fault::Usage),
     (&["weak"], Fault::Usage),
     (&["des", "encrypt"], Fault::Usage),
@@ -34,6 +34,22 @@ const FAULTS: [(&[&str], Fault); 26] = [
     (&["des", "encrypt", KEY, "0123456789ABCDEg"], Fault::BlockText),
     (&["des", "decrypt", KEY, NOT_DIGITS], Fault::BlockText),
     (&["eee2", "encrypt", "133457799BBCDFF1133457799BBCDFF1", " 123456789ABCDEF"], Fault::BlockText),
+    (&["des-cbc", "encrypt", KEY, BLOCK], Fault::Usage),
+    (&["ede3-cbc", "encrypt", KEY, BLOCK], Fault::Usage),
+    (&["ede3", "encrypt", KEY, BLOCK, BLOCK], Fault::Usage),
+    (&["eee3-cbc", "encrypt", KEY, BLOCK, BLOCK], Fault::Usage),
+    (&["DES-CBC", "encrypt", KEY, BLOCK, BLOCK], Fault::Usage),
+    (&["des-cbc", "Decrypt", KEY, BLOCK, BLOCK], Fault::Usage),
+    (&["des-cbc", "encrypt", KEY, BLOCK, BLOCK, BLOCK], Fault::Usage),
+    (&["ede3-cbc", "encrypt", KEY, "g", "g"], Fault::KeyLength),
+    (&["des-cbc", "decrypt", NOT_DIGITS, "g", "g"], Fault::KeyText),
+    (&["des-cbc", "encrypt", KEY, "000000000000000", BLOCK], Fault::BlockLength),
+    (&["des-cbc", "encrypt", KEY, "00000000000000000", "gggggggggggggggg"], Fault::BlockLength),
+    (&["des-cbc", "decrypt", KEY, "", ""], Fault::BlockLength),
+    (&["des-cbc", "encrypt", KEY, "000000000000000g", "0"], Fault::BlockText),
+    (&["des-cbc", "encrypt", KEY, NOT_DIGITS, BLOCK], Fault::BlockText),
+    (&["des-cbc", "encrypt", KEY, BLOCK, "0"], Fault::BlockLength),
+    (&["des-cbc", "decrypt", KEY, BLOCK, NOT_DIGITS], Fault::BlockText),
 ];
 
 #[test]

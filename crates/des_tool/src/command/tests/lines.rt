@@ -33,7 +33,7 @@ impl Env for Process<'_> {
 
 // A line, what goes to standard output and to standard error, and the exit status.
 #[rattlefmt::skip]
-pub(super) const LINES: [(&str, &str, &str, u8); 21] = [
+pub(super) const LINES: [(&str, &str, &str, u8); 27] = [
     ("des_tool des encrypt 133457799BBCDFF1 0123456789ABCDEF", ANSWER, "", 0),
     ("des_tool des decrypt 133457799BBCDFF1 85E813540F0AB405", "0123456789abcdef\n", "", 0),
     ("des_tool des encrypt 133457799BBCDFF1 ", "\n", "", 0),
@@ -44,10 +44,14 @@ pub(super) const LINES: [(&str, &str, &str, u8); 21] = [
     ("des_tool weak 010203040506070811121314151617180102030405060708", "WeakKey\n", "", 0),
     ("des_tool weak 0101011f0101010e", "Ok\n", "", 0),
     ("des_tool weak 010203040506070811121314151617182122232425262728", "Ok\n", "", 0),
+    ("des_tool des-cbc encrypt 133457799BBCDFF1 0000000000000000 0123456789ABCDEF", ANSWER, "", 0),
+    ("des_tool des-cbc decrypt 0123456789abcdef 1234567890abcdef e5c7cdde872bf27c43e934008c389c0f", "4e6f77206973207468652074696d6520\n", "", 0),
+    ("des_tool ede3-cbc decrypt 133457799bbcdff1133457799bbcdff1133457799bbcdff1 0000000000000000 ", "\n", "", 0),
     ("", "", "Usage\n", 2),
     ("des_tool weak", "", "Usage\n", 2),
     ("des_tool weak 0101010101010101 0101010101010101", "", "Usage\n", 2),
     ("des_tool DES encrypt 133457799BBCDFF1 0123456789ABCDEF", "", "Usage\n", 2),
+    ("des_tool des-cbc encrypt 133457799BBCDFF1 0123456789ABCDEF", "", "Usage\n", 2),
     ("des_tool weak 01", "", "KeyLength\n", 2),
     ("des_tool des encrypt 133457799BBCDFF 0123456789ABCDEF", "", "KeyLength\n", 2),
     ("des_tool ede3 encrypt 133457799bbcdff1133457799bbcdff1 0123456789abcdef", "", "KeyLength\n", 2),
@@ -55,6 +59,8 @@ pub(super) const LINES: [(&str, &str, &str, u8); 21] = [
     ("des_tool des encrypt 133457799BBCDFFg 0123456789ABCDEF", "", "KeyText\n", 2),
     ("des_tool des encrypt 133457799BBCDFF1 0123456789ABCDEF0", "", "BlockLength\n", 2),
     ("des_tool des encrypt 133457799BBCDFF1 0x0123456789ABCD", "", "BlockText\n", 2),
+    ("des_tool des-cbc encrypt 133457799BBCDFF1 000000000000000 0123456789ABCDEF", "", "BlockLength\n", 2),
+    ("des_tool des-cbc encrypt 133457799BBCDFF1 000000000000000g 0", "", "BlockText\n", 2),
 ];
 
 #[test]

@@ -68,13 +68,48 @@ fn answers_eee2(rt: HostRuntime) -> Result<(), Fail> {
     )
 }
 
+// FIPS 81, appendix C, and OpenSSL's answer by `des-ede3-cbc`.
+const VECTOR: &str = "1234567890abcdef";
+
+#[test]
+fn answers_des_cbc(rt: HostRuntime) -> Result<(), Fail> {
+    is_answered(
+        &rt,
+        rt.alloc(),
+        &[
+            "des-cbc",
+            "encrypt",
+            "0123456789abcdef",
+            VECTOR,
+            "4e6f77206973207468652074696d6520",
+        ],
+        "e5c7cdde872bf27c43e934008c389c0f\n",
+    )
+}
+
+#[test]
+fn answers_ede3_cbc(rt: HostRuntime) -> Result<(), Fail> {
+    is_answered(
+        &rt,
+        rt.alloc(),
+        &[
+            "ede3-cbc",
+            "decrypt",
+            KEYS[0],
+            VECTOR,
+            "38413d4ba2325cf1141f707471ac2ced",
+        ],
+        "54686520717566636b2062726f776e20\n",
+    )
+}
+
 #[test]
 fn answers_weak(rt: HostRuntime) -> Result<(), Fail> {
     is_answered(&rt, rt.alloc(), &["weak", "0101010101010101"], "WeakKey\n")
 }
 
 // Words with a fault, and the fault: it is found before any memory is asked for.
-const FAULTS: [(&[&str], Fault); 5] = [
+const FAULTS: [(&[&str], Fault); 9] = [
     (&["des", "encrypt", KEY], Fault::Usage),
     (&["ede3", "encrypt", KEY, BLOCK], Fault::KeyLength),
     (&["weak", "0x01010101010101"], Fault::KeyText),
@@ -83,6 +118,13 @@ const FAULTS: [(&[&str], Fault); 5] = [
         &["des", "encrypt", KEY, "0x01010101010101"],
         Fault::BlockText,
     ),
+    (&["des-cbc", "encrypt", KEY, BLOCK], Fault::Usage),
+    (&["des-cbc", "encrypt", KEY, "", BLOCK], Fault::BlockLength),
+    (
+        &["des-cbc", "encrypt", KEY, "0x01010101010101", BLOCK],
+        Fault::BlockText,
+    ),
+    (&["des-cbc", "decrypt", KEY, BLOCK, "0"], Fault::BlockLength),
 ];
 
 #[test]
@@ -95,7 +137,7 @@ fn faults_are_told_without_memory(rt: HostRuntime) {
 // This test holds whichever request for memory is refused.
 #[test]
 fn reports_a_refused_request_for_memory(rt: HostRuntime) {
-    for (line, answer, _, _) in [LINES[0], LINES[5]] {
+    for (line, answer, _, _) in [LINES[0], LINES[5], LINES[8]] {
         let process = Process {
             line: line.as_bytes(),
         };

@@ -1,0 +1,107 @@
+-- Lists of blocks that are chained, and functions on blocks that undo each other.
+use Rattle.std.proofs.Common.{◌≡◌, ℕ, zero, suc, ◌+◌, ◌-◌, ◌≤◌, List, [], length, refl, sym, ◌∙◌, subst, arith}
+use Rattle.std.specs.List.{All}
+use Rattle.std.proofs.lemmas.List.Elements.{All-cons}
+use Rattle.des.specs.Blocks.{IsBlock}
+use Rattle.des.specs.Cbc.{xor_blocks, block_at, block_before, Chains, Cbc, Unchains}
+use Rattle.des.proofs.XoredBlocks.{length-xor_blocks, xor_blocks-undone, IsBlock-xor_blocks}
+
+-- each block of a list of blocks is one
+pub IsBlock-block_at : (blocks : List (List ℕ)) (n : ℕ) → 1 ≤ n → n ≤ length blocks → All IsBlock blocks → IsBlock (block_at blocks n)
+IsBlock-block_at blocks n from to are_blocks = are_blocks (n - 1) [] (omega arith)
+
+-- so is the block before each
+pub IsBlock-block_before : (iv : List ℕ) (blocks : List (List ℕ)) (n : ℕ) → n ≤ length blocks → IsBlock iv → All IsBlock blocks
+    → IsBlock (block_before iv blocks n)
+IsBlock-block_before iv blocks n to is_iv are_blocks = All-cons IsBlock iv blocks is_iv are_blocks (n - 1) [] (omega arith)
+
+-- a block is the one before the next
+pub block_before-next : (iv : List ℕ) (blocks : List (List ℕ)) (n : ℕ) → 1 ≤ n → block_before iv blocks (n + 1) ≡ block_at blocks n
+block_before-next iv blocks zero from = absurd (omega arith)
+block_before-next iv blocks (suc m) from =
+    let next : suc m + 1 - 1 ≡ suc m = omega arith in
+    let this : suc m - 1 ≡ m = omega arith in
+    rw (next, this) refl
+
+-- the function takes the block to the answer
+abbrev pub TakesBlock : (List ℕ → List ℕ) → List ℕ → List ℕ → Type 0
+TakesBlock encryption block answer = IsBlock block × (encryption block ≡ answer)
+
+-- what is chained under a relation is chained under a weaker one
+pub Chains-weaker : (P Q : List ℕ → List ℕ → Type 0) (iv : List ℕ) (p q : List (List ℕ)) → ((x y : List ℕ) → P x y → Q x y)
+    → Chains P iv p q → Chains Q iv p q
+Chains-weaker P Q iv p q weaker chains = record {
+  count = chains.count;
+  widths = chains.widths;
+  chained = λ n from to. weaker _ _ (chains.chained n from to);
+}
+
+-- where encryption makes blocks of blocks, the block before each place of a chained list is a block
+IsBlock-before_chained : (encryption : List ℕ → List ℕ) (iv : List ℕ) (p q : List (List ℕ)) → IsBlock iv → All IsBlock p
+    → ((block : List ℕ) → IsBlock block → IsBlock (encryption block)) → Cbc encryption iv p q
+    → (n : ℕ) → n ≤ length p → IsBlock (block_before iv q n)
+IsBlock-before_chained encryption iv p q is_iv are_blocks makes_blocks cbc zero to = is_iv
+IsBlock-before_chained encryption iv p q is_iv are_blocks makes_blocks cbc (suc zero) to = is_iv
+IsBlock-before_chained encryption iv p q is_iv are_blocks makes_blocks cbc (suc (suc m)) to =
+    let next : suc m + 1 ≡ suc (suc m) = omega arith in
+    let P : ℕ → Type 0 = λ n. IsBlock (block_before iv q n) in
+    subst P next (rw (block_before-next iv q (suc m) (omega arith), cbc.chained (suc m) (omega arith) (omega arith))
+    (makes_blocks _ (IsBlock-xor_blocks _ _ (IsBlock-block_at p (suc m) (omega arith) (omega arith) are_blocks)
+    (IsBlock-before_chained encryption iv p q is_iv are_blocks makes_blocks cbc (suc m) (omega arith)))))
+
+-- what is encrypted in the chain of a list of blocks are blocks
+pub Chains-from_Cbc : (encryption : List ℕ → List ℕ) (iv : List ℕ) (p q : List (List ℕ)) → IsBlock iv → All IsBlock p
+    → ((block : List ℕ) → IsBlock block → IsBlock (encryption block)) → Cbc encryption iv p q → Chains (TakesBlock encryption) iv p q
+Chains-from_Cbc encryption iv p q is_iv are_blocks makes_blocks cbc = record {
+  count = cbc.count;
+  widths = cbc.widths;
+  chained = λ n from to.
+      let is_before = IsBlock-before_chained encryption iv p q is_iv are_blocks makes_blocks cbc n to in
+      (IsBlock-xor_blocks _ _ (IsBlock-block_at p n from to are_blocks) is_before, sym (cbc.chained n from to));
+}
+
+-- a chained list is unchained by what undoes the encryption
+pub Unchains-from_Cbc : (encryption decryption : List ℕ → List ℕ) (iv : List ℕ) (p q : List (List ℕ)) → IsBlock iv → All IsBlock p
+    → ((block : List ℕ) → IsBlock block → IsBlock (encryption block))
+    → ((block : List ℕ) → IsBlock block → decryption (encryption block) ≡ block) → Cbc encryption iv p q → Unchains decryption iv q p
+Unchains-from_Cbc encryption decryption iv p q is_iv are_blocks makes_blocks undoes cbc = record {
+  count = sym cbc.count;
+  unchained = λ n from to.
+      let within : n ≤ length p = omega (arith, cbc.count) in
+      let is_block = IsBlock-block_at p n from within are_blocks in
+      let is_before = IsBlock-before_chained encryption iv p q is_iv are_blocks makes_blocks cbc n within in
+      let xored = xor_blocks (block_at p n) (block_before iv q n) in
+      rw (cbc.chained n from within, undoes xored (IsBlock-xor_blocks _ _ is_block is_before))
+      (sym (xor_blocks-undone (block_at p n) (block_before iv q n) (omega arith)));
+}
+
+-- a list that decryption unchains is chained by what undoes it, and blocks are encrypted in the chain
+pub Chains-from_Unchains : (encryption decryption : List ℕ → List ℕ) (iv : List ℕ) (p q : List (List ℕ)) → IsBlock iv → All IsBlock q
+    → ((block : List ℕ) → IsBlock block → IsBlock (decryption block))
+    → ((block : List ℕ) → IsBlock block → encryption (decryption block) ≡ block) → Unchains decryption iv q p
+    → Chains (TakesBlock encryption) iv p q
+Chains-from_Unchains encryption decryption iv p q is_iv are_blocks makes_blocks undoes unchains =
+    let each = λ (n : ℕ) (from : 1 ≤ n) (to : n ≤ length q). IsBlock-block_at q n from to are_blocks in
+    let before = λ (n : ℕ) (to : n ≤ length q). IsBlock-block_before iv q n to is_iv are_blocks in
+    record {
+      count = sym unchains.count;
+      widths = λ n from to.
+          let within : n ≤ length q = omega (arith, unchains.count) in
+          let is_block = makes_blocks (block_at q n) (each n from within) in
+          let is_before = before n within in
+          rw (unchains.unchained n from within) (length-xor_blocks _ _ (omega arith) ∙ is_block.0);
+      chained = λ n from to.
+          let within : n ≤ length q = omega (arith, unchains.count) in
+          let is_block = makes_blocks (block_at q n) (each n from within) in
+          let is_before = before n within in
+          rw (unchains.unchained n from within, xor_blocks-undone (decryption (block_at q n)) (block_before iv q n) (omega arith))
+          (is_block, undoes (block_at q n) (each n from within));
+    }
+
+-- so it is one of CBC
+pub Cbc-from_Unchains : (encryption decryption : List ℕ → List ℕ) (iv : List ℕ) (p q : List (List ℕ)) → IsBlock iv → All IsBlock q
+    → ((block : List ℕ) → IsBlock block → IsBlock (decryption block))
+    → ((block : List ℕ) → IsBlock block → encryption (decryption block) ≡ block) → Unchains decryption iv q p → Cbc encryption iv p q
+Cbc-from_Unchains encryption decryption iv p q is_iv are_blocks makes_blocks undoes unchains =
+    Chains-weaker (TakesBlock encryption) (λ block answer. answer ≡ encryption block) iv p q (λ x y taken. sym taken.1)
+    (Chains-from_Unchains encryption decryption iv p q is_iv are_blocks makes_blocks undoes unchains)

@@ -1,0 +1,31 @@
+-- Cipher block chaining, CBC (FIPS 81, cipher block chaining mode), as relations of two whole lists of blocks, with no
+-- direction. Blocks are numbered from 1.
+use Rattle.std.specs.Prelude.{◌≡◌, ℕ, ◌-◌, ◌≤◌, List, [], ◌∷◌, length, slice_index_or, bit_xor}
+use Rattle.std.specs.Simd.Lanes.{zip2}
+
+-- two blocks xor: byte by byte
+unfoldable pub xor_blocks : List ℕ → List ℕ → List ℕ
+xor_blocks block other = zip2 bit_xor block other
+
+-- block n of a list
+abbrev pub block_at : List (List ℕ) → ℕ → List ℕ
+block_at blocks n = slice_index_or blocks (n - 1) []
+
+-- the block before block n of a list, which for the first is the initialization vector
+abbrev pub block_before : List ℕ → List (List ℕ) → ℕ → List ℕ
+block_before iv blocks n = block_at (iv ∷ blocks) n
+
+-- two lists of as many blocks, chained under a relation of blocks: it takes each p(n) xor the block before q(n), to q(n)
+pub record Chains (Relates : List ℕ → List ℕ → Type 0) (iv : List ℕ) (p q : List (List ℕ)) : Type 0 where
+  pub count : length q ≡ length p
+  pub widths : (n : ℕ) → 1 ≤ n → n ≤ length p → length (block_at p n) ≡ 8
+  pub chained : (n : ℕ) → 1 ≤ n → n ≤ length p → Relates (xor_blocks (block_at p n) (block_before iv q n)) (block_at q n)
+
+-- CBC: each q(n) is the encryption of p(n) xor the block before q(n)
+abbrev pub Cbc : (List ℕ → List ℕ) → List ℕ → List (List ℕ) → List (List ℕ) → Type 0
+Cbc encryption iv p q = Chains (λ block answer. answer ≡ encryption block) iv p q
+
+-- CBC read from q to p: each p(n) is the decryption of q(n), xor the block before q(n)
+pub record Unchains (decryption : List ℕ → List ℕ) (iv : List ℕ) (q p : List (List ℕ)) : Type 0 where
+  pub count : length p ≡ length q
+  pub unchained : (n : ℕ) → 1 ≤ n → n ≤ length q → block_at p n ≡ xor_blocks (decryption (block_at q n)) (block_before iv q n)

@@ -1,0 +1,50 @@
+//! Cipher block chaining over any block cipher (FIPS 81, cipher block chaining mode): each block is
+//! encrypted after it is xored with the ciphertext block before it, the first with an initialization
+//! vector.
+//!
+//! Blocks are whole, 8 bytes each: padding is the caller's. So is authentication, which the mode does
+//! not give. An initialization vector must not be used twice under a key, nor be predictable.
+
+ghost use Rattle.std.specs.Prelude.{◌≡◌};
+ghost use Rattle.des.specs.Cbc.{xor_blocks, Cbc, Unchains};
+
+use crate::cipher::{BlockCipherDecrypt, BlockCipherEncrypt};
+
+// The block becomes itself xor the other.
+fn xor(block: &mut [u8; 8], other: &[u8; 8])
+    ensures { block.new ≡ xor_blocks block.old other.now }
+{
+    for (i, byte) in block.iter_mut().enumerate() {
+        *byte ^= other[i];
+    }
+}
+
+/// Encrypts a list of blocks in place, chained from the initialization vector: plaintext goes in, and
+/// the ciphertext comes out, as many blocks. A list of none stays one.
+pub fn encrypt<C: BlockCipherEncrypt>(cipher: &C, iv: &[u8; 8], blocks: &mut [[u8; 8]])
+    ensures { Cbc (C.encrypted cipher.now) iv.now blocks.old blocks.new }
+{
+    let mut previous = *iv;
+    for block in blocks.iter_mut() {
+        xor(block, &previous);
+        cipher.encrypt_block(block);
+        previous = *block;
+    }
+}
+
+/// Decrypts a list of blocks in place that was chained from the initialization vector: ciphertext goes
+/// in, and the plaintext comes out, as many blocks. A list of none stays one.
+pub fn decrypt<C: BlockCipherDecrypt>(cipher: &C, iv: &[u8; 8], blocks: &mut [[u8; 8]])
+    ensures { Unchains (C.decrypted cipher.now) iv.now blocks.old blocks.new }
+{
+    let mut before = *iv;
+    for block in blocks.iter_mut() {
+        let ciphertext = *block;
+        cipher.decrypt_block(block);
+        xor(block, &before);
+        before = ciphertext;
+    }
+}
+
+#[cfg(test)]
+mod tests;
