@@ -1,11 +1,21 @@
--- The parts of a key: a list of them that is searched place by place, and the keys that the weak key test refuses.
-use Rattle.std.proofs.Common.{◌≡◌, ℕ, zero, suc, ◌+◌, ◌-◌, ◌*◌, ◌/◌, ◌<◌, List, [], length, take, drop, get_or, inl, inr, refl, sym, ap, ◌∙◌, subst, arith}
+-- The parts of a key: keys of eight bytes, a list of them that is searched place by place, and the keys that the weak key
+-- test refuses.
+use Rattle.std.proofs.Common.{◌≡◌, ℕ, zero, suc, ◌+◌, ◌-◌, ◌*◌, ◌/◌, ◌<◌, ◌≤◌, List, [], length, take, drop, get_or, inl, inr, refl, sym, ap, ◌∙◌, subst, arith}
 use Rattle.std.specs.Simd.{first_chunks}
-use Rattle.std.proofs.lemmas.List.{get_or-take, get_or_default, drop-drop, length-take-le}
-use Rattle.std.proofs.lemmas.List.Elements.{Contains-get_or}
-use Rattle.des.specs.Blocks.{part}
+use Rattle.std.proofs.lemmas.List.{get_or-take, get_or_default, drop-drop, length-take-le, length-drop}
+use Rattle.std.proofs.lemmas.List.Elements.{All-take, All-drop, Contains-get_or}
+use Rattle.des.specs.Blocks.{IsKey, part}
 use Rattle.des.specs.Parity.{AgreeOutsideParity, ContainsAgreeing}
 use Rattle.des.specs.WeakKeys.{listed_keys, IsPartOf, IsRefusedByList}
+
+-- a part of a key of bytes is a key of eight bytes
+pub IsKey-part : (n size : ℕ) (key : List ℕ) → IsKey size key → 1 ≤ n → 8 * n ≤ size → IsKey 8 (part n key)
+IsKey-part n size key is_key from within =
+    let rest : List ℕ = drop (8 * (n - 1)) key in
+    let IsByte : ℕ → Type 0 = λ byte. byte < 256 in (
+      length-take-le 8 rest (omega (arith, length-drop (8 * (n - 1)) key, is_key.0)),
+      All-take IsByte 8 rest (All-drop IsByte (8 * (n - 1)) key is_key.1),
+    )
 
 -- the chunk at an index is the part of the next number
 get_or-first_chunks : (k i : ℕ) (s : List ℕ) → i < k → get_or (first_chunks 8 k s) i [] ≡ take 8 (drop (8 * i) s)

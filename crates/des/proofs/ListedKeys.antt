@@ -1,13 +1,13 @@
 -- The keys that agree with a listed key outside parity are exactly those of the listed class: each key of the list passes a
 -- test of the class, and the halves of a key of the class are two of eight patterns, which are those of a listed key.
-use Rattle.std.proofs.Common.{◌≡◌, ◌↔◌, ℕ, ◌-◌, ◌*◌, ◌<◌, ◌&&◌, ◌||◌, List, Bool, true, length, drop, inl, inr, refl, subst, ltb, eqb}
+use Rattle.std.proofs.Common.{◌≡◌, ◌↔◌, ℕ, ◌&&◌, ◌||◌, List, Bool, true, length, inl, inr, refl, subst, ltb, eqb}
 use lib.Count.{ones}
 use Rattle.std.specs.List.{Contains, list_all, list_any}
 use Rattle.std.specs.Cmp.{booleans_Decides}
 use Rattle.std.specs.Cmp.Lexicographic.{pointwise}
 use Rattle.std.proofs.Math.Bool.{beq}
 use Rattle.std.proofs.lemmas.Bool.{and_parts, or_cases, eqb-true, ltb-true}
-use Rattle.std.proofs.lemmas.List.Elements.{All-take, All-drop, All-contains}
+use Rattle.std.proofs.lemmas.List.Elements.{All-contains}
 use Rattle.std.proofs.lemmas.List.Sums.{AllPass-from_list_all}
 use Rattle.std.proofs.lemmas.List.Folds.{Any-from_list_any}
 use Rattle.std.proofs.lemmas.Slice.Eq.{slice_eq-Decides}
@@ -17,9 +17,9 @@ use Rattle.des.specs.Complement.{complement_bits}
 use Rattle.des.specs.KeySchedule.{rotate, c_half, d_half}
 use Rattle.des.specs.Parity.{ContainsAgreeing}
 use Rattle.des.specs.KeyHalves.{IsListedHalf}
-use Rattle.des.specs.WeakKeys.{listed_keys, IsListed, IsPartOf, IsRefused, IsRefusedByList}
-use Rattle.des.specs.Laws.ComplementedKeys.{length-part}
+use Rattle.des.specs.WeakKeys.{listed_keys, IsListed, IsRefused, IsRefusedByList}
 use Rattle.des.proofs.HalfPatterns.{half_patterns, Contains-listed_half}
+use Rattle.des.proofs.KeyParts.{IsKey-part}
 use Rattle.des.proofs.KeySelections.{halves-agreeing, AgreeOutsideParity-halves}
 use Rattle.des.proofs.RoundKeys.{length-c_half, length-d_half}
 
@@ -114,20 +114,14 @@ ContainsAgreeing-listed key listed =
 
 -- ---- refused keys
 
--- a part of a key of bytes is a key of eight bytes
-IsKey-part : (key : List ℕ) (n : ℕ) → AreBytes key → IsPartOf key n → IsKey 8 (part n key)
-IsKey-part key n bytes is_part =
-    let IsByte : ℕ → Type 0 = λ number. number < 256 in
-    (length-part n key is_part.0 is_part.1, All-take IsByte 8 (drop (8 * (n - 1)) key) (All-drop IsByte (8 * (n - 1)) key bytes))
-
 -- what is so exactly where a key is refused by the list is so exactly where it is refused by the class
 pub refused_by_class : (key : List ℕ) (Verdict : Type 0) → AreBytes key → Verdict ↔ IsRefusedByList key → Verdict ↔ IsRefused key
 refused_by_class key Verdict bytes by_list = (
   λ verdict. elim (by_list.0 verdict) [
-    | inl listed ↦ inl (
-      listed.0,
-      (listed.1.0, IsListed-from_agreeing (part listed.0 key) (IsKey-part key listed.0 bytes listed.1.0) listed.1.1),
-    )
+    | inl listed ↦
+        let n : ℕ = listed.0 in
+        let is_key : IsKey 8 (part n key) = IsKey-part n (length key) key (refl, bytes) listed.1.0.0 listed.1.0.1 in
+        inl (n, (listed.1.0, IsListed-from_agreeing (part n key) is_key listed.1.1))
     | inr agreeing ↦ inr agreeing
   ],
   λ refused. elim refused [

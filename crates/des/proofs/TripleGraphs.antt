@@ -1,7 +1,5 @@
 -- What three passes of DES under three keys answer: the graph of each direction is the relations joined.
-use Rattle.std.proofs.Common.{ℕ, ◌*◌, ◌-◌, ◌<◌, ◌≤◌, List, drop, length-drop, lit≤, arith}
-use Rattle.std.proofs.lemmas.List.{length-take-le}
-use Rattle.std.proofs.lemmas.List.Elements.{All-take, All-drop}
+use Rattle.std.proofs.Common.{ℕ, ◌*◌, ◌≤◌, List, lit≤}
 use Rattle.des.specs.Blocks.{IsKey, part}
 use Rattle.des.specs.Relations.{IsTheOne, HasOneAnswerEachWay, IsGraphOf}
 use Rattle.des.specs.Enciphering.{Enciphers}
@@ -11,6 +9,7 @@ use Rattle.des.specs.Laws.Passes.{IsPass, IsPass-turned, IsPass-through}
 use Rattle.des.proofs.PassGraphs.{IsTheOne-back_through, IsTheOne-through, IsGraphOf-through, HasOneAnswerEachWay-graph, IsGraphOf-turned, IsGraphOf-beside, IsTheOne-beside}
 use Rattle.des.specs.Laws.DesLaws.{IsPass-key}
 use Rattle.des.proofs.Graphs.{IsGraphOf-encryption, IsGraphOf-decryption}
+use Rattle.des.proofs.KeyParts.{IsKey-part}
 
 -- two functions answer by the relation, each way
 pub record AnswerBy (forth back : List ℕ → List ℕ) (Answers : List ℕ → List ℕ → Type 0) : Type 0 where
@@ -93,17 +92,11 @@ AnswerBy-beside Fact forth back Answers fact by = record {
 
 -- a part of a key is a key, so it answers by the DES relation
 module _ (n size : ℕ) (key : List ℕ) (is_key : IsKey size key) (from : 1 ≤ n) (within : 8 * n ≤ size) where
-  IsKey-part : IsKey 8 (part n key)
-  IsKey-part = (
-    length-take-le 8 (drop (8 * (n - 1)) key) (omega (arith, length-drop (8 * (n - 1)) key, is_key.0)),
-    All-take (λ byte. byte < 256) 8 (drop (8 * (n - 1)) key) (All-drop (λ byte. byte < 256) (8 * (n - 1)) key is_key.1),
-  )
-
   encrypts : IsGraphOf (encryption (part n key)) (λ x y. Enciphers (part n key) x y)
-  encrypts = IsGraphOf-encryption (part n key) IsKey-part
+  encrypts = IsGraphOf-encryption (part n key) (IsKey-part n size key is_key from within)
 
   decrypts : IsGraphOf (decryption (part n key)) (λ y x. Enciphers (part n key) x y)
-  decrypts = IsGraphOf-decryption (part n key) IsKey-part
+  decrypts = IsGraphOf-decryption (part n key) (IsKey-part n size key is_key from within)
 
 -- a key answers by the relation of its cipher
 pub AnswerBy-Ede3 : (key : List ℕ) → IsKey 24 key

@@ -8,4 +8,5 @@ pub mod complements;
 #[cfg(test)]
 mod hostile;
 pub mod odd_ciphers;
+pub mod records;
 pub mod there_and_back;

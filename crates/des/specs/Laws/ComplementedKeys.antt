@@ -40,7 +40,7 @@ part-complement n key =
     ap (take 8) (drop-map complement_of_byte from key) ∙ take-map complement_of_byte 8 (drop from key)
 
 -- a part has eight bytes
-pub length-part : (n : ℕ) (key : List ℕ) → 1 ≤ n → 8 * n ≤ length key → length (part n key) ≡ 8
+length-part : (n : ℕ) (key : List ℕ) → 1 ≤ n → 8 * n ≤ length key → length (part n key) ≡ 8
 length-part n key from to = length-take-le 8 (drop (8 * (n - 1)) key) (omega (arith, length-drop (8 * (n - 1)) key))
 
 -- the parts of a key, each by its number, one after another by each form, in each direction
