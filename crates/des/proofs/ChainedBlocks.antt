@@ -4,6 +4,7 @@ use Rattle.std.specs.List.{All}
 use Rattle.std.proofs.lemmas.List.Elements.{All-cons}
 use Rattle.des.specs.Blocks.{IsBlock}
 use Rattle.des.specs.Cbc.{xor_blocks, block_at, block_before, Chains, Cbc, Unchains}
+use Rattle.des.specs.Relations.{TakesBlock}
 use Rattle.des.proofs.XoredBlocks.{length-xor_blocks, xor_blocks-undone, IsBlock-xor_blocks}
 
 -- each block of a list of blocks is one
@@ -22,10 +23,6 @@ block_before-next iv blocks (suc m) from =
     let next : suc m + 1 - 1 ≡ suc m = omega arith in
     let this : suc m - 1 ≡ m = omega arith in
     rw (next, this) refl
-
--- the function takes the block to the answer
-abbrev pub TakesBlock : (List ℕ → List ℕ) → List ℕ → List ℕ → Type 0
-TakesBlock encryption block answer = IsBlock block × (encryption block ≡ answer)
 
 -- what is chained under a relation is chained under a weaker one
 pub Chains-weaker : (P Q : List ℕ → List ℕ → Type 0) (iv : List ℕ) (p q : List (List ℕ)) → ((x y : List ℕ) → P x y → Q x y)

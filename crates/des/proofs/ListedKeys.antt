@@ -1,12 +1,11 @@
--- The keys that agree with a listed key outside parity are exactly those of the listed class: each key of the list passes a
--- test of the class, and the halves of a key of the class are two of eight patterns, which are those of a listed key.
-use Rattle.std.proofs.Common.{◌≡◌, ◌↔◌, ℕ, ◌&&◌, ◌||◌, List, Bool, true, length, inl, inr, refl, subst, ltb, eqb}
-use lib.Count.{ones}
-use Rattle.std.specs.List.{Contains, list_all, list_any}
+-- The keys that agree with a listed key outside parity are exactly those of the listed class: the halves of each key of the
+-- list pass a test of the class, and the halves of a key of the class are two of eight patterns, which are those of a listed key.
+use Rattle.std.proofs.Common.{◌≡◌, ◌↔◌, ℕ, ◌&&◌, ◌||◌, List, Bool, true, length, inl, inr, refl, subst}
+use Rattle.std.specs.List.{list_all, list_any}
 use Rattle.std.specs.Cmp.{booleans_Decides}
 use Rattle.std.specs.Cmp.Lexicographic.{pointwise}
 use Rattle.std.proofs.Math.Bool.{beq}
-use Rattle.std.proofs.lemmas.Bool.{and_parts, or_cases, eqb-true, ltb-true}
+use Rattle.std.proofs.lemmas.Bool.{and_parts, or_cases}
 use Rattle.std.proofs.lemmas.List.Elements.{All-contains}
 use Rattle.std.proofs.lemmas.List.Sums.{AllPass-from_list_all}
 use Rattle.std.proofs.lemmas.List.Folds.{Any-from_list_any}
@@ -37,43 +36,26 @@ IsListedHalf-from_test half passes =
       | inr other ↦ inr ((slice_eq-Decides booleans_Decides (rotate half 2) (complement_bits half) _ refl).0 other)
     ]
 
--- whether a key is of the listed class
-abbrev is_listed : List ℕ → Bool
-is_listed key =
-    let bits : List Bool = bits_of_bytes key in
-    eqb (length key) 8 && (list_all (λ byte. ltb byte 256) key && (is_listed_half (c_half bits) && is_listed_half (d_half bits)))
+-- whether the halves of a key are of the listed class
+abbrev has_listed_halves : List ℕ → Bool
+has_listed_halves key = is_listed_half (c_half (bits_of_bytes key)) && is_listed_half (d_half (bits_of_bytes key))
 
--- a key that passes the test is of the class
-IsListed-from_test : (key : List ℕ) → is_listed key ≡ true → IsListed key
-IsListed-from_test key passes =
-    let c : List Bool = c_half (bits_of_bytes key) in
-    let d : List Bool = d_half (bits_of_bytes key) in
-    let are_bytes : Bool = list_all (λ byte. ltb byte 256) key in
-    let size = and_parts (eqb (length key) 8) (are_bytes && (is_listed_half c && is_listed_half d)) passes in
-    let bytes = and_parts are_bytes (is_listed_half c && is_listed_half d) size.1 in
-    let halves = and_parts (is_listed_half c) (is_listed_half d) bytes.1 in
-    let each = AllPass-from_list_all (λ byte. ltb byte 256) key bytes.0 in (
-      (eqb-true (length key) 8 size.0, λ k e below. ltb-true _ 256 (each k e below)),
-      (IsListedHalf-from_test c halves.0, IsListedHalf-from_test d halves.1),
-    )
-
--- each listed key passes the test
-listed_keys_pass : list_all is_listed listed_keys ≡ true
-unfolding ones bits_of bits_of_bytes select c_half d_half rotate
+-- those of each listed key are
+listed_keys_pass : list_all has_listed_halves listed_keys ≡ true
+unfolding bits_of bits_of_bytes select c_half d_half rotate
 listed_keys_pass = refl
-
--- a key of the list is of the class
-IsListed-from_list : (key : List ℕ) → Contains listed_keys key → IsListed key
-IsListed-from_list key contained =
-    let each = AllPass-from_list_all is_listed listed_keys listed_keys_pass in
-    IsListed-from_test key (All-contains (λ other. is_listed other ≡ true) listed_keys key each contained)
 
 -- a key that agrees with one of the list outside parity has its halves, and so is of the class
 IsListed-from_agreeing : (key : List ℕ) → IsKey 8 key → ContainsAgreeing listed_keys key → IsListed key
 IsListed-from_agreeing key is_key found =
-    let halves = halves-agreeing found.0 key found.1.1 in
-    let listed = IsListed-from_list found.0 found.1.0 in
-    (is_key, (subst IsListedHalf halves.0 listed.1.0, subst IsListedHalf halves.1 listed.1.1))
+    let listed : List ℕ = found.0 in
+    let c : List Bool = c_half (bits_of_bytes listed) in
+    let d : List Bool = d_half (bits_of_bytes listed) in
+    let each = AllPass-from_list_all has_listed_halves listed_keys listed_keys_pass in
+    let passes = All-contains (λ other. has_listed_halves other ≡ true) listed_keys listed each found.1.0 in
+    let tests = and_parts (is_listed_half c) (is_listed_half d) passes in
+    let same = halves-agreeing listed key found.1.1 in
+    (is_key, (subst IsListedHalf same.0 (IsListedHalf-from_test c tests.0), subst IsListedHalf same.1 (IsListedHalf-from_test d tests.1)))
 
 -- ---- from the class to the list
 

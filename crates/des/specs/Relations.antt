@@ -11,6 +11,10 @@ pub record HasOneAnswerEachWay (Answers : List ℕ → List ℕ → Type 0) : Ty
   pub forwards : (x : List ℕ) → IsBlock x → (y : List ℕ) × IsTheOne (Answers x) y
   pub backwards : (y : List ℕ) → IsBlock y → (x : List ℕ) × IsTheOne (λ x. Answers x y) x
 
+-- the function takes the block to the answer
+abbrev pub TakesBlock : (List ℕ → List ℕ) → List ℕ → List ℕ → Type 0
+TakesBlock function block answer = IsBlock block × (function block ≡ answer)
+
 -- the relation takes a block to what the function answers to it, and relates nothing else
 abbrev pub IsGraphOf : (List ℕ → List ℕ) → (List ℕ → List ℕ → Type 0) → Type 0
-IsGraphOf answer Answers = (x y : List ℕ) → Answers x y ↔ (IsBlock x × (answer x ≡ y))
+IsGraphOf function Answers = (x y : List ℕ) → Answers x y ↔ TakesBlock function x y

@@ -1,27 +1,44 @@
-//! A reader of records that were kept under triple DES and CBC: what a caller of `des::cbc` can
-//! promise of one cipher.
+//! Readers of records that were kept under a block cipher and CBC: what a caller of `des::cbc` can
+//! promise, of any cipher by the laws of the traits, and of triple DES by its relation.
 
 ghost use Rattle.std.specs.Prelude.{◌≡◌, ◌↔◌, length, IsOk, OnOk, OnErr};
 ghost use Rattle.des.specs.Cbc.{Chains};
+ghost use Rattle.des.specs.Relations.{TakesBlock};
 ghost use Rattle.des.specs.Triple.{EnciphersEde3};
 
 use crate::there_and_back::are_blocks;
-use des::cipher::{InvalidLength, KeyInit};
+use des::cipher::{InvalidLength, KeyedCipher};
 use des::{TdesEde3, cbc};
 
-/// Decrypts in place the blocks of a record, which CBC under `TdesEde3` chained from the initialization
-/// vector: triple DES under the key, in its EDE form, takes each new block xor the block of the record
-/// before it, or for the first the vector, to the block of the record. A key that does not have 24 bytes
-/// is `InvalidLength`, and the record stays.
-pub fn read_record(key: &[u8], iv: &[u8; 8], record: &mut [[u8; 8]]) -> Result<(), InvalidLength>
-    ensures accepted { IsOk result ↔ (length key.now ≡ 24) }
-    ensures read { OnOk result (Chains (EnciphersEde3 key.now) iv.now record.new record.old) }
-    ensures kept { OnErr result (record.new ≡ record.old) }
+/// Decrypts in place the blocks of a record, which CBC under a cipher chained from the initialization
+/// vector: the key's encryption takes each new block xor the block of the record before it, or for the
+/// first the vector, to the block of the record. A key that does not have `KEY_SIZE` bytes is
+/// `InvalidLength`, and the record stays.
+pub fn read_chain<C: KeyedCipher + Drop>(
+    key: &[u8],
+    iv: &[u8; 8],
+    blocks: &mut [[u8; 8]],
+) -> Result<(), InvalidLength>
+    ensures accepted { IsOk result ↔ (length key.now ≡ C.KEY_SIZE) }
+    ensures read { OnOk result
+        (Chains (TakesBlock (C.encryption key.now)) iv.now blocks.new blocks.old) }
+    ensures kept { OnErr result (blocks.new ≡ blocks.old) }
 {
-    let cipher = TdesEde3::new_from_slice(key)?;
-    are_blocks(record);
-    cbc::decrypt(&cipher, iv, record);
+    let cipher = C::new_from_slice(key)?;
+    are_blocks(blocks);
+    cbc::decrypt(&cipher, iv, blocks);
     Ok(())
+}
+
+/// Reads a record that was kept under `TdesEde3`: what takes each new block xor the block of the record
+/// before it to the block of the record is triple DES under the key, in its EDE form. A key that does not
+/// have 24 bytes is `InvalidLength`, and the record stays.
+pub fn read_record(key: &[u8], iv: &[u8; 8], blocks: &mut [[u8; 8]]) -> Result<(), InvalidLength>
+    ensures accepted { IsOk result ↔ (length key.now ≡ 24) }
+    ensures read { OnOk result (Chains (EnciphersEde3 key.now) iv.now blocks.new blocks.old) }
+    ensures kept { OnErr result (blocks.new ≡ blocks.old) }
+{
+    read_chain::<TdesEde3>(key, iv, blocks)
 }
 
 #[cfg(test)]

@@ -4,8 +4,8 @@ use Rattle.std.specs.List.{All}
 use Rattle.std.proofs.lemmas.List.Elements.{All-head, All-tail}
 use Rattle.des.specs.Blocks.{IsKey, IsBlock, AnswersEach}
 use Rattle.des.specs.Cbc.{Chains, Cbc, Unchains}
-use Rattle.des.specs.Relations.{IsGraphOf}
-use Rattle.des.proofs.ChainedBlocks.{TakesBlock, Chains-weaker, Chains-from_Cbc, Chains-from_Unchains}
+use Rattle.des.specs.Relations.{TakesBlock, IsGraphOf}
+use Rattle.des.proofs.ChainedBlocks.{Chains-weaker, Chains-from_Cbc, Chains-from_Unchains}
 use Rattle.des_tool.specs.declared.command.Direction.{Direction}
 use Rattle.des_tool.specs.declared.command.Direction.TheVariants.{Encrypt, Decrypt}
 use Rattle.des_tool.specs.Answer.{IsTextOf, ReadIn}

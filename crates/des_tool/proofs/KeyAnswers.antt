@@ -1,4 +1,4 @@
--- What a key of each cipher answers, and the relation that this is the graph of.
+-- What a key of each cipher answers: its graph is the cipher's relation.
 use Rattle.std.proofs.Common.{ℕ, List}
 use Rattle.des.specs.Blocks.{IsKey, part}
 use Rattle.des.specs.Des.{encryption, decryption}
@@ -25,15 +25,15 @@ decryption_by Eee3 key = eee_back (part 1 key) (part 2 key) (part 3 key)
 decryption_by Ede2 key = ede_back (part 1 key) (part 2 key) (part 1 key)
 decryption_by Eee2 key = eee_back (part 1 key) (part 2 key) (part 1 key)
 
--- these are the graphs of the cipher's relation
-pub answer_by : (cipher : Cipher) (key : List ℕ) → IsKey (key_size_of cipher) key
+-- their graphs are the cipher's relation, one from each end
+pub AnswerBy-cipher : (cipher : Cipher) (key : List ℕ) → IsKey (key_size_of cipher) key
     → AnswerBy (encryption_by cipher key) (decryption_by cipher key) (λ x y. relation_of cipher key x y)
-answer_by Des key is_key = record {
+AnswerBy-cipher Des key is_key = record {
   one_answer_each_way = HasOneAnswerEachWay-key key is_key;
   encryption = IsGraphOf-encryption key is_key;
   decryption = IsGraphOf-decryption key is_key;
 }
-answer_by Ede3 key is_key = AnswerBy-Ede3 key is_key
-answer_by Eee3 key is_key = AnswerBy-Eee3 key is_key
-answer_by Ede2 key is_key = AnswerBy-Ede2 key is_key
-answer_by Eee2 key is_key = AnswerBy-Eee2 key is_key
+AnswerBy-cipher Ede3 key is_key = AnswerBy-Ede3 key is_key
+AnswerBy-cipher Eee3 key is_key = AnswerBy-Eee3 key is_key
+AnswerBy-cipher Ede2 key is_key = AnswerBy-Ede2 key is_key
+AnswerBy-cipher Eee2 key is_key = AnswerBy-Eee2 key is_key

@@ -31,7 +31,7 @@ cipher_of argument =
     else if bytes_eq argument (codes "eee2") then Some Eee2
     else None
 
--- the cipher to be chained that an argument names
+-- the chained cipher that an argument names
 abbrev pub chained_cipher_of : List ℕ → Option ChainedCipher
 chained_cipher_of argument =
     if bytes_eq argument (codes "des-cbc") then Some DesCbc
@@ -58,8 +58,8 @@ direction_of argument =
     else if bytes_eq argument (codes "decrypt") then Some Decrypt
     else None
 
--- the request that the arguments are, if they have a shape that is known: CIPHER DIRECTION KEY BLOCKS, for a cipher to be
--- chained CIPHER DIRECTION KEY VECTOR BLOCKS, or weak KEY
+-- the request that the arguments are, if they have a shape that is known: CIPHER DIRECTION KEY BLOCKS,
+-- CHAINED DIRECTION KEY VECTOR BLOCKS, where CHAINED is the name of a chained cipher, or weak KEY
 abbrev pub request_of : List (List ℕ) → Option Request
 request_of (cipher ∷ direction ∷ key ∷ digits ∷ []) =
     option_and_then

@@ -41,16 +41,19 @@ const ANSWER_NOT_WRITTEN: u8 = 4;
 // The bytes of the longest key that a cipher has.
 const LONGEST_KEY: usize = 24;
 
-/// Why the arguments have no answer. The first that holds is reported, in this order.
+/// Why the arguments have no answer. The first fault of the arguments is reported: of the key before
+/// the vector before the blocks, and of each the length before the digits.
 #[derive(Clone, Copy, Debug, PartialEq, Eq)]
 pub enum Fault {
     /// The arguments do not have a shape that is known.
     Usage,
-    /// The key argument does not have two digits for each byte of the cipher's key.
+    /// The key argument is not as many bytes long as a key has digits: two for each byte of the
+    /// cipher's key, or 16, 32 or 48 where a key is tested.
     KeyLength,
     /// The key argument holds something that is not a hexadecimal digit.
     KeyText,
-    /// The vector argument does not have sixteen digits, or the blocks argument sixteen for each block.
+    /// The vector argument is not 16 bytes long, as many as a block has digits, or the length of the
+    /// blocks argument is no multiple of 16.
     BlockLength,
     /// The vector argument or the blocks argument holds something that is not a hexadecimal digit.
     BlockText,
@@ -128,7 +131,7 @@ enum Cipher {
     Eee2,
 }
 
-// A block cipher whose blocks the program chains.
+// A block cipher in CBC mode that the program knows.
 #[derive(Clone, Copy)]
 enum ChainedCipher {
     DesCbc,

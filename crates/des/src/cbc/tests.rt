@@ -46,8 +46,8 @@ fn chains_blocks_of_des(rt: HostRuntime) {
     assert!(rt; goes_there_and_back(&des(), &IV, PLAINTEXT, CIPHERTEXT));
 }
 
-// The command prints the ciphertext, with the digits of the key, of the vector and of the plaintext:
-// echo PLAINTEXT | xxd -r -p | openssl enc -des-ede3-cbc -nopad -K KEY -iv IV | xxd -p
+// The command prints the ciphertext, with the digits of the plaintext, of the key and of the vector:
+// echo TEXT | xxd -r -p | openssl enc -des-ede3-cbc -nopad -K KEY -iv VECTOR | xxd -p
 #[test]
 fn chains_blocks_of_ede3(rt: HostRuntime) {
     let cipher = ede3([0x0123456789abcdef, 0x23456789abcdef01, 0x456789abcdef0123]);
@@ -90,21 +90,4 @@ fn chains_repeated_blocks_of_ede3(rt: HostRuntime) {
         0xd8fa0e9ebff3d654,
     ];
     assert!(rt; goes_there_and_back(&cipher, &iv, plaintext, ciphertext));
-}
-
-#[test]
-fn leaves_a_list_of_none(rt: HostRuntime) {
-    assert!(rt; goes_there_and_back(&des(), &IV, [], []));
-}
-
-// A front of the plaintext becomes that of the ciphertext, and the blocks after it stay.
-#[test]
-fn chains_fronts(rt: HostRuntime) {
-    for count in 0..3 {
-        let mut blocks: [[u8; 8]; 3] = PLAINTEXT.map(u64::to_be_bytes);
-        encrypt(&des(), &IV, &mut blocks[..count]);
-        let words: [u64; 3] = blocks.map(u64::from_be_bytes);
-        assert_eq!(rt; &words[..count], &CIPHERTEXT[..count]);
-        assert_eq!(rt; &words[count..], &PLAINTEXT[count..]);
-    }
 }

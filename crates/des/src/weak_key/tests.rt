@@ -21,35 +21,38 @@ const NO_BIT: u64 = 0x0000000000000000;
 
 const PLAIN: [u64; 3] = [0x0102030405060708, 0x1112131415161718, 0x2122232425262728];
 
+const LISTED: [u64; 3] = [0x0101010101010101, 0xfefefefefefefefe, 0xe0e0e0e0f1f1f1f1];
+
 // Keys with a listed part in each place, and with equal parts in each pair of places.
 #[test]
 fn refuses_listed_and_equal_parts(rt: HostRuntime) {
     let [a, b, _] = PLAIN;
-    let listed = [0x0101010101010101, 0xfefefefefefefefe, 0xe0e0e0e0f1f1f1f1];
-    for key in listed {
+    for key in LISTED {
         assert!(rt; refuses(&[key]), "{key:016x}");
     }
-    assert!(rt; refuses(&[listed[0], NO_BIT, NO_BIT]));
-    assert!(rt; refuses(&[NO_BIT, listed[1], NO_BIT]));
-    assert!(rt; refuses(&[NO_BIT, NO_BIT, listed[2]]));
-    assert!(rt; refuses(&[listed[0], NO_BIT]));
-    assert!(rt; refuses(&[NO_BIT, listed[1]]));
-    assert!(rt; refuses(&[NO_BIT, listed[2]]));
-    assert!(rt; refuses(&[listed[0], a]));
-    assert!(rt; refuses(&[a, listed[1]]));
-    assert!(rt; refuses(&[listed[0], a, b]));
-    assert!(rt; refuses(&[a, listed[1], b]));
-    assert!(rt; refuses(&[a, b, listed[2]]));
+    assert!(rt; refuses(&[LISTED[0], a]));
+    assert!(rt; refuses(&[a, LISTED[1]]));
+    assert!(rt; refuses(&[LISTED[0], a, b]));
+    assert!(rt; refuses(&[a, LISTED[1], b]));
+    assert!(rt; refuses(&[a, b, LISTED[2]]));
     assert!(rt; refuses(&[a, a]));
     assert!(rt; refuses(&[a, a, b]));
     assert!(rt; refuses(&[a, b, a]));
     assert!(rt; refuses(&[b, a, a]));
 }
 
-// Parity bits do not count: the key of no bit is a listed key but for them, and the two parts are one.
+// Parity bits do not count: the key of no bit is a listed key but for them, and the two parts of the last
+// key are one.
 #[test]
 fn refuses_whatever_the_parity(rt: HostRuntime) {
+    let [first, second, third] = LISTED;
     assert!(rt; refuses(&[NO_BIT]));
+    assert!(rt; refuses(&[first, NO_BIT, NO_BIT]));
+    assert!(rt; refuses(&[NO_BIT, second, NO_BIT]));
+    assert!(rt; refuses(&[NO_BIT, NO_BIT, third]));
+    assert!(rt; refuses(&[first, NO_BIT]));
+    assert!(rt; refuses(&[NO_BIT, second]));
+    assert!(rt; refuses(&[NO_BIT, third]));
     assert!(rt; refuses(&[0x0202020202020202, 0x0303030303030303]));
 }
 

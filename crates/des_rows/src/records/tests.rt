@@ -1,6 +1,6 @@
 use super::*;
 
-// The ciphertext of this text by OpenSSL, in 40 bytes:
+// The ciphertext is OpenSSL's, of a text of 40 bytes: printf '%s' 'Record 1: 100.00 EUR to account 4711....' |
 // openssl enc -des-ede3-cbc -nopad -K 0123456789abcdef23456789abcdef01456789abcdef0123 -iv fedcba9876543210 | xxd -p
 #[test]
 fn reads_a_record(rt: HostRuntime) {

@@ -2,7 +2,7 @@ use Rattle.std.proofs.Common.{◌≡◌, ℕ, ◌+◌, ◌≤◌, [], get_or}
 use Rattle.des.specs.Cbc.{xor_blocks, block_at, block_before}
 use Rattle.des.proofs.cbc.encrypt.Given as goal
 
--- the blocks before the index are chained, those from it on are as they were, and the local is the block before it
+-- the blocks before the index are chained, those from it on are as they were, and `previous` is the block before it
 abbrev pub invariant-loop-block : goal.invariant-loop-block
 invariant-loop-block g l = record {
   chained : (n : ℕ) → 1 ≤ n → n ≤ l.block-index → block_at l.blocks n

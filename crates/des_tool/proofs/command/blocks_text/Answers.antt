@@ -12,7 +12,7 @@ use Rattle.des_tool.specs.Ciphers.{IsMadeBy, in_direction}
 use Rattle.des_tool.specs.Digits.{bytes_of_digits}
 use Rattle.des_tool.specs.Request.{key_size_of}
 use Rattle.des_tool.proofs.BlockAnswers.{IsTextOf-made}
-use Rattle.des_tool.proofs.KeyAnswers.{encryption_by, decryption_by, answer_by}
+use Rattle.des_tool.proofs.KeyAnswers.{encryption_by, decryption_by, AnswerBy-cipher}
 use Rattle.des_tool.proofs.command.blocks_text.Goals as goal
 
 -- a text of what the key answers is one of what its relation gives
@@ -22,7 +22,7 @@ by_relation : (cipher : Cipher) (direction : Direction) (key digits text : List 
     → IsTextOf (AnswersEach (ReadIn direction (relation_of cipher key))) digits text
 by_relation cipher direction key =
     IsTextOf-made direction (encryption_by cipher) (decryption_by cipher) (key_size_of cipher) key (relation_of cipher key)
-    (λ is_key. (answer_by cipher key is_key).encryption) (λ is_key. (answer_by cipher key is_key).decryption)
+    (λ is_key. (AnswerBy-cipher cipher key is_key).encryption) (λ is_key. (AnswerBy-cipher cipher key is_key).decryption)
 
 -- the same of what the call of the cipher's text gave
 answered : (cipher : Cipher) (direction : Direction) (key digits : List ℕ) (result : Result (Vec ℕ Global) Fault)

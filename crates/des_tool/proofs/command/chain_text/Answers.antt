@@ -12,7 +12,7 @@ use Rattle.des_tool.specs.Ciphers.{IsMadeBy}
 use Rattle.des_tool.specs.Digits.{bytes_of_digits}
 use Rattle.des_tool.specs.Request.{key_size_of}
 use Rattle.des_tool.proofs.BlockAnswers.{IsTextOf-chained}
-use Rattle.des_tool.proofs.KeyAnswers.{encryption_by, answer_by}
+use Rattle.des_tool.proofs.KeyAnswers.{encryption_by, AnswerBy-cipher}
 use Rattle.des_tool.proofs.command.chain_text.Goals as goal
 
 -- a text of a list chained by what the key answers is one of a list chained under the cipher's relation
@@ -22,7 +22,7 @@ answered : (cipher : Cipher) (direction : Direction) (key iv digits : List ℕ) 
     → IfOk result (λ text. IsTextOf (ReadIn direction (Chains (relation_of cipher key) iv)) digits text.items)
 answered cipher direction key iv digits result =
     IfOk-weaker result _ _ (λ text. IsTextOf-chained direction (encryption_by cipher) (key_size_of cipher) key iv (relation_of cipher key)
-    (λ is_key. (answer_by cipher key is_key).encryption) digits text.items)
+    (λ is_key. (AnswerBy-cipher cipher key is_key).encryption) digits text.items)
 
 pub returns-in-DesCbc-clause-answer : goal.returns-in-DesCbc-clause-answer
 returns-in-DesCbc-clause-answer c =

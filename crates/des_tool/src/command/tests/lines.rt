@@ -2,7 +2,6 @@
 
 use super::*;
 use std::env::FillError;
-use std::process::Abort;
 
 // A process whose arguments, the program's own name first, stand on a line with a space between two.
 #[derive(Drop)]
@@ -34,7 +33,7 @@ impl Env for Process<'_> {
 
 // A line, what goes to standard output and to standard error, and the exit status.
 #[rattlefmt::skip]
-pub(super) const LINES: [(&str, &str, &str, u8); 21] = [
+pub(super) const LINES: [(&str, &str, &str, u8); 27] = [
     ("des_tool des encrypt 133457799BBCDFF1 0123456789ABCDEF", ANSWER, "", 0),
     ("des_tool des decrypt 133457799BBCDFF1 85E813540F0AB405", "0123456789abcdef\n", "", 0),
     ("des_tool des encrypt 133457799BBCDFF1 ", "\n", "", 0),
@@ -56,11 +55,6 @@ pub(super) const LINES: [(&str, &str, &str, u8); 21] = [
     ("des_tool des encrypt 133457799BBCDFFg 0123456789ABCDEF", "", "KeyText\n", 2),
     ("des_tool des encrypt 133457799BBCDFF1 0123456789ABCDEF0", "", "BlockLength\n", 2),
     ("des_tool des encrypt 133457799BBCDFF1 0x0123456789ABCD", "", "BlockText\n", 2),
-];
-
-// The same of chained ciphers.
-#[rattlefmt::skip]
-pub(super) const CHAINED_LINES: [(&str, &str, &str, u8); 6] = [
     ("des_tool des-cbc encrypt 133457799BBCDFF1 0000000000000000 0123456789ABCDEF", ANSWER, "", 0),
     ("des_tool des-cbc decrypt 0123456789abcdef 1234567890abcdef e5c7cdde872bf27c43e934008c389c0f", "4e6f77206973207468652074696d6520\n", "", 0),
     ("des_tool ede3-cbc decrypt 133457799bbcdff1133457799bbcdff1133457799bbcdff1 0000000000000000 ", "\n", "", 0),
@@ -69,29 +63,17 @@ pub(super) const CHAINED_LINES: [(&str, &str, &str, u8); 6] = [
     ("des_tool des-cbc encrypt 133457799BBCDFF1 000000000000000g 0", "", "BlockText\n", 2),
 ];
 
-// Asserts what the program writes on a line, and how it ends.
-fn runs_as(rt: &impl Abort, alloc: Global, line: &str, written: &str, reported: &str, status: u8) {
-    let process = Process {
-        line: line.as_bytes(),
-    };
-    let (mut out, mut err) = (Page::new(ENOUGH, true), Page::new(ENOUGH, true));
-    let code = run(&(process, alloc), &mut out, &mut err);
-    assert_eq!(rt; code, ExitCode::from(status), "{line}");
-    assert_eq!(rt; out.text(), written.as_bytes(), "{line}");
-    assert_eq!(rt; err.text(), reported.as_bytes(), "{line}");
-}
-
 #[test]
 fn runs_lines(rt: HostRuntime) {
     for (line, written, reported, status) in LINES {
-        runs_as(&rt, rt.alloc(), line, written, reported, status);
-    }
-}
-
-#[test]
-fn runs_chained_lines(rt: HostRuntime) {
-    for (line, written, reported, status) in CHAINED_LINES {
-        runs_as(&rt, rt.alloc(), line, written, reported, status);
+        let process = Process {
+            line: line.as_bytes(),
+        };
+        let (mut out, mut err) = (Page::new(ENOUGH, true), Page::new(ENOUGH, true));
+        let code = run(&(process, rt.alloc()), &mut out, &mut err);
+        assert_eq!(rt; code, ExitCode::from(status), "{line}");
+        assert_eq!(rt; out.text(), written.as_bytes(), "{line}");
+        assert_eq!(rt; err.text(), reported.as_bytes(), "{line}");
     }
 }
 
