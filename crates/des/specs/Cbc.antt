@@ -3,7 +3,7 @@
 use Rattle.std.specs.Prelude.{◌≡◌, ℕ, ◌-◌, ◌≤◌, List, [], ◌∷◌, length, slice_index_or, bit_xor}
 use Rattle.std.specs.Simd.Lanes.{zip2}
 
--- two blocks xor: byte by byte
+-- the xor of two blocks, byte by byte
 unfoldable pub xor_blocks : List ℕ → List ℕ → List ℕ
 xor_blocks block other = zip2 bit_xor block other
 
@@ -15,7 +15,8 @@ block_at blocks n = slice_index_or blocks (n - 1) []
 abbrev pub block_before : List ℕ → List (List ℕ) → ℕ → List ℕ
 block_before iv blocks n = block_at (iv ∷ blocks) n
 
--- two lists of as many blocks, chained under a relation of blocks: it takes each p(n) xor the block before q(n), to q(n)
+-- p and q, lists of as many blocks, are chained under a relation of blocks from an initialization vector: it takes each
+-- p(n) xor the block before q(n), to q(n)
 pub record Chains (Relates : List ℕ → List ℕ → Type 0) (iv : List ℕ) (p q : List (List ℕ)) : Type 0 where
   pub count : length q ≡ length p
   pub widths : (n : ℕ) → 1 ≤ n → n ≤ length p → length (block_at p n) ≡ 8

@@ -4,7 +4,7 @@ use Rattle.des.specs.Blocks.{IsKey, IsBlock}
 use Rattle.des_tool.specs.declared.command.Direction.{Direction}
 use Rattle.des_tool.specs.declared.command.Direction.TheVariants.{Encrypt, Decrypt}
 
--- of two functions, the one of a direction
+-- of two functions, or two relations, the one of a direction
 abbrev pub in_direction {ℓ} : {A : Type ℓ} → Direction → A → A → A
 in_direction Encrypt encrypts decrypts = encrypts
 in_direction Decrypt encrypts decrypts = decrypts
