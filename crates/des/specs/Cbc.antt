@@ -3,7 +3,7 @@
 use Rattle.std.specs.Prelude.{◌≡◌, ℕ, ◌-◌, ◌≤◌, List, [], ◌∷◌, length, slice_index_or, bit_xor}
 use Rattle.std.specs.Simd.Lanes.{zip2}
 
--- two blocks xor: byte by byte
+-- the xor of two blocks, byte by byte
 unfoldable pub xor_blocks : List ℕ → List ℕ → List ℕ
 xor_blocks block other = zip2 bit_xor block other
 

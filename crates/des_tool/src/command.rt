@@ -230,7 +230,7 @@ fn parse<'a>(arguments: &[&'a str]) -> Option<Command<'a>>
 ///
 /// `CHAINED encrypt KEY VECTOR BLOCKS` enciphers blocks by cipher block chaining (FIPS 81), from an
 /// initialization vector of 8 bytes, and `CHAINED decrypt KEY VECTOR BLOCKS` deciphers them. `CHAINED`
-/// is `des-cbc` or `ede3-cbc`. Keys, digits and the answer are as before.
+/// is `des-cbc`, with a key of 8 bytes, or `ede3-cbc`, with one of 24; the rest is as above.
 ///
 /// `weak KEY` tests a key of 8, 16 or 24 bytes: the answer is `WeakKey` where `weak_key_test` refuses
 /// it, else `Ok`, and a newline.

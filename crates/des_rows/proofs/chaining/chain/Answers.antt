@@ -8,8 +8,10 @@ use Rattle.des_rows.proofs.chaining.chain.Goals as goal
 pub returns : goal.returns
 returns g c =
     let cipher = c.args.cipher.now in
+    let encryption = g.C.BlockCipherEncrypt.encrypted cipher in
+    let decryption = g.C.BlockCipherDecrypt.decrypted cipher in
     let iv : List ℕ = c.args.iv.now in
     let is_iv : IsBlock iv = (c.told-iv, All-from_get_or (λ byte. byte < 256) iv 0 (λ i within. c.fits-iv i)) in
-    Unchains-from_Cbc (g.C.BlockCipherEncrypt.encrypted cipher) (g.C.BlockCipherDecrypt.decrypted cipher) iv c.args.blocks.now c.encrypt.new.blocks
+    Unchains-from_Cbc encryption decryption iv c.args.blocks.now c.encrypt.new.blocks
     is_iv c.are_blocks.ensures (g.met.C.BlockCipher.encrypted_is_block cipher) (g.met.C.BlockCipher.decrypts_encrypted cipher)
     c.encrypt.ensures

@@ -8,8 +8,10 @@ use Rattle.des_rows.proofs.chaining.unchain.Goals as goal
 pub returns : goal.returns
 returns g c =
     let cipher = c.args.cipher.now in
+    let encryption = g.C.BlockCipherEncrypt.encrypted cipher in
+    let decryption = g.C.BlockCipherDecrypt.decrypted cipher in
     let iv : List ℕ = c.args.iv.now in
     let is_iv : IsBlock iv = (c.told-iv, All-from_get_or (λ byte. byte < 256) iv 0 (λ i within. c.fits-iv i)) in
-    Cbc-from_Unchains (g.C.BlockCipherEncrypt.encrypted cipher) (g.C.BlockCipherDecrypt.decrypted cipher) iv c.decrypt.new.blocks c.args.blocks.now
+    Cbc-from_Unchains encryption decryption iv c.decrypt.new.blocks c.args.blocks.now
     is_iv c.are_blocks.ensures (g.met.C.BlockCipher.decrypted_is_block cipher) (g.met.C.BlockCipher.encrypts_decrypted cipher)
     c.decrypt.ensures
