@@ -174,3 +174,33 @@ fn answers_many_blocks(rt: HostRuntime) -> Result<(), Fail> {
     }
     Ok(())
 }
+
+// The ciphertext of the example, again and again, deciphers to its plaintext, from the second block on
+// xor that ciphertext.
+#[test]
+fn answers_many_chained_blocks(rt: HostRuntime) -> Result<(), Fail> {
+    let mut blocks = String::new(rt.alloc());
+    for _ in 0..3000 {
+        blocks.push_str("85e813540f0ab405")?;
+    }
+    let arguments = [
+        "des-cbc",
+        "decrypt",
+        KEY,
+        "0000000000000000",
+        blocks.as_str(),
+    ];
+    let text = answer(rt.alloc(), &arguments)?;
+    let (answers, end) = text.as_slice().as_chunks::<16>();
+    assert_eq!(rt; answers.len(), 3000);
+    for (i, block) in answers.iter().enumerate() {
+        let plaintext = if i == 0 {
+            b"0123456789abcdef"
+        } else {
+            b"84cb563386a179ea"
+        };
+        assert_eq!(rt; block, plaintext);
+    }
+    assert_eq!(rt; end, b"\n".as_slice());
+    Ok(())
+}
