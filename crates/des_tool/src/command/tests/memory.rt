@@ -134,7 +134,7 @@ fn faults_are_told_without_memory(rt: HostRuntime) {
     }
 }
 
-// This test holds whichever request for memory is refused.
+// A line of each shape. This test holds whichever request for memory is refused.
 #[test]
 fn reports_a_refused_request_for_memory(rt: HostRuntime) {
     for (line, answer, _, _) in [LINES[0], LINES[5], LINES[21]] {
