@@ -41,12 +41,12 @@ pub fn encrypt<C: BlockCipherEncrypt>(cipher: &C, iv: &[u8; 8], blocks: &mut [[u
 pub fn decrypt<C: BlockCipherDecrypt>(cipher: &C, iv: &[u8; 8], blocks: &mut [[u8; 8]])
     ensures { Unchains (C.decrypted cipher.now) iv.now blocks.old blocks.new }
 {
-    let mut previous = *iv;
+    let mut before = *iv;
     for block in blocks.iter_mut() {
         let ciphertext = *block;
         cipher.decrypt_block(block);
-        xor(block, &previous);
-        previous = ciphertext;
+        xor(block, &before);
+        before = ciphertext;
     }
 }
 

@@ -2,7 +2,7 @@
 //! can be run with one request of that call refused. `.ci/run` does so, and wants a test named `answers_`
 //! to end with `Memory` where a request is refused, and the others to hold.
 
-use super::lines::{LINES, Process};
+use super::lines::{CHAINED_LINES, LINES, Process, WEAK_LINES};
 use super::*;
 use std::process::Abort;
 use std::test::Fail;
@@ -137,7 +137,7 @@ fn faults_are_told_without_memory(rt: HostRuntime) {
 // A line of each shape. This test holds whichever request for memory is refused.
 #[test]
 fn reports_a_refused_request_for_memory(rt: HostRuntime) {
-    for (line, answer, _, _) in [LINES[0], LINES[5], LINES[21]] {
+    for (line, answer, _, _) in [LINES[0], WEAK_LINES[1], CHAINED_LINES[0]] {
         let process = Process {
             line: line.as_bytes(),
         };
