@@ -124,7 +124,7 @@ same_from_units (suc n) g h g_sums h_sums none each x below =
     ]
 
 -- a bit of a sum of two lists of one length
-bit-xor_bits : (bits others : List Bool) (i : ℕ) → length bits ≡ length others
+pub bit-xor_bits : (bits others : List Bool) (i : ℕ) → length bits ≡ length others
     → get_or (xor_bits bits others) i false ≡ xor (get_or bits i false) (get_or others i false)
 unfolding xor_bits
 bit-xor_bits [] [] i same = refl
@@ -134,7 +134,7 @@ bit-xor_bits (first ∷ bits) (other ∷ others) zero same = refl
 bit-xor_bits (first ∷ bits) (other ∷ others) (suc i) same = bit-xor_bits bits others i (omega arith)
 
 -- a selection from a sum is the sum of the selections
-select-xor_bits : (positions : List ℕ) (bits others : List Bool) → length bits ≡ length others
+pub select-xor_bits : (positions : List ℕ) (bits others : List Bool) → length bits ≡ length others
     → select positions (xor_bits bits others) ≡ xor_bits (select positions bits) (select positions others)
 unfolding select xor_bits
 select-xor_bits [] bits others same = refl

@@ -8,13 +8,13 @@ use std::time::{Clock, CpuClock, Duration, Instant};
 // The most runs of which a figure is the least.
 const MOST_RUNS: u32 = 1000;
 
-// The time by the clock after which no further run begins: the eighteen figures of the table then
-// take two seconds, with fewer runs on a machine that is slow or busy.
+// The time by the clock after which no further run begins: the 48 figures of the table then take
+// five seconds, with fewer runs on a machine that is slow or busy.
 const SHARE_MILLIS: u64 = 100;
 
-/// The nanoseconds of processor time that each of the `calls` of a run takes, in the quickest of
-/// some runs. What other processes take meanwhile does not count.
-pub fn nanos_of_call<K: Clock + CpuClock, F: FnMut()>(
+/// The tenths of a nanosecond of processor time that each of the `calls` of a run takes, in the
+/// quickest of some runs. What other processes take meanwhile does not count.
+pub fn tenths_of_call<K: Clock + CpuClock, F: FnMut()>(
     clock: &K,
     calls: u32,
     mut run: F,
@@ -33,5 +33,5 @@ pub fn nanos_of_call<K: Clock + CpuClock, F: FnMut()>(
             break;
         }
     }
-    Ok((least / calls).as_nanos())
+    Ok((least.saturating_mul(10) / calls).as_nanos())
 }

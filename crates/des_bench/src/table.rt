@@ -1,15 +1,16 @@
-//! The table of all figures: a row for each cipher, and one for the weak key test.
+//! The table of all figures: a row for each cipher, block by block and by the calls for lists, and one
+//! for the weak key test.
 //!
 //! What the timed calls answer is joined in the number below the table, so that no compiler can
 //! leave a call out. A run of blocks begins with what the run before it made of them.
 
 ghost use Rattle.std.specs.Prelude.{◌≡◌, ◌≤◌, ◌⊎◌, length};
 
-use crate::stopwatch::nanos_of_call;
+use crate::stopwatch::tenths_of_call;
 use des::cipher::{AlgorithmName, BlockCipherEncrypt, KeyInit, KeyedCipher};
 use des::{Des, TdesEde2, TdesEde3, TdesEee2, TdesEee3, weak_key_test};
+use des_fast::many::ManyBlocks;
 use std::alloc::AllocGlobal;
-use std::fmt::Display;
 use std::io;
 use std::io::Write;
 use std::time::{Clock, CpuClock};
@@ -23,20 +24,32 @@ const KEYS: usize = 256;
 // How many blocks a run goes through.
 const BLOCKS: usize = 1024;
 
-/// Times every cipher and the weak key test, and writes the figures to `out`.
+/// Times every cipher and the weak key test, and writes the figures to `out`, in nanoseconds.
 pub fn write_table<R: AllocGlobal + Clock + CpuClock, W: Write>(
     rt: &R,
     out: &mut W,
 ) -> io::Result<()> {
     let keys = mixed_keys();
-    write_row(out, "ns", &["encrypt", "decrypt", "new"])?;
     let mut joined = 0;
+    write_head(out, "des", &["encrypt", "decrypt", "new"])?;
     joined ^= write_cipher::<Des>(rt, &keys, out)?;
     joined ^= write_cipher::<TdesEde3>(rt, &keys, out)?;
     joined ^= write_cipher::<TdesEee3>(rt, &keys, out)?;
     joined ^= write_cipher::<TdesEde2>(rt, &keys, out)?;
     joined ^= write_cipher::<TdesEee2>(rt, &keys, out)?;
-    write_row(out, "ns", &["8 bytes", "16 bytes", "24 bytes"])?;
+    write_head(out, "des_fast", &["encrypt", "decrypt", "new"])?;
+    joined ^= write_cipher::<des_fast::Des>(rt, &keys, out)?;
+    joined ^= write_cipher::<des_fast::TdesEde3>(rt, &keys, out)?;
+    joined ^= write_cipher::<des_fast::TdesEee3>(rt, &keys, out)?;
+    joined ^= write_cipher::<des_fast::TdesEde2>(rt, &keys, out)?;
+    joined ^= write_cipher::<des_fast::TdesEee2>(rt, &keys, out)?;
+    write_head(out, "des_fast, many", &["encrypt", "decrypt", "unchain"])?;
+    joined ^= write_lists::<des_fast::Des>(rt, &keys, out)?;
+    joined ^= write_lists::<des_fast::TdesEde3>(rt, &keys, out)?;
+    joined ^= write_lists::<des_fast::TdesEee3>(rt, &keys, out)?;
+    joined ^= write_lists::<des_fast::TdesEde2>(rt, &keys, out)?;
+    joined ^= write_lists::<des_fast::TdesEee2>(rt, &keys, out)?;
+    write_head(out, "des", &["8 bytes", "16 bytes", "24 bytes"])?;
     joined ^= write_weak_key_test(rt, &keys, out)?;
     writeln!(out, "{joined:016x}")?;
     out.flush()
@@ -56,7 +69,7 @@ fn mixed_keys() -> [[u8; LONGEST_KEY]; KEYS] {
     keys
 }
 
-// Writes the row of a cipher, and joins the blocks that its calls ended with.
+// Writes the row of a cipher, one block at a time, and joins the blocks that its calls ended with.
 fn write_cipher<C: KeyedCipher + AlgorithmName + Drop>(
     rt: &(impl AllocGlobal + Clock + CpuClock),
     keys: &[[u8; LONGEST_KEY]; KEYS],
@@ -66,13 +79,13 @@ fn write_cipher<C: KeyedCipher + AlgorithmName + Drop>(
 {
     let cipher: C = cipher_of_key(&keys[0]);
     let mut blocks = [[0u8; 8]; BLOCKS];
-    let encrypt = nanos_of_call(rt, BLOCKS as u32, || cipher.encrypt_blocks(&mut blocks))?;
-    let decrypt = nanos_of_call(rt, BLOCKS as u32, || cipher.decrypt_blocks(&mut blocks))?;
+    let encrypt = tenths_of_call(rt, BLOCKS as u32, || cipher.encrypt_blocks(&mut blocks))?;
+    let decrypt = tenths_of_call(rt, BLOCKS as u32, || cipher.decrypt_blocks(&mut blocks))?;
     let mut ciphers: Vec<C> = Vec::with_capacity(rt.alloc(), KEYS)?;
     for key in keys {
         ciphers.push(cipher_of_key(key))?;
     }
-    let new = nanos_of_call(
+    let new = tenths_of_call(
         rt,
         KEYS as u32,
         ||
@@ -83,6 +96,29 @@ fn write_cipher<C: KeyedCipher + AlgorithmName + Drop>(
         cipher.encrypt_block(block);
     }
     write_row(out, C::NAME, &[encrypt, decrypt, new])?;
+    Ok(joined(&blocks))
+}
+
+// Writes the row of a cipher whose calls take many blocks at a time, and joins the blocks that they
+// ended with.
+fn write_lists<C: KeyedCipher + AlgorithmName + ManyBlocks + Drop>(
+    rt: &(impl Clock + CpuClock),
+    keys: &[[u8; LONGEST_KEY]; KEYS],
+    out: &mut impl Write,
+) -> io::Result<u64>
+    requires { C.KEY_SIZE ≤ LONGEST_KEY }
+{
+    let cipher: C = cipher_of_key(&keys[0]);
+    let iv = [0u8; 8];
+    let mut blocks = [[0u8; 8]; BLOCKS];
+    let encrypt = tenths_of_call(rt, BLOCKS as u32, || cipher.encrypt_many(&mut blocks))?;
+    let decrypt = tenths_of_call(rt, BLOCKS as u32, || cipher.decrypt_many(&mut blocks))?;
+    let unchain = tenths_of_call(
+        rt,
+        BLOCKS as u32,
+        || cipher.decrypt_chained(&iv, &mut blocks),
+    )?;
+    write_row(out, C::NAME, &[encrypt, decrypt, unchain])?;
     Ok(joined(&blocks))
 }
 
@@ -115,9 +151,9 @@ fn write_weak_key_test(
     out: &mut impl Write,
 ) -> io::Result<u64> {
     let mut passed = 0;
-    let one = nanos_of_call(rt, KEYS as u32, || passed ^= count_passed(keys, 8))?;
-    let two = nanos_of_call(rt, KEYS as u32, || passed ^= count_passed(keys, 16))?;
-    let three = nanos_of_call(rt, KEYS as u32, || passed ^= count_passed(keys, 24))?;
+    let one = tenths_of_call(rt, KEYS as u32, || passed ^= count_passed(keys, 8))?;
+    let two = tenths_of_call(rt, KEYS as u32, || passed ^= count_passed(keys, 16))?;
+    let three = tenths_of_call(rt, KEYS as u32, || passed ^= count_passed(keys, 24))?;
     write_row(out, "weak_key_test", &[one, two, three])?;
     Ok(passed)
 }
@@ -135,7 +171,16 @@ fn count_passed(keys: &[[u8; LONGEST_KEY]], size: usize) -> u64
     passed
 }
 
-fn write_row<T: Display>(out: &mut impl Write, name: &str, figures: &[T; 3]) -> io::Result<()> {
-    let [first, second, third] = figures;
+fn write_head(out: &mut impl Write, name: &str, columns: &[&str; 3]) -> io::Result<()> {
+    let [first, second, third] = columns;
     writeln!(out, "{name:<16}{first:>10}{second:>10}{third:>10}")
+}
+
+// Writes a row of figures, which are tenths.
+fn write_row(out: &mut impl Write, name: &str, figures: &[u128; 3]) -> io::Result<()> {
+    write!(out, "{name:<16}")?;
+    for figure in figures {
+        write!(out, "{:>8}.{}", figure / 10, figure % 10)?;
+    }
+    writeln!(out)
 }

@@ -1,0 +1,56 @@
+-- The bytes of a word of groups: each is the number that its group writes.
+use Rattle.std.proofs.Common.{◌≡◌, ℕ, zero, suc, ◌*◌, ◌/◌, ◌%◌, ◌^◌, ◌<◌, List, [], ◌∷◌, take, drop, slice_index, slice_index_or, bit_and, refl, ap, ◌∙◌, arith, div-one}
+use Rattle.std.specs.Int.{w64, to_be_bytes}
+use Rattle.std.proofs.lemmas.Nat.{and_le_r, and_shr, and_mod}
+use Rattle.des.specs.Bits.{bits_of, bits_of_bytes, select}
+use Rattle.des.specs.Laws.BitLists.{bits_of_bytes-to_be}
+use Rattle.des_fast.specs.Groups.{group_places, bits_of_groups, IsOfGroups}
+
+-- a number under six bits is below 64
+masked-lt : (n : ℕ) → bit_and n 63 < 64
+masked-lt n = omega (arith, and_le_r n 63)
+
+-- eight bits of a word of groups, from a place where the mask has six ones after two zeros
+place-lt : (k word : ℕ) → 0x3f3f3f3f3f3f3f3f / 2 ^ k % 2 ^ 8 ≡ 63 → IsOfGroups word → word / 2 ^ k % 2 ^ 8 < 64
+place-lt k word six of_groups =
+    rw (← of_groups, and_shr word 0x3f3f3f3f3f3f3f3f k, and_mod (word / 2 ^ k) (0x3f3f3f3f3f3f3f3f / 2 ^ k) 8, six)
+    (masked-lt (word / 2 ^ k % 2 ^ 8))
+
+-- the bytes of a word, in the order of the groups in it
+abbrev pub ordered : List ℕ → List ℕ
+ordered bytes =
+    let byte : ℕ → ℕ = λ n. slice_index_or bytes n 0 in
+    byte 0 ∷ byte 4 ∷ byte 1 ∷ byte 5 ∷ byte 2 ∷ byte 6 ∷ byte 3 ∷ byte 7 ∷ []
+
+-- each byte of a word of groups is below 64
+pub ordered-lt : (word : ℕ) → IsOfGroups word → (i d : ℕ) → i < 8 → slice_index_or (ordered (to_be_bytes w64 word)) i d < 64
+ordered-lt word of_groups zero d below = place-lt 56 word refl of_groups
+ordered-lt word of_groups (suc zero) d below = place-lt 24 word refl of_groups
+ordered-lt word of_groups (suc (suc zero)) d below = place-lt 48 word refl of_groups
+ordered-lt word of_groups (suc (suc (suc zero))) d below = place-lt 16 word refl of_groups
+ordered-lt word of_groups (suc (suc (suc (suc zero)))) d below = place-lt 40 word refl of_groups
+ordered-lt word of_groups (suc (suc (suc (suc (suc zero))))) d below = place-lt 8 word refl of_groups
+ordered-lt word of_groups (suc (suc (suc (suc (suc (suc zero)))))) d below = place-lt 32 word refl of_groups
+ordered-lt word of_groups (suc (suc (suc (suc (suc (suc (suc zero))))))) d below = rw div-one at (place-lt 0 word refl of_groups)
+ordered-lt word of_groups (suc (suc (suc (suc (suc (suc (suc (suc i)))))))) d below = absurd (omega arith)
+
+-- the lowest six bits of each are six of all their bits
+bits_of-byte : (word i : ℕ) → i < 8
+    → let bytes = to_be_bytes w64 word in
+    bits_of 6 (slice_index (ordered bytes) i) ≡ take 6 (drop (6 * i) (select group_places (bits_of_bytes bytes)))
+unfolding bits_of bits_of_bytes select
+bits_of-byte word zero below = refl
+bits_of-byte word (suc zero) below = refl
+bits_of-byte word (suc (suc zero)) below = refl
+bits_of-byte word (suc (suc (suc zero))) below = refl
+bits_of-byte word (suc (suc (suc (suc zero)))) below = refl
+bits_of-byte word (suc (suc (suc (suc (suc zero))))) below = refl
+bits_of-byte word (suc (suc (suc (suc (suc (suc zero)))))) below = refl
+bits_of-byte word (suc (suc (suc (suc (suc (suc (suc zero))))))) below = refl
+bits_of-byte word (suc (suc (suc (suc (suc (suc (suc (suc i)))))))) below = absurd (omega arith)
+
+-- so each has the bits of its group
+pub bits_of-ordered : (word i : ℕ) → i < 8
+    → bits_of 6 (slice_index (ordered (to_be_bytes w64 word)) i) ≡ take 6 (drop (6 * i) (bits_of_groups word))
+bits_of-ordered word i below =
+    bits_of-byte word i below ∙ ap (λ bits. take 6 (drop (6 * i) (select group_places bits))) (bits_of_bytes-to_be word)

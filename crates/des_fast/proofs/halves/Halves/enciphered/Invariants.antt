@@ -1,0 +1,11 @@
+use Rattle.std.proofs.Common.{◌≡◌, ◌*◌, List, Bool, take}
+use Rattle.des.specs.Rounds.{after_rounds}
+use Rattle.des_fast.specs.Groups.{half_of}
+use Rattle.des_fast.specs.HalfBlocks.{round_keys_of}
+use Rattle.des_fast.proofs.halves.Halves.enciphered.Given as goal
+
+-- the halves are what the round keys so far make of the first
+abbrev pub invariant-loop-i : goal.invariant-loop-i
+invariant-loop-i l =
+    let halves : List Bool × List Bool = (half_of l.left.groups, half_of l.right.groups) in
+    halves ≡ after_rounds (take (2 * l.i) (round_keys_of l.round_keys)) (half_of l.initial.left.groups) (half_of l.initial.right.groups)

@@ -1,0 +1,35 @@
+use Rattle.std.proofs.Common.{◌<◌, ℕ, sym, ap, ◌∙◌, arith}
+use Rattle.std.proofs.lemmas.List.Elements.{All-from_get_or}
+use Rattle.des.specs.Bits.{bits_of_word}
+use Rattle.des.specs.KeySchedule.{key_schedule}
+use Rattle.des.specs.Laws.BitLists.{bits_of_bytes-from_be}
+use Rattle.des.specs.Laws.DesLaws as port
+use Rattle.des.proofs.Graphs.{HasOneAnswerEachWay-key, IsGraphOf-encryption, IsGraphOf-decryption}
+use Rattle.des_fast.specs.Laws.DesLaws.{Agree-encrypted, Agree-decrypted}
+use Rattle.des_fast.proofs.Answers.{AnswerAlike-Agree}
+use Rattle.des_fast.proofs.single.DesKeyInit.new.Goals as goal
+
+pub returns-clause-made : goal.returns-clause-made
+returns-clause-made c = (
+  (omega arith, All-from_get_or (λ byte. byte < 256) c.args.key.now 0 (λ i within. c.fits-key i)),
+  c.round_keys.ensures
+      ∙ ap (λ (word : ℕ). key_schedule (bits_of_word word)) c.from_be_bytes.ensures
+      ∙ ap key_schedule (sym (bits_of_bytes-from_be c.args.key.now (omega arith) c.fits-key)),
+)
+
+pub returns-clause-one_answer_each_way : goal.returns-clause-one_answer_each_way
+returns-clause-one_answer_each_way c = HasOneAnswerEachWay-key c.args.key.now (returns-clause-made c).0
+
+pub returns-clause-encryption : goal.returns-clause-encryption
+returns-clause-encryption c = IsGraphOf-encryption c.args.key.now (returns-clause-made c).0
+
+pub returns-clause-decryption : goal.returns-clause-decryption
+returns-clause-decryption c = IsGraphOf-decryption c.args.key.now (returns-clause-made c).0
+
+pub returns-clause-encrypts_alike : goal.returns-clause-encrypts_alike
+returns-clause-encrypts_alike c other made =
+    AnswerAlike-Agree (Agree-encrypted _ c.args.key.now (returns-clause-made c)) (port.Agree-encrypted other c.args.key.now made)
+
+pub returns-clause-decrypts_alike : goal.returns-clause-decrypts_alike
+returns-clause-decrypts_alike c other made =
+    AnswerAlike-Agree (Agree-decrypted _ c.args.key.now (returns-clause-made c)) (port.Agree-decrypted other c.args.key.now made)

@@ -1,0 +1,26 @@
+-- Round key by round key.
+use Rattle.std.proofs.Common.{◌≡◌, ℕ, ◌-◌, List, Bool, [], length, reverse, get_or, ◌∙◌, arith}
+use Rattle.std.proofs.lemmas.List.{length-set, length-reverse}
+use Rattle.des_fast.specs.HalfBlocks.{round_keys_of}
+use Rattle.des_fast.specs.Slices.{column, InEachBlock}
+use Rattle.des_fast.proofs.RoundPairs.{length-round_keys_of, round_keys_of-at_reverse}
+use Rattle.des_fast.proofs.Stages.{written_below}
+use Rattle.des_fast.proofs.KeySlices.{columns-of_keys}
+use Rattle.des_fast.proofs.slices.keys.deciphering.Goals as goal
+
+pub loop-i-preserved : goal.loop-i-preserved
+loop-i-preserved c =
+    let made : List (List (List ℕ)) = c.loop-i.slices in
+    let i : ℕ = c.loop-i.i in
+    let keys : List (List Bool) = reverse (round_keys_of c.args.round_keys.now) in (
+      length-set made i _ ∙ c.loop-i.invariant.0,
+      written_below (λ j slices. InEachBlock (λ b. column b slices ≡ get_or keys j [])) made i _ [] (omega arith) c.loop-i.invariant.1
+          (λ b within. c.selection_slices.ensures b within ∙ round_keys_of-at_reverse c.args.round_keys.now i (15 - i) _ (omega arith)),
+    )
+
+pub returns : goal.returns
+returns c b within =
+    let keys : List (List Bool) = round_keys_of c.args.round_keys.now in
+    let count : length keys ≡ 16 = omega (arith, length-round_keys_of c.args.round_keys.now) in
+    columns-of_keys b (reverse keys) c.loop-i.slices (omega (arith, length-reverse keys))
+    (λ i below. c.loop-i.invariant.1 i (omega (arith, length-reverse keys)) b within)

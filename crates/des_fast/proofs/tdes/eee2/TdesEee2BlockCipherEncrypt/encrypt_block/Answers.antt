@@ -1,0 +1,17 @@
+use Rattle.std.proofs.Common.{◌∙◌}
+use Rattle.des.specs.Blocks.{part}
+use Rattle.des.specs.Triple.{EnciphersEee2}
+use Rattle.des.proofs.TripleGraphs.{eee, AnswerBy-Eee2}
+use Rattle.des_fast.specs.Laws.TriplePasses.{Agree-eee}
+use Rattle.des_fast.proofs.Answers.{IsTheOne-answer}
+use Rattle.des_fast.proofs.tdes.eee2.TdesEee2BlockCipherEncrypt.encrypt_block.Goals as goal
+
+pub returns-clause-enciphers : goal.returns-clause-enciphers
+returns-clause-enciphers c key made =
+    let cipher = c.args.self.now in
+    let block = c.args.block.now in
+    let passes = c.encrypt_eee in
+    let agree = Agree-eee cipher.first cipher.second cipher.first (part 1 key) (part 2 key) (part 1 key) made.1 made.2 made.1 in
+    IsTheOne-answer (eee (part 1 key) (part 2 key) (part 1 key)) (λ x y. EnciphersEee2 key x y) block passes.new.block
+    (AnswerBy-Eee2 key made.0).encryption passes.ensures.was_block
+    (passes.ensures.encrypted ∙ agree.at block passes.ensures.was_block)

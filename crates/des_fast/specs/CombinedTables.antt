@@ -1,0 +1,30 @@
+-- The combined tables: for each box and each group of six bits, what P and then E make of the box's entry.
+use Rattle.std.specs.Prelude.{ℕ, ◌+◌, ◌-◌, ◌*◌, List, [], ◌∷◌, ◌++◌, Bool, map}
+use Rattle.std.specs.List.{range_with_len}
+use Rattle.des.specs.Bits.{bits_of, zeros, select}
+use Rattle.des.specs.Tables.{Box, selection_functions, expansion, permutation}
+use Rattle.des.specs.CipherFunction.{box_entry}
+use Rattle.des_fast.specs.Groups.{word_of_groups}
+
+-- four bits in the place that box n, from 1, has among the 32, with zeros in the places of the others
+abbrev pub in_place_of_box : ℕ → List Bool → List Bool
+in_place_of_box n bits = zeros (4 * (n - 1)) ++ bits ++ zeros (4 * (8 - n))
+
+-- the entry of box n for a group, in its place, after P and E: a word of groups
+abbrev pub combined_entry : ℕ → Box → ℕ → ℕ
+combined_entry n box group =
+    let entry = in_place_of_box n (bits_of 4 (box_entry box (bits_of 6 group))) in
+    word_of_groups (select expansion (select permutation entry))
+
+-- the 64 of a box, in the order of the groups 000000 to 111111
+abbrev pub combined_table : ℕ → Box → List ℕ
+combined_table n box = map (combined_entry n box) (range_with_len 0 64)
+
+-- those of the boxes from box n on
+abbrev pub combined_tables_from : ℕ → List Box → List (List ℕ)
+combined_tables_from n [] = []
+combined_tables_from n (box ∷ boxes) = combined_table n box ∷ combined_tables_from (n + 1) boxes
+
+-- those of S1 to S8
+abbrev pub combined_tables : List (List ℕ)
+combined_tables = combined_tables_from 1 selection_functions

@@ -1,0 +1,9 @@
+pub mod Groups
+pub mod Slices
+pub mod Transposition
+pub mod Passes
+pub mod CombinedTables
+pub mod Choices
+pub mod HalfBlocks
+pub mod Des
+pub mod Laws

@@ -1,0 +1,34 @@
+-- Slices: the bits of 128 blocks, numbered from 0. A slice is a vector of two words and has one bit of each block:
+-- that of block b is bit b % 64 + 1 of word b / 64.
+use Rattle.std.specs.Prelude.{◌≡◌, ℕ, ◌<◌, Bool, false, List, [], ◌∷◌, map, slice_index_or, slice_set}
+use Rattle.std.specs.List.{flat_map}
+use Rattle.des.specs.Bits.{bits_of, bits_of_word, xor}
+use Rattle.des.specs.Tables.{Box}
+use Rattle.des.specs.CipherFunction.{box_entry}
+
+-- the bits of a slice, block by block
+abbrev pub bits_of_slice : List ℕ → List Bool
+bits_of_slice slice = flat_map bits_of_word slice
+
+-- the bit of block b in a slice
+abbrev pub bit_of_block : ℕ → List ℕ → Bool
+bit_of_block b slice = slice_index_or (bits_of_slice slice) b false
+
+-- the bits of block b, slice by slice
+abbrev pub column : ℕ → List (List ℕ) → List Bool
+column b slices = map (bit_of_block b) slices
+
+-- what holds of each of the 128 blocks
+abbrev pub InEachBlock : (ℕ → Type 0) → Type 0
+InEachBlock P = (b : ℕ) → b < 128 → P b
+
+-- in each block, the group of six bits is replaced by the four bits of the box's entry for it (FIPS 46-3, S-boxes)
+abbrev pub ReplacesGroups : Box → List (List ℕ) → List (List ℕ) → Type 0
+ReplacesGroups box groups entries = InEachBlock (λ b. column b entries ≡ bits_of 4 (box_entry box (column b groups)))
+
+-- bits with others added modulo 2 to those at some indexes, from 0
+abbrev pub added_at : List Bool → List ℕ → List Bool → List Bool
+added_at bits [] changes = bits
+added_at bits (index ∷ indexes) [] = bits
+added_at bits (index ∷ indexes) (change ∷ changes) =
+    added_at (slice_set bits index (xor (slice_index_or bits index false) change)) indexes changes

@@ -1,0 +1,146 @@
+//! Half blocks as the rounds want them, and the rounds.
+//!
+//! A word of groups holds 48 bits in eight groups of six, each in the last six bits of a byte: the
+//! groups 1, 3, 5 and 7 in bytes 1 to 4, the groups 2, 4, 6 and 8 in bytes 5 to 8. So the expansion
+//! E of a half block is the half block rotated, once for each four bytes.
+
+ghost use Rattle.std.specs.Prelude.{◌≡◌, ◌<◌, ◌^◌, ◌++◌, take, drop};
+ghost use Rattle.des.specs.Bits.{bits_of, bits_of_word, xor_bits};
+ghost use Rattle.des.specs.CipherFunction.{cipher_function};
+ghost use Rattle.des_fast.specs.Groups.{IsOfGroups, IsExpansion, bits_of_groups, half_of};
+
+use crate::tables::substitute;
+use des::utils;
+
+/// A round key, 48 bits in a word of groups.
+#[derive(Clone, Copy)]
+pub(crate) struct RoundKey {
+    pub(crate) groups: u64,
+    ghost of_groups: { IsOfGroups groups },
+}
+
+/// A half block, kept as its expansion E in a word of groups.
+#[derive(Clone, Copy)]
+pub(crate) struct HalfBlock {
+    groups: u64,
+    ghost expansion: { IsExpansion groups },
+}
+
+impl HalfBlock {
+    // The half block in the last 32 bits of a word, with zeros before them.
+    fn word(self) -> u64
+        ensures within { result < 2 ^ 32 }
+        ensures half { bits_of 32 result ≡ half_of self.groups }
+    {
+        ((self.groups >> 29) & 0x00000000f0f0f0f0) | ((self.groups >> 1) & 0x000000000f0f0f0f)
+    }
+}
+
+/// The two halves of a block between two rounds.
+#[derive(Clone, Copy)]
+pub(crate) struct Halves {
+    left: HalfBlock,
+    right: HalfBlock,
+}
+
+impl Halves {
+    ghost use Rattle.std.specs.Prelude.{reverse};
+    ghost use Rattle.des.specs.Rounds.{after_rounds};
+    ghost use Rattle.des.specs.Blocks.{IsBlock};
+    ghost use Rattle.des_fast.specs.HalfBlocks.{round_keys_of, half_blocks_of, first_halves, last_block};
+
+    /// The halves that the rounds of a block begin with: those of its initial permutation (FIPS
+    /// 46-3, enciphering).
+    pub(crate) fn of_block(block: &[u8; 8]) -> Halves
+        ensures is_block { IsBlock block.now }
+        ensures halves { half_blocks_of result ≡ first_halves block.now }
+    {
+        Halves::new(utils::ip(u64::from_be_bytes(*block)))
+    }
+
+    /// The block that the halves after the rounds make: they are swapped, and the final permutation
+    /// follows (FIPS 46-3, enciphering).
+    pub(crate) fn into_block(self) -> [u8; 8]
+        ensures { result ≡ last_block (half_blocks_of self) }
+    {
+        utils::fp(self.swapped().word()).to_be_bytes()
+    }
+
+    // The two halves of a word.
+    fn new(word: u64) -> Halves
+        ensures left { half_of result.left.groups ≡ take 32 (bits_of_word word) }
+        ensures right { half_of result.right.groups ≡ drop 32 (bits_of_word word) }
+    {
+        let odd = ((word >> 3) & 0x1f3f3f3f1f3f3f3f) | ((word << 29) & 0x2000000020000000);
+        let even = ((word << 1) & 0x3f3f3f3e3f3f3f3e) | ((word >> 31) & 0x0000000100000001);
+        let left = HalfBlock {
+            groups: (odd & 0x3f3f3f3f00000000) | (even >> 32),
+        };
+        let right = HalfBlock {
+            groups: (odd << 32) | (even & 0x000000003f3f3f3f),
+        };
+        Halves { left, right }
+    }
+
+    // The word of the two halves.
+    fn word(self) -> u64
+        ensures { bits_of_word result ≡ half_of self.left.groups ++ half_of self.right.groups }
+    {
+        (self.left.word() << 32) | self.right.word()
+    }
+
+    /// The halves, each in the place of the other: the final permutation and the initial one after
+    /// it leave this of the halves between two passes of DES.
+    pub(crate) fn swapped(self) -> Halves
+        ensures { result ≡ record { left = self.right; right = self.left } }
+    {
+        Halves {
+            left: self.right,
+            right: self.left,
+        }
+    }
+
+    /// The halves after sixteen rounds, with the round keys in their order (FIPS 46-3, enciphering).
+    pub(crate) fn enciphered(self, round_keys: &[RoundKey; 16]) -> Halves
+        ensures { half_blocks_of result ≡ after_rounds (round_keys_of round_keys.now)
+            (half_of self.left.groups) (half_of self.right.groups) }
+    {
+        let Halves {
+            mut left,
+            mut right,
+        } = self;
+        for i in 0..8 {
+            left = next_half(left, right, round_keys[2 * i]);
+            right = next_half(right, left, round_keys[2 * i + 1]);
+        }
+        Halves { left, right }
+    }
+
+    /// The halves after sixteen rounds, with the round keys from the last to the first (FIPS 46-3,
+    /// deciphering).
+    pub(crate) fn deciphered(self, round_keys: &[RoundKey; 16]) -> Halves
+        ensures { half_blocks_of result ≡ after_rounds (reverse (round_keys_of round_keys.now))
+            (half_of self.left.groups) (half_of self.right.groups) }
+    {
+        let Halves {
+            mut left,
+            mut right,
+        } = self;
+        for i in 0..8 {
+            left = next_half(left, right, round_keys[15 - 2 * i]);
+            right = next_half(right, left, round_keys[14 - 2 * i]);
+        }
+        Halves { left, right }
+    }
+}
+
+// The half block that a round makes: the left half xor f of the right half and the round key.
+#[inline]
+fn next_half(left: HalfBlock, right: HalfBlock, round_key: RoundKey) -> HalfBlock
+    ensures { half_of result.groups ≡ xor_bits (half_of left.groups)
+        (cipher_function (half_of right.groups) (bits_of_groups round_key.groups)) }
+{
+    HalfBlock {
+        groups: left.groups ^ substitute(right.groups ^ round_key.groups),
+    }
+}

@@ -1,0 +1,72 @@
+//! Round keys as slices: each bit of a round key is the same for all blocks.
+
+ghost use Rattle.std.specs.Prelude.{◌≡◌, ◌≤◌, ◌&&◌, IsTrue, nat_lt, map, reverse};
+ghost use Rattle.std.specs.List.{list_all};
+ghost use Rattle.des.specs.Bits.{bit, bits_of_word, select};
+ghost use Rattle.des_fast.specs.HalfBlocks.{round_keys_of};
+ghost use Rattle.des_fast.specs.Slices.{bit_of_block, column, InEachBlock};
+
+use super::passes::KeySlices;
+use crate::halves::RoundKey;
+use std::simd::prelude::*;
+
+// The slice of the bit at a position of a word, the same for all blocks.
+#[inline]
+fn bit_slice(word: u64, position: u32) -> u64x2
+    requires from_one { 1 ≤ position }
+    requires to_last { position ≤ 64 }
+    ensures { InEachBlock (λ b. bit_of_block b result ≡ bit (bits_of_word word) position) }
+{
+    if (word >> (64 - position)) & 1 == 1 {
+        u64x2::splat(u64::MAX)
+    } else {
+        u64x2::splat(0)
+    }
+}
+
+// The slices of the bits at these positions of a word.
+fn selection_slices(word: u64, positions: &[u32; 48]) -> [u64x2; 48]
+    requires { IsTrue (list_all (λ position. nat_lt 0 position && nat_lt position 65) positions.now) }
+    ensures { InEachBlock (λ b. column b result ≡ select positions.now (bits_of_word word)) }
+{
+    let mut slices = [u64x2::splat(0); 48];
+    for i in 0..48usize {
+        slices[i] = bit_slice(word, positions[i]);
+    }
+    slices
+}
+
+// Where the 48 bits of a round key stand in its word of groups, a group a row.
+#[rattlefmt::skip]
+const GROUP_PLACES: [u32; 48] = [
+    3, 4, 5, 6, 7, 8,
+    35, 36, 37, 38, 39, 40,
+    11, 12, 13, 14, 15, 16,
+    43, 44, 45, 46, 47, 48,
+    19, 20, 21, 22, 23, 24,
+    51, 52, 53, 54, 55, 56,
+    27, 28, 29, 30, 31, 32,
+    59, 60, 61, 62, 63, 64,
+];
+
+/// The slices of sixteen round keys, in their order.
+pub(crate) fn enciphering(round_keys: &[RoundKey; 16]) -> KeySlices
+    ensures { InEachBlock (λ b. map (column b) result ≡ round_keys_of round_keys.now) }
+{
+    let mut slices = [[u64x2::splat(0); 48]; 16];
+    for i in 0..16usize {
+        slices[i] = selection_slices(round_keys[i].groups, &GROUP_PLACES);
+    }
+    slices
+}
+
+/// The slices of sixteen round keys, from the last to the first.
+pub(crate) fn deciphering(round_keys: &[RoundKey; 16]) -> KeySlices
+    ensures { InEachBlock (λ b. map (column b) result ≡ reverse (round_keys_of round_keys.now)) }
+{
+    let mut slices = [[u64x2::splat(0); 48]; 16];
+    for i in 0..16usize {
+        slices[i] = selection_slices(round_keys[15 - i].groups, &GROUP_PLACES);
+    }
+    slices
+}
