@@ -10,8 +10,9 @@ ghost use Rattle.des.specs.Cbc.{xor_blocks, Cbc, Unchains};
 
 use crate::cipher::{BlockCipherDecrypt, BlockCipherEncrypt};
 
-// The block becomes itself xor the other.
-fn xor(block: &mut [u8; 8], other: &[u8; 8])
+/// The block becomes its xor with the other, byte by byte. Public for bodies of the mode that take many
+/// blocks at a time.
+pub fn xor(block: &mut [u8; 8], other: &[u8; 8])
     ensures { block.new ≡ xor_blocks block.old other.now }
 {
     for (i, byte) in block.iter_mut().enumerate() {

@@ -23,8 +23,9 @@ pub use ede3::TdesEde3;
 pub use eee2::TdesEee2;
 pub use eee3::TdesEee3;
 
-// Part `number` of a key, from 1.
-fn key_part(key: &[u8], number: usize) -> [u8; 8]
+/// Part `number` of a key, from 1: 8 bytes, a key of `Des`. Public so that other bodies of the triple
+/// ciphers cut keys alike.
+pub fn key_part(key: &[u8], number: usize) -> [u8; 8]
     requires from { 1 ≤ number }
     requires to { 8 * number ≤ length key.now }
     ensures { result ≡ part number key.now }

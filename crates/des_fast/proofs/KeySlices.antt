@@ -1,7 +1,7 @@
 -- Round keys as slices.
-use Rattle.std.proofs.Common.{◌≡◌, ℕ, ◌-◌, ◌/◌, ◌^◌, ◌<◌, ◌≤◌, ◌==◌, Bool, true, false, not, List, [], ◌∷◌, length, map, get_or, bit_and, refl, ap, sym, ◌∙◌, arith}
+use Rattle.std.proofs.Common.{◌≡◌, ℕ, zero, suc, ◌-◌, ◌*◌, ◌/◌, ◌^◌, ◌<◌, ◌≤◌, ◌==◌, Bool, true, false, not, List, [], ◌∷◌, length, map, get_or, bit_and, refl, ap, sym, ◌∙◌, arith}
 use Rattle.std.proofs.lemmas.List.{length-map, get_or-map, ext_get_or}
-use Rattle.std.proofs.lemmas.Bool.{eq-eqb, ne_eqb, not-true}
+use Rattle.std.proofs.lemmas.Bool.{not-true}
 use Rattle.std.proofs.lemmas.Nat.Bits.{shr_and_one}
 use Rattle.des.specs.Bits.{bit, bits_of, bits_of_word, select}
 use Rattle.des.proofs.BitParts.{bit-bits_of}
@@ -10,29 +10,27 @@ use Rattle.des_fast.specs.Transposition.{row}
 use Rattle.des_fast.proofs.ExchangedRows.{at_range}
 
 -- a slice of ones has the bit of each block
-pub bit_of_block-ones : (b : ℕ) → b < 128 → bit_of_block b (18446744073709551615 ∷ 18446744073709551615 ∷ []) ≡ true
+bit_of_block-ones : (b : ℕ) → b < 128 → bit_of_block b (18446744073709551615 ∷ 18446744073709551615 ∷ []) ≡ true
 unfolding bits_of
 bit_of_block-ones b within = at_range (λ k. bit_of_block k (18446744073709551615 ∷ 18446744073709551615 ∷ [])) 128 b refl within
 
 -- a slice of zeros has none
-pub bit_of_block-zeros : (b : ℕ) → b < 128 → bit_of_block b (0 ∷ 0 ∷ []) ≡ false
+bit_of_block-zeros : (b : ℕ) → b < 128 → bit_of_block b (0 ∷ 0 ∷ []) ≡ false
 unfolding bits_of
 bit_of_block-zeros b within = not-true _ (at_range (λ k. not (bit_of_block k (0 ∷ 0 ∷ []))) 128 b refl within)
 
 -- a bit of a word, shifted to the end
-bit-shifted : (word position : ℕ) → 1 ≤ position → position ≤ 64
+pub bit-shifted : (word position : ℕ) → 1 ≤ position → position ≤ 64
     → bit (bits_of_word word) position ≡ (bit_and (word / 2 ^ (64 - position)) 1 == 1)
 bit-shifted word position from to =
     bit-bits_of 64 word position (from, to) ∙ ap (λ (k : ℕ). k == 1) (sym (shr_and_one word (64 - position)))
 
--- it is one, or not
-pub bit-one : (word position : ℕ) → 1 ≤ position → position ≤ 64 → bit_and (word / 2 ^ (64 - position)) 1 ≡ 1
-    → bit (bits_of_word word) position ≡ true
-bit-one word position from to one = bit-shifted word position from to ∙ eq-eqb _ _ one
-
-pub bit-zero : (word position : ℕ) → 1 ≤ position → position ≤ 64 → (bit_and (word / 2 ^ (64 - position)) 1 ≡ 1 → ⊥)
-    → bit (bits_of_word word) position ≡ false
-bit-zero word position from to none = bit-shifted word position from to ∙ ne_eqb _ _ none
+-- a bit times a word of ones is that word, or one of zeros
+pub bit_of_block-filled : (b value : ℕ) → b < 128 → value < 2
+    → (let word : ℕ = value * 18446744073709551615 in bit_of_block b (word ∷ word ∷ []) ≡ (value == 1))
+bit_of_block-filled b zero within below = bit_of_block-zeros b within
+bit_of_block-filled b (suc zero) within below = bit_of_block-ones b within
+bit_of_block-filled b (suc (suc value)) within below = absurd (omega arith)
 
 -- the slices of bits at positions, one by one, are those of the selection
 pub column-selection : (b word : ℕ) (positions : List ℕ) (slices : List (List ℕ)) → length slices ≡ length positions

@@ -8,8 +8,8 @@ pub mod Stages
 pub mod BlockRows
 pub mod PassesOnSlices
 pub mod KeySlices
-pub mod AnsweredGroups
-pub mod UnchainedGroups
+pub mod AnsweredBatches
+pub mod UnchainedBatches
 pub mod ThreePasses
 pub mod CipherFunctionByGroups
 pub mod ListSums

@@ -1,5 +1,6 @@
--- Slices: the bits of 128 blocks, numbered from 0. A slice is a vector of two words and has one bit of each block:
--- that of block b is bit b % 64 + 1 of word b / 64.
+-- Bit slices of 128 blocks. A slice is a vector of two words and has one bit of each block, which has its place there,
+-- from 0: place b is bit b % 64 + 1 of word b / 64. Block b is here the block whose place is b; which place each block
+-- of a list has, `place_of` of `Transposition` says.
 use Rattle.std.specs.Prelude.{◌≡◌, ℕ, ◌<◌, Bool, false, List, [], ◌∷◌, map, slice_index_or, slice_set}
 use Rattle.std.specs.List.{flat_map}
 use Rattle.des.specs.Bits.{bits_of, bits_of_word, xor}

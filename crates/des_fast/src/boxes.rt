@@ -1,7 +1,12 @@
 //! The boxes S1 to S8 on slices: circuits of gates that answer 128 groups at once.
 //!
 //! The six slices that a box takes are the bits of its groups, bit 1 first, and the four that it
-//! gives are the bits of its entries, bit 1 first.
+//! gives are the bits of its entries, bit 1 first. They are parameters one by one, not an array, since
+//! of a parameter a proof knows that it is two words of 64 bits.
+//!
+//! The circuits were found by a search, on which nothing rests: that they answer as the boxes is proved.
+//! `a & !b` counts as one gate. Who changes a gate changes it in the list of gates of the proof of the
+//! box too, which has them in the same order.
 
 ghost use Rattle.std.specs.Prelude.{[], ◌∷◌};
 ghost use Rattle.des.specs.Tables.{s1, s2, s3, s4, s5, s6, s7, s8};

@@ -1,11 +1,11 @@
 //! Lists of blocks, 128 at a time: quicker than one by one where a list is long.
 //!
-//! A list may have any number of blocks. Those of its whole groups of 128 go through the rounds
-//! together; those after the last whole group go one by one.
+//! A list may have any number of blocks. As many as make whole batches of 128 go through the rounds
+//! together; those after the last whole batch go one by one, and so does a list of fewer than 128.
 
-ghost use Rattle.std.specs.Prelude.{◌≡◌, List, Bool, length, map};
-ghost use Rattle.des_fast.specs.Passes.{HoldPasses, AnswersGroups, UnchainsGroups, answer_through};
+ghost use Rattle.std.specs.Prelude.{◌≡◌, ◌%◌, List, Bool, length, map};
 ghost use Rattle.des.specs.Cbc.{Unchains};
+ghost use Rattle.des_fast.specs.Passes.{HoldPasses, answer_through};
 
 mod chains;
 mod ciphers;
@@ -14,11 +14,11 @@ use crate::slices::{KeySlices, pass_through, slices_of, write_blocks};
 use des::cbc;
 use des::cipher::{BlockCipherDecrypt, BlockCipherEncrypt};
 
-/// The number of blocks in a group, which are treated together.
-pub(crate) const GROUP: usize = 128;
+// The number of blocks in a batch, which go through the rounds together.
+const BATCH: usize = 128;
 
-// Takes a group of blocks through passes.
-fn answer_group(blocks: &mut [[u8; 8]], passes: &[KeySlices])
+// Takes a batch of blocks through passes.
+fn answer_batch(blocks: &mut [[u8; 8]], passes: &[KeySlices])
     requires { length blocks.old ≡ 128 }
     ensures { (keys : List (List (List Bool))) → HoldPasses passes.now keys
         → blocks.new ≡ map (answer_through keys) blocks.old }
@@ -27,69 +27,81 @@ fn answer_group(blocks: &mut [[u8; 8]], passes: &[KeySlices])
     write_blocks(blocks, &pass_through(&slices, passes));
 }
 
-/// Takes the blocks of all whole groups through passes. Those after the last whole group stay.
-pub(crate) fn answer_groups(blocks: &mut [[u8; 8]], passes: &[KeySlices])
+// Takes the blocks of whole batches through passes.
+fn answer_batches(blocks: &mut [[u8; 8]], passes: &[KeySlices])
+    requires { length blocks.old % 128 ≡ 0 }
     ensures { (keys : List (List (List Bool))) → HoldPasses passes.now keys
-        → AnswersGroups (answer_through keys) blocks.old blocks.new }
+        → blocks.new ≡ map (answer_through keys) blocks.old }
 {
-    'groups: for g in 0..blocks.len() / GROUP {
-        answer_group(&mut blocks[GROUP * g..GROUP * g + GROUP], passes);
+    'batches: for k in 0..blocks.len() / BATCH {
+        answer_batch(&mut blocks[BATCH * k..BATCH * k + BATCH], passes);
     }
 }
 
-/// A block cipher that treats many blocks of a list together. No call changes the cipher or takes
-/// memory.
+/// A block cipher that treats many blocks of a list together. No call changes the cipher.
+///
+/// A type writes the three calls for whole batches; the three calls for lists of any length have
+/// their bodies here. The five ciphers of this crate take no memory, but keep the round keys of a list
+/// on the stack, spread over vectors: 12,288 bytes for each pass of DES.
 pub trait ManyBlocks: BlockCipherEncrypt + BlockCipherDecrypt {
-    /// Encrypts in place each block of 8 bytes of all whole groups of 128, in order. Those after the
-    /// last whole group stay.
-    fn encrypt_groups(&self, blocks: &mut [[u8; 8]])
-        ensures { AnswersGroups (Self.encrypted self.now) blocks.old blocks.new };
+    /// Encrypts each block of 8 bytes in place, in order. The blocks are whole batches of 128, or none.
+    fn encrypt_batches(&self, blocks: &mut [[u8; 8]])
+        requires { length blocks.old % 128 ≡ 0 }
+        ensures { blocks.new ≡ map (Self.encrypted self.now) blocks.old };
 
-    /// Decrypts in place each block of 8 bytes of all whole groups of 128, in order. Those after the
-    /// last whole group stay.
-    fn decrypt_groups(&self, blocks: &mut [[u8; 8]])
-        ensures { AnswersGroups (Self.decrypted self.now) blocks.old blocks.new };
+    /// Decrypts each block of 8 bytes in place, in order. The blocks are whole batches of 128, or none.
+    fn decrypt_batches(&self, blocks: &mut [[u8; 8]])
+        requires { length blocks.old % 128 ≡ 0 }
+        ensures { blocks.new ≡ map (Self.decrypted self.now) blocks.old };
 
-    /// Decrypts in place each block of 8 bytes of all whole groups of 128, chained from the
-    /// initialization vector. Those after the last whole group stay.
-    fn unchain_groups(&self, iv: &[u8; 8], blocks: &mut [[u8; 8]])
-        ensures { UnchainsGroups (Self.decrypted self.now) iv.now blocks.old blocks.new };
+    /// Decrypts in place blocks of 8 bytes that were chained from the initialization vector by CBC, as
+    /// `decrypt_cbc` does. The blocks are whole batches of 128, or none.
+    fn decrypt_cbc_batches(&self, iv: &[u8; 8], blocks: &mut [[u8; 8]])
+        requires { length blocks.old % 128 ≡ 0 }
+        ensures { Unchains (Self.decrypted self.now) iv.now blocks.old blocks.new };
 
-    /// Encrypts each block of 8 bytes in place, in order. A list of none stays one.
+    /// Encrypts each block of 8 bytes in place, in order, as `encrypt_blocks` does. An empty list stays
+    /// empty.
     final fn encrypt_many(&self, blocks: &mut [[u8; 8]])
         ensures { blocks.new ≡ map (Self.encrypted self.now) blocks.old }
     {
-        let whole = GROUP * (blocks.len() / GROUP);
-        if whole > 0 {
-            self.encrypt_groups(blocks);
+        // Round keys are not spread over vectors for a list that has no batch.
+        if blocks.len() < BATCH {
+            return self.encrypt_blocks(blocks);
         }
+        let whole = BATCH * (blocks.len() / BATCH);
+        self.encrypt_batches(&mut blocks[..whole]);
         self.encrypt_blocks(&mut blocks[whole..]);
     }
 
-    /// Decrypts each block of 8 bytes in place, in order. A list of none stays one.
+    /// Decrypts each block of 8 bytes in place, in order, as `decrypt_blocks` does. An empty list stays
+    /// empty.
     final fn decrypt_many(&self, blocks: &mut [[u8; 8]])
         ensures { blocks.new ≡ map (Self.decrypted self.now) blocks.old }
     {
-        let whole = GROUP * (blocks.len() / GROUP);
-        if whole > 0 {
-            self.decrypt_groups(blocks);
+        if blocks.len() < BATCH {
+            return self.decrypt_blocks(blocks);
         }
+        let whole = BATCH * (blocks.len() / BATCH);
+        self.decrypt_batches(&mut blocks[..whole]);
         self.decrypt_blocks(&mut blocks[whole..]);
     }
 
-    /// Decrypts a list of blocks in place that was chained from the initialization vector by CBC
-    /// (FIPS 81, cipher block chaining mode): ciphertext goes in, and the plaintext comes out, as many
-    /// blocks. A list of none stays one. Padding and authentication are the caller's.
-    final fn decrypt_chained(&self, iv: &[u8; 8], blocks: &mut [[u8; 8]])
+    /// Decrypts a list of blocks of 8 bytes in place that was chained from the initialization vector by
+    /// CBC (FIPS 81, cipher block chaining mode), as `des::cbc::decrypt` does: ciphertext goes in, and
+    /// the plaintext comes out, as many blocks. With q the ciphertext and p the plaintext, numbered from
+    /// 1, q(0) the initialization vector and D the cipher's decryption, p(n) = D(q(n)) ^ q(n-1). An empty
+    /// list stays empty. Padding and authentication are the caller's.
+    final fn decrypt_cbc(&self, iv: &[u8; 8], blocks: &mut [[u8; 8]])
         ensures { Unchains (Self.decrypted self.now) iv.now blocks.old blocks.new }
     {
-        let whole = GROUP * (blocks.len() / GROUP);
-        let mut before = *iv;
-        if whole > 0 {
-            before = blocks[whole - 1];
-            self.unchain_groups(iv, blocks);
+        if blocks.len() < BATCH {
+            return cbc::decrypt(self, iv, blocks);
         }
-        cbc::decrypt(self, &before, &mut blocks[whole..]);
+        let whole = BATCH * (blocks.len() / BATCH);
+        let last = blocks[whole - 1];
+        self.decrypt_cbc_batches(iv, &mut blocks[..whole]);
+        cbc::decrypt(self, &last, &mut blocks[whole..]);
     }
 }
 

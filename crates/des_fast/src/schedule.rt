@@ -13,7 +13,8 @@ use des::utils;
 
 // For each four of the 56 bits of the halves C and D, and each value of them, the first bit the
 // highest: the word of groups of what permuted choice 2 makes of them, with zeros in the places of
-// the others (FIPS 46-3, key schedule).
+// the others (FIPS 46-3, key schedule). Each entry is what `specs/Choices.antt` computes, which the
+// clause `choices` of `choose` says of all.
 #[rattlefmt::skip]
 static CHOICES: [[u64; 16]; 14] = [
     // bits 1 to 4 of C

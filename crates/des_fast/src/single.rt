@@ -1,4 +1,5 @@
-//! The block cipher `Des` (FIPS 46-3).
+//! The block cipher `Des` (FIPS 46-3). A module may not have the name of a library that its crate
+//! stands on, so this one is not named `des`.
 
 ghost use Rattle.std.specs.Prelude.{◌≡◌, ℕ, List, codes, Some};
 ghost use Rattle.std.specs.Fmt.{DisplaysOnOk, DisplaysStyledOnOk};

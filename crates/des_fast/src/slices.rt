@@ -1,4 +1,5 @@
-//! Slices: 128 blocks at a time, a vector for each of their 64 bits.
+//! Bit slices: 128 blocks at a time, a vector of 128 bits for each of their 64 bits. Each block has one
+//! place in all vectors; which one says `place_of` of `specs/Transposition.antt`.
 
 ghost use Rattle.std.specs.Prelude.{◌≡◌, length};
 ghost use Rattle.des_fast.specs.Transposition.{AreSlicesOf, AreBlocksOf};

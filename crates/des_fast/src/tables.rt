@@ -10,7 +10,9 @@ ghost use Rattle.des_fast.specs.CombinedTables.{combined_tables};
 
 /// For each box S1 to S8 and each group of six bits, as they stand (the first of them the highest):
 /// the word of groups of E of P of the four bits of the box's entry in their place, with zeros in
-/// the places of the other boxes (FIPS 46-3, S-boxes, and the tables P and E).
+/// the places of the other boxes (FIPS 46-3, S-boxes, and the tables P and E). Each entry is what
+/// `combined_table` of `specs/CombinedTables.antt` computes, which the clause `tables` of `substitute`
+/// says of all.
 #[rattlefmt::skip]
 pub static TABLES: [[u64; 64]; 8] = [
     // S1
@@ -177,7 +179,7 @@ pub fn substitute(word: u64) -> u64
     ensures substituted { half_of result ≡ select permutation (substitute (bits_of_groups word)) }
 {
     let group = groups_of(word);
-    // From the last box to the first: the last byte of a word is at hand soonest.
+    // The order is free; the proof adds them from the last box to the first.
     TABLES[7][group[7]]
         ^ TABLES[6][group[6]]
         ^ TABLES[5][group[5]]

@@ -4,9 +4,9 @@
 //! A key of 24 bytes has three parts, a key of 16 bytes two, with the first again as the third. The
 //! parts are bytes 1 to 8, 9 to 16 and 17 to 24. Every key is taken, weak ones included.
 
-ghost use Rattle.std.specs.Prelude.{◌≡◌, ◌≤◌, ◌*◌, ℕ, List, length};
+ghost use Rattle.std.specs.Prelude.{◌≡◌};
 ghost use Rattle.des.specs.Triple.{through};
-ghost use Rattle.des.specs.Blocks.{IsBlock, part};
+ghost use Rattle.des.specs.Blocks.{IsBlock};
 ghost use Rattle.des_fast.specs.Des.{encrypted, decrypted};
 
 use crate::halves::Halves;
@@ -21,17 +21,6 @@ pub use ede2::TdesEde2;
 pub use ede3::TdesEde3;
 pub use eee2::TdesEee2;
 pub use eee3::TdesEee3;
-
-// Part `number` of a key, from 1.
-fn key_part(key: &[u8], number: usize) -> [u8; 8]
-    requires from { 1 ≤ number }
-    requires to { 8 * number ≤ length key.now }
-    ensures { result ≡ part number key.now }
-{
-    let mut part = [0; 8];
-    part.copy_from_slice(&key[8 * (number - 1)..8 * number]);
-    part
-}
 
 // Encryption by the EDE form: encryption, decryption, encryption.
 fn encrypt_ede(first: &Des, second: &Des, third: &Des, block: &mut [u8; 8])

@@ -1,6 +1,7 @@
 use des::cipher::KeyedCipher;
 use std::alloc::Global;
 use std::fmt;
+use std::simd::prelude::*;
 use std::test::Fail;
 
 // Whether the ciphers of one key answer alike in each direction, to a chain of blocks, each of them
@@ -42,4 +43,23 @@ pub(crate) fn is_debugged_as<D: fmt::Debug>(
             && format!(in alloc; "{value:.3?}")?.as_str() == text
             && format!(in alloc; "{value:>30?}")?.as_str() == text,
     )
+}
+
+// The slice of these bits at the places 0, 77 and 127, with zeros at the others.
+pub(crate) fn slice_of_three(bits: [u64; 3]) -> u64x2 {
+    let [first, middle, last] = bits.map(|bit| bit & 1);
+    u64x2::from_array([first << 63, (middle << 50) | last])
+}
+
+// What slices have at these places: a number at each, the first slice its highest bit.
+pub(crate) fn three_of_slices(slices: &[u64x2]) -> [u64; 3] {
+    let mut numbers = [0; 3];
+    for slice in slices {
+        let [first, second] = slice.to_array();
+        let bits = [first >> 63, (second >> 50) & 1, second & 1];
+        for (number, bit) in numbers.iter_mut().zip(bits) {
+            *number = (*number << 1) | bit;
+        }
+    }
+    numbers
 }

@@ -1,4 +1,5 @@
-//! What stands above the ciphers of `des`: callers that rest on its contracts and laws alone.
+//! What stands above the ciphers of `des` and `des_fast`: callers that rest on their contracts and laws
+//! alone.
 //! Nothing here is part of the product.
 #![tactic(auto)]
 
@@ -7,6 +8,7 @@ pub mod check_value;
 pub mod complements;
 #[cfg(test)]
 mod hostile;
+pub mod long_records;
 pub mod odd_ciphers;
 pub mod records;
 pub mod there_and_back;

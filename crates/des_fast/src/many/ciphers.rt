@@ -1,16 +1,30 @@
 //! The ciphers of the crate, many blocks at a time.
 
-ghost use Rattle.std.specs.Prelude.{[], ◌∷◌, reverse};
+ghost use Rattle.std.specs.Prelude.{◌≡◌, ◌%◌, [], ◌∷◌, length, map, reverse};
+ghost use Rattle.des.specs.Cbc.{Unchains};
 ghost use Rattle.des.specs.Triple.{through};
 ghost use Rattle.des_fast.specs.Des.{encrypted, decrypted};
 ghost use Rattle.des_fast.specs.HalfBlocks.{round_keys_of};
-ghost use Rattle.des_fast.specs.Passes.{HoldPasses, AnswersGroups, UnchainsGroups};
+ghost use Rattle.des_fast.specs.Passes.{HoldPasses};
 
-use super::{ManyBlocks, answer_groups, chains};
+use super::{ManyBlocks, answer_batches, chains};
 use crate::slices::{KeySlices, deciphering, enciphering};
 use crate::{Des, TdesEde2, TdesEde3, TdesEee2, TdesEee3};
 
-// The passes that undo encryption by the EDE form: the last one first.
+// The passes of encryption by the EDE form.
+fn ede(first: &Des, second: &Des, third: &Des) -> [KeySlices; 3]
+    ensures { HoldPasses result (round_keys_of first.now.round_keys
+        ∷ reverse (round_keys_of second.now.round_keys)
+        ∷ round_keys_of third.now.round_keys ∷ []) }
+{
+    [
+        enciphering(&first.round_keys),
+        deciphering(&second.round_keys),
+        enciphering(&third.round_keys),
+    ]
+}
+
+// The passes that undo them, the last one first.
 fn ede_undone(first: &Des, second: &Des, third: &Des) -> [KeySlices; 3]
     ensures { HoldPasses result (reverse (round_keys_of third.now.round_keys)
         ∷ round_keys_of second.now.round_keys
@@ -23,7 +37,20 @@ fn ede_undone(first: &Des, second: &Des, third: &Des) -> [KeySlices; 3]
     ]
 }
 
-// The passes that undo encryption by the EEE form: the last one first.
+// The passes of encryption by the EEE form.
+fn eee(first: &Des, second: &Des, third: &Des) -> [KeySlices; 3]
+    ensures { HoldPasses result (round_keys_of first.now.round_keys
+        ∷ round_keys_of second.now.round_keys
+        ∷ round_keys_of third.now.round_keys ∷ []) }
+{
+    [
+        enciphering(&first.round_keys),
+        enciphering(&second.round_keys),
+        enciphering(&third.round_keys),
+    ]
+}
+
+// The passes that undo them, the last one first.
 fn eee_undone(first: &Des, second: &Des, third: &Des) -> [KeySlices; 3]
     ensures { HoldPasses result (reverse (round_keys_of third.now.round_keys)
         ∷ reverse (round_keys_of second.now.round_keys)
@@ -36,126 +63,126 @@ fn eee_undone(first: &Des, second: &Des, third: &Des) -> [KeySlices; 3]
     ]
 }
 
-// Encryption of whole groups by the EDE form: encryption, decryption, encryption.
-fn encrypt_ede(first: &Des, second: &Des, third: &Des, blocks: &mut [[u8; 8]])
-    ensures { AnswersGroups (through (encrypted first.now) (decrypted second.now) (encrypted third.now))
-        blocks.old blocks.new }
+// Encryption of whole batches by the EDE form.
+fn encrypt_ede_batches(first: &Des, second: &Des, third: &Des, blocks: &mut [[u8; 8]])
+    requires { length blocks.old % 128 ≡ 0 }
+    ensures { blocks.new ≡ map (through (encrypted first.now) (decrypted second.now) (encrypted third.now))
+        blocks.old }
 {
-    let first = enciphering(&first.round_keys);
-    let second = deciphering(&second.round_keys);
-    let third = enciphering(&third.round_keys);
-    answer_groups(blocks, &[first, second, third]);
+    answer_batches(blocks, &ede(first, second, third));
 }
 
-// Decryption of whole groups by the EDE form.
-fn decrypt_ede(first: &Des, second: &Des, third: &Des, blocks: &mut [[u8; 8]])
-    ensures { AnswersGroups (through (decrypted third.now) (encrypted second.now) (decrypted first.now))
-        blocks.old blocks.new }
+// Decryption of whole batches by the EDE form.
+fn decrypt_ede_batches(first: &Des, second: &Des, third: &Des, blocks: &mut [[u8; 8]])
+    requires { length blocks.old % 128 ≡ 0 }
+    ensures { blocks.new ≡ map (through (decrypted third.now) (encrypted second.now) (decrypted first.now))
+        blocks.old }
 {
-    answer_groups(blocks, &ede_undone(first, second, third));
+    answer_batches(blocks, &ede_undone(first, second, third));
 }
 
-// Decryption of whole groups by the EDE form, chained from the initialization vector.
-fn unchain_ede(first: &Des, second: &Des, third: &Des, iv: &[u8; 8], blocks: &mut [[u8; 8]])
-    ensures { UnchainsGroups (through (decrypted third.now) (encrypted second.now) (decrypted first.now))
+// Decryption of whole batches by the EDE form, chained from the initialization vector.
+fn unchain_ede_batches(first: &Des, second: &Des, third: &Des, iv: &[u8; 8], blocks: &mut [[u8; 8]])
+    requires { length blocks.old % 128 ≡ 0 }
+    ensures { Unchains (through (decrypted third.now) (encrypted second.now) (decrypted first.now))
         iv.now blocks.old blocks.new }
 {
-    chains::unchain_groups(blocks, iv, &ede_undone(first, second, third));
+    chains::unchain_batches(blocks, iv, &ede_undone(first, second, third));
 }
 
-// Encryption of whole groups by the EEE form: encryption, encryption, encryption.
-fn encrypt_eee(first: &Des, second: &Des, third: &Des, blocks: &mut [[u8; 8]])
-    ensures { AnswersGroups (through (encrypted first.now) (encrypted second.now) (encrypted third.now))
-        blocks.old blocks.new }
+// Encryption of whole batches by the EEE form.
+fn encrypt_eee_batches(first: &Des, second: &Des, third: &Des, blocks: &mut [[u8; 8]])
+    requires { length blocks.old % 128 ≡ 0 }
+    ensures { blocks.new ≡ map (through (encrypted first.now) (encrypted second.now) (encrypted third.now))
+        blocks.old }
 {
-    let first = enciphering(&first.round_keys);
-    let second = enciphering(&second.round_keys);
-    let third = enciphering(&third.round_keys);
-    answer_groups(blocks, &[first, second, third]);
+    answer_batches(blocks, &eee(first, second, third));
 }
 
-// Decryption of whole groups by the EEE form.
-fn decrypt_eee(first: &Des, second: &Des, third: &Des, blocks: &mut [[u8; 8]])
-    ensures { AnswersGroups (through (decrypted third.now) (decrypted second.now) (decrypted first.now))
-        blocks.old blocks.new }
+// Decryption of whole batches by the EEE form.
+fn decrypt_eee_batches(first: &Des, second: &Des, third: &Des, blocks: &mut [[u8; 8]])
+    requires { length blocks.old % 128 ≡ 0 }
+    ensures { blocks.new ≡ map (through (decrypted third.now) (decrypted second.now) (decrypted first.now))
+        blocks.old }
 {
-    answer_groups(blocks, &eee_undone(first, second, third));
+    answer_batches(blocks, &eee_undone(first, second, third));
 }
 
-// Decryption of whole groups by the EEE form, chained from the initialization vector.
-fn unchain_eee(first: &Des, second: &Des, third: &Des, iv: &[u8; 8], blocks: &mut [[u8; 8]])
-    ensures { UnchainsGroups (through (decrypted third.now) (decrypted second.now) (decrypted first.now))
+// Decryption of whole batches by the EEE form, chained from the initialization vector.
+fn unchain_eee_batches(first: &Des, second: &Des, third: &Des, iv: &[u8; 8], blocks: &mut [[u8; 8]])
+    requires { length blocks.old % 128 ≡ 0 }
+    ensures { Unchains (through (decrypted third.now) (decrypted second.now) (decrypted first.now))
         iv.now blocks.old blocks.new }
 {
-    chains::unchain_groups(blocks, iv, &eee_undone(first, second, third));
+    chains::unchain_batches(blocks, iv, &eee_undone(first, second, third));
 }
 
 impl ManyBlocks for Des {
-    fn encrypt_groups(&self, blocks: &mut [[u8; 8]]) {
-        answer_groups(blocks, &[enciphering(&self.round_keys)]);
+    fn encrypt_batches(&self, blocks: &mut [[u8; 8]]) {
+        answer_batches(blocks, &[enciphering(&self.round_keys)]);
     }
 
-    fn decrypt_groups(&self, blocks: &mut [[u8; 8]]) {
-        answer_groups(blocks, &[deciphering(&self.round_keys)]);
+    fn decrypt_batches(&self, blocks: &mut [[u8; 8]]) {
+        answer_batches(blocks, &[deciphering(&self.round_keys)]);
     }
 
-    fn unchain_groups(&self, iv: &[u8; 8], blocks: &mut [[u8; 8]]) {
-        chains::unchain_groups(blocks, iv, &[deciphering(&self.round_keys)]);
+    fn decrypt_cbc_batches(&self, iv: &[u8; 8], blocks: &mut [[u8; 8]]) {
+        chains::unchain_batches(blocks, iv, &[deciphering(&self.round_keys)]);
     }
 }
 
 impl ManyBlocks for TdesEde3 {
-    fn encrypt_groups(&self, blocks: &mut [[u8; 8]]) {
-        encrypt_ede(&self.first, &self.second, &self.third, blocks);
+    fn encrypt_batches(&self, blocks: &mut [[u8; 8]]) {
+        encrypt_ede_batches(&self.first, &self.second, &self.third, blocks);
     }
 
-    fn decrypt_groups(&self, blocks: &mut [[u8; 8]]) {
-        decrypt_ede(&self.first, &self.second, &self.third, blocks);
+    fn decrypt_batches(&self, blocks: &mut [[u8; 8]]) {
+        decrypt_ede_batches(&self.first, &self.second, &self.third, blocks);
     }
 
-    fn unchain_groups(&self, iv: &[u8; 8], blocks: &mut [[u8; 8]]) {
-        unchain_ede(&self.first, &self.second, &self.third, iv, blocks);
+    fn decrypt_cbc_batches(&self, iv: &[u8; 8], blocks: &mut [[u8; 8]]) {
+        unchain_ede_batches(&self.first, &self.second, &self.third, iv, blocks);
     }
 }
 
 impl ManyBlocks for TdesEee3 {
-    fn encrypt_groups(&self, blocks: &mut [[u8; 8]]) {
-        encrypt_eee(&self.first, &self.second, &self.third, blocks);
+    fn encrypt_batches(&self, blocks: &mut [[u8; 8]]) {
+        encrypt_eee_batches(&self.first, &self.second, &self.third, blocks);
     }
 
-    fn decrypt_groups(&self, blocks: &mut [[u8; 8]]) {
-        decrypt_eee(&self.first, &self.second, &self.third, blocks);
+    fn decrypt_batches(&self, blocks: &mut [[u8; 8]]) {
+        decrypt_eee_batches(&self.first, &self.second, &self.third, blocks);
     }
 
-    fn unchain_groups(&self, iv: &[u8; 8], blocks: &mut [[u8; 8]]) {
-        unchain_eee(&self.first, &self.second, &self.third, iv, blocks);
+    fn decrypt_cbc_batches(&self, iv: &[u8; 8], blocks: &mut [[u8; 8]]) {
+        unchain_eee_batches(&self.first, &self.second, &self.third, iv, blocks);
     }
 }
 
 impl ManyBlocks for TdesEde2 {
-    fn encrypt_groups(&self, blocks: &mut [[u8; 8]]) {
-        encrypt_ede(&self.first, &self.second, &self.first, blocks);
+    fn encrypt_batches(&self, blocks: &mut [[u8; 8]]) {
+        encrypt_ede_batches(&self.first, &self.second, &self.first, blocks);
     }
 
-    fn decrypt_groups(&self, blocks: &mut [[u8; 8]]) {
-        decrypt_ede(&self.first, &self.second, &self.first, blocks);
+    fn decrypt_batches(&self, blocks: &mut [[u8; 8]]) {
+        decrypt_ede_batches(&self.first, &self.second, &self.first, blocks);
     }
 
-    fn unchain_groups(&self, iv: &[u8; 8], blocks: &mut [[u8; 8]]) {
-        unchain_ede(&self.first, &self.second, &self.first, iv, blocks);
+    fn decrypt_cbc_batches(&self, iv: &[u8; 8], blocks: &mut [[u8; 8]]) {
+        unchain_ede_batches(&self.first, &self.second, &self.first, iv, blocks);
     }
 }
 
 impl ManyBlocks for TdesEee2 {
-    fn encrypt_groups(&self, blocks: &mut [[u8; 8]]) {
-        encrypt_eee(&self.first, &self.second, &self.first, blocks);
+    fn encrypt_batches(&self, blocks: &mut [[u8; 8]]) {
+        encrypt_eee_batches(&self.first, &self.second, &self.first, blocks);
     }
 
-    fn decrypt_groups(&self, blocks: &mut [[u8; 8]]) {
-        decrypt_eee(&self.first, &self.second, &self.first, blocks);
+    fn decrypt_batches(&self, blocks: &mut [[u8; 8]]) {
+        decrypt_eee_batches(&self.first, &self.second, &self.first, blocks);
     }
 
-    fn unchain_groups(&self, iv: &[u8; 8], blocks: &mut [[u8; 8]]) {
-        unchain_eee(&self.first, &self.second, &self.first, iv, blocks);
+    fn decrypt_cbc_batches(&self, iv: &[u8; 8], blocks: &mut [[u8; 8]]) {
+        unchain_eee_batches(&self.first, &self.second, &self.first, iv, blocks);
     }
 }

@@ -14,12 +14,9 @@ const PARTS: [[u8; 8]; 3] = [
 
 const IV: [u8; 8] = *b"\x12\x34\x56\x78\x90\xab\xcd\xef";
 
-// The number of blocks: a whole group, and two blocks after it.
-const COUNT: usize = 130;
-
 // Block n, from 0, is n times 0x0123456789abcdef modulo 2^64.
-fn some_blocks() -> [[u8; 8]; COUNT] {
-    let mut blocks = [[0; 8]; COUNT];
+fn multiples<const N: usize>() -> [[u8; 8]; N] {
+    let mut blocks = [[0; 8]; N];
     let mut next: u64 = 0;
     for block in &mut blocks {
         *block = next.to_be_bytes();
@@ -28,215 +25,140 @@ fn some_blocks() -> [[u8; 8]; COUNT] {
     blocks
 }
 
+// The answers to blocks 0, 64, 127 and 129 of 130: encrypted, decrypted, and decrypted as a chain.
+type Answers = [[u64; 4]; 3];
+
 // Blocks 0, 64, 127 and 129.
-fn at_places(blocks: &[[u8; 8]; COUNT]) -> [u64; 4] {
-    let [first, middle, last, after] = [blocks[0], blocks[64], blocks[127], blocks[129]];
-    [
-        u64::from_be_bytes(first),
-        u64::from_be_bytes(middle),
-        u64::from_be_bytes(last),
-        u64::from_be_bytes(after),
-    ]
+fn at_places(blocks: &[[u8; 8]; 130]) -> [u64; 4] {
+    [blocks[0], blocks[64], blocks[127], blocks[129]].map(u64::from_be_bytes)
 }
 
-// Whether a cipher of the first bytes of the parts answers the list so by each of its three calls.
-fn answers<C: ManyBlocks + KeyInit + Drop>(
-    key_size: usize,
-    encrypted: [u64; 4],
-    decrypted: [u64; 4],
-    unchained: [u64; 4],
-) -> Result<bool, InvalidLength>
+// What a cipher of the first bytes of the parts answers to a whole batch and two blocks after it.
+fn answers_of<C: ManyBlocks + KeyInit + Drop>(key_size: usize) -> Result<Answers, InvalidLength>
     requires { key_size ≤ 24 }
 {
     let cipher = C::new_from_slice(&PARTS.as_flattened()[..key_size])?;
-    let (mut first, mut second, mut third) = (some_blocks(), some_blocks(), some_blocks());
+    let (mut first, mut second, mut third) = (multiples(), multiples(), multiples());
     cipher.encrypt_many(&mut first);
     cipher.decrypt_many(&mut second);
-    cipher.decrypt_chained(&IV, &mut third);
-    Ok(
-        at_places(&first) == encrypted
-            && at_places(&second) == decrypted
-            && at_places(&third) == unchained,
-    )
+    cipher.decrypt_cbc(&IV, &mut third);
+    Ok([at_places(&first), at_places(&second), at_places(&third)])
+}
+
+// What it answers to the batch by the calls for whole batches, and the two blocks as they are.
+fn answers_of_batch<C: ManyBlocks + KeyInit + Drop>(
+    key_size: usize,
+) -> Result<Answers, InvalidLength>
+    requires { key_size ≤ 24 }
+{
+    let cipher = C::new_from_slice(&PARTS.as_flattened()[..key_size])?;
+    let (mut first, mut second, mut third) = (multiples(), multiples(), multiples());
+    cipher.encrypt_batches(&mut first[..BATCH]);
+    cipher.decrypt_batches(&mut second[..BATCH]);
+    cipher.decrypt_cbc_batches(&IV, &mut third[..BATCH]);
+    Ok([at_places(&first), at_places(&second), at_places(&third)])
 }
 
 // The answers are those of OpenSSL 3: `openssl enc -des-ecb -nopad -K 133457799bbcdff1`, with `-d` for
 // decryption and `-des-cbc -iv 1234567890abcdef` for chained decryption, and `-des-ede3-ecb`,
 // `-des-ede-ecb` and their `-cbc` with the parts one after another. Those of the EEE forms are three
 // runs of des-ecb, and for chained decryption the xor with the block before.
+#[rattlefmt::skip]
+const DES: Answers = [
+    [0x948a43f98a834f7e, 0x282005ed0125af6a, 0x80afa7fbeaf039a6, 0x2bee05279ea43813],
+    [0x9efdfc5c2b5cd585, 0xda5a9d94e31a3b66, 0xeb24011f0cfa5b3b, 0x914a0d6f0b57e2e4],
+    [0x8cc9aa24bbf7186a, 0x9df489ee025d96b7, 0x647829eace750099, 0x00e8beabdeb11564],
+];
+
+#[rattlefmt::skip]
+const EDE3: Answers = [
+    [0x42d5272fa16196df, 0x25b04b6e8ccc729e, 0xe668eef2788de2b9, 0x40b0c2766f112f7d],
+    [0xe4786d4099028667, 0xfd08d54fa2c8f142, 0x9b1515a403325405, 0xc4f5601c086fede7],
+    [0xf64c3b3809a94b88, 0xbaa6c135438f5c93, 0x14493d51c1bd0fa7, 0x5557d3d8dd891a67],
+];
+
+#[rattlefmt::skip]
+const EEE3: Answers = [
+    [0xc1ac664eef5bf5d7, 0x540a46eb589c5a60, 0xf525c2d8d718726d, 0x05c0f33d46e56b7c],
+    [0xa4f8fbb1984eef53, 0xb7a5aa4a6ee2c111, 0x83ee7f923c8d8889, 0x084a4e1a4bd305dc],
+    [0xb6ccadc908e522bc, 0xf00bbe308fa56cc0, 0x0cb25767fe02d32b, 0x99e8fdde9e35f25c],
+];
+
+#[rattlefmt::skip]
+const EDE2: Answers = [
+    [0x5227a2c4f2103fb5, 0x594a21eb66e5c572, 0x6d531b3f96a6aff2, 0xbf4c75cda3fd66ae],
+    [0x612312cb0a1ff4bf, 0x4bf9f168c437ff46, 0xcce00ed72209da0e, 0x2f36fa276b9885c0],
+    [0x731744b39ab43950, 0x0c57e51225705297, 0x43bc2622e08681ac, 0xbe9449e3be7e7240],
+];
+
+#[rattlefmt::skip]
+const EEE2: Answers = [
+    [0x968f718a197d21d4, 0x8b5d7f9a8ef505ed, 0xa2134fa39fc4cad1, 0x397ac37ee4dcd82b],
+    [0x1dbbba364dbbd97b, 0x9dd3c79ec0a02839, 0x01562c529aa9a6a2, 0x98e98e75e83df142],
+    [0x0f8fec4edd101494, 0xda7dd3e421e785e8, 0x8e0a04a75826fd00, 0x094b3db13ddb06c2],
+];
+
 #[test]
 fn lists_are_answered_as_by_openssl(rt: HostRuntime) -> Result<(), Fail> {
-    assert!(rt;
-        answers::<Des>(
-            8,
-            [
-                0x948a43f98a834f7e,
-                0x282005ed0125af6a,
-                0x80afa7fbeaf039a6,
-                0x2bee05279ea43813
-            ],
-            [
-                0x9efdfc5c2b5cd585,
-                0xda5a9d94e31a3b66,
-                0xeb24011f0cfa5b3b,
-                0x914a0d6f0b57e2e4
-            ],
-            [
-                0x8cc9aa24bbf7186a,
-                0x9df489ee025d96b7,
-                0x647829eace750099,
-                0x00e8beabdeb11564
-            ],
-        )?
-    );
-    assert!(rt;
-        answers::<TdesEde3>(
-            24,
-            [
-                0x42d5272fa16196df,
-                0x25b04b6e8ccc729e,
-                0xe668eef2788de2b9,
-                0x40b0c2766f112f7d
-            ],
-            [
-                0xe4786d4099028667,
-                0xfd08d54fa2c8f142,
-                0x9b1515a403325405,
-                0xc4f5601c086fede7
-            ],
-            [
-                0xf64c3b3809a94b88,
-                0xbaa6c135438f5c93,
-                0x14493d51c1bd0fa7,
-                0x5557d3d8dd891a67
-            ],
-        )?
-    );
-    assert!(rt;
-        answers::<TdesEee3>(
-            24,
-            [
-                0xc1ac664eef5bf5d7,
-                0x540a46eb589c5a60,
-                0xf525c2d8d718726d,
-                0x05c0f33d46e56b7c
-            ],
-            [
-                0xa4f8fbb1984eef53,
-                0xb7a5aa4a6ee2c111,
-                0x83ee7f923c8d8889,
-                0x084a4e1a4bd305dc
-            ],
-            [
-                0xb6ccadc908e522bc,
-                0xf00bbe308fa56cc0,
-                0x0cb25767fe02d32b,
-                0x99e8fdde9e35f25c
-            ],
-        )?
-    );
-    assert!(rt;
-        answers::<TdesEde2>(
-            16,
-            [
-                0x5227a2c4f2103fb5,
-                0x594a21eb66e5c572,
-                0x6d531b3f96a6aff2,
-                0xbf4c75cda3fd66ae
-            ],
-            [
-                0x612312cb0a1ff4bf,
-                0x4bf9f168c437ff46,
-                0xcce00ed72209da0e,
-                0x2f36fa276b9885c0
-            ],
-            [
-                0x731744b39ab43950,
-                0x0c57e51225705297,
-                0x43bc2622e08681ac,
-                0xbe9449e3be7e7240
-            ],
-        )?
-    );
-    assert!(rt;
-        answers::<TdesEee2>(
-            16,
-            [
-                0x968f718a197d21d4,
-                0x8b5d7f9a8ef505ed,
-                0xa2134fa39fc4cad1,
-                0x397ac37ee4dcd82b
-            ],
-            [
-                0x1dbbba364dbbd97b,
-                0x9dd3c79ec0a02839,
-                0x01562c529aa9a6a2,
-                0x98e98e75e83df142
-            ],
-            [
-                0x0f8fec4edd101494,
-                0xda7dd3e421e785e8,
-                0x8e0a04a75826fd00,
-                0x094b3db13ddb06c2
-            ],
-        )?
-    );
+    assert_eq!(rt; answers_of::<Des>(8)?, DES);
+    assert_eq!(rt; answers_of::<TdesEde3>(24)?, EDE3);
+    assert_eq!(rt; answers_of::<TdesEee3>(24)?, EEE3);
+    assert_eq!(rt; answers_of::<TdesEde2>(16)?, EDE2);
+    assert_eq!(rt; answers_of::<TdesEee2>(16)?, EEE2);
     Ok(())
 }
 
-// The answers to the blocks after the first group, which stand alone here, are those of the same runs.
-#[test]
-fn a_list_with_no_whole_group_is_answered(rt: HostRuntime) {
-    let cipher = Des::new(&PARTS[0]);
-    let mut blocks = [[0; 8], some_blocks()[129]];
-    cipher.encrypt_many(&mut blocks);
-    assert_eq!(rt; u64::from_be_bytes(blocks[0]), 0x948a43f98a834f7e);
-    assert_eq!(rt; u64::from_be_bytes(blocks[1]), 0x2bee05279ea43813);
-    cipher.decrypt_many(&mut blocks[..0]);
-    cipher.decrypt_chained(&IV, &mut blocks[..1]);
-    assert_eq!(rt; u64::from_be_bytes(blocks[0]), 0x1234567890abcdef);
+// Block 129 is 129 times 0x0123456789abcdef, and stays.
+fn but_for_the_last(answers: Answers) -> Answers {
+    answers.map(|[first, middle, last, _]| [first, middle, last, 0x92c5f92c5f92c56f])
 }
 
-// Lists of these lengths, whole groups and not.
+#[test]
+fn batches_are_answered_as_by_openssl(rt: HostRuntime) -> Result<(), Fail> {
+    assert_eq!(rt; answers_of_batch::<Des>(8)?, but_for_the_last(DES));
+    assert_eq!(rt; answers_of_batch::<TdesEde3>(24)?, but_for_the_last(EDE3));
+    assert_eq!(rt; answers_of_batch::<TdesEee3>(24)?, but_for_the_last(EEE3));
+    assert_eq!(rt; answers_of_batch::<TdesEde2>(16)?, but_for_the_last(EDE2));
+    assert_eq!(rt; answers_of_batch::<TdesEee2>(16)?, but_for_the_last(EEE2));
+    Ok(())
+}
+
+// Lists of these lengths, whole batches and not.
 const COUNTS: [usize; 6] = [0, 1, 127, 128, 129, 1000];
 
-// Whether each call answers lists of all these lengths as a cipher of the crate `des` does.
-fn answers_beside<C: ManyBlocks + KeyInit + Drop, P: BlockCipher + KeyInit + Drop>(
+// The first of these lengths whose list a call answers otherwise than a cipher of the crate `des` does.
+fn first_wrong_count<C: ManyBlocks + KeyInit + Drop, P: BlockCipher + KeyInit + Drop>(
     key_size: usize,
-) -> Result<bool, InvalidLength>
+) -> Result<Option<usize>, InvalidLength>
     requires { key_size ≤ 24 }
 {
     let key = &PARTS.as_flattened()[..key_size];
     let cipher = C::new_from_slice(key)?;
     let port = P::new_from_slice(key)?;
-    let mut blocks = [[0; 8]; 1000];
-    let mut next: u64 = 0;
-    for block in &mut blocks {
-        *block = next.to_be_bytes();
-        next = next.wrapping_add(0x0123456789abcdef);
-    }
-    let mut all_alike = true;
+    let blocks: [[u8; 8]; 1000] = multiples();
     for count in COUNTS {
         let (mut ours, mut others) = (blocks, blocks);
         cipher.encrypt_many(&mut ours[..count]);
         port.encrypt_blocks(&mut others[..count]);
-        all_alike &= ours == others;
-        cipher.decrypt_chained(&IV, &mut ours[..count]);
+        let mut all_alike = ours == others;
+        cipher.decrypt_cbc(&IV, &mut ours[..count]);
         cbc::decrypt(&port, &IV, &mut others[..count]);
         all_alike &= ours == others;
         cipher.decrypt_many(&mut ours[..count]);
         port.decrypt_blocks(&mut others[..count]);
-        all_alike &= ours == others;
+        if !(all_alike && ours == others) {
+            return Ok(Some(count));
+        }
     }
-    Ok(all_alike)
+    Ok(None)
 }
 
 #[test]
 fn lists_of_each_length_are_answered_as_by_des(rt: HostRuntime) -> Result<(), Fail> {
-    assert!(rt; answers_beside::<Des, des::Des>(8)?);
-    assert!(rt; answers_beside::<TdesEde3, des::TdesEde3>(24)?);
-    assert!(rt; answers_beside::<TdesEee3, des::TdesEee3>(24)?);
-    assert!(rt; answers_beside::<TdesEde2, des::TdesEde2>(16)?);
-    assert!(rt; answers_beside::<TdesEee2, des::TdesEee2>(16)?);
+    assert_eq!(rt; first_wrong_count::<Des, des::Des>(8)?, None);
+    assert_eq!(rt; first_wrong_count::<TdesEde3, des::TdesEde3>(24)?, None);
+    assert_eq!(rt; first_wrong_count::<TdesEee3, des::TdesEee3>(24)?, None);
+    assert_eq!(rt; first_wrong_count::<TdesEde2, des::TdesEde2>(16)?, None);
+    assert_eq!(rt; first_wrong_count::<TdesEee2, des::TdesEee2>(16)?, None);
     Ok(())
 }

@@ -81,6 +81,7 @@ fn answers_as_des_does(rt: HostRuntime) -> Result<(), Fail> {
     Ok(())
 }
 
+// NBS Special Publication 500-20, initial permutation and expansion test: this block under this key.
 #[test]
 fn takes_keys_of_eight_bytes(rt: HostRuntime) -> Result<(), Fail> {
     let bytes = [0x01u8; 9];
@@ -126,6 +127,7 @@ fn goes_there_and_back_by_the_traits(rt: HostRuntime) -> Result<(), Fail> {
     assert_eq!(rt; blocks, ciphertext());
     assert_eq!(rt; answers, PLAINTEXT);
 
+    // The worked example of J. Orlin Grabbe, "The DES Algorithm Illustrated".
     let cipher = Des::new(&0x133457799bbcdff1u64.to_be_bytes());
     let block = 0x0123456789abcdefu64.to_be_bytes();
     let (answer, back) = block_there_and_back(&cipher, &block);

@@ -1,4 +1,5 @@
-//! Round keys as slices: each bit of a round key is the same for all blocks.
+//! Round keys as slices: each bit of a round key is the same for all blocks, so a vector of it is all
+//! ones or all zeros.
 
 ghost use Rattle.std.specs.Prelude.{◌≡◌, ◌≤◌, ◌&&◌, IsTrue, nat_lt, map, reverse};
 ghost use Rattle.std.specs.List.{list_all};
@@ -17,11 +18,7 @@ fn bit_slice(word: u64, position: u32) -> u64x2
     requires to_last { position ≤ 64 }
     ensures { InEachBlock (λ b. bit_of_block b result ≡ bit (bits_of_word word) position) }
 {
-    if (word >> (64 - position)) & 1 == 1 {
-        u64x2::splat(u64::MAX)
-    } else {
-        u64x2::splat(0)
-    }
+    u64x2::splat(((word >> (64 - position)) & 1) * u64::MAX)
 }
 
 // The slices of the bits at these positions of a word.
@@ -36,9 +33,9 @@ fn selection_slices(word: u64, positions: &[u32; 48]) -> [u64x2; 48]
     slices
 }
 
-// Where the 48 bits of a round key stand in its word of groups, a group a row.
+// The positions of the 48 bits of a round key in its word of groups, from 1, a group a row.
 #[rattlefmt::skip]
-const GROUP_PLACES: [u32; 48] = [
+const GROUP_POSITIONS: [u32; 48] = [
     3, 4, 5, 6, 7, 8,
     35, 36, 37, 38, 39, 40,
     11, 12, 13, 14, 15, 16,
@@ -55,7 +52,7 @@ pub(crate) fn enciphering(round_keys: &[RoundKey; 16]) -> KeySlices
 {
     let mut slices = [[u64x2::splat(0); 48]; 16];
     for i in 0..16usize {
-        slices[i] = selection_slices(round_keys[i].groups, &GROUP_PLACES);
+        slices[i] = selection_slices(round_keys[i].groups, &GROUP_POSITIONS);
     }
     slices
 }
@@ -66,7 +63,7 @@ pub(crate) fn deciphering(round_keys: &[RoundKey; 16]) -> KeySlices
 {
     let mut slices = [[u64x2::splat(0); 48]; 16];
     for i in 0..16usize {
-        slices[i] = selection_slices(round_keys[15 - i].groups, &GROUP_PLACES);
+        slices[i] = selection_slices(round_keys[15 - i].groups, &GROUP_POSITIONS);
     }
     slices
 }

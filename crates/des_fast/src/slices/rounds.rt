@@ -10,7 +10,8 @@ ghost use Rattle.des_fast.specs.Slices.{InEachBlock, bit_of_block, column, added
 use crate::boxes::{s1, s2, s3, s4, s5, s6, s7, s8};
 use std::simd::prelude::*;
 
-/// The sum modulo 2 of the bits of two slices.
+/// The sum modulo 2 of the bits of two slices. It is a function of two parameters, since of an element of
+/// an array of vectors a proof knows nothing but that it is one.
 #[inline(always)]
 fn sum(first: u64x2, second: u64x2) -> u64x2
     ensures { InEachBlock (λ b. bit_of_block b result

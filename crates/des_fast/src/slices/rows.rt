@@ -8,7 +8,8 @@ ghost use Rattle.des_fast.specs.Transposition.{IsRowOf, AreRowsOf, with_row, Are
 use super::transposition::Rows;
 use std::simd::prelude::*;
 
-// The word of the bits of a block.
+// The word of the bits of a block. This and the next are functions for the proof's sake: of an element
+// of a list of blocks it knows nothing but that it is one.
 #[inline(always)]
 fn word_of(block: &[u8; 8]) -> u64
     ensures { bits_of_word result ≡ bits_of_bytes block.now }

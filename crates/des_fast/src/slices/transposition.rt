@@ -22,7 +22,8 @@ fn exchange_rows(upper: u64x2, lower: u64x2, distance: u64, mask: u64) -> [u64x2
     [upper ^ change, lower ^ (change << distance)]
 }
 
-// The same of rows 0 and 4, 1 and 5, 2 and 6, 3 and 7, which come out side by side.
+// The same of rows 0 and 4, 1 and 5, 2 and 6, 3 and 7, which come out side by side. Three such
+// exchanges, one after another, leave each row in its place.
 #[inline(always)]
 fn exchange_pairs(rows: [u64x2; 8], distance: u64, mask: u64) -> [u64x2; 8]
     requires within { distance < 64 }

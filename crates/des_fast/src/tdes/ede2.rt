@@ -11,12 +11,13 @@ ghost use Rattle.des.specs.Des.{encryption as des_encryption, decryption as des_
 ghost use Rattle.des_fast.specs.Laws.TriplePasses.{IsPass-ede, Agree-ede, Agree-ede_back};
 ghost use Rattle.des.specs.Laws.ComplementedKeys.{Complements-ede, Complements-ede_back};
 
-use super::{decrypt_ede, encrypt_ede, key_part};
+use super::{decrypt_ede, encrypt_ede};
 use crate::single::Des;
 use des::cipher::{
     AlgorithmName, BlockCipher, BlockCipherDecrypt, BlockCipherEncrypt, BlockSizeUser,
     Complementing, KeyInit, KeySizeUser, KeyedCipher, ParBlocksSizeUser,
 };
+use des::tdes::key_part;
 use std::alloc::AllocError;
 use std::fmt;
 

@@ -11,12 +11,13 @@ ghost use Rattle.des.specs.Des.{encryption as des_encryption, decryption as des_
 ghost use Rattle.des_fast.specs.Laws.TriplePasses.{IsPass-eee, Agree-eee, Agree-eee_back};
 ghost use Rattle.des.specs.Laws.ComplementedKeys.{Complements-eee, Complements-eee_back};
 
-use super::{decrypt_eee, encrypt_eee, key_part};
+use super::{decrypt_eee, encrypt_eee};
 use crate::single::Des;
 use des::cipher::{
     AlgorithmName, BlockCipher, BlockCipherDecrypt, BlockCipherEncrypt, BlockSizeUser,
     Complementing, KeyInit, KeySizeUser, KeyedCipher, ParBlocksSizeUser,
 };
+use des::tdes::key_part;
 use std::alloc::AllocError;
 use std::fmt;
 

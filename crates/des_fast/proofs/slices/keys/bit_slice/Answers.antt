@@ -1,19 +1,11 @@
--- By the bit.
-use Rattle.std.proofs.Common.{ap, sym, ◌∙◌}
-use Rattle.des_fast.specs.Slices.{bit_of_block}
-use Rattle.des_fast.proofs.KeySlices.{bit_of_block-ones, bit_of_block-zeros, bit-one, bit-zero}
+-- A word of ones or of zeros, by the bit.
+use Rattle.std.proofs.Common.{ℕ, ◌-◌, ◌/◌, ◌^◌, bit_and, sym, ◌∙◌, arith}
+use Rattle.std.proofs.lemmas.Nat.{and_le_r}
+use Rattle.des_fast.proofs.KeySlices.{bit_of_block-filled, bit-shifted}
 use Rattle.des_fast.proofs.slices.keys.bit_slice.Goals as goal
-use Rattle.des_fast.proofs.slices.keys.bit_slice.Goals.{then-word-position-eq1, else-word-position-eq1}
 
 pub returns : goal.returns
 returns c b within =
-    let from = c.requires.from_one in
-    let to = c.requires.to_last in
-    elim c.if-word-position-eq1.branch [
-      | then-word-position-eq1 w ↦
-          ap (bit_of_block b) w.result-is ∙ bit_of_block-ones b within
-          ∙ sym (bit-one c.args.word c.args.position from to w.if-word-position-eq1.true)
-      | else-word-position-eq1 w ↦
-          ap (bit_of_block b) w.result-is ∙ bit_of_block-zeros b within
-          ∙ sym (bit-zero c.args.word c.args.position from to w.if-word-position-eq1.false)
-    ]
+    let shifted : ℕ = c.args.word / 2 ^ (64 - c.args.position) in
+    bit_of_block-filled b (bit_and shifted 1) within (omega (arith, and_le_r shifted 1))
+    ∙ sym (bit-shifted c.args.word c.args.position c.requires.from_one c.requires.to_last)

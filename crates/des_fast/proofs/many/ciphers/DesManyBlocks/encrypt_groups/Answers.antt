@@ -1,8 +1,0 @@
-use Rattle.std.proofs.Common.{[], ◌∷◌, ap}
-use Rattle.des_fast.specs.HalfBlocks.{round_keys_of}
-use Rattle.des_fast.proofs.many.ciphers.DesManyBlocks.encrypt_groups.Goals as goal
-
-pub returns : goal.returns
-returns c =
-    c.answer_groups.ensures (round_keys_of c.args.self.now.round_keys ∷ [])
-    (λ b within. ap (λ keys. keys ∷ []) (c.enciphering.ensures b within))
