@@ -1,7 +1,7 @@
 -- Blocks as rows, two a row, and the columns of transposed rows.
 use Rattle.std.proofs.Common.{◌≡◌, ℕ, zero, suc, ◌+◌, ◌*◌, ◌/◌, ◌%◌, ◌<◌, Bool, false, List, [], ◌∷◌, length, map, get_or, ap, ap₂, sym, subst, ◌∙◌, arith, add-zero, zero-add}
 use Rattle.std.specs.List.{range_with_len}
-use Rattle.std.proofs.lemmas.List.{length-map, get_or-map, length-set}
+use Rattle.std.proofs.lemmas.List.{length-set}
 use Rattle.std.proofs.Math.ListN.{set}
 use Rattle.std.proofs.lemmas.List.FromFn.{fill_by_all, length-map-range_with_len, get_or-map-range_with_len}
 use Rattle.des.specs.Bits.{bits_of_word, bits_of_bytes}
@@ -9,8 +9,10 @@ use Rattle.des.specs.Blocks.{block_of_bits}
 use Rattle.des.specs.Laws.BitLists.{length-bits_of}
 use Rattle.des_fast.specs.Slices.{bit_of_block, column}
 use Rattle.des_fast.specs.Transposition.{row, in_order, word_at, with_row, IsRowOf, AreRowsOf, AreBlocksOfRows, AreTransposed, AreSlicesOf, AreBlocksOf}
-use Rattle.des_fast.proofs.Exchanges.{bit_of_block-at, bit_in}
-use Rattle.des_fast.proofs.Stages.{row-in_order, length-in_order, written_below}
+use Rattle.des_fast.proofs.WordPlaces.{bit_of_block-at, bit_in}
+use Rattle.des_fast.proofs.Stages.{row-in_order, length-in_order}
+use Rattle.des_fast.proofs.WrittenElements.{written_below}
+use Rattle.des_fast.proofs.Columns.{column-by_rows}
 
 -- ---- the rows of blocks
 
@@ -70,21 +72,12 @@ bits_of_word-by_blocks slice lane =
     ∙ ap (λ (l : ℕ). bit_in (get_or slice l 0) ((64 * lane + p) % 64)) same
     ∙ ap (bit_in word) place))
 
--- the bits of a column of 64 slices
-column-by_slices : (groups : List (List (List ℕ))) (c : ℕ)
-    → column c (in_order groups) ≡ map (λ (n : ℕ). bit_of_block c (row (in_order groups) n)) (range_with_len 0 64)
-column-by_slices groups c =
-    let slices : List (List ℕ) = in_order groups in
-    let size : length slices ≡ 64 = length-in_order groups in
-    fill_by_all (λ (n : ℕ). bit_of_block c (row slices n)) (column c slices) 64 false (length-map slices (bit_of_block c) ∙ size)
-    (λ n below. get_or-map (bit_of_block c) slices n [] false (omega arith))
-
 -- a column of transposed rows has the bits of a word of the rows
-pub column-of_transposed : (rows slices : List (List (List ℕ))) (n lane : ℕ) → n < 64 → lane < 2 → AreTransposed rows slices
+column-of_transposed : (rows slices : List (List (List ℕ))) (n lane : ℕ) → n < 64 → lane < 2 → AreTransposed rows slices
     → column (64 * lane + n) (in_order slices) ≡ bits_of_word (get_or (row (in_order rows) n) lane 0)
 column-of_transposed rows slices n lane below side transposed =
     let c : ℕ = 64 * lane + n in
-    column-by_slices slices c
+    column-by_rows c 64 (in_order slices) (length-in_order slices)
     ∙ map-same (λ m. bit_of_block c (row (in_order slices) m)) (λ m. bit_of_block (64 * lane + m) (row (in_order rows) n)) 64
     (λ m inside.
     let place : c % 64 ≡ n = omega arith in
@@ -93,7 +86,7 @@ column-of_transposed rows slices n lane below side transposed =
     ∙ sym (bits_of_word-by_blocks (row (in_order rows) n) lane)
 
 -- a word of transposed slices has the bits of a column of the slices
-pub bits_of_word-of_transposed : (slices rows : List (List (List ℕ))) (n lane : ℕ) → n < 64 → lane < 2 → AreTransposed slices rows
+bits_of_word-of_transposed : (slices rows : List (List (List ℕ))) (n lane : ℕ) → n < 64 → lane < 2 → AreTransposed slices rows
     → bits_of_word (get_or (row (in_order rows) n) lane 0) ≡ column (64 * lane + n) (in_order slices)
 bits_of_word-of_transposed slices rows n lane below side transposed =
     let c : ℕ = 64 * lane + n in
@@ -103,7 +96,7 @@ bits_of_word-of_transposed slices rows n lane below side transposed =
     let place : (64 * lane + m) % 64 ≡ m = omega arith in
     let same : 64 * ((64 * lane + m) / 64) + n ≡ c = omega arith in
     transposed n below (64 * lane + m) (omega arith) ∙ ap₂ (λ (i d : ℕ). bit_of_block d (row (in_order slices) i)) place same)
-    ∙ sym (column-by_slices slices c)
+    ∙ sym (column-by_rows c 64 (in_order slices) (length-in_order slices))
 
 -- ---- blocks
 

@@ -12,8 +12,8 @@ use Rattle.des.specs.Laws.Selections.{length-select}
 use Rattle.des.proofs.BitParts.{bits_of-and_mask, take-bits_of, drop-bits_of}
 use Rattle.des.proofs.LinearWords.{select-xor_bits}
 use Rattle.des_fast.specs.declared.schedule.TheConstants.{CHOICES}
-use Rattle.des_fast.specs.Groups.{word_of_groups, bits_of_groups, IsOfGroups}
-use Rattle.des_fast.specs.Choices.{in_place_of_four, choice, choice_tables}
+use Rattle.des_fast.specs.Groups.{word_of_groups, bits_of_groups, IsOfGroups, in_place}
+use Rattle.des_fast.specs.Choices.{choice, choice_tables}
 use Rattle.des_fast.proofs.ListSums.{xor_bits-after}
 use Rattle.des_fast.proofs.GroupWords.{IsOfGroups-Holds, bits_of_groups-Holds, Holds-word_of_groups, word_of_groups-lt, IsOfGroups-xor, bits_of_groups-xor}
 
@@ -61,7 +61,7 @@ IsChoiceOf-none halves = record { of_groups = refl; chosen = refl }
 -- the next entry joins the next four bits
 next_four : (i halves : ℕ) → i < 14
     → let bits = bits_of 56 halves in
-    xor_bits (take (4 * i) bits ++ zeros (56 - 4 * i)) (in_place_of_four (i + 1) (bits_of 4 (four_of i halves)))
+    xor_bits (take (4 * i) bits ++ zeros (56 - 4 * i)) (in_place 14 (i + 1) (bits_of 4 (four_of i halves)))
     ≡ take (4 * (i + 1)) bits ++ zeros (56 - 4 * (i + 1))
 next_four i halves below =
     let bits : List Bool = bits_of 56 halves in
@@ -87,7 +87,7 @@ IsChoiceOf-next i halves groups below so_far =
     let four : ℕ = four_of i halves in
     let bits : List Bool = bits_of 56 halves in
     let before : List Bool = take (4 * i) bits ++ zeros (56 - 4 * i) in
-    let placed : List Bool = in_place_of_four (i + 1) (bits_of 4 four) in
+    let placed : List Bool = in_place 14 (i + 1) (bits_of 4 four) in
     let here : List Bool = select permuted_choice_2 placed in
     let width : length here ≡ 48 = length-select permuted_choice_2 placed in
     let is : entry i four ≡ word_of_groups here = entry-choice i four below (mask_lt (halves / 2 ^ (52 - 4 * i)) 4) in

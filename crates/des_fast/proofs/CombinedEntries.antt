@@ -10,8 +10,8 @@ use Rattle.des.specs.Laws.BitLists.{length-bits_of}
 use Rattle.des.specs.Laws.Selections.{length-select}
 use Rattle.des.proofs.LinearWords.{select-xor_bits}
 use Rattle.des_fast.specs.declared.tables.TheConstants.{TABLES}
-use Rattle.des_fast.specs.Groups.{word_of_groups}
-use Rattle.des_fast.specs.CombinedTables.{in_place_of_box, combined_entry, combined_table, combined_tables_from, combined_tables}
+use Rattle.des_fast.specs.Groups.{word_of_groups, in_place}
+use Rattle.des_fast.specs.CombinedTables.{combined_entry, combined_table, combined_tables_from, combined_tables}
 use Rattle.des_fast.proofs.ListSums.{xor_bits-in_place}
 use Rattle.des_fast.proofs.GroupWords.{IsExpansionOf, IsExpansionOf-Holds, Holds-word_of_groups, word_of_groups-lt, IsExpansion-xor, half_of-xor}
 
@@ -48,9 +48,9 @@ box_bits i group = bits_of 4 (box_entry (slice_index_or selection_functions i []
 
 -- the entry is the expansion of P of those four bits in their place
 entry-expansion : (i group : ℕ) → i < 8 → group < 64
-    → IsExpansionOf (entry i group) (select permutation (in_place_of_box (1 + i) (box_bits i (bits_of 6 group))))
+    → IsExpansionOf (entry i group) (select permutation (in_place 8 (1 + i) (box_bits i (bits_of 6 group))))
 entry-expansion i group box_below below =
-    let bits : List Bool = select permutation (in_place_of_box (1 + i) (box_bits i (bits_of 6 group))) in
+    let bits : List Bool = select permutation (in_place 8 (1 + i) (box_bits i (bits_of 6 group))) in
     rw (entry-combined i group box_below below)
     (IsExpansionOf-Holds (word_of_groups (select expansion bits)) bits (word_of_groups-lt (select expansion bits))
     (length-select permutation _) (Holds-word_of_groups (select expansion bits)))
@@ -86,17 +86,17 @@ length-rest_from i bits =
     length-substitute_by (drop i selection_functions) (drop (6 * i) bits) ∙ ap (λ n. 4 * n) (length-drop i selection_functions)
 
 -- the word is the expansion of P of what the boxes from box i on give, with zeros before it
-abbrev pub IsSumFrom : ℕ → List Bool → ℕ → Type 0
+abbrev IsSumFrom : ℕ → List Bool → ℕ → Type 0
 IsSumFrom i bits word = IsExpansionOf word (select permutation (zeros (4 * i) ++ rest_from i bits))
 
 -- zero is that of no box
-pub IsSumFrom-none : (bits : List Bool) → IsSumFrom 8 bits 0
+IsSumFrom-none : (bits : List Bool) → IsSumFrom 8 bits 0
 unfolding bits_of select substitute_by
 IsSumFrom-none bits = record { is_expansion = record { of_groups = refl; expanded = refl }; has_half = refl }
 
 -- the entry of the box before joins its four bits to those of the boxes after it
 in_place-rest_from : (i : ℕ) (bits : List Bool) → i < 8
-    → xor_bits (zeros (4 * (i + 1)) ++ rest_from (i + 1) bits) (in_place_of_box (1 + i) (box_bits i (group_of i bits)))
+    → xor_bits (zeros (4 * (i + 1)) ++ rest_from (i + 1) bits) (in_place 8 (1 + i) (box_bits i (group_of i bits)))
     ≡ zeros (4 * i) ++ rest_from i bits
 in_place-rest_from i bits below =
     let before : 4 * (i + 1) ≡ 4 * i + 4 = omega arith in
@@ -107,12 +107,12 @@ in_place-rest_from i bits below =
     (length-rest_from (i + 1) bits ∙ omega arith))
 
 -- so the xor of the entries of the boxes from box i on
-pub IsSumFrom-box : (i group word : ℕ) (bits : List Bool) → i < 8 → group < 64 → bits_of 6 group ≡ group_of i bits
+IsSumFrom-box : (i group word : ℕ) (bits : List Bool) → i < 8 → group < 64 → bits_of 6 group ≡ group_of i bits
     → IsSumFrom (i + 1) bits word → IsSumFrom i bits (bit_xor word (entry i group))
 IsSumFrom-box i group word bits box_below below same rest =
     let here = entry-expansion i group box_below below in
     let others : List Bool = zeros (4 * (i + 1)) ++ rest_from (i + 1) bits in
-    let placed : List Bool = in_place_of_box (1 + i) (box_bits i (bits_of 6 group)) in
+    let placed : List Bool = in_place 8 (1 + i) (box_bits i (bits_of 6 group)) in
     let widths : length others ≡ length placed =
     simp (length-append, length-replicate, length-bits_of, length-rest_from) (omega arith) in
     record {
@@ -121,7 +121,7 @@ IsSumFrom-box i group word bits box_below below same rest =
           half_of-xor word (entry i group)
           ∙ ap₂ xor_bits rest.has_half here.has_half
           ∙ sym (select-xor_bits permutation others placed widths)
-          ∙ ap (λ g. select permutation (xor_bits others (in_place_of_box (1 + i) (box_bits i g)))) same
+          ∙ ap (λ g. select permutation (xor_bits others (in_place 8 (1 + i) (box_bits i g)))) same
           ∙ ap (select permutation) (in_place-rest_from i bits box_below);
     }
 

@@ -1,4 +1,4 @@
--- Eight rows that exchange bits in pairs, and what three such exchanges come to.
+-- Eight rows that exchange bits in pairs.
 use Rattle.std.proofs.Common.{◌≡◌, ℕ, zero, suc, ◌+◌, ◌-◌, ◌*◌, ◌/◌, ◌%◌, ◌<◌, List, [], ◌∷◌, ap, ◌∙◌, arith}
 use Rattle.des_fast.specs.Slices.{bit_of_block}
 use Rattle.des_fast.specs.Transposition.{second, row, ArePairwiseExchanged}

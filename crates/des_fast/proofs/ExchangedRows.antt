@@ -1,23 +1,12 @@
--- Two rows whose words exchange bits, and what three exchanges of eight rows come to.
-use Rattle.std.proofs.Common.{◌≡◌, ℕ, zero, suc, ◌+◌, ◌-◌, ◌*◌, ◌/◌, ◌%◌, ◌^◌, ◌<◌, ◌≤◌, ◌==◌, Bool, true, false, not, ◌&&◌, if◌then◌else◌, nat_lt, List, [], ◌∷◌, length, get_or, bit_and, bit_xor, refl, ap, ap₂, sym, subst, ◌∙◌, arith, ◌≢◌, zero-add, inl, inr}
+-- Two rows whose words exchange bits.
+use Rattle.std.proofs.Common.{◌≡◌, ℕ, zero, suc, ◌+◌, ◌-◌, ◌*◌, ◌/◌, ◌%◌, ◌^◌, ◌<◌, ◌≤◌, ◌==◌, Bool, true, false, not, ◌&&◌, if◌then◌else◌, nat_lt, List, [], ◌∷◌, length, get_or, bit_and, bit_xor, refl, ap, ap₂, sym, subst, ◌∙◌, arith, ◌≢◌, inl, inr}
 use Rattle.std.specs.Simd.Lanes.{zip2}
-use Rattle.std.specs.List.{range_with_len, list_all}
-use Rattle.std.proofs.lemmas.List.Elements.{All-get_or}
-use Rattle.std.proofs.lemmas.List.Sums.{AllPass-from_list_all}
-use Rattle.std.proofs.lemmas.List.FromFn.{length-range_with_len, get_or-range_with_len}
 use Rattle.std.proofs.lemmas.Bool.{cases_Bool, cases_lt, and_parts, eqb-true, eqb-false, ltb-false, not-true, cond-true, cond-false}
 use Rattle.des_fast.specs.Slices.{bit_of_block}
 use Rattle.des_fast.specs.Transposition.{second, pairs_places, row, ArePairwiseExchanged}
-use Rattle.des_fast.proofs.Exchanges.{bit_in, upper, lower, upper-first, upper-second, lower-first, lower-second, bit_in-past, bit_of_block-at}
-
--- a test that holds at each number below n
-pub at_range : (p : ℕ → Bool) (n b : ℕ) → list_all p (range_with_len 0 n) ≡ true → b < n → p b ≡ true
-at_range p n b each below =
-    let at : p (get_or (range_with_len 0 n) b 0) ≡ true =
-    All-get_or (λ x. p x ≡ true) (range_with_len 0 n) b 0 (omega (arith, length-range_with_len 0 n)) (AllPass-from_list_all p _ each) in
-    ap p (sym (get_or-range_with_len 0 n b 0 below ∙ zero-add b)) ∙ at
-
--- ---- two rows
+use Rattle.des_fast.proofs.RangeTests.{at_range}
+use Rattle.des_fast.proofs.WordPlaces.{bit_in, bit_in-past, bit_of_block-at}
+use Rattle.des_fast.proofs.Exchanges.{upper, lower, upper-first, upper-second, lower-first, lower-second}
 
 -- the first row with the change
 abbrev pub upper_row : ℕ → ℕ → List ℕ → List ℕ → List ℕ
@@ -32,7 +21,7 @@ lower_row d m xs ys =
     (d ∷ d ∷ []))
 
 -- in both words of two rows
-pub words-exchanged : (d m : ℕ) (xs ys : List ℕ) (lane : ℕ) → length xs ≡ 2 → length ys ≡ 2 → lane < 2
+words-exchanged : (d m : ℕ) (xs ys : List ℕ) (lane : ℕ) → length xs ≡ 2 → length ys ≡ 2 → lane < 2
     → (get_or (upper_row d m xs ys) lane 0 ≡ upper d m (get_or xs lane 0) (get_or ys lane 0))
     × (get_or (lower_row d m xs ys) lane 0 ≡ lower d m (get_or xs lane 0) (get_or ys lane 0))
 words-exchanged d m (x ∷ x' ∷ []) (y ∷ y' ∷ []) zero p q within = (refl, refl)

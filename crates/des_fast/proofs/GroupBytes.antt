@@ -4,7 +4,7 @@ use Rattle.std.specs.Int.{w64, to_be_bytes}
 use Rattle.std.proofs.lemmas.Nat.{and_le_r, and_shr, and_mod}
 use Rattle.des.specs.Bits.{bits_of, bits_of_bytes, select}
 use Rattle.des.specs.Laws.BitLists.{bits_of_bytes-to_be}
-use Rattle.des_fast.specs.Groups.{group_places, bits_of_groups, IsOfGroups}
+use Rattle.des_fast.specs.Groups.{group_positions, bits_of_groups, IsOfGroups}
 
 -- a number under six bits is below 64
 masked-lt : (n : ℕ) → bit_and n 63 < 64
@@ -37,7 +37,7 @@ ordered-lt word of_groups (suc (suc (suc (suc (suc (suc (suc (suc i)))))))) d be
 -- the lowest six bits of each are six of all their bits
 bits_of-byte : (word i : ℕ) → i < 8
     → let bytes = to_be_bytes w64 word in
-    bits_of 6 (slice_index (ordered bytes) i) ≡ take 6 (drop (6 * i) (select group_places (bits_of_bytes bytes)))
+    bits_of 6 (slice_index (ordered bytes) i) ≡ take 6 (drop (6 * i) (select group_positions (bits_of_bytes bytes)))
 unfolding bits_of bits_of_bytes select
 bits_of-byte word zero below = refl
 bits_of-byte word (suc zero) below = refl
@@ -53,4 +53,4 @@ bits_of-byte word (suc (suc (suc (suc (suc (suc (suc (suc i)))))))) below = absu
 pub bits_of-ordered : (word i : ℕ) → i < 8
     → bits_of 6 (slice_index (ordered (to_be_bytes w64 word)) i) ≡ take 6 (drop (6 * i) (bits_of_groups word))
 bits_of-ordered word i below =
-    bits_of-byte word i below ∙ ap (λ bits. take 6 (drop (6 * i) (select group_places bits))) (bits_of_bytes-to_be word)
+    bits_of-byte word i below ∙ ap (λ bits. take 6 (drop (6 * i) (select group_positions bits))) (bits_of_bytes-to_be word)

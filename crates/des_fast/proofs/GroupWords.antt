@@ -8,7 +8,7 @@ use Rattle.des.specs.Laws.BitLists.{length-bits_of, number_of-bits_of_word, numb
 use Rattle.des.specs.Laws.Selections.{composed, length-select, select-select, select-range_with_len}
 use Rattle.des.proofs.BitParts.{bits_of-xor}
 use Rattle.des.proofs.LinearWords.{IsLinear-id, IsLinear-mask, and-xor, select-xor_bits, select-from_units}
-use Rattle.des_fast.specs.Groups.{group_places, positions_in_word, word_of_groups, half_places, bits_of_groups, half_of, IsOfGroups, IsExpansion}
+use Rattle.des_fast.specs.Groups.{group_positions, positions_in_word, word_of_groups, half_positions, bits_of_groups, half_of, IsOfGroups, IsExpansion}
 
 -- the word has these bits in its groups, and zeros beside them
 abbrev pub Holds : ℕ → List Bool → Type 0
@@ -21,25 +21,20 @@ select-all n bits width = select-range_with_len 0 n bits (omega arith) ∙ take_
 -- its groups are then these bits
 pub bits_of_groups-Holds : (word : ℕ) (bits : List Bool) → length bits ≡ 48 → Holds word bits → bits_of_groups word ≡ bits
 bits_of_groups-Holds word bits width holds =
-    ap (select group_places) holds ∙ select-select 49 group_places positions_in_word bits (omega arith) ∙ select-all 48 bits width
+    ap (select group_positions) holds ∙ select-select 49 group_positions positions_in_word bits (omega arith) ∙ select-all 48 bits width
 
 -- a mask keeps the groups, with zeros beside them
 bits_of_word-mask : (x : ℕ) → x < 2 ^ 64 → Holds (bit_and x 0x3f3f3f3f3f3f3f3f) (bits_of_groups x)
 unfolding bits_of select
 bits_of_word-mask x below =
-    select-from_units (λ u. bit_and u 0x3f3f3f3f3f3f3f3f) (composed 65 positions_in_word group_places) 0
+    select-from_units (λ u. bit_and u 0x3f3f3f3f3f3f3f3f) (composed 65 positions_in_word group_positions) 0
     (IsLinear-mask 0x3f3f3f3f3f3f3f3f IsLinear-id) refl x below
-    ∙ append-nil (select (composed 65 positions_in_word group_places) (bits_of_word x))
-    ∙ sym (select-select 65 positions_in_word group_places (bits_of_word x) (omega (arith, length-bits_of 64 x)))
+    ∙ append-nil (select (composed 65 positions_in_word group_positions) (bits_of_word x))
+    ∙ sym (select-select 65 positions_in_word group_positions (bits_of_word x) (omega (arith, length-bits_of 64 x)))
 
 -- a word of groups is below 2 ^ 64
 pub IsOfGroups-lt : (word : ℕ) → IsOfGroups word → word < 2 ^ 64
 IsOfGroups-lt word of_groups = omega (arith, of_groups, and_le_r word 0x3f3f3f3f3f3f3f3f)
-
--- it holds the bits of its groups
-pub Holds-IsOfGroups : (word : ℕ) → IsOfGroups word → Holds word (bits_of_groups word)
-Holds-IsOfGroups word of_groups =
-    ap bits_of_word (sym of_groups) ∙ bits_of_word-mask word (IsOfGroups-lt word of_groups)
 
 -- a word that holds 48 bits is a word of groups
 pub IsOfGroups-Holds : (word : ℕ) (bits : List Bool) → word < 2 ^ 64 → length bits ≡ 48 → Holds word bits → IsOfGroups word
@@ -67,9 +62,9 @@ word_of_groups-lt bits = rw length-select at (number_of-lt (select positions_in_
 half_of-Holds : (word : ℕ) (half : List Bool) → length half ≡ 32 → Holds word (select expansion half) → half_of word ≡ half
 half_of-Holds word half width holds =
     let expanded : List Bool = select expansion half in
-    ap (select half_places) holds
-    ∙ select-select 49 half_places positions_in_word expanded (omega (arith, length-select expansion half))
-    ∙ select-select 33 (composed 49 half_places positions_in_word) expansion half (omega arith)
+    ap (select half_positions) holds
+    ∙ select-select 49 half_positions positions_in_word expanded (omega (arith, length-select expansion half))
+    ∙ select-select 33 (composed 49 half_positions positions_in_word) expansion half (omega arith)
     ∙ select-all 32 half width
 
 -- the word is its expansion
@@ -105,15 +100,15 @@ select-xor places a b =
 
 -- it has the sums of the groups
 pub bits_of_groups-xor : (a b : ℕ) → bits_of_groups (bit_xor a b) ≡ xor_bits (bits_of_groups a) (bits_of_groups b)
-bits_of_groups-xor a b = select-xor group_places a b
+bits_of_groups-xor a b = select-xor group_positions a b
 
 -- and the sum of the half blocks
 pub half_of-xor : (a b : ℕ) → half_of (bit_xor a b) ≡ xor_bits (half_of a) (half_of b)
-half_of-xor a b = select-xor half_places a b
+half_of-xor a b = select-xor half_positions a b
 
 -- a half block has 32 bits
-pub length-half_of : (word : ℕ) → length (half_of word) ≡ 32
-length-half_of word = length-select half_places (bits_of_word word)
+length-half_of : (word : ℕ) → length (half_of word) ≡ 32
+length-half_of word = length-select half_positions (bits_of_word word)
 
 -- the xor of two expansions is that of the sum
 pub IsExpansion-xor : (a b : ℕ) → IsExpansion a → IsExpansion b → IsExpansion (bit_xor a b)

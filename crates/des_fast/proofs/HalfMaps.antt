@@ -10,7 +10,7 @@ use Rattle.des.specs.Laws.Selections.{composed, select-select, select-range_with
 use Rattle.des.proofs.BitParts.{drop-bits_of}
 use Rattle.des.proofs.LinearWords.{units, IsLinear-id, IsLinear-shl, IsLinear-shr, select-from_units}
 use Rattle.des.proofs.LinearUnder.{IsLinearUnder, IsLinearUnder-mask, IsLinearUnder-or}
-use Rattle.des_fast.specs.Groups.{positions_in_word, half_places, half_of}
+use Rattle.des_fast.specs.Groups.{positions_in_word, half_positions, half_of}
 use Rattle.des_fast.proofs.GroupWords.{Holds, IsExpansionOf, IsExpansionOf-Holds, IsOfGroups-lt}
 
 -- ---- maps under a mask, shifted by half a word
@@ -131,5 +131,5 @@ unfolding bits_of select
 bits_of-middle_bits groups below =
     sym (drop-bits_of 32 32 (middle_bits groups))
     ∙ ap (drop 32)
-    (select-from_units middle_bits (replicate 32 65 ++ half_places) 0 IsLinearUnder-middle_bits.linear refl groups below
-    ∙ append-nil (select (replicate 32 65 ++ half_places) (bits_of_word groups)))
+    (select-from_units middle_bits (replicate 32 65 ++ half_positions) 0 IsLinearUnder-middle_bits.linear refl groups below
+    ∙ append-nil (select (replicate 32 65 ++ half_positions) (bits_of_word groups)))

@@ -7,7 +7,7 @@ use Rattle.des.specs.Bits.{bit, bits_of, bits_of_word, select}
 use Rattle.des.proofs.BitParts.{bit-bits_of}
 use Rattle.des_fast.specs.Slices.{bit_of_block, column}
 use Rattle.des_fast.specs.Transposition.{row}
-use Rattle.des_fast.proofs.ExchangedRows.{at_range}
+use Rattle.des_fast.proofs.RangeTests.{at_range}
 
 -- a slice of ones has the bit of each block
 bit_of_block-ones : (b : ℕ) → b < 128 → bit_of_block b (18446744073709551615 ∷ 18446744073709551615 ∷ []) ≡ true

@@ -1,10 +1,14 @@
 pub mod SliceBits
 pub mod Circuits
+pub mod RangeTests
+pub mod WrittenElements
+pub mod WordPlaces
 pub mod Exchanges
 pub mod ExchangedRows
 pub mod EightRows
 pub mod ThreeExchanges
 pub mod Stages
+pub mod Columns
 pub mod BlockRows
 pub mod PassesOnSlices
 pub mod KeySlices
@@ -17,8 +21,9 @@ pub mod GroupWords
 pub mod GroupBytes
 pub mod CombinedEntries
 pub mod HalfMaps
+pub mod RoundKeysByPlace
 pub mod RoundPairs
 pub mod ChoiceEntries
 pub mod HalfPasses
-pub mod Answers
+pub mod KeyAnswers
 pub mod RotatedTwice

@@ -1,10 +1,10 @@
--- Sums modulo 2 of lists of bits, part by part.
+-- Sums modulo 2 of bits, and of lists of bits, part by part.
 use Rattle.std.proofs.Common.{◌≡◌, ℕ, zero, suc, ◌+◌, List, [], ◌∷◌, ◌++◌, Bool, true, false, length, refl, ap, ap₂, sym, ◌∙◌, arith}
 use Rattle.std.proofs.lemmas.List.{append_assoc, length-append, replicate-append-replicate, length-replicate}
 use Rattle.des.specs.Bits.{zeros, xor, xor_bits}
 
 -- a sum of two lists that are each made of two parts is the sums of the parts
-pub xor_bits-append : (front other_front back other_back : List Bool) → length front ≡ length other_front
+xor_bits-append : (front other_front back other_back : List Bool) → length front ≡ length other_front
     → xor_bits (front ++ back) (other_front ++ other_back) ≡ xor_bits front other_front ++ xor_bits back other_back
 unfolding xor_bits
 xor_bits-append [] [] back other_back same = refl
@@ -13,19 +13,21 @@ xor_bits-append (first ∷ bits) [] back other_back same = absurd (omega arith)
 xor_bits-append (first ∷ bits) (other ∷ others) back other_back same =
     ap (λ rest. xor first other ∷ rest) (xor_bits-append bits others back other_back (omega arith))
 
--- zeros add nothing
-pub xor_bits-zeros_left : (n : ℕ) (bits : List Bool) → length bits ≡ n → xor_bits (zeros n) bits ≡ bits
+-- a zero adds nothing
+pub xor-false : (b : Bool) → xor b false ≡ b
+xor-false true = refl
+xor-false false = refl
+
+-- nor do zeros, as the first list
+xor_bits-zeros_left : (n : ℕ) (bits : List Bool) → length bits ≡ n → xor_bits (zeros n) bits ≡ bits
 unfolding xor_bits
 xor_bits-zeros_left zero [] same = refl
 xor_bits-zeros_left zero (first ∷ bits) same = absurd (omega arith)
 xor_bits-zeros_left (suc n) [] same = absurd (omega arith)
 xor_bits-zeros_left (suc n) (first ∷ bits) same = ap (λ rest. first ∷ rest) (xor_bits-zeros_left n bits (omega arith))
 
-xor-false : (b : Bool) → xor b false ≡ b
-xor-false true = refl
-xor-false false = refl
-
-pub xor_bits-zeros_right : (n : ℕ) (bits : List Bool) → length bits ≡ n → xor_bits bits (zeros n) ≡ bits
+-- or as the second
+xor_bits-zeros_right : (n : ℕ) (bits : List Bool) → length bits ≡ n → xor_bits bits (zeros n) ≡ bits
 unfolding xor_bits
 xor_bits-zeros_right zero [] same = refl
 xor_bits-zeros_right zero (first ∷ bits) same = absurd (omega arith)

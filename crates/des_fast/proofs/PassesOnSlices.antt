@@ -1,47 +1,16 @@
 -- Rounds and passes of each block, as slices go through them.
-use Rattle.std.proofs.Common.{◌≡◌, ℕ, ◌+◌, ◌*◌, ◌<◌, Bool, false, List, [], ◌∷◌, ◌++◌, length, take, map, get_or, refl, ap, sym, ◌∙◌, arith}
-use Rattle.std.specs.List.{range_with_len}
+use Rattle.std.proofs.Common.{◌≡◌, ℕ, ◌+◌, ◌*◌, ◌<◌, Bool, List, [], ◌∷◌, ◌++◌, length, take, map, get_or, refl, ap, sym, ◌∙◌, arith}
 use Rattle.std.proofs.lemmas.List.{length-map, get_or-map, take_more}
-use Rattle.std.proofs.lemmas.List.FromFn.{fill_by_all}
 use Rattle.des.specs.Bits.{select}
 use Rattle.des.specs.Tables.{initial_permutation, final_permutation}
 use Rattle.des.specs.Rounds.{after_rounds, swapped, through_rounds}
 use Rattle.des.specs.Laws.Selections.{select-initial_permutation, select-final_permutation}
-use Rattle.des.specs.Laws.RoundsUndone.{next_half, after_rounds-append, AreHalves, AreHalves-after_rounds, length-swapped, through_rounds-from_halves, length-through_rounds}
-use Rattle.des_fast.specs.Slices.{bit_of_block, column}
-use Rattle.des_fast.specs.Transposition.{row, in_order}
-use Rattle.des_fast.proofs.Stages.{length-in_order}
+use Rattle.des.specs.Laws.RoundsUndone.{next_half, AreHalves, AreHalves-after_rounds, length-swapped, through_rounds-from_halves, length-through_rounds}
+use Rattle.des_fast.specs.Slices.{column}
 use Rattle.des_fast.specs.Passes.{through_passes}
-
--- ---- columns
-
--- a column has a bit for each slice
-pub length-column : (b : ℕ) (slices : List (List ℕ)) → length (column b slices) ≡ length slices
-length-column b slices = length-map slices (bit_of_block b)
-
--- that of 64 slices has 64
-pub length-column_in_order : (b : ℕ) (groups : List (List (List ℕ))) → length (column b (in_order groups)) ≡ 64
-length-column_in_order b groups = length-column b (in_order groups) ∙ length-in_order groups
-
--- a column, bit by bit
-pub column-by_rows : (b n : ℕ) (slices : List (List ℕ)) → length slices ≡ n
-    → column b slices ≡ map (λ (i : ℕ). bit_of_block b (row slices i)) (range_with_len 0 n)
-column-by_rows b n slices size =
-    fill_by_all (λ (i : ℕ). bit_of_block b (row slices i)) (column b slices) n false (length-column b slices ∙ size)
-    (λ i below. get_or-map (bit_of_block b) slices i [] false (omega arith))
+use Rattle.des_fast.proofs.RoundPairs.{after_rounds-two_more}
 
 -- ---- rounds
-
--- the halves after one round more
-after_rounds-more : (keys : List (List Bool)) (n : ℕ) (left right first second : List Bool) → n < length keys
-    → after_rounds (take n keys) left right ≡ (first, second)
-    → after_rounds (take (n + 1) keys) left right ≡ (second, next_half first second (get_or keys n []))
-unfolding after_rounds
-after_rounds-more keys n left right first second below so_far =
-    let key : List Bool = get_or keys n [] in
-    ap (λ (ks : List (List Bool)). after_rounds ks left right) (take_more keys n [] below)
-    ∙ after_rounds-append (take n keys) (key ∷ []) left right
-    ∙ ap (λ (h : List Bool × List Bool). after_rounds (key ∷ []) h.0 h.1) so_far
 
 -- the halves of a block after two rounds more
 pub column-two_rounds : (b i : ℕ) (keys : List (List (List ℕ))) (left right first second third fourth : List (List ℕ))
@@ -51,20 +20,12 @@ pub column-two_rounds : (b i : ℕ) (keys : List (List (List ℕ))) (left right 
     → column b fourth ≡ next_half (column b second) (column b third) (column b (get_or keys (2 * i + 1) []))
     → after_rounds (take (2 * (i + 1)) (map (column b) keys)) (column b left) (column b right) ≡ (column b third, column b fourth)
 column-two_rounds b i keys left right first second third fourth below so_far one two =
-    let ks : List (List Bool) = map (column b) keys in
-    let many : length ks ≡ length keys = length-map keys (column b) in
-    let key : (n : ℕ) → n < length keys → get_or ks n [] ≡ column b (get_or keys n []) =
-    λ n inside. get_or-map (column b) keys n [] [] inside in
-    let made_one : next_half (column b first) (column b second) (get_or ks (2 * i) []) ≡ column b third =
-    ap (next_half (column b first) (column b second)) (key (2 * i) (omega arith)) ∙ sym one in
-    let made_two : next_half (column b second) (column b third) (get_or ks (2 * i + 1) []) ≡ column b fourth =
-    ap (next_half (column b second) (column b third)) (key (2 * i + 1) below) ∙ sym two in
-    let after_one : after_rounds (take (2 * i + 1) ks) (column b left) (column b right) ≡ (column b second, column b third) =
-    after_rounds-more ks (2 * i) (column b left) (column b right) (column b first) (column b second) (omega arith) so_far
-    ∙ ap (λ (h : List Bool). (column b second, h)) made_one in
-    ap (λ (n : ℕ). after_rounds (take n ks) (column b left) (column b right)) (omega arith)
-    ∙ after_rounds-more ks (2 * i + 1) (column b left) (column b right) (column b second) (column b third) (omega arith) after_one
-    ∙ ap (λ (h : List Bool). (column b third, h)) made_two
+    let key : (n : ℕ) → n < length keys → column b (get_or keys n []) ≡ get_or (map (column b) keys) n [] =
+    λ n inside. sym (get_or-map (column b) keys n [] [] inside) in
+    sym (after_rounds-two_more (map (column b) keys) i (column b left) (column b right)
+    (column b first) (column b second) (column b third) (column b fourth) (omega (arith, length-map keys (column b))) (sym so_far)
+    (one ∙ ap (next_half (column b first) (column b second)) (key (2 * i) (omega arith)))
+    (two ∙ ap (next_half (column b second) (column b third)) (key (2 * i + 1) below)))
 
 -- ---- passes
 
@@ -75,7 +36,7 @@ through_passes-append [] more bits = refl
 through_passes-append (keys ∷ passes) more bits = through_passes-append passes more (through_rounds keys bits)
 
 -- passes keep the width of 64 bits
-pub length-through_passes : (passes : List (List (List Bool))) (bits : List Bool) → length bits ≡ 64
+length-through_passes : (passes : List (List (List Bool))) (bits : List Bool) → length bits ≡ 64
     → length (through_passes passes bits) ≡ 64
 length-through_passes [] bits width = width
 length-through_passes (keys ∷ passes) bits width = length-through_passes passes (through_rounds keys bits) (length-through_rounds keys bits)

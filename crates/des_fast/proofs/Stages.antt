@@ -1,24 +1,8 @@
 -- The two stages of the transposition, and what they come to.
-use Rattle.std.proofs.Common.{◌≡◌, ℕ, ◌+◌, ◌*◌, ◌/◌, ◌%◌, ◌<◌, List, [], length, get_or, ap, ap₂, sym, ◌∙◌, arith, zero-add, inl, inr, subst}
-use Rattle.std.proofs.Math.ListN.{set}
-use Rattle.std.proofs.lemmas.List.{get_or-set_same, get_or-set_other}
+use Rattle.std.proofs.Common.{◌≡◌, ℕ, ◌+◌, ◌*◌, ◌/◌, ◌%◌, ◌<◌, List, [], length, get_or, ap, ap₂, sym, ◌∙◌, arith, zero-add}
 use Rattle.std.proofs.lemmas.List.FromFn.{get_or-map-range_with_len, length-map-range_with_len}
-use Rattle.std.proofs.lemmas.Bool.{cases_eq}
 use Rattle.des_fast.specs.Slices.{bit_of_block}
 use Rattle.des_fast.specs.Transposition.{row, across, in_order, AreBytesExchanged, AreBitsExchanged, AreTransposed}
-
--- what holds of the elements below i holds below i + 1 of the list with the element at i written
-pub written_below : {X : Type 0} (P : ℕ → X → Type 0) (xs : List X) (i : ℕ) (x d : X) → i < length xs
-    → ((g : ℕ) → g < i → P g (get_or xs g d)) → P i x → (g : ℕ) → g < i + 1 → P g (get_or (set xs i x) g d)
-written_below P xs i x d inside each here g below =
-    elim (cases_eq g i) [
-      | inl same ↦
-          let at : get_or (set xs i x) i d ≡ x = get_or-set_same xs i x d inside in
-          subst (λ (k : ℕ). P k (get_or (set xs i x) k d)) (sym same) (subst (P i) (sym at) here)
-      | inr other ↦
-          let low : g < i = omega arith in
-          subst (P g) (sym (get_or-set_other xs i g x d other)) (each g low)
-    ]
 
 -- a row across eight groups
 row-across : (groups : List (List (List ℕ))) (i g : ℕ) → g < 8 → row (across groups i) g ≡ row (get_or groups g []) i

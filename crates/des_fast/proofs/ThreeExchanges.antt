@@ -4,7 +4,7 @@ use Rattle.std.specs.List.{range_with_len, list_all}
 use Rattle.std.proofs.lemmas.Bool.{and_parts, eqb-true, ltb-true}
 use Rattle.des_fast.specs.Slices.{bit_of_block}
 use Rattle.des_fast.specs.Transposition.{row, IsFrom, exchanged_from, ArePairwiseExchanged}
-use Rattle.des_fast.proofs.ExchangedRows.{at_range}
+use Rattle.des_fast.proofs.RangeTests.{at_range}
 
 -- a row and a bit
 abbrev Place : Type 0

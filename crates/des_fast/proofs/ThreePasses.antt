@@ -1,5 +1,5 @@
 -- Three passes, one after another.
-use Rattle.std.proofs.Common.{◌≡◌, ℕ, List, [], ◌∷◌, Bool, map, ap, ap₂, sym, ◌∙◌}
+use Rattle.std.proofs.Common.{◌≡◌, ℕ, List, [], ◌∷◌, Bool, ap, sym, ◌∙◌}
 use Rattle.std.proofs.Math.Path.{fun_ext}
 use Rattle.des.specs.Bits.{bits_of_bytes}
 use Rattle.des.specs.Blocks.{block_of_bits}
@@ -7,8 +7,7 @@ use Rattle.des.specs.Rounds.{through_rounds, answer_by}
 use Rattle.des.specs.Triple.{through}
 use Rattle.des.specs.Laws.BlockBits.{bits_of_bytes-block_of_bits}
 use Rattle.des.specs.Laws.RoundsUndone.{length-through_rounds}
-use Rattle.des_fast.specs.Slices.{column, InEachBlock}
-use Rattle.des_fast.specs.Passes.{HoldPasses, answer_through}
+use Rattle.des_fast.specs.Passes.{answer_through}
 
 -- the bits of the block that a pass makes
 bits_of_bytes-answer_by : (keys : List (List Bool)) (block : List ℕ)
@@ -26,11 +25,3 @@ answer_through-three first second third =
     let two : bits_of_bytes (answer_by second (answer_by first block)) ≡ through_rounds second (through_rounds first bits) =
     bits_of_bytes-answer_by second (answer_by first block) ∙ ap (through_rounds second) one in
     ap (λ (bits : List Bool). block_of_bits (through_rounds third bits)) (sym two))
-
--- the slices of three passes
-pub HoldPasses-three : (p q r : List (List (List ℕ))) (first second third : List (List Bool))
-    → InEachBlock (λ b. map (column b) p ≡ first) → InEachBlock (λ b. map (column b) q ≡ second)
-    → InEachBlock (λ b. map (column b) r ≡ third)
-    → HoldPasses (p ∷ q ∷ r ∷ []) (first ∷ second ∷ third ∷ [])
-HoldPasses-three p q r first second third are also last b within =
-    ap₂ ◌∷◌ (are b within) (ap₂ ◌∷◌ (also b within) (ap (λ (keys : List (List Bool)). keys ∷ []) (last b within)))

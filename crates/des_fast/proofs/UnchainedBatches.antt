@@ -23,7 +23,7 @@ unchained-at f iv (block ∷ blocks) zero below = refl
 unchained-at f iv (block ∷ blocks) (suc k) below = unchained-at f block blocks k (omega arith)
 
 -- there are as many
-pub length-unchained : (f : List ℕ → List ℕ) (iv : List ℕ) (blocks : List (List ℕ)) → length (unchained f iv blocks) ≡ length blocks
+length-unchained : (f : List ℕ → List ℕ) (iv : List ℕ) (blocks : List (List ℕ)) → length (unchained f iv blocks) ≡ length blocks
 length-unchained f iv [] = refl
 length-unchained f iv (block ∷ blocks) = ap suc (length-unchained f block blocks)
 

@@ -1,19 +1,15 @@
 -- The combined tables: for each box and each group of six bits, what P and then E make of the box's entry.
-use Rattle.std.specs.Prelude.{ℕ, ◌+◌, ◌-◌, ◌*◌, List, [], ◌∷◌, ◌++◌, Bool, map}
+use Rattle.std.specs.Prelude.{ℕ, ◌+◌, List, [], ◌∷◌, map}
 use Rattle.std.specs.List.{range_with_len}
-use Rattle.des.specs.Bits.{bits_of, zeros, select}
+use Rattle.des.specs.Bits.{bits_of, select}
 use Rattle.des.specs.Tables.{Box, selection_functions, expansion, permutation}
 use Rattle.des.specs.CipherFunction.{box_entry}
-use Rattle.des_fast.specs.Groups.{word_of_groups}
+use Rattle.des_fast.specs.Groups.{word_of_groups, in_place}
 
--- four bits in the place that box n, from 1, has among the 32, with zeros in the places of the others
-abbrev pub in_place_of_box : ℕ → List Bool → List Bool
-in_place_of_box n bits = zeros (4 * (n - 1)) ++ bits ++ zeros (4 * (8 - n))
-
--- the entry of box n for a group, in its place, after P and E: a word of groups
+-- the entry of box n, from 1, for a group, in its place among those of the eight boxes, after P and E: a word of groups
 abbrev pub combined_entry : ℕ → Box → ℕ → ℕ
 combined_entry n box group =
-    let entry = in_place_of_box n (bits_of 4 (box_entry box (bits_of 6 group))) in
+    let entry = in_place 8 n (bits_of 4 (box_entry box (bits_of 6 group))) in
     word_of_groups (select expansion (select permutation entry))
 
 -- the 64 of a box, in the order of the groups 000000 to 111111

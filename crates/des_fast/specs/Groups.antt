@@ -1,12 +1,12 @@
 -- Words of groups: 48 bits in eight groups of six, each in the last six bits of a byte of a word, with zeros before it.
 -- The groups 1, 3, 5 and 7 stand in bytes 1 to 4, the groups 2, 4, 6 and 8 in bytes 5 to 8.
-use Rattle.std.specs.Prelude.{◌≡◌, ℕ, List, [], ◌∷◌, Bool, bit_and}
-use Rattle.des.specs.Bits.{bits_of_word, number_of, select}
+use Rattle.std.specs.Prelude.{◌≡◌, ℕ, ◌-◌, ◌*◌, List, [], ◌∷◌, ◌++◌, Bool, bit_and}
+use Rattle.des.specs.Bits.{bits_of_word, number_of, zeros, select}
 use Rattle.des.specs.Tables.{expansion}
 
--- the places of the groups in the 64 bits of a word, a group a row
-abbrev pub group_places : List ℕ
-group_places =
+-- the positions of the groups in the 64 bits of a word, a group a row
+abbrev pub group_positions : List ℕ
+group_positions =
     3 ∷ 4 ∷ 5 ∷ 6 ∷ 7 ∷ 8 ∷
     35 ∷ 36 ∷ 37 ∷ 38 ∷ 39 ∷ 40 ∷
     11 ∷ 12 ∷ 13 ∷ 14 ∷ 15 ∷ 16 ∷
@@ -32,9 +32,9 @@ positions_in_word =
 abbrev pub word_of_groups : List Bool → ℕ
 word_of_groups bits = number_of (select positions_in_word bits)
 
--- the middle four places of each group: those of a half block, where the groups are those of its expansion E
-abbrev pub half_places : List ℕ
-half_places =
+-- the middle four positions of each group: those of a half block, where the groups are those of its expansion E
+abbrev pub half_positions : List ℕ
+half_positions =
     4 ∷ 5 ∷ 6 ∷ 7 ∷
     36 ∷ 37 ∷ 38 ∷ 39 ∷
     12 ∷ 13 ∷ 14 ∷ 15 ∷
@@ -46,11 +46,11 @@ half_places =
 
 -- the 48 bits in the groups of a word
 abbrev pub bits_of_groups : ℕ → List Bool
-bits_of_groups word = select group_places (bits_of_word word)
+bits_of_groups word = select group_positions (bits_of_word word)
 
 -- the half block whose expansion a word holds
 abbrev pub half_of : ℕ → List Bool
-half_of word = select half_places (bits_of_word word)
+half_of word = select half_positions (bits_of_word word)
 
 -- every other bit of the word is zero
 abbrev pub IsOfGroups : ℕ → Type 0
@@ -60,3 +60,9 @@ IsOfGroups word = bit_and word 0x3f3f3f3f3f3f3f3f ≡ word
 pub record IsExpansion (word : ℕ) : Type 0 where
   pub of_groups : IsOfGroups word
   pub expanded : bits_of_groups word ≡ select expansion (half_of word)
+
+-- ---- fours of bits
+
+-- four bits in place n, from 1, of so many places for four bits each, with zeros in the others
+abbrev pub in_place : ℕ → ℕ → List Bool → List Bool
+in_place places n bits = zeros (4 * (n - 1)) ++ bits ++ zeros (4 * (places - n))

@@ -7,7 +7,7 @@ use Rattle.des.specs.KeySchedule.{c_half, d_half, rotate, round_key, key_schedul
 use Rattle.des.proofs.RoundKeys.{length-c_half, length-d_half, c_half-in_word, d_half-in_word}
 use Rattle.des.proofs.Traces.{half_block-key_schedule, length-key_schedule}
 use Rattle.des_fast.specs.declared.schedule.TheConstants.{ROTATIONS}
-use Rattle.des_fast.proofs.RoundPairs.{round_keys_of-by_index}
+use Rattle.des_fast.proofs.RoundKeysByPlace.{round_keys_of-by_index}
 use Rattle.des_fast.proofs.RotatedTwice.{bits_of-pair, rotate-twice, ROTATIONS-shifts_through, ROTATIONS-le, round_key-rotated}
 use Rattle.des_fast.proofs.schedule.round_keys.Goals as goal
 

@@ -4,7 +4,8 @@ use Rattle.des.specs.Rounds.{after_rounds}
 use Rattle.des.specs.Laws.RoundsUndone.{next_half}
 use Rattle.des_fast.specs.Groups.{half_of}
 use Rattle.des_fast.specs.HalfBlocks.{round_keys_of}
-use Rattle.des_fast.proofs.RoundPairs.{after_rounds-two_more, length-round_keys_of, round_keys_of-at}
+use Rattle.des_fast.proofs.RoundPairs.{after_rounds-two_more}
+use Rattle.des_fast.proofs.RoundKeysByPlace.{length-round_keys_of, round_keys_of-at}
 use Rattle.des_fast.proofs.halves.Halves.enciphered.Goals as goal
 
 pub loop-i-init : goal.loop-i-init

@@ -3,8 +3,8 @@ use Rattle.std.proofs.Common.{◌≡◌, ℕ, ◌-◌, List, Bool, [], length, r
 use Rattle.std.proofs.lemmas.List.{length-set, length-reverse}
 use Rattle.des_fast.specs.HalfBlocks.{round_keys_of}
 use Rattle.des_fast.specs.Slices.{column, InEachBlock}
-use Rattle.des_fast.proofs.RoundPairs.{length-round_keys_of, round_keys_of-at_reverse}
-use Rattle.des_fast.proofs.Stages.{written_below}
+use Rattle.des_fast.proofs.RoundKeysByPlace.{length-round_keys_of, round_keys_of-at_reverse}
+use Rattle.des_fast.proofs.WrittenElements.{written_below}
 use Rattle.des_fast.proofs.KeySlices.{columns-of_keys}
 use Rattle.des_fast.proofs.slices.keys.deciphering.Goals as goal
 

@@ -3,7 +3,7 @@ use Rattle.std.proofs.Common.{◌≡◌, ℕ, List, [], get_or, ◌∙◌, arith
 use Rattle.std.proofs.lemmas.List.{length-set}
 use Rattle.des.specs.Bits.{bit, bits_of_word}
 use Rattle.des_fast.specs.Slices.{bit_of_block, InEachBlock}
-use Rattle.des_fast.proofs.Stages.{written_below}
+use Rattle.des_fast.proofs.WrittenElements.{written_below}
 use Rattle.des_fast.proofs.KeySlices.{column-selection}
 use Rattle.des_fast.proofs.slices.keys.selection_slices.Goals as goal
 

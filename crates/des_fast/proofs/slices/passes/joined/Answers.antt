@@ -1,7 +1,7 @@
 use Rattle.std.proofs.Common.{◌++◌, List, Bool, sym, ap₂, arith}
 use Rattle.des.specs.Bits.{select}
 use Rattle.des.specs.Tables.{final_permutation}
-use Rattle.des_fast.proofs.PassesOnSlices.{column-by_rows}
+use Rattle.des_fast.proofs.Columns.{column-by_rows}
 use Rattle.des_fast.proofs.slices.passes.joined.Goals as goal
 
 pub returns : goal.returns

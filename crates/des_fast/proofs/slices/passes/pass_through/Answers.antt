@@ -8,7 +8,8 @@ use Rattle.des.specs.Laws.RoundsUndone.{AreHalves-permuted}
 use Rattle.des_fast.specs.Slices.{column}
 use Rattle.des_fast.specs.Transposition.{in_order}
 use Rattle.des_fast.specs.Passes.{through_passes}
-use Rattle.des_fast.proofs.PassesOnSlices.{length-column, length-column_in_order, through_passes-more, through_passes-joined}
+use Rattle.des_fast.proofs.Columns.{length-column, length-column_in_order}
+use Rattle.des_fast.proofs.PassesOnSlices.{through_passes-more, through_passes-joined}
 use Rattle.des_fast.proofs.slices.passes.pass_through.Goals as goal
 
 pub loop-keys-init : goal.loop-keys-init

@@ -2,7 +2,7 @@
 use Rattle.std.proofs.Common.{ℕ, ◌*◌, List, [], ◌∙◌, arith}
 use Rattle.std.proofs.lemmas.List.{length-set}
 use Rattle.des_fast.specs.Transposition.{IsRowOf}
-use Rattle.des_fast.proofs.Stages.{written_below}
+use Rattle.des_fast.proofs.WrittenElements.{written_below}
 use Rattle.des_fast.proofs.BlockRows.{each_of_eight, IsGroupOf, AreRowsOf-groups}
 use Rattle.des_fast.proofs.slices.rows.rows_of.Goals as goal
 

@@ -3,7 +3,8 @@ use Rattle.std.proofs.Common.{ℕ, List, [], arith}
 use Rattle.std.proofs.lemmas.List.{length-set}
 use Rattle.std.proofs.Common.{◌∙◌}
 use Rattle.des_fast.specs.Transposition.{across, AreBytesExchanged, AreBitsExchanged}
-use Rattle.des_fast.proofs.Stages.{written_below, AreTransposed-stages}
+use Rattle.des_fast.proofs.WrittenElements.{written_below}
+use Rattle.des_fast.proofs.Stages.{AreTransposed-stages}
 use Rattle.des_fast.proofs.slices.transposition.transpose.Goals as goal
 
 pub bytes-preserved : goal.bytes-preserved

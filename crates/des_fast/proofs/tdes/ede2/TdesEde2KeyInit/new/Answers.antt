@@ -4,7 +4,7 @@ use Rattle.des.specs.Blocks.{IsKey, part}
 use Rattle.des.specs.Laws.TriplePasses as port
 use Rattle.des.proofs.TripleGraphs.{AnswerBy-Ede2}
 use Rattle.des_fast.specs.Laws.TriplePasses.{Agree-ede, Agree-ede_back}
-use Rattle.des_fast.proofs.Answers.{AnswerAlike-Agree}
+use Rattle.des_fast.proofs.KeyAnswers.{AnswerAlike-Agree}
 use Rattle.des_fast.proofs.tdes.ede2.TdesEde2KeyInit.new.Goals as goal
 use Rattle.des_fast.proofs.tdes.ede2.TdesEde2KeyInit.new.Goals.{After-new-2}
 

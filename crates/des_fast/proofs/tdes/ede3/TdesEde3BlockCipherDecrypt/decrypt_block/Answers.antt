@@ -3,7 +3,7 @@ use Rattle.des.specs.Blocks.{part}
 use Rattle.des.specs.Triple.{EnciphersEde3}
 use Rattle.des.proofs.TripleGraphs.{ede_back, AnswerBy-Ede3}
 use Rattle.des_fast.specs.Laws.TriplePasses.{Agree-ede_back}
-use Rattle.des_fast.proofs.Answers.{IsTheOne-answer}
+use Rattle.des_fast.proofs.KeyAnswers.{IsTheOne-answer}
 use Rattle.des_fast.proofs.tdes.ede3.TdesEde3BlockCipherDecrypt.decrypt_block.Goals as goal
 
 pub returns-clause-deciphers : goal.returns-clause-deciphers

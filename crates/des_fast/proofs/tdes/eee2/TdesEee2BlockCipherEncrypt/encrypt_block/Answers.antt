@@ -3,7 +3,7 @@ use Rattle.des.specs.Blocks.{part}
 use Rattle.des.specs.Triple.{EnciphersEee2}
 use Rattle.des.proofs.TripleGraphs.{eee, AnswerBy-Eee2}
 use Rattle.des_fast.specs.Laws.TriplePasses.{Agree-eee}
-use Rattle.des_fast.proofs.Answers.{IsTheOne-answer}
+use Rattle.des_fast.proofs.KeyAnswers.{IsTheOne-answer}
 use Rattle.des_fast.proofs.tdes.eee2.TdesEee2BlockCipherEncrypt.encrypt_block.Goals as goal
 
 pub returns-clause-enciphers : goal.returns-clause-enciphers

@@ -4,7 +4,7 @@ use Rattle.des.specs.Blocks.{IsKey, part}
 use Rattle.des.specs.Laws.TriplePasses as port
 use Rattle.des.proofs.TripleGraphs.{AnswerBy-Eee3}
 use Rattle.des_fast.specs.Laws.TriplePasses.{Agree-eee, Agree-eee_back}
-use Rattle.des_fast.proofs.Answers.{AnswerAlike-Agree}
+use Rattle.des_fast.proofs.KeyAnswers.{AnswerAlike-Agree}
 use Rattle.des_fast.proofs.tdes.eee3.TdesEee3KeyInit.new.Goals as goal
 use Rattle.des_fast.proofs.tdes.eee3.TdesEee3KeyInit.new.Goals.{After-new-3}
 

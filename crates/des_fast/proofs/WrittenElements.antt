@@ -1,0 +1,18 @@
+-- Lists written element by element.
+use Rattle.std.proofs.Common.{◌≡◌, ℕ, ◌+◌, ◌<◌, List, length, get_or, sym, arith, inl, inr, subst}
+use Rattle.std.proofs.Math.ListN.{set}
+use Rattle.std.proofs.lemmas.List.{get_or-set_same, get_or-set_other}
+use Rattle.std.proofs.lemmas.Bool.{cases_eq}
+
+-- what holds of the elements below i holds below i + 1 of the list with the element at i written
+pub written_below : {X : Type 0} (P : ℕ → X → Type 0) (xs : List X) (i : ℕ) (x d : X) → i < length xs
+    → ((g : ℕ) → g < i → P g (get_or xs g d)) → P i x → (g : ℕ) → g < i + 1 → P g (get_or (set xs i x) g d)
+written_below P xs i x d inside each here g below =
+    elim (cases_eq g i) [
+      | inl same ↦
+          let at : get_or (set xs i x) i d ≡ x = get_or-set_same xs i x d inside in
+          subst (λ (k : ℕ). P k (get_or (set xs i x) k d)) (sym same) (subst (P i) (sym at) here)
+      | inr other ↦
+          let low : g < i = omega arith in
+          subst (P g) (sym (get_or-set_other xs i g x d other)) (each g low)
+    ]
