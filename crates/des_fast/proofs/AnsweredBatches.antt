@@ -1,6 +1,6 @@
 -- Blocks answered in place, batch after batch.
-use Rattle.std.proofs.Common.{◌≡◌, ℕ, ◌+◌, ◌-◌, ◌*◌, ◌/◌, ◌<◌, ◌≤◌, Bool, List, [], ◌++◌, length, take, drop, map, ap, ap₂, sym, ◌∙◌, arith, append_assoc, length-take-le, take-add, take_at, drop_at}
-use Rattle.std.proofs.lemmas.List.{length-append, length-drop, length-map, get_or-map, ext_get_or, map-append, drop-drop, take-append-drop, drop-take, take-take, take_all, drop_all, append-nil}
+use Rattle.std.proofs.Common.{◌≡◌, ℕ, ◌+◌, ◌-◌, ◌<◌, ◌≤◌, Bool, List, [], ◌++◌, length, take, drop, map, ap, ap₂, sym, ◌∙◌, arith, append_assoc, length-take-le, take-add, take_at, drop_at}
+use Rattle.std.proofs.lemmas.List.{length-append, length-drop, length-map, get_or-map, ext_get_or, map-append, drop-drop, take_all, drop_all, append-nil}
 use Rattle.des.specs.Blocks.{block_of_bits}
 use Rattle.des_fast.specs.Slices.{column, InEachBlock}
 use Rattle.des_fast.specs.Transposition.{in_order, place_of, AreSlicesOf, AreBlocksOf}

@@ -1,5 +1,5 @@
 -- Lists out of their chain as a computation, part after part.
-use Rattle.std.proofs.Common.{◌≡◌, ℕ, zero, suc, ◌+◌, ◌-◌, ◌*◌, ◌/◌, ◌<◌, ◌≤◌, List, [], ◌∷◌, ◌++◌, length, take, drop, get_or, refl, ap, ap₂, sym, ◌∙◌, arith, append_assoc, length-take-le, take-add, take_at, drop_at, take-append-drop}
+use Rattle.std.proofs.Common.{◌≡◌, ℕ, zero, suc, ◌+◌, ◌-◌, ◌<◌, ◌≤◌, List, [], ◌∷◌, ◌++◌, length, take, drop, get_or, refl, ap, ap₂, sym, ◌∙◌, arith, append_assoc, length-take-le, take-add, take_at, drop_at}
 use Rattle.std.proofs.lemmas.List.{length-append, length-drop, drop-drop, take_all, drop_all, append-nil, ext_get_or}
 use Rattle.des.specs.Cbc.{xor_blocks, block_at, block_before, Unchains}
 
