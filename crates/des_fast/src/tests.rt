@@ -41,7 +41,9 @@ pub(crate) fn is_debugged_as<D: fmt::Debug>(
             && format!(in alloc; "{value:#?}")?.as_str() == text
             && format!(in alloc; "{value:+?}")?.as_str() == text
             && format!(in alloc; "{value:.3?}")?.as_str() == text
-            && format!(in alloc; "{value:>30?}")?.as_str() == text,
+            && format!(in alloc; "{value:>30?}")?.as_str() == text
+            && format!(in alloc; "{value:*<30?}")?.as_str() == text
+            && format!(in alloc; "{value:030?}")?.as_str() == text,
     )
 }
 

@@ -3,6 +3,7 @@
 //! Nothing here is part of the product.
 #![tactic(auto)]
 
+pub mod both_libraries;
 pub mod chaining;
 pub mod check_value;
 pub mod complements;
