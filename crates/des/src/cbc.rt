@@ -22,8 +22,8 @@ pub fn xor(block: &mut [u8; 8], other: &[u8; 8])
 
 /// Encrypts a list of blocks of 8 bytes in place, chained from the initialization vector: plaintext goes
 /// in, and the ciphertext comes out, as many blocks. With p the plaintext and q the ciphertext, numbered
-/// from 1, q(0) the initialization vector and E the cipher's encryption, q(n) = E(p(n) ^ q(n-1)). A list
-/// of none stays one.
+/// from 1, q(0) the initialization vector and E the cipher's encryption, q(n) = E(p(n) ^ q(n-1)). An
+/// empty list stays empty.
 pub fn encrypt<C: BlockCipherEncrypt>(cipher: &C, iv: &[u8; 8], blocks: &mut [[u8; 8]])
     ensures { Cbc (C.encrypted cipher.now) iv.now blocks.old blocks.new }
 {
@@ -38,7 +38,7 @@ pub fn encrypt<C: BlockCipherEncrypt>(cipher: &C, iv: &[u8; 8], blocks: &mut [[u
 /// Decrypts a list of blocks of 8 bytes in place that was chained from the initialization vector:
 /// ciphertext goes in, and the plaintext comes out, as many blocks. With q the ciphertext and p the
 /// plaintext, numbered from 1, q(0) the initialization vector and D the cipher's decryption,
-/// p(n) = D(q(n)) ^ q(n-1). A list of none stays one.
+/// p(n) = D(q(n)) ^ q(n-1). An empty list stays empty.
 pub fn decrypt<C: BlockCipherDecrypt>(cipher: &C, iv: &[u8; 8], blocks: &mut [[u8; 8]])
     ensures { Unchains (C.decrypted cipher.now) iv.now blocks.old blocks.new }
 {

@@ -216,7 +216,7 @@ pub trait BlockCipherEncrypt: BlockSizeUser {
         self.encrypt_block(output);
     }
 
-    /// Encrypts each block of 8 bytes in place, in order. A list of none stays one.
+    /// Encrypts each block of 8 bytes in place, in order. An empty list stays empty.
     final fn encrypt_blocks(&self, blocks: &mut [[u8; 8]])
         ensures { blocks.new ≡ map (encrypted self.now) blocks.old }
     {
@@ -259,7 +259,7 @@ pub trait BlockCipherDecrypt: BlockSizeUser {
         self.decrypt_block(output);
     }
 
-    /// Decrypts each block of 8 bytes in place, in order. A list of none stays one.
+    /// Decrypts each block of 8 bytes in place, in order. An empty list stays empty.
     final fn decrypt_blocks(&self, blocks: &mut [[u8; 8]])
         ensures { blocks.new ≡ map (decrypted self.now) blocks.old }
     {

@@ -1,7 +1,8 @@
 //! Lists of blocks, 128 at a time: quicker than one by one where a list is long.
 //!
-//! A list may have any number of blocks. As many as make whole batches of 128 go through the rounds
-//! together; those after the last whole batch go one by one, and so does a list of fewer than 128.
+//! `encrypt_many`, `decrypt_many` and `decrypt_cbc` take lists of any length: each whole batch of 128
+//! blocks goes through the rounds together, and those after the last batch go one by one. The calls
+//! named for batches take whole batches alone.
 
 ghost use Rattle.std.specs.Prelude.{◌≡◌, ◌%◌, List, Bool, length, map};
 ghost use Rattle.des.specs.Cbc.{Unchains};
@@ -41,21 +42,23 @@ fn answer_batches(blocks: &mut [[u8; 8]], passes: &[KeySlices])
 /// A block cipher that treats many blocks of a list together. No call changes the cipher.
 ///
 /// A type writes the three calls for whole batches; the three calls for lists of any length have
-/// their bodies here. The five ciphers of this crate take no memory, but keep the round keys of a list
-/// on the stack, spread over vectors: 12,288 bytes for each pass of DES.
+/// their bodies here. The five ciphers of this crate take no memory, but keep their round keys on the
+/// stack during a call, spread over vectors: 12,288 bytes for each pass of DES.
 pub trait ManyBlocks: BlockCipherEncrypt + BlockCipherDecrypt {
-    /// Encrypts each block of 8 bytes in place, in order. The blocks are whole batches of 128, or none.
+    /// Encrypts each block of 8 bytes in place, in order. Their number must be a multiple of 128; it may
+    /// be zero.
     fn encrypt_batches(&self, blocks: &mut [[u8; 8]])
         requires { length blocks.old % 128 ≡ 0 }
         ensures { blocks.new ≡ map (Self.encrypted self.now) blocks.old };
 
-    /// Decrypts each block of 8 bytes in place, in order. The blocks are whole batches of 128, or none.
+    /// Decrypts each block of 8 bytes in place, in order. Their number must be a multiple of 128; it may
+    /// be zero.
     fn decrypt_batches(&self, blocks: &mut [[u8; 8]])
         requires { length blocks.old % 128 ≡ 0 }
         ensures { blocks.new ≡ map (Self.decrypted self.now) blocks.old };
 
-    /// Decrypts in place blocks of 8 bytes that were chained from the initialization vector by CBC, as
-    /// `decrypt_cbc` does. The blocks are whole batches of 128, or none.
+    /// Decrypts in place blocks of 8 bytes that CBC chained from the initialization vector, as
+    /// `decrypt_cbc` does. Their number must be a multiple of 128; it may be zero.
     fn decrypt_cbc_batches(&self, iv: &[u8; 8], blocks: &mut [[u8; 8]])
         requires { length blocks.old % 128 ≡ 0 }
         ensures { Unchains (Self.decrypted self.now) iv.now blocks.old blocks.new };
@@ -87,10 +90,10 @@ pub trait ManyBlocks: BlockCipherEncrypt + BlockCipherDecrypt {
         self.decrypt_blocks(&mut blocks[whole..]);
     }
 
-    /// Decrypts a list of blocks of 8 bytes in place that was chained from the initialization vector by
-    /// CBC (FIPS 81, cipher block chaining mode), as `des::cbc::decrypt` does: ciphertext goes in, and
-    /// the plaintext comes out, as many blocks. With q the ciphertext and p the plaintext, numbered from
-    /// 1, q(0) the initialization vector and D the cipher's decryption, p(n) = D(q(n)) ^ q(n-1). An empty
+    /// Decrypts in place a list of blocks of 8 bytes that CBC (FIPS 81, cipher block chaining mode)
+    /// chained from the initialization vector, as `des::cbc::decrypt` does: ciphertext goes in, and the
+    /// plaintext comes out, as many blocks. With q the ciphertext and p the plaintext, numbered from 1,
+    /// q(0) the initialization vector and D the cipher's decryption, p(n) = D(q(n)) ^ q(n-1). An empty
     /// list stays empty. Padding and authentication are the caller's.
     final fn decrypt_cbc(&self, iv: &[u8; 8], blocks: &mut [[u8; 8]])
         ensures { Unchains (Self.decrypted self.now) iv.now blocks.old blocks.new }

@@ -1,5 +1,5 @@
 //! Bit slices: 128 blocks at a time, a vector of 128 bits for each of their 64 bits. Each block has one
-//! place in all vectors; which one says `place_of` of `specs/Transposition.antt`.
+//! place in all vectors; `place_of` of `specs/Transposition.antt` says which.
 
 ghost use Rattle.std.specs.Prelude.{◌≡◌, length};
 ghost use Rattle.des_fast.specs.Transposition.{AreSlicesOf, AreBlocksOf};

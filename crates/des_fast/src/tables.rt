@@ -1,4 +1,7 @@
 //! The combined tables: the boxes S1 to S8, and P and E after them (FIPS 46-3, cipher function).
+//!
+//! A word of groups holds 48 bits in eight groups of six, each in the last six bits of a byte: the
+//! groups 1, 3, 5 and 7, then 2, 4, 6 and 8.
 
 ghost use Rattle.std.specs.Prelude.{◌≡◌, ◌*◌, ◌<◌, ℕ, take, drop, slice_index};
 ghost use Rattle.std.specs.List.{All};

@@ -1,5 +1,5 @@
 //! What stands above the ciphers of `des` and `des_fast`: callers that rest on their contracts and laws
-//! alone.
+//! alone, and two ciphers that hide nothing.
 //! Nothing here is part of the product.
 #![tactic(auto)]
 

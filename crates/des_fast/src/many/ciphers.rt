@@ -81,7 +81,7 @@ fn decrypt_ede_batches(first: &Des, second: &Des, third: &Des, blocks: &mut [[u8
     answer_batches(blocks, &ede_undone(first, second, third));
 }
 
-// Decryption of whole batches by the EDE form, chained from the initialization vector.
+// CBC decryption of whole batches by the EDE form.
 fn unchain_ede_batches(first: &Des, second: &Des, third: &Des, iv: &[u8; 8], blocks: &mut [[u8; 8]])
     requires { length blocks.old % 128 ≡ 0 }
     ensures { Unchains (through (decrypted third.now) (encrypted second.now) (decrypted first.now))
@@ -108,7 +108,7 @@ fn decrypt_eee_batches(first: &Des, second: &Des, third: &Des, blocks: &mut [[u8
     answer_batches(blocks, &eee_undone(first, second, third));
 }
 
-// Decryption of whole batches by the EEE form, chained from the initialization vector.
+// CBC decryption of whole batches by the EEE form.
 fn unchain_eee_batches(first: &Des, second: &Des, third: &Des, iv: &[u8; 8], blocks: &mut [[u8; 8]])
     requires { length blocks.old % 128 ≡ 0 }
     ensures { Unchains (through (decrypted third.now) (decrypted second.now) (decrypted first.now))

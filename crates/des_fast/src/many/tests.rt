@@ -25,7 +25,7 @@ fn multiples<const N: usize>() -> [[u8; 8]; N] {
     blocks
 }
 
-// The answers to blocks 0, 64, 127 and 129 of 130: encrypted, decrypted, and decrypted as a chain.
+// The answers to blocks 0, 64, 127 and 129 of 130: encrypted, decrypted, and decrypted by CBC.
 type Answers = [[u64; 4]; 3];
 
 // Blocks 0, 64, 127 and 129.
@@ -63,10 +63,10 @@ fn answers_of_batch<C: ManyBlocks + KeyInit + Drop>(
     }))
 }
 
-// The answers are those of OpenSSL 3: `openssl enc -des-ecb -nopad -K 133457799bbcdff1`, with `-d` for
-// decryption and `-des-cbc -iv 1234567890abcdef` for chained decryption, and `-des-ede3-ecb`,
-// `-des-ede-ecb` and their `-cbc` with the parts one after another. Those of the EEE forms are three
-// runs of des-ecb, and for chained decryption the xor with the block before.
+// The answers are those of OpenSSL 3: `openssl enc -provider legacy -provider default -des-ecb -nopad
+// -K 133457799bbcdff1`, with `-d` for decryption and `-des-cbc -iv 1234567890abcdef` for CBC, and
+// `-des-ede3-ecb`, `-des-ede-ecb` and their `-cbc` with the parts one after another. Those of the EEE
+// forms are three runs of des-ecb, and for CBC the xor with the block before.
 #[rattlefmt::skip]
 const DES: Answers = [
     [0x948a43f98a834f7e, 0x282005ed0125af6a, 0x80afa7fbeaf039a6, 0x2bee05279ea43813],
