@@ -3,9 +3,12 @@ use Rattle.std.proofs.lemmas.List.Elements.{All-from_get_or}
 use Rattle.des.specs.Blocks.{IsBlock}
 use Rattle.des_rows.proofs.both_libraries.encrypted_by_both.Goals as goal
 
+pub returns-clause-enciphers : goal.returns-clause-enciphers
+returns-clause-enciphers c = c.encrypt_block.ensures.enciphers c.args.key.now c.new.ensures.made
+
 -- the clause that cites the other cipher, which is made from the same key
-pub returns : goal.returns
-returns c =
+pub returns-clause-alike : goal.returns-clause-alike
+returns-clause-alike c =
     let block : List ℕ = c.args.block.now in
     let is_block : IsBlock block = (c.told-block, All-from_get_or (λ byte. byte < 256) block 0 (λ i within. c.fits-block i)) in
     c.encrypt_block-2.ensures.encrypted ∙ c.new-2.ensures.encrypts_alike c.new.result c.new.ensures.made block is_block
