@@ -6,7 +6,7 @@ pub const SHIFTS: [u8; 16] = [1, 1, 2, 2, 2, 2, 2, 2, 1, 2, 2, 2, 2, 2, 2, 1];
 
 /// The boxes S1 to S8 (FIPS 46-3, S-boxes). A box is indexed by the six bits that it replaces as
 /// they stand, the first of them the highest: the index 24 is the bits 011000, which the standard
-/// reads as row 0 and column 12.
+/// reads as column 12 of the first row, which it numbers 0.
 #[rattlefmt::skip]
 pub const SBOXES: [[u8; 64]; 8] = [
     // S1

@@ -35,7 +35,7 @@ fn one_exchange(rt: HostRuntime) {
     assert_eq!(rt; delta_swap(1, 63, 1), 0x8000000000000000);
 }
 
-// Row 0 and column 12 of S1.
+// Column 12 of the first row of S1.
 #[test]
 fn an_entry_of_a_box(rt: HostRuntime) {
     assert_eq!(rt; SBOXES[0][24], 5);

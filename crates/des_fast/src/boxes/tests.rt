@@ -10,8 +10,8 @@ fn bits_of(groups: [u64; 3], place: u32) -> u64x2
     slice_of_three(groups.map(|group| group >> place))
 }
 
-// The groups 011011 (row 1, column 13), 100110 (row 2, column 3) and 111101 (row 3, column 14),
-// looked up by hand in the tables of FIPS 46-3.
+// The groups 011011, 100110 and 111101, which are columns 13, 3 and 14 of the second, third and fourth
+// row, looked up by hand in the tables of FIPS 46-3.
 #[test]
 fn entries_at_three_places(rt: HostRuntime) {
     let groups = [0b011011, 0b100110, 0b111101];
