@@ -72,14 +72,16 @@ bits_of-shl m n x =
 sum_test : (a b : ℕ) → a < 2 → b < 2 → ((a + b) % 2 == 1) ≡ xor (a == 1) (b == 1)
 sum_test a b p q = grind (arith, nat_tests)
 
+-- the bit of a xor at a place is the xor of the bits there
+pub bit_at-xor : (a b i : ℕ) → (bit_at (bit_xor a b) i == 1) ≡ xor (bit_at a i == 1) (bit_at b i == 1)
+bit_at-xor a b i =
+    ap (λ (k : ℕ). k == 1) (bit_at_xor a b i) ∙ sum_test (bit_at a i) (bit_at b i) (bit_at-lt a i) (bit_at-lt b i)
+
 -- the xor of two numbers has the xor of their bits
 pub bits_of-xor : (n a b : ℕ) → bits_of n (bit_xor a b) ≡ xor_bits (bits_of n a) (bits_of n b)
 unfolding bits_of xor_bits
 bits_of-xor zero a b = refl
-bits_of-xor (suc n) a b =
-    ap₂ ◌∷◌
-    (ap (λ (k : ℕ). k == 1) (bit_at_xor a b n) ∙ sum_test (bit_at a n) (bit_at b n) (bit_at-lt a n) (bit_at-lt b n))
-    (bits_of-xor n a b)
+bits_of-xor (suc n) a b = ap₂ ◌∷◌ (bit_at-xor a b n) (bits_of-xor n a b)
 
 -- the first m bits of a xor are the xor of the first m bits
 pub take-bits_of_xor : (m n a b : ℕ)

@@ -8,11 +8,11 @@ use Rattle.des.specs.Relations.{TakesBlock}
 use Rattle.des.proofs.XoredBlocks.{length-xor_blocks, xor_blocks-undone, IsBlock-xor_blocks}
 
 -- each block of a list of blocks is one
-pub IsBlock-block_at : (blocks : List (List ℕ)) (n : ℕ) → 1 ≤ n → n ≤ length blocks → All IsBlock blocks → IsBlock (block_at blocks n)
+IsBlock-block_at : (blocks : List (List ℕ)) (n : ℕ) → 1 ≤ n → n ≤ length blocks → All IsBlock blocks → IsBlock (block_at blocks n)
 IsBlock-block_at blocks n from to are_blocks = are_blocks (n - 1) [] (omega arith)
 
 -- so is the block before each
-pub IsBlock-block_before : (iv : List ℕ) (blocks : List (List ℕ)) (n : ℕ) → n ≤ length blocks → IsBlock iv → All IsBlock blocks
+IsBlock-block_before : (iv : List ℕ) (blocks : List (List ℕ)) (n : ℕ) → n ≤ length blocks → IsBlock iv → All IsBlock blocks
     → IsBlock (block_before iv blocks n)
 IsBlock-block_before iv blocks n to is_iv are_blocks = All-cons IsBlock iv blocks is_iv are_blocks (n - 1) [] (omega arith)
 

@@ -22,7 +22,7 @@ adds_up step mask kept (suc n) word image =
     ]
 
 -- whether the map takes each word under the mask to the xor of the images of its bits, and that is under `kept`
-abbrev pub is_linear_under : (ℕ → ℕ) → ℕ → ℕ → Bool
+abbrev is_linear_under : (ℕ → ℕ) → ℕ → ℕ → Bool
 is_linear_under step mask kept = bit_and mask 0xffffffffffffffff == mask && adds_up step mask kept 64 0 0
 
 -- the image of a bit that is set, else zero
@@ -122,7 +122,7 @@ IsXor-test step mask kept y under fits test =
     rw (same, xor_zero_l (images step 64 y)) at (adds_up-at step mask kept 64 0 0 y under test)
 
 -- a map of the masked images of a linear map, where the test is true
-pub IsLinearUnder-test : {f : ℕ → ℕ} → (step : ℕ → ℕ) (mask kept : ℕ) → is_linear_under step mask kept ≡ true → IsLinear f
+IsLinearUnder-test : {f : ℕ → ℕ} → (step : ℕ → ℕ) (mask kept : ℕ) → is_linear_under step mask kept ≡ true → IsLinear f
     → IsLinearUnder kept (λ x. step (bit_and (f x) mask))
 IsLinearUnder-test {f} step mask kept test map =
     let parts : (bit_and mask 0xffffffffffffffff ≡ mask) × (adds_up step mask kept 64 0 0 ≡ true) = grind (arith, nat_tests) in

@@ -23,7 +23,7 @@ rotated positions n = drop n positions ++ take n positions
 
 -- the positions of the key that round key i takes: permuted choice 2 of the rotated halves of permuted choice 1. The
 -- shifts are written out, so that the positions compute; 65 is a position past the end of a key
-abbrev pub round_key_positions : ℕ → List ℕ
+abbrev round_key_positions : ℕ → List ℕ
 round_key_positions i =
     let shifts = sum (take i left_shifts) in
     composed 65 permuted_choice_2 (rotated (take 28 permuted_choice_1) shifts ++ rotated (drop 28 permuted_choice_1) shifts)
@@ -51,7 +51,7 @@ unfolding select
 select-append positions more bits = map-append (bit bits) positions more
 
 -- each round key is the selection from the key by its positions
-pub round_key-select : (key : List Bool) → length key ≡ 64 → (i : ℕ) → round_key key i ≡ select (round_key_positions i) key
+round_key-select : (key : List Bool) → length key ≡ 64 → (i : ℕ) → round_key key i ≡ select (round_key_positions i) key
 unfolding round_key shifts_through
 round_key-select key width i =
     let shifts : ℕ = sum (take i left_shifts) in

@@ -12,9 +12,11 @@ pub mod Rotation
 pub mod RoundKeys
 pub mod Traces
 pub mod OneAnswer
+pub mod ReversedLists
 pub mod RoundsOnWords
 pub mod PassGraphs
 pub mod Graphs
+pub mod RelatedLists
 pub mod TripleGraphs
 pub mod Walks
 pub mod Repeating

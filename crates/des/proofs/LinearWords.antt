@@ -53,7 +53,7 @@ pub IsLinear-shr : {f : ℕ → ℕ} → (k : ℕ) → IsLinear f → IsLinear (
 IsLinear-shr {f} k linear = record { sums = λ a b. ap (λ y. y / 2 ^ k) (linear.sums a b) ∙ xor_shr (f a) (f b) k }
 
 -- a xor shifted to the left is the xor of the shifted
-pub xor-shl : (a b k : ℕ) → bit_xor a b * 2 ^ k ≡ bit_xor (a * 2 ^ k) (b * 2 ^ k)
+xor-shl : (a b k : ℕ) → bit_xor a b * 2 ^ k ≡ bit_xor (a * 2 ^ k) (b * 2 ^ k)
 xor-shl a b k =
     sym (xor_block k a b 0 0 (pow_pos k) (pow_pos k) ∙ add-zero (bit_xor a b * 2 ^ k))
     ∙ ap₂ bit_xor (add-zero (a * 2 ^ k)) (add-zero (b * 2 ^ k))

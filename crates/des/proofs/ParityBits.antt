@@ -44,7 +44,7 @@ bit-bits_of_bytes bytes position i j within below same =
     ap (λ (k : ℕ). get_or (bits_of_bytes bytes) k false) same ∙ get_or-bits_of_bytes bytes i j within below
 
 -- the upper seven bits of two keys are equal, byte by byte
-abbrev pub HaveEqualUpperBits : List ℕ → List ℕ → Type 0
+abbrev HaveEqualUpperBits : List ℕ → List ℕ → Type 0
 HaveEqualUpperBits key other = (i : ℕ) → i < 8 → get_or key i 0 / 2 ≡ get_or other i 0 / 2
 
 -- keys that agree outside parity have equal upper bits
@@ -85,7 +85,7 @@ AgreeOutsideParity_from_upper_bits key other is_key is_other upper position low 
     ∙ sym (bit-bits_of_bytes other position i j (omega arith) (omega arith) (omega arith))
 
 -- keys of eight bytes agree outside parity exactly where the upper bits of their bytes are equal
-pub AgreeOutsideParity-upper_bits : (key other : List ℕ) → IsKey 8 key → IsKey 8 other
+AgreeOutsideParity-upper_bits : (key other : List ℕ) → IsKey 8 key → IsKey 8 other
     → AgreeOutsideParity key other ↔ HaveEqualUpperBits key other
 AgreeOutsideParity-upper_bits key other is_key is_other =
     (upper_bits_from_AgreeOutsideParity key other is_key is_other, AgreeOutsideParity_from_upper_bits key other is_key is_other)

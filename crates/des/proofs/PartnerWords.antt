@@ -14,11 +14,11 @@ use Rattle.des.proofs.Rotation.{rotate-rotate}
 use Rattle.des.proofs.RoundKeys.{length-c_half, length-d_half}
 
 -- the word holds two halves of 28 bits, in its first 56 bits
-abbrev pub HoldsHalves : ℕ → List Bool → List Bool → Type 0
+abbrev HoldsHalves : ℕ → List Bool → List Bool → Type 0
 HoldsHalves word c d = bits_of_word word ≡ (c ++ d) ++ zeros 8
 
 -- the one word holds the halves of the other, each rotated left by one
-abbrev pub Rotates : ℕ → ℕ → Type 0
+abbrev Rotates : ℕ → ℕ → Type 0
 Rotates word once =
     (c d : List Bool) → length c ≡ 28 → length d ≡ 28 → HoldsHalves word c d → HoldsHalves once (rotate c 1) (rotate d 1)
 

@@ -1,9 +1,9 @@
 -- Relations whose graph is known for passes, and what they are for a pass turned round and for three, one after another.
 use Rattle.std.proofs.Common.{◌≡◌, ℕ, List, refl, sym, ap, ◌∙◌, subst}
 use Rattle.des.specs.Blocks.{IsBlock}
-use Rattle.des.specs.Relations.{IsTheOne, HasOneAnswerEachWay, IsGraphOf}
+use Rattle.des.specs.Relations.{IsTheOne, HasOneAnswerEachWay, IsGraphOf, AnswerAlike}
 use Rattle.des.specs.Triple.{through}
-use Rattle.des.specs.Laws.Passes.{IsPass}
+use Rattle.des.specs.Laws.Passes.{IsPass, Agree}
 
 -- the graph of a pass turned round is that of the pass, read from the second block to the first
 pub IsGraphOf-turned : (forth back : List ℕ → List ℕ) (Answers : List ℕ → List ℕ → Type 0) → IsPass forth back
@@ -29,6 +29,15 @@ IsTheOne-graph answer Answers block graph is_block = (
   λ other related. sym ((graph block other).0 related).1,
 )
 
+pub IsTheOne-answer : (answer : List ℕ → List ℕ) (Answers : List ℕ → List ℕ → Type 0) (block found : List ℕ) → IsGraphOf answer Answers
+    → IsBlock block → found ≡ answer block → IsTheOne (λ other. Answers block other) found
+IsTheOne-answer answer Answers block found graph is_block same = rw same (IsTheOne-graph answer Answers block graph is_block)
+
+-- two functions that answer blocks as a third one does answer them alike
+pub AnswerAlike-Agree : {answer other_answer third : List ℕ → List ℕ} → Agree answer third → Agree other_answer third
+    → AnswerAlike answer other_answer
+AnswerAlike-Agree first second block is_block = first.at block is_block ∙ sym (second.at block is_block)
+
 -- the graph of a pass has one answer each way
 pub HasOneAnswerEachWay-graph : (forth back : List ℕ → List ℕ) (Answers : List ℕ → List ℕ → Type 0) → IsPass forth back
     → IsGraphOf forth Answers → HasOneAnswerEachWay Answers
@@ -39,7 +48,7 @@ HasOneAnswerEachWay-graph forth back Answers pass graph = record {
 }
 
 -- what relates the two ends of three relations: two blocks between
-abbrev pub Joined : (First Second Third : List ℕ → List ℕ → Type 0) → List ℕ → List ℕ → Type 0
+abbrev Joined : (First Second Third : List ℕ → List ℕ → Type 0) → List ℕ → List ℕ → Type 0
 Joined First Second Third x y = (u : List ℕ) × ((v : List ℕ) × (First x u × Second u v × Third v y))
 
 -- the graph of three passes is the relations joined
@@ -65,29 +74,6 @@ IsGraphOf-through f1 b1 f2 b2 f3 First Second Third p1 p2 g1 g2 g3 = λ x y. (
         ),
       ),
 )
-
--- the one block from end to end is the one of the third at the one of the second at the one of the first
-pub IsTheOne-through : (First Second Third : List ℕ → List ℕ → Type 0) (x u v y : List ℕ)
-    → IsTheOne (First x) u → IsTheOne (Second u) v → IsTheOne (Third v) y → IsTheOne (Joined First Second Third x) y
-IsTheOne-through First Second Third x u v y first second third = (
-  (u, (v, (first.0, second.0, third.0))),
-  λ other joined.
-      let same_u : joined.0 ≡ u = first.1 joined.0 joined.1.1.0 in
-      let P : List ℕ → Type 0 = λ w. Second w joined.1.0 in
-      let same_v : joined.1.0 ≡ v = second.1 joined.1.0 (subst P same_u joined.1.1.1) in
-      let Q : List ℕ → Type 0 = λ w. Third w other in
-      third.1 other (subst Q same_v joined.1.1.2),
-)
-
--- the same read from the last relation to the first
-pub IsTheOne-back_through : (First Second Third : List ℕ → List ℕ → Type 0) (x u v y : List ℕ)
-    → IsTheOne (λ w. Third w y) v → IsTheOne (λ w. Second w v) u → IsTheOne (λ w. First w u) x
-    → IsTheOne (λ w. Joined First Second Third w y) x
-IsTheOne-back_through First Second Third x u v y third second first =
-    let turned = IsTheOne-through (λ b a. Third a b) (λ b a. Second a b) (λ b a. First a b) y v u x third second first in (
-      (turned.0.1.0, (turned.0.0, (turned.0.1.1.2, turned.0.1.1.1, turned.0.1.1.0))),
-      λ other joined. turned.1 other (joined.1.0, (joined.0, (joined.1.1.2, joined.1.1.1, joined.1.1.0))),
-    )
 
 -- where a fact holds, the relation with the fact beside it is as the relation is
 module _ (Fact : Type 0) (fact : Fact) where

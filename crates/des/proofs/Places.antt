@@ -11,7 +11,7 @@ abbrev pub is_among : List ℕ → ℕ → Bool
 is_among positions position = list_any (λ other. other == position) positions
 
 -- whether each is a position in n bits
-abbrev pub are_positions_in : ℕ → List ℕ → Bool
+abbrev are_positions_in : ℕ → List ℕ → Bool
 are_positions_in n positions = list_all (λ position. nat_le 1 position && nat_le position n) positions
 
 -- what the test of positions says of the first, and of the rest

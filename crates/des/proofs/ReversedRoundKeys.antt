@@ -10,11 +10,11 @@ use Rattle.des.proofs.Repeating.{repeated, repeated_from_rotate}
 use Rattle.des.proofs.Walks.{Link, IsSameAlong, IsSameAlong-zip, share_walks, walks_same}
 
 -- rotation by two leaves the first halves unchanged, and the others are those, rotated by one
-abbrev pub AreTurned : List Bool → List Bool → List Bool → List Bool → Type 0
+abbrev AreTurned : List Bool → List Bool → List Bool → List Bool → Type 0
 AreTurned c d c_other d_other = (rotate c 2 ≡ c) × (rotate d 2 ≡ d) × (c_other ≡ rotate c 1) × (d_other ≡ rotate d 1)
 
 -- the round keys of the other halves are those of the first in the opposite order
-abbrev pub AreReversed : List Bool → List Bool → List Bool → List Bool → Type 0
+abbrev AreReversed : List Bool → List Bool → List Bool → List Bool → Type 0
 AreReversed c d c_other d_other = schedule_of_halves c_other d_other ≡ reverse (schedule_of_halves c d)
 
 -- ---- from halves to round keys

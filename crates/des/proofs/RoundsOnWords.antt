@@ -1,6 +1,6 @@
 -- The rounds of the cipher on words: the steps from a block to what the rounds make of it.
 use Rattle.std.proofs.Common.{◌≡◌, ℕ, ◌-◌, List, [], ◌∷◌, ◌++◌, Bool, length, take, drop, reverse, refl, ap, ap₂, sym, ◌∙◌, take_at, drop_at, length-drop}
-use Rattle.std.proofs.lemmas.List.{map-append, reverse-append}
+use Rattle.std.proofs.lemmas.List.{map-append}
 use Rattle.des.specs.Bits.{bits_of_word, select, xor_bits}
 use Rattle.des.specs.Tables.{initial_permutation, final_permutation}
 use Rattle.des.specs.CipherFunction.{cipher_function}
@@ -8,6 +8,7 @@ use Rattle.des.specs.Rounds.{after_rounds, swapped, through_rounds}
 use Rattle.des.specs.RoundKeyWords.{round_keys_of}
 use Rattle.des.specs.Laws.BitLists.{length-bits_of}
 use Rattle.des.specs.Laws.RoundsUndone.{after_rounds-append}
+use Rattle.des.proofs.ReversedLists.{map-reverse}
 
 -- the two halves of a word
 abbrev pub halves_of : ℕ → List Bool × List Bool
@@ -67,9 +68,4 @@ through_rounds-halves words first last block answer begins rounds ends =
 -- the words from the last to the first hold the round keys from the last to the first
 pub round_keys_of-reverse : (words : List ℕ) → round_keys_of (reverse words) ≡ reverse (round_keys_of words)
 unfolding round_keys_of
-round_keys_of-reverse [] = refl
-round_keys_of-reverse (word ∷ words) =
-    ap round_keys_of (reverse-append (word ∷ []) words)
-    ∙ map-append (λ w. take 48 (bits_of_word w)) (reverse words) (word ∷ [])
-    ∙ ap (λ (keys : List (List Bool)). keys ++ take 48 (bits_of_word word) ∷ []) (round_keys_of-reverse words)
-    ∙ sym (reverse-append (take 48 (bits_of_word word) ∷ []) (round_keys_of words))
+round_keys_of-reverse words = map-reverse (λ w. take 48 (bits_of_word w)) words

@@ -36,7 +36,7 @@ substitute_by-drop i x below =
     rw (drop_more selection_functions i [] below, take-drop-bits_of_word i x below, drop-drop 6 (6 * i) bits, next)
 
 -- the lowest six bits of a number, as a number
-abbrev pub group_of : ℕ → ℕ
+abbrev group_of : ℕ → ℕ
 group_of x = bit_and x 63
 
 -- the entry of box i for a group, as a number, as the list of the boxes has it

@@ -1,12 +1,13 @@
 -- What three passes of DES under three keys answer: the graph of each direction is the relations joined.
 use Rattle.std.proofs.Common.{ℕ, ◌*◌, ◌≤◌, List, lit≤}
 use Rattle.des.specs.Blocks.{IsKey, part}
-use Rattle.des.specs.Relations.{IsTheOne, HasOneAnswerEachWay, IsGraphOf}
+use Rattle.des.specs.Relations.{HasOneAnswerEachWay, IsGraphOf}
 use Rattle.des.specs.Enciphering.{Enciphers}
 use Rattle.des.specs.Des.{encryption, decryption}
 use Rattle.des.specs.Triple.{through, Ede3, Eee3, Ede2, Eee2, EnciphersEde3, EnciphersEee3, EnciphersEde2, EnciphersEee2}
+use Rattle.des.specs.TripleCiphers.{ede3_encryption, ede3_decryption, eee3_encryption, eee3_decryption, ede2_encryption, ede2_decryption, eee2_encryption, eee2_decryption}
 use Rattle.des.specs.Laws.Passes.{IsPass, IsPass-turned, IsPass-through}
-use Rattle.des.proofs.PassGraphs.{IsTheOne-back_through, IsTheOne-through, IsGraphOf-through, HasOneAnswerEachWay-graph, IsGraphOf-turned, IsGraphOf-beside, IsTheOne-beside}
+use Rattle.des.proofs.PassGraphs.{IsGraphOf-through, HasOneAnswerEachWay-graph, IsGraphOf-turned, IsGraphOf-beside, IsTheOne-beside}
 use Rattle.des.specs.Laws.DesLaws.{IsPass-key}
 use Rattle.des.proofs.Graphs.{IsGraphOf-encryption, IsGraphOf-decryption}
 use Rattle.des.proofs.KeyParts.{IsKey-part}
@@ -56,26 +57,8 @@ module _ (k1 k2 k3 : List ℕ) where
       (IsGraphOf-through (encryption k1) (decryption k1) (encryption k2) (decryption k2) (encryption k3)
       (λ x u. Enciphers k1 x u) (λ u v. Enciphers k2 u v) (λ v y. Enciphers k3 v y) (IsPass-key k1) (IsPass-key k2) first second third)
 
--- three passes over blocks, each of which gives the one block of its key
-module _ (k1 k2 k3 x u v y : List ℕ) where
-  pub IsTheOne-ede : IsTheOne (λ a. Enciphers k1 x a) u → IsTheOne (λ a. Enciphers k2 a u) v → IsTheOne (λ a. Enciphers k3 v a) y
-      → IsTheOne (λ a. Ede3 k1 k2 k3 x a) y
-  IsTheOne-ede = IsTheOne-through (λ a b. Enciphers k1 a b) (λ a b. Enciphers k2 b a) (λ a b. Enciphers k3 a b) x u v y
-
-  pub IsTheOne-eee : IsTheOne (λ a. Enciphers k1 x a) u → IsTheOne (λ a. Enciphers k2 u a) v → IsTheOne (λ a. Enciphers k3 v a) y
-      → IsTheOne (λ a. Eee3 k1 k2 k3 x a) y
-  IsTheOne-eee = IsTheOne-through (λ a b. Enciphers k1 a b) (λ a b. Enciphers k2 a b) (λ a b. Enciphers k3 a b) x u v y
-
-  pub IsTheOne-ede_back : IsTheOne (λ a. Enciphers k3 a y) v → IsTheOne (λ a. Enciphers k2 v a) u → IsTheOne (λ a. Enciphers k1 a u) x
-      → IsTheOne (λ a. Ede3 k1 k2 k3 a y) x
-  IsTheOne-ede_back = IsTheOne-back_through (λ a b. Enciphers k1 a b) (λ a b. Enciphers k2 b a) (λ a b. Enciphers k3 a b) x u v y
-
-  pub IsTheOne-eee_back : IsTheOne (λ a. Enciphers k3 a y) v → IsTheOne (λ a. Enciphers k2 a v) u → IsTheOne (λ a. Enciphers k1 a u) x
-      → IsTheOne (λ a. Eee3 k1 k2 k3 a y) x
-  IsTheOne-eee_back = IsTheOne-back_through (λ a b. Enciphers k1 a b) (λ a b. Enciphers k2 a b) (λ a b. Enciphers k3 a b) x u v y
-
 -- where a fact holds, so do they by the relation with the fact beside it
-pub AnswerBy-beside : (Fact : Type 0) (forth back : List ℕ → List ℕ) (Answers : List ℕ → List ℕ → Type 0) → Fact
+AnswerBy-beside : (Fact : Type 0) (forth back : List ℕ → List ℕ) (Answers : List ℕ → List ℕ → Type 0) → Fact
     → AnswerBy forth back Answers → AnswerBy forth back (λ x y. Fact × Answers x y)
 AnswerBy-beside Fact forth back Answers fact by = record {
   one_answer_each_way = record {
@@ -100,28 +83,28 @@ module _ (n size : ℕ) (key : List ℕ) (is_key : IsKey size key) (from : 1 ≤
 
 -- a key answers by the relation of its cipher
 pub AnswerBy-Ede3 : (key : List ℕ) → IsKey 24 key
-    → AnswerBy (ede (part 1 key) (part 2 key) (part 3 key)) (ede_back (part 1 key) (part 2 key) (part 3 key)) (λ x y. EnciphersEde3 key x y)
+    → AnswerBy (ede3_encryption key) (ede3_decryption key) (λ x y. EnciphersEde3 key x y)
 AnswerBy-Ede3 key is_key =
     AnswerBy-beside (IsKey 24 key) _ _ (λ x y. Ede3 (part 1 key) (part 2 key) (part 3 key) x y) is_key
     (AnswerBy-ede (part 1 key) (part 2 key) (part 3 key) (encrypts 1 24 key is_key (lit≤ tt) (lit≤ tt))
     (decrypts 2 24 key is_key (lit≤ tt) (lit≤ tt)) (encrypts 3 24 key is_key (lit≤ tt) (lit≤ tt)))
 
 pub AnswerBy-Eee3 : (key : List ℕ) → IsKey 24 key
-    → AnswerBy (eee (part 1 key) (part 2 key) (part 3 key)) (eee_back (part 1 key) (part 2 key) (part 3 key)) (λ x y. EnciphersEee3 key x y)
+    → AnswerBy (eee3_encryption key) (eee3_decryption key) (λ x y. EnciphersEee3 key x y)
 AnswerBy-Eee3 key is_key =
     AnswerBy-beside (IsKey 24 key) _ _ (λ x y. Eee3 (part 1 key) (part 2 key) (part 3 key) x y) is_key
     (AnswerBy-eee (part 1 key) (part 2 key) (part 3 key) (encrypts 1 24 key is_key (lit≤ tt) (lit≤ tt))
     (encrypts 2 24 key is_key (lit≤ tt) (lit≤ tt)) (encrypts 3 24 key is_key (lit≤ tt) (lit≤ tt)))
 
 pub AnswerBy-Ede2 : (key : List ℕ) → IsKey 16 key
-    → AnswerBy (ede (part 1 key) (part 2 key) (part 1 key)) (ede_back (part 1 key) (part 2 key) (part 1 key)) (λ x y. EnciphersEde2 key x y)
+    → AnswerBy (ede2_encryption key) (ede2_decryption key) (λ x y. EnciphersEde2 key x y)
 AnswerBy-Ede2 key is_key =
     AnswerBy-beside (IsKey 16 key) _ _ (λ x y. Ede2 (part 1 key) (part 2 key) x y) is_key
     (AnswerBy-ede (part 1 key) (part 2 key) (part 1 key) (encrypts 1 16 key is_key (lit≤ tt) (lit≤ tt))
     (decrypts 2 16 key is_key (lit≤ tt) (lit≤ tt)) (encrypts 1 16 key is_key (lit≤ tt) (lit≤ tt)))
 
 pub AnswerBy-Eee2 : (key : List ℕ) → IsKey 16 key
-    → AnswerBy (eee (part 1 key) (part 2 key) (part 1 key)) (eee_back (part 1 key) (part 2 key) (part 1 key)) (λ x y. EnciphersEee2 key x y)
+    → AnswerBy (eee2_encryption key) (eee2_decryption key) (λ x y. EnciphersEee2 key x y)
 AnswerBy-Eee2 key is_key =
     AnswerBy-beside (IsKey 16 key) _ _ (λ x y. Eee2 (part 1 key) (part 2 key) x y) is_key
     (AnswerBy-eee (part 1 key) (part 2 key) (part 1 key) (encrypts 1 16 key is_key (lit≤ tt) (lit≤ tt))

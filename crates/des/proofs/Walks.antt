@@ -18,7 +18,7 @@ abbrev joins : ℕ → ℕ → Link → Bool
 joins here there link = ((link.0 == here) && (link.1 == there)) || ((link.0 == there) && (link.1 == here))
 
 -- whether each position of a walk is linked to the next
-abbrev pub is_walk : List Link → List ℕ → Bool
+abbrev is_walk : List Link → List ℕ → Bool
 is_walk links [] = true
 is_walk links (here ∷ []) = true
 is_walk links (here ∷ there ∷ walk) = list_any (joins here there) links && is_walk links (there ∷ walk)

@@ -14,7 +14,7 @@ unfolding xor_blocks
 length-xor_blocks block other same = length-zip2 bit_xor block other same
 
 -- each of its bytes is the xor of the two at its place
-pub get_or-xor_blocks : (block other : List ℕ) (k : ℕ) → k < length block → k < length other
+get_or-xor_blocks : (block other : List ℕ) (k : ℕ) → k < length block → k < length other
     → get_or (xor_blocks block other) k 0 ≡ bit_xor (get_or block k 0) (get_or other k 0)
 unfolding xor_blocks
 get_or-xor_blocks block other k within inside = get_or-zip2 bit_xor block other k 0 0 0 within inside

@@ -1,5 +1,5 @@
--- The bits of bytes and of words, as lists. The standard numbers bits from left to right and from 1:
--- bit 1 is the most significant bit of the first byte (FIPS 46-3, numbering of bits).
+-- The bits of bytes and of words, as lists. The standard numbers bits from left to right and from
+-- 1: bit 1 is the most significant bit of the first byte (FIPS 46-3, numbering of bits).
 use Rattle.std.specs.Prelude.{ℕ, zero, suc, ◌+◌, ◌-◌, ◌^◌, ◌==◌, if◌then◌else◌, Bool, true, false, not, List, [], ◌∷◌, ◌++◌, length, map, replicate, slice_index_or}
 use Rattle.std.specs.Int.{bit_at}
 

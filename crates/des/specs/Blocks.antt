@@ -24,6 +24,7 @@ IsBlock block = (length block ≡ 8) × AreBytes block
 unfoldable pub block_of_bits : List Bool → List ℕ
 block_of_bits bits = to_be_bytes w64 (number_of bits)
 
--- a list of blocks answers another, block by block: there are as many, and at each place the two are related
+-- a list of blocks answers another, block by block: there are as many, and at each place the two
+-- are related
 abbrev pub AnswersEach : (List ℕ → List ℕ → Type 0) → List (List ℕ) → List (List ℕ) → Type 0
 AnswersEach Answers blocks answers = AllZip Answers blocks answers

@@ -1,5 +1,5 @@
--- The boxes S1 to S8 (FIPS 46-3, S-boxes) as lists: the entry for a group of six bits stands at the number that the
--- group writes.
+-- The boxes S1 to S8 (FIPS 46-3, S-boxes) as lists: the entry for a group of six bits stands at the
+-- number that the group writes.
 use Rattle.std.specs.Prelude.{ℕ, List, map}
 use Rattle.std.specs.List.{range_with_len}
 use Rattle.des.specs.Bits.{bits_of}
@@ -7,7 +7,7 @@ use Rattle.des.specs.Tables.{Box, selection_functions}
 use Rattle.des.specs.CipherFunction.{box_entry}
 
 -- the 64 entries of a box, in the order of the groups 000000 to 111111
-abbrev pub entries_in_order : Box → List ℕ
+abbrev entries_in_order : Box → List ℕ
 entries_in_order box = map (λ group. box_entry box (bits_of 6 group)) (range_with_len 0 64)
 
 -- the eight boxes so

@@ -1,5 +1,6 @@
--- Cipher block chaining, CBC (FIPS 81, cipher block chaining mode), as relations of two whole lists of blocks: p the
--- plaintext and q the ciphertext, numbered from 1, and q(0) the initialization vector. `^` is xor.
+-- Cipher block chaining, CBC (FIPS 81, cipher block chaining mode), as relations of two whole lists
+-- of blocks: p the plaintext and q the ciphertext, numbered from 1, and q(0) the initialization
+-- vector. `^` is xor.
 use Rattle.std.specs.Prelude.{◌≡◌, ℕ, ◌-◌, ◌≤◌, List, [], ◌∷◌, length, slice_index_or, bit_xor}
 use Rattle.std.specs.Simd.Lanes.{zip2}
 
@@ -15,18 +16,23 @@ block_at blocks n = slice_index_or blocks (n - 1) []
 abbrev pub block_before : List ℕ → List (List ℕ) → ℕ → List ℕ
 block_before iv blocks n = block_at (iv ∷ blocks) n
 
--- two lists of as many blocks, chained under a relation of blocks, which has no direction: it takes p(n) ^ q(n-1) to q(n),
--- for each n. That the blocks of p have 8 bytes is said beside it, since `zip2` stops at the end of the shorter list
-pub record Chains (Relates : List ℕ → List ℕ → Type 0) (iv : List ℕ) (p q : List (List ℕ)) : Type 0 where
+-- two lists of as many blocks, chained under a relation of blocks, which has no direction: it takes
+-- p(n) ^ q(n-1) to q(n), for each n. That the blocks of p have 8 bytes is said beside it, since
+-- `zip2` stops at the end of the shorter list
+pub record Chains (Relates : List ℕ → List ℕ → Type 0) (iv : List ℕ) (p q : List (List ℕ))
+    : Type 0 where
   pub count : length q ≡ length p
   pub widths : (n : ℕ) → 1 ≤ n → n ≤ length p → length (block_at p n) ≡ 8
-  pub chained : (n : ℕ) → 1 ≤ n → n ≤ length p → Relates (xor_blocks (block_at p n) (block_before iv q n)) (block_at q n)
+  pub chained : (n : ℕ) → 1 ≤ n → n ≤ length p
+      → Relates (xor_blocks (block_at p n) (block_before iv q n)) (block_at q n)
 
 -- CBC: q(n) = E(p(n) ^ q(n-1)) for each n, by the encryption E
 abbrev pub Cbc : (List ℕ → List ℕ) → List ℕ → List (List ℕ) → List (List ℕ) → Type 0
 Cbc encryption iv p q = Chains (λ block answer. answer ≡ encryption block) iv p q
 
 -- CBC read from q to p: p(n) = D(q(n)) ^ q(n-1) for each n, by the decryption D
-pub record Unchains (decryption : List ℕ → List ℕ) (iv : List ℕ) (q p : List (List ℕ)) : Type 0 where
+pub record Unchains (decryption : List ℕ → List ℕ) (iv : List ℕ) (q p : List (List ℕ))
+    : Type 0 where
   pub count : length p ≡ length q
-  pub unchained : (n : ℕ) → 1 ≤ n → n ≤ length q → block_at p n ≡ xor_blocks (decryption (block_at q n)) (block_before iv q n)
+  pub unchained : (n : ℕ) → 1 ≤ n → n ≤ length q
+      → block_at p n ≡ xor_blocks (decryption (block_at q n)) (block_before iv q n)

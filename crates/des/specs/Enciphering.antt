@@ -1,5 +1,6 @@
--- What DES is, as a relation between a key, a block and a block (FIPS 46-3, enciphering). It has no direction:
--- deciphering is the same relation, read from the second block to the first (FIPS 46-3, deciphering).
+-- What DES is, as a relation between a key, a block and a block (FIPS 46-3, enciphering). It has no
+-- direction: deciphering is the same relation, read from the second block to the first (FIPS 46-3,
+-- deciphering).
 use Rattle.std.specs.Prelude.{◌≡◌, ℕ, ◌+◌, ◌-◌, ◌≤◌, List, [], ◌++◌, Bool, length, slice_index_or}
 use Rattle.des.specs.Bits.{bits_of_bytes, select, xor_bits}
 use Rattle.des.specs.Tables.{initial_permutation}
@@ -11,16 +12,17 @@ use Rattle.des.specs.Blocks.{IsKey, IsBlock}
 abbrev pub half_block : List (List Bool) → ℕ → List Bool
 half_block halves i = slice_index_or halves i []
 
--- a trace of a key: eighteen half blocks, h(0) to h(17), each from h(2) on made of the two before it. The
--- standard's L(n) is h(n), and its R(n) is h(n + 1)
+-- a trace of a key: eighteen half blocks, h(0) to h(17), each from h(2) on made of the two before
+-- it. The standard's L(n) is h(n), and its R(n) is h(n + 1)
 pub record IsTrace (key : List Bool) (h : List (List Bool)) : Type 0 where
   pub count : length h ≡ 18
   pub widths : (i : ℕ) → i ≤ 17 → length (half_block h i) ≡ 32
   pub rounds : (i : ℕ) → 1 ≤ i → i ≤ 16
-      → half_block h (i + 1) ≡ xor_bits (half_block h (i - 1)) (cipher_function (half_block h i) (round_key key i))
+      → half_block h (i + 1)
+      ≡ xor_bits (half_block h (i - 1)) (cipher_function (half_block h i) (round_key key i))
 
--- DES under a key takes block x to block y: a trace of the key begins with the two halves of x after the
--- initial permutation, and ends with those of y, in the opposite order
+-- DES under a key takes block x to block y: a trace of the key begins with the two halves of x
+-- after the initial permutation, and ends with those of y, in the opposite order
 pub record IsDes (key x y : List Bool) : Type 0 where
   pub key_width : length key ≡ 64
   pub first_width : length x ≡ 64

@@ -1,11 +1,12 @@
--- Keys whose halves C and D repeat (FIPS 46-3, key schedule, defines C and D), so that round keys recur.
+-- Keys whose halves C and D repeat (FIPS 46-3, key schedule, defines C and D), so that round keys
+-- recur.
 use Rattle.std.specs.Prelude.{◌≡◌, ◌⊎◌, ℕ, List, Bool}
 use Rattle.des.specs.Bits.{bits_of_bytes}
 use Rattle.des.specs.Complement.{complement_bits}
 use Rattle.des.specs.KeySchedule.{rotate, c_half, d_half}
 
 -- both halves of a key are such
-abbrev pub BothHalves : (List Bool → Type 0) → List ℕ → Type 0
+abbrev BothHalves : (List Bool → Type 0) → List ℕ → Type 0
 BothHalves P key = P (c_half (bits_of_bytes key)) × P (d_half (bits_of_bytes key))
 
 -- both halves, rotated left by n, are as they were
@@ -20,8 +21,8 @@ IsListedHalf half = (rotate half 2 ≡ half) ⊎ (rotate half 2 ≡ complement_b
 abbrev pub HasListedHalves : List ℕ → Type 0
 HasListedHalves key = BothHalves IsListedHalf key
 
--- a key and its partner: both halves of the key are unchanged by rotation by two, and those of the partner are those of
--- the key, rotated left by one
+-- a key and its partner: both halves of the key are unchanged by rotation by two, and those of the
+-- partner are those of the key, rotated left by one
 pub record ArePartners (key partner : List ℕ) : Type 0 where
   pub repeats : HalvesRepeat 2 key
   pub c_rotated : c_half (bits_of_bytes partner) ≡ rotate (c_half (bits_of_bytes key)) 1

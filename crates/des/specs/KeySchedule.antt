@@ -15,16 +15,18 @@ d_half key = drop 28 (select permuted_choice_1 key)
 unfoldable pub rotate : List Bool → ℕ → List Bool
 rotate half n = drop n half ++ take n half
 
--- the left shifts before round key i, together: the standard shifts C and D before each round key in turn, and K(i)
--- takes them as they are after the first i shifts
+-- the left shifts before round key i, together: the standard shifts C and D before each round key
+-- in turn, and K(i) takes them as they are after the first i shifts
 unfoldable pub shifts_through : ℕ → ℕ
 shifts_through i = sum (take i left_shifts)
 
 -- K(i), for i from 1 to 16
 unfoldable pub round_key : List Bool → ℕ → List Bool
 round_key key i =
-    select permuted_choice_2 (rotate (c_half key) (shifts_through i) ++ rotate (d_half key) (shifts_through i))
+    select permuted_choice_2
+    (rotate (c_half key) (shifts_through i) ++ rotate (d_half key) (shifts_through i))
 
 -- K(1) to K(16)
 unfoldable pub key_schedule : List Bool → List (List Bool)
-key_schedule key = map (round_key key) (1 ∷ 2 ∷ 3 ∷ 4 ∷ 5 ∷ 6 ∷ 7 ∷ 8 ∷ 9 ∷ 10 ∷ 11 ∷ 12 ∷ 13 ∷ 14 ∷ 15 ∷ 16 ∷ [])
+key_schedule key =
+    map (round_key key) (1 ∷ 2 ∷ 3 ∷ 4 ∷ 5 ∷ 6 ∷ 7 ∷ 8 ∷ 9 ∷ 10 ∷ 11 ∷ 12 ∷ 13 ∷ 14 ∷ 15 ∷ 16 ∷ [])

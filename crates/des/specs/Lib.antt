@@ -12,6 +12,7 @@ pub mod RoundKeyWords
 pub mod Rounds
 pub mod Des
 pub mod Triple
+pub mod TripleCiphers
 pub mod Cbc
 pub mod Complement
 pub mod Parity

@@ -1,5 +1,5 @@
--- Machine words that hold round keys, each in its first 48 bits with zeros after it. They stand apart from what a
--- `Des` is, since the type itself says that its words are such.
+-- Machine words that hold round keys, each in its first 48 bits with zeros after it. They stand
+-- apart from what a `Des` is, since the type itself says that its words are such.
 use Rattle.std.specs.Prelude.{◌≡◌, ℕ, List, ◌++◌, Bool, map, take}
 use Rattle.des.specs.Bits.{bits_of_word, bits_of_bytes, zeros}
 use Rattle.des.specs.Blocks.{IsKey}
@@ -7,7 +7,8 @@ use Rattle.des.specs.KeySchedule.{key_schedule}
 
 -- the words hold K(1) to K(16) of the key
 abbrev pub HoldRoundKeys : List ℕ → List Bool → Type 0
-HoldRoundKeys words key = map bits_of_word words ≡ map (λ round_key. round_key ++ zeros 16) (key_schedule key)
+HoldRoundKeys words key =
+    map bits_of_word words ≡ map (λ round_key. round_key ++ zeros 16) (key_schedule key)
 
 -- the words hold the round keys of some key of eight bytes
 abbrev pub HoldSomeRoundKeys : List ℕ → Type 0

@@ -1,9 +1,10 @@
--- The permutations IP, IP^-1 and PC-1 of the bits of a word, in steps that each exchange bits at one distance: which
--- bits a step exchanges is a mask, with a one at the lower place of each two.
+-- The permutations IP, IP^-1 and PC-1 of the bits of a word, in steps that each exchange bits at
+-- one distance: which bits a step exchanges is a mask, with a one at the lower place of each two.
 use Rattle.std.specs.Prelude.{ℕ, ◌*◌, ◌/◌, ◌%◌, ◌^◌, List, [], ◌∷◌, bit_and, bit_xor, reverse}
 use Rattle.std.specs.List.{fold}
 
--- the bits of a word under a mask, exchanged with those delta places above them, for a mask where these do not overlap
+-- the bits of a word under a mask, exchanged with those delta places above them, for a mask where
+-- these do not overlap
 unfoldable pub delta_swapped : ℕ → ℕ → ℕ → ℕ
 delta_swapped word delta mask =
     let differing = bit_and (bit_xor word (word / 2 ^ delta)) mask in

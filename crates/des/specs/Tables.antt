@@ -1,4 +1,5 @@
--- The tables of FIPS 46-3, in its rows. A position list names the bits that a selection takes, from 1.
+-- The tables of FIPS 46-3, in its rows. A position list names the bits that a selection takes, from
+-- 1.
 use Rattle.std.specs.Prelude.{ℕ, List, [], ◌∷◌}
 
 -- IP, the initial permutation (enciphering)

@@ -15,9 +15,9 @@ shifted_right word mask places = bit_and word mask / 2 ^ places
 abbrev pub gathered : ℕ → ℕ → ℕ → ℕ → ℕ
 gathered word mask factor kept = bit_and (bit_and word mask * factor % 2 ^ 64) kept
 
--- E of the first 32 bits of a word whose last 32 bits are zero, in its first 48 bits: a term for the bit that comes round
--- to the front, one for each group of six bits or what of it lies in the word, and one for the bit that comes round to
--- the end
+-- E of the first 32 bits of a word whose last 32 bits are zero, in its first 48 bits: a term for
+-- the bit that comes round to the front, one for each group of six bits or what of it lies in the
+-- word, and one for the bit that comes round to the end
 unfoldable pub term_form_of_e : ℕ → ℕ
 term_form_of_e word =
     fold bit_or

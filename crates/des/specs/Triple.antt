@@ -1,16 +1,20 @@
--- The triple ciphers, as relations joined: three passes of DES, each read as the letter in the name says. FIPS 46-3
--- defines EDE (triple data encryption algorithm); the Rust crate defines EEE in the same way.
+-- The triple ciphers, as relations joined: three passes of DES, each read as the letter in the name
+-- says. FIPS 46-3 defines EDE (triple data encryption algorithm); the Rust crate defines EEE in the
+-- same way.
 use Rattle.std.specs.Prelude.{ℕ, List}
 use Rattle.des.specs.Blocks.{IsKey, part}
 use Rattle.des.specs.Enciphering.{Enciphers}
 
--- encryption, decryption, encryption: x to u under the first part, u from v under the second, v to y under the third
+-- encryption, decryption, encryption: x to u under the first part, u from v under the second, v to
+-- y under the third
 abbrev pub Ede3 : List ℕ → List ℕ → List ℕ → List ℕ → List ℕ → Type 0
-Ede3 k1 k2 k3 x y = (u : List ℕ) × ((v : List ℕ) × (Enciphers k1 x u × Enciphers k2 v u × Enciphers k3 v y))
+Ede3 k1 k2 k3 x y =
+    (u : List ℕ) × ((v : List ℕ) × (Enciphers k1 x u × Enciphers k2 v u × Enciphers k3 v y))
 
 -- encryption, encryption, encryption
 abbrev pub Eee3 : List ℕ → List ℕ → List ℕ → List ℕ → List ℕ → Type 0
-Eee3 k1 k2 k3 x y = (u : List ℕ) × ((v : List ℕ) × (Enciphers k1 x u × Enciphers k2 u v × Enciphers k3 v y))
+Eee3 k1 k2 k3 x y =
+    (u : List ℕ) × ((v : List ℕ) × (Enciphers k1 x u × Enciphers k2 u v × Enciphers k3 v y))
 
 -- of two parts, with the first again as the third
 abbrev pub Ede2 : List ℕ → List ℕ → List ℕ → List ℕ → Type 0

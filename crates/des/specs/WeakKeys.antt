@@ -1,6 +1,6 @@
--- The keys that the weak key test refuses: those with a part of the listed class, whose halves C and D repeat so that a few
--- round keys recur (the list of the Rust crate `des` has the keys of the class that have odd parity), and those with two
--- parts that agree outside parity.
+-- The keys that the weak key test refuses: those with a part of the listed class, whose halves C
+-- and D repeat so that a few round keys recur (the list of the Rust crate `des` has the keys of the
+-- class that have odd parity), and those with two parts that agree outside parity.
 use Rattle.std.specs.Prelude.{◌<◌, ◌≤◌, ◌*◌, ◌⊎◌, ℕ, List, [], ◌∷◌, length, map}
 use Rattle.std.specs.Int.{w64, to_be_bytes}
 use Rattle.des.specs.Blocks.{IsKey, part}
@@ -31,7 +31,8 @@ listed_words =
 abbrev pub listed_keys : List (List ℕ)
 listed_keys = map (to_be_bytes w64) listed_words
 
--- the listed class: the keys of eight bytes whose halves, rotated left by two, are themselves or their complements
+-- the listed class: the keys of eight bytes whose halves, rotated left by two, are themselves or
+-- their complements
 abbrev pub IsListed : List ℕ → Type 0
 IsListed key = IsKey 8 key × HasListedHalves key
 
@@ -40,13 +41,14 @@ abbrev pub IsPartOf : List ℕ → ℕ → Type 0
 IsPartOf key n = (1 ≤ n) × (8 * n ≤ length key)
 
 -- some part of the key is such
-abbrev pub HasPart : (List ℕ → Type 0) → List ℕ → Type 0
+abbrev HasPart : (List ℕ → Type 0) → List ℕ → Type 0
 HasPart P key = (n : ℕ) × (IsPartOf key n × P (part n key))
 
 -- two parts of the key agree outside parity
-abbrev pub HasAgreeingParts : List ℕ → Type 0
+abbrev HasAgreeingParts : List ℕ → Type 0
 HasAgreeingParts key =
-    (m : ℕ) × ((n : ℕ) × (IsPartOf key m × IsPartOf key n × (m < n) × AgreeOutsideParity (part m key) (part n key)))
+    (m : ℕ) × ((n : ℕ)
+    × (IsPartOf key m × IsPartOf key n × (m < n) × AgreeOutsideParity (part m key) (part n key)))
 
 -- the key is refused: a part is of the listed class, or two parts agree outside parity
 abbrev pub IsRefused : List ℕ → Type 0

@@ -1,17 +1,19 @@
 //! Cipher block chaining over any block cipher (FIPS 81, cipher block chaining mode): each block is
-//! encrypted after it is xored with the ciphertext block before it, the first with an initialization
-//! vector.
+//! encrypted after it is xored with the ciphertext block before it, the first with an
+//! initialization vector.
 //!
-//! Blocks are whole, 8 bytes each: padding is the caller's. So is authentication, which the mode does
-//! not give. An initialization vector must not be used twice under a key, nor be predictable.
+//! Blocks are whole, 8 bytes each: padding is the caller's. So is authentication, which the mode
+//! does not give. An initialization vector must not be used twice under a key, nor be predictable.
 
 ghost use Rattle.std.specs.Prelude.{◌≡◌};
+ghost use Rattle.std.specs.List.{All};
+ghost use Rattle.des.specs.Blocks.{IsBlock};
 ghost use Rattle.des.specs.Cbc.{xor_blocks, Cbc, Unchains};
 
-use crate::cipher::{BlockCipherDecrypt, BlockCipherEncrypt};
+use crate::cipher::{BlockCipherDecrypt, BlockCipherEncrypt, are_blocks};
 
-/// The block becomes its xor with the other, byte by byte. Public for bodies of the mode that take many
-/// blocks at a time.
+/// The block becomes its xor with the other, byte by byte. Public for bodies of the mode that take
+/// many blocks at a time.
 pub fn xor(block: &mut [u8; 8], other: &[u8; 8])
     ensures { block.new ≡ xor_blocks block.old other.now }
 {
@@ -20,13 +22,15 @@ pub fn xor(block: &mut [u8; 8], other: &[u8; 8])
     }
 }
 
-/// Encrypts a list of blocks of 8 bytes in place, chained from the initialization vector: plaintext goes
-/// in, and the ciphertext comes out, as many blocks. With p the plaintext and q the ciphertext, numbered
-/// from 1, q(0) the initialization vector and E the cipher's encryption, q(n) = E(p(n) ^ q(n-1)). An
-/// empty list stays empty.
+/// Encrypts a list of blocks of 8 bytes in place, chained from the initialization vector: plaintext
+/// goes in, and the ciphertext comes out, as many blocks. With p the plaintext and q the
+/// ciphertext, numbered from 1, q(0) the initialization vector and E the cipher's encryption, q(n)
+/// = E(p(n) ^ q(n-1)). An empty list stays empty.
 pub fn encrypt<C: BlockCipherEncrypt>(cipher: &C, iv: &[u8; 8], blocks: &mut [[u8; 8]])
-    ensures { Cbc (C.encrypted cipher.now) iv.now blocks.old blocks.new }
+    ensures blocks { All IsBlock blocks.old }
+    ensures chained { Cbc (C.encrypted cipher.now) iv.now blocks.old blocks.new }
 {
+    are_blocks(blocks);
     let mut previous = *iv;
     for block in blocks.iter_mut() {
         xor(block, &previous);
@@ -40,8 +44,10 @@ pub fn encrypt<C: BlockCipherEncrypt>(cipher: &C, iv: &[u8; 8], blocks: &mut [[u
 /// plaintext, numbered from 1, q(0) the initialization vector and D the cipher's decryption,
 /// p(n) = D(q(n)) ^ q(n-1). An empty list stays empty.
 pub fn decrypt<C: BlockCipherDecrypt>(cipher: &C, iv: &[u8; 8], blocks: &mut [[u8; 8]])
-    ensures { Unchains (C.decrypted cipher.now) iv.now blocks.old blocks.new }
+    ensures blocks { All IsBlock blocks.old }
+    ensures unchained { Unchains (C.decrypted cipher.now) iv.now blocks.old blocks.new }
 {
+    are_blocks(blocks);
     let mut before = *iv;
     for block in blocks.iter_mut() {
         let ciphertext = *block;
@@ -50,6 +56,3 @@ pub fn decrypt<C: BlockCipherDecrypt>(cipher: &C, iv: &[u8; 8], blocks: &mut [[u
         before = ciphertext;
     }
 }
-
-#[cfg(test)]
-mod tests;

@@ -5,7 +5,9 @@
 //! number below 256, a block is eight bytes and a key `KEY_SIZE` bytes.
 
 ghost use Rattle.std.specs.Prelude.{◌≡◌, ◌↔◌, ◌≤◌, ℕ, List, length, map, codes, Some, IsSome, IfSome, IsOk, IfOk, OnOk, OnErr};
-ghost use Rattle.des.specs.Blocks.{AreBytes, IsKey, IsBlock};
+ghost use Rattle.std.specs.List.{All};
+ghost use Rattle.des.specs.Blocks.{AreBytes, IsKey, IsBlock, AnswersEach};
+ghost use Rattle.des.specs.Relations.{IsTheOneList};
 ghost use Rattle.des.specs.Complement.{complement};
 
 use std::error::Error;
@@ -180,10 +182,47 @@ pub trait ParBlocksSizeUser: BlockSizeUser {
     ghost par_blocks_is_positive: { 1 ≤ PAR_BLOCKS };
 }
 
+/// A cipher that treats its blocks, of 8 bytes, one at a time.
+pub trait OneBlockAtATime {}
+
+impl<C: OneBlockAtATime> BlockSizeUser for C {
+    ghost use Rattle.std.specs.Prelude.{refl};
+
+    const BLOCK_SIZE: usize = 8;
+
+    ghost BLOCK_SIZE = { 8 };
+
+    ghost block_size_is_eight = { refl };
+}
+
+impl<C: OneBlockAtATime> ParBlocksSizeUser for C {
+    ghost use Rattle.std.proofs.Common.{lit≤};
+
+    const PAR_BLOCKS: usize = 1;
+
+    ghost PAR_BLOCKS = { 1 };
+
+    ghost par_blocks_is_positive = { lit≤ tt };
+}
+
 /// A type with the name of an algorithm.
 pub trait AlgorithmName {
     /// The type's name, such as `Des`.
     const NAME: &'static str;
+}
+
+// The numbers of a slice of bytes are bytes.
+fn are_bytes(bytes: &[u8])
+    ensures { AreBytes bytes.now }
+{}
+
+/// The elements of a list of arrays of 8 bytes are blocks. It does nothing: of such a list a proof
+/// knows the lengths alone, and learns by this clause that the numbers are bytes. The list calls of
+/// ciphers say it of their lists themselves.
+pub fn are_blocks(blocks: &[[u8; 8]])
+    ensures { All IsBlock blocks.now }
+{
+    are_bytes(blocks.as_flattened());
 }
 
 // Copies a list of blocks into one of the same length.
@@ -218,8 +257,10 @@ pub trait BlockCipherEncrypt: BlockSizeUser {
 
     /// Encrypts each block of 8 bytes in place, in order. An empty list stays empty.
     final fn encrypt_blocks(&self, blocks: &mut [[u8; 8]])
-        ensures { blocks.new ≡ map (encrypted self.now) blocks.old }
+        ensures blocks { All IsBlock blocks.old }
+        ensures encrypted { blocks.new ≡ map (encrypted self.now) blocks.old }
     {
+        are_blocks(blocks);
         for block in blocks.iter_mut() {
             self.encrypt_block(block);
         }
@@ -232,10 +273,12 @@ pub trait BlockCipherEncrypt: BlockSizeUser {
         input: &[[u8; 8]],
         output: &mut [[u8; 8]],
     ) -> Result<(), NotEqualError>
+        ensures blocks { All IsBlock input.now }
         ensures accepted { IsOk result ↔ (length input.now ≡ length output.old) }
         ensures ok { OnOk result (output.new ≡ map (encrypted self.now) input.now) }
         ensures err { OnErr result (output.new ≡ output.old) }
     {
+        are_blocks(input);
         copy_blocks(input, output)?;
         self.encrypt_blocks(output);
         Ok(())
@@ -261,8 +304,10 @@ pub trait BlockCipherDecrypt: BlockSizeUser {
 
     /// Decrypts each block of 8 bytes in place, in order. An empty list stays empty.
     final fn decrypt_blocks(&self, blocks: &mut [[u8; 8]])
-        ensures { blocks.new ≡ map (decrypted self.now) blocks.old }
+        ensures blocks { All IsBlock blocks.old }
+        ensures decrypted { blocks.new ≡ map (decrypted self.now) blocks.old }
     {
+        are_blocks(blocks);
         for block in blocks.iter_mut() {
             self.decrypt_block(block);
         }
@@ -275,10 +320,12 @@ pub trait BlockCipherDecrypt: BlockSizeUser {
         input: &[[u8; 8]],
         output: &mut [[u8; 8]],
     ) -> Result<(), NotEqualError>
+        ensures blocks { All IsBlock input.now }
         ensures accepted { IsOk result ↔ (length input.now ≡ length output.old) }
         ensures ok { OnOk result (output.new ≡ map (decrypted self.now) input.now) }
         ensures err { OnErr result (output.new ≡ output.old) }
     {
+        are_blocks(input);
         copy_blocks(input, output)?;
         self.decrypt_blocks(output);
         Ok(())
@@ -319,8 +366,29 @@ pub trait KeyedCipher: KeyInit + BlockCipher {
         → IsBlock block → Self.decrypted cipher block ≡ decryption key block };
 }
 
+/// A keyed cipher whose key is a relation of blocks: what a cipher answers to a block is the one
+/// block that the relation of its key takes the block to, and from the answer back to the block.
+pub trait Relating: KeyedCipher {
+    // The relation of a key: it takes a block to its encryption.
+    ghost relation: { List ℕ → List ℕ → List ℕ → Type 0 };
+
+    /// What the calls for lists answer, by the relation of the key that the cipher is made from: as
+    /// many blocks, each the answer to the block at its place, and no other list answers so. It
+    /// does nothing: with the clause of a list call, it says in one step what the call made.
+    fn relate_lists(&self)
+        ensures encrypted { (key : List ℕ) → Self.is_made_from self.now key
+            → (blocks : List (List ℕ)) → All IsBlock blocks
+            → IsTheOneList (λ answers. AnswersEach (relation key) blocks answers)
+            (map (Self.encrypted self.now) blocks) }
+        ensures decrypted { (key : List ℕ) → Self.is_made_from self.now key
+            → (blocks : List (List ℕ)) → All IsBlock blocks
+            → IsTheOneList (λ answers. AnswersEach (relation key) answers blocks)
+            (map (Self.decrypted self.now) blocks) };
+}
+
 /// A block cipher whose keys answer complements with complements: with every bit of the key
-/// complemented, the answer to the complemented block is the complemented answer, in each direction.
+/// complemented, the answer to the complemented block is the complemented answer, in each
+/// direction.
 pub trait Complementing: KeyedCipher {
     ghost encryption_complements: { (key block : List ℕ) → IsKey Self.KEY_SIZE key → IsBlock block
         → Self.encryption (complement key) (complement block)
@@ -330,6 +398,3 @@ pub trait Complementing: KeyedCipher {
         → Self.decryption (complement key) (complement block)
         ≡ complement (Self.decryption key block) };
 }
-
-#[cfg(test)]
-pub(crate) mod tests;

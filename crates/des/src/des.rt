@@ -14,8 +14,8 @@ ghost use Rattle.des.specs.Rounds.{answer_by};
 ghost use Rattle.des.specs.RoundKeyWords.{HoldSomeRoundKeys, round_keys_of};
 
 use crate::cipher::{
-    AlgorithmName, BlockCipher, BlockCipherDecrypt, BlockCipherEncrypt, BlockSizeUser,
-    Complementing, KeyInit, KeySizeUser, KeyedCipher, ParBlocksSizeUser,
+    AlgorithmName, BlockCipher, BlockCipherDecrypt, BlockCipherEncrypt, Complementing, KeyInit,
+    KeySizeUser, KeyedCipher, OneBlockAtATime, Relating,
 };
 use crate::utils;
 use std::alloc::AllocError;
@@ -87,8 +87,8 @@ impl Des {
     ghost use Rattle.des.specs.KeyHalves.{HalvesRepeat, HasListedHalves};
 
     /// The round keys K(1) to K(16) of the key that the cipher was made from, each in the first 48
-    /// bits of its word, with zeros after them (FIPS 46-3, key schedule). They do not tell the parity
-    /// bits of the key; whoever has them has all its other bits.
+    /// bits of its word, with zeros after them (FIPS 46-3, key schedule). They do not tell the
+    /// parity bits of the key; whoever has them has all its other bits.
     pub fn round_keys(&self) -> &[u64; 16]
         ensures words { result.now ≡ self.now.round_keys }
         ensures held { (key : List ℕ) → IsDesOf self.now key
@@ -100,9 +100,9 @@ impl Des {
     /// The number of different words among the sixteen round keys, wherever among them they stand.
     ///
     /// By the halves C and D of the key (FIPS 46-3, key schedule): it is 1 exactly where both are
-    /// unchanged by rotation by one; else 2 where both are unchanged by rotation by two; else 4 where
-    /// each, rotated left by two, is itself or its complement; and at most 4 where both repeat every
-    /// four bits.
+    /// unchanged by rotation by one; else 2 where both are unchanged by rotation by two; else 4
+    /// where each, rotated left by two, is itself or its complement; and at most 4 where both
+    /// repeat every four bits.
     pub fn distinct_round_keys(&self) -> u8
         ensures count { result ≡ distinct_count nat_eq self.now.round_keys }
         ensures one { (key : List ℕ) → IsDesOf self.now key → (result ≡ 1) ↔ HalvesRepeat 1 key }
@@ -130,7 +130,7 @@ impl KeySizeUser for Des {
 }
 
 impl KeyInit for Des {
-    ghost use Rattle.des.specs.Des.{IsDesOf};
+    ghost use Rattle.des.specs.Des.{IsDesOf, encryption as encryption_by, decryption as decryption_by};
 
     ghost is_made_from = { IsDesOf };
 
@@ -138,10 +138,8 @@ impl KeyInit for Des {
     fn new(key: &[u8; 8]) -> Des
         ensures made { IsDesOf result key.now }
         ensures one_answer_each_way { HasOneAnswerEachWay (Enciphers key.now) }
-        ensures encryption { IsGraphOf (⟦<Des as KeyedCipher>⟧.encryption key.now)
-            (Enciphers key.now) }
-        ensures decryption { IsGraphOf (⟦<Des as KeyedCipher>⟧.decryption key.now)
-            (λ y x. Enciphers key.now x y) }
+        ensures encryption { IsGraphOf (encryption_by key.now) (Enciphers key.now) }
+        ensures decryption { IsGraphOf (decryption_by key.now) (λ y x. Enciphers key.now x y) }
     {
         Des {
             round_keys: utils::gen_keys(u64::from_be_bytes(*key)),
@@ -149,25 +147,7 @@ impl KeyInit for Des {
     }
 }
 
-impl BlockSizeUser for Des {
-    ghost use Rattle.std.specs.Prelude.{refl};
-
-    const BLOCK_SIZE: usize = 8;
-
-    ghost BLOCK_SIZE = { 8 };
-
-    ghost block_size_is_eight = { refl };
-}
-
-impl ParBlocksSizeUser for Des {
-    ghost use Rattle.std.proofs.Common.{lit≤};
-
-    const PAR_BLOCKS: usize = 1;
-
-    ghost PAR_BLOCKS = { 1 };
-
-    ghost par_blocks_is_positive = { lit≤ tt };
-}
+impl OneBlockAtATime for Des {}
 
 impl AlgorithmName for Des {
     const NAME: &'static str = "Des";
@@ -238,6 +218,12 @@ impl KeyedCipher for Des {
         answer_by-held reverse cipher.round_keys key block made.1 };
 }
 
+impl Relating for Des {
+    ghost relation = { λ key block answer. Enciphers key block answer };
+
+    fn relate_lists(&self) {}
+}
+
 impl Complementing for Des {
     ghost use Rattle.des.specs.Laws.ComplementedKeys.{Complements-encryption, Complements-decryption};
 
@@ -274,6 +260,3 @@ impl fmt::Debug for Des {
         f.write_str("Des { ... }")
     }
 }
-
-#[cfg(test)]
-mod tests;

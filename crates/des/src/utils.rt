@@ -5,7 +5,7 @@
 
 ghost use Rattle.std.specs.Prelude.{◌≡◌, ◌%◌, ◌^◌, ◌<◌, ◌≤◌, ◌++◌, take, drop};
 ghost use Rattle.des.specs.Bits.{bits_of, bits_of_word, select, zeros, xor_bits};
-ghost use Rattle.des.specs.Tables.{initial_permutation, permuted_choice_1, permuted_choice_2, expansion, permutation};
+ghost use Rattle.des.specs.Tables.{initial_permutation, permuted_choice_1, permuted_choice_2, expansion, permutation, left_shifts};
 ghost use Rattle.des.specs.CipherFunction.{substitute, cipher_function};
 ghost use Rattle.des.specs.SwapForms.{delta_swapped, swap_form_of_ip, swap_form_of_fp, swap_form_of_pc1};
 ghost use Rattle.des.specs.TermForms.{gathered, term_form_of_e, term_form_of_pc2, term_form_of_p};
@@ -193,7 +193,8 @@ fn rotate(half: u64, shift: u8) -> u64
 /// The round keys K(1) to K(16) of a key of 64 bits (FIPS 46-3, key schedule), each in the first 48
 /// bits of its word.
 pub fn gen_keys(key: u64) -> [u64; 16]
-    ensures { HoldRoundKeys result (bits_of_word key) }
+    ensures words { HoldRoundKeys result (bits_of_word key) }
+    ensures shifts { SHIFTS ≡ left_shifts }
 {
     let halves = pc1(key);
     let mut c = halves >> 36;
@@ -206,6 +207,3 @@ pub fn gen_keys(key: u64) -> [u64; 16]
     }
     keys
 }
-
-#[cfg(test)]
-mod tests;

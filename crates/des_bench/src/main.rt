@@ -1,5 +1,5 @@
-//! The program `des_bench`: it times the ciphers of `des` and of `des_fast` and the weak key test, and
-//! writes the nanoseconds that each call takes to standard error.
+//! The program `des_bench`: it times the ciphers of `des` and of `des_fast` and the weak key test,
+//! and writes the nanoseconds that each call takes to standard error.
 #![tactic(auto)]
 
 mod stopwatch;

@@ -1,5 +1,5 @@
-//! The table of all figures: a row for each cipher, block by block and by the calls for lists, and one
-//! for the weak key test.
+//! The table of all figures: a row for each cipher, block by block and by the calls for lists, and
+//! one for the weak key test.
 //!
 //! What the timed calls answer is joined in the number below the table, so that no compiler can
 //! leave a call out. A run of blocks begins with what the run before it made of them.

@@ -2,25 +2,25 @@
 use Rattle.std.proofs.Common.{◌≡◌, ℕ, ◌+◌, ◌-◌, ◌<◌, ◌≤◌, Bool, List, [], ◌++◌, length, take, drop, map, ap, ap₂, sym, ◌∙◌, arith, append_assoc, length-take-le, take-add, take_at, drop_at}
 use Rattle.std.proofs.lemmas.List.{length-append, length-drop, length-map, get_or-map, ext_get_or, map-append, drop-drop, take_all, drop_all, append-nil}
 use Rattle.des.specs.Blocks.{block_of_bits}
-use Rattle.des_fast.specs.Slices.{column, InEachBlock}
+use Rattle.des_fast.specs.Slices.{batch, column, InEachBlock}
 use Rattle.des_fast.specs.Transposition.{in_order, place_of, AreSlicesOf, AreBlocksOf}
-use Rattle.des_fast.specs.Passes.{through_passes, HoldPasses, answer_through}
+use Rattle.des_fast.specs.Passes.{through_passes, HoldPasses, block_through_passes}
 
 -- slices that went through passes are those of the answers
 pub answers-from_slices : (old new : List (List ℕ)) (slices answered : List (List (List ℕ))) (passes : List (List (List (List ℕ))))
-    (keys : List (List (List Bool))) → length old ≡ 128 → length new ≡ 128 → AreSlicesOf old slices
+    (keys : List (List (List Bool))) → length old ≡ batch → length new ≡ batch → AreSlicesOf old slices
     → InEachBlock (λ b. column b (in_order answered) ≡ through_passes (map (map (column b)) passes) (column b (in_order slices)))
-    → AreBlocksOf answered new → HoldPasses passes keys → new ≡ map (answer_through keys) old
+    → AreBlocksOf answered new → HoldPasses passes keys → new ≡ map (block_through_passes keys) old
 answers-from_slices old new slices answered passes keys many same are through made hold =
-    ext_get_or [] new (map (answer_through keys) old) (same ∙ sym (length-map old (answer_through keys) ∙ many))
+    ext_get_or [] new (map (block_through_passes keys) old) (same ∙ sym (length-map old (block_through_passes keys) ∙ many))
     (λ k below.
-    let inside : k < 128 = omega arith in
+    let inside : k < batch = omega arith in
     let b : ℕ = place_of k in
-    let within : b < 128 = omega arith in
+    let within : b < batch = omega arith in
     made k inside
     ∙ ap block_of_bits (through b within
     ∙ ap₂ through_passes (hold b within) (are k inside))
-    ∙ sym (get_or-map (answer_through keys) old k [] [] (omega arith)))
+    ∙ sym (get_or-map (block_through_passes keys) old k [] [] (omega arith)))
 
 -- ---- lists
 

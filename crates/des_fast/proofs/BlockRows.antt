@@ -7,7 +7,7 @@ use Rattle.std.proofs.lemmas.List.FromFn.{fill_by_all, length-map-range_with_len
 use Rattle.des.specs.Bits.{bits_of_word, bits_of_bytes}
 use Rattle.des.specs.Blocks.{block_of_bits}
 use Rattle.des.specs.Laws.BitLists.{length-bits_of}
-use Rattle.des_fast.specs.Slices.{bit_of_block, column}
+use Rattle.des_fast.specs.Slices.{batch, bit_of_block, column}
 use Rattle.des_fast.specs.Transposition.{row, in_order, word_at, with_row, IsRowOf, AreRowsOf, AreBlocksOfRows, AreTransposed, AreSlicesOf, AreBlocksOf}
 use Rattle.des_fast.proofs.WordPlaces.{bit_of_block-at, bit_in}
 use Rattle.des_fast.proofs.Stages.{row-in_order, length-in_order}
@@ -115,7 +115,7 @@ AreBlocksOf-rows slices rows blocks transposed are k within =
     ∙ ap block_of_bits (bits_of_word-of_transposed slices rows (k / 2) (k % 2) (omega arith) (omega arith) transposed)
 
 -- the blocks of the rows below n + 1, where those of row n are written
-pub written_rows : (groups : List (List (List ℕ))) (blocks : List (List ℕ)) (n : ℕ) → n < 64 → length blocks ≡ 128
+pub written_rows : (groups : List (List (List ℕ))) (blocks : List (List ℕ)) (n : ℕ) → n < 64 → length blocks ≡ batch
     → ((k : ℕ) → k < 2 * n → IsBlockOf groups k (row blocks k))
     → (k : ℕ) → k < 2 * (n + 1) → IsBlockOf groups k (row (with_row blocks n (row (get_or groups (n / 8) []) (n % 8))) k)
 written_rows groups blocks n below size each k inside =

@@ -1,4 +1,4 @@
--- The tables of permuted choice 2, and their sum over the fours of 56 bits.
+-- The tables of permuted choice 2, and their xor over the fours of 56 bits.
 use Rattle.std.proofs.Common.{◌≡◌, ℕ, ◌+◌, ◌-◌, ◌*◌, ◌/◌, ◌^◌, ◌<◌, List, [], ◌++◌, Bool, length, map, take, drop, slice_index_or, bit_and, bit_xor, refl, ap, ap₂, sym, ◌∙◌, arith, zero-add, append-nil, take_all}
 use Rattle.std.specs.List.{range_with_len}
 use Rattle.std.specs.Int.Bits.{mask_lt}
@@ -14,7 +14,7 @@ use Rattle.des.proofs.LinearWords.{select-xor_bits}
 use Rattle.des_fast.specs.declared.schedule.TheConstants.{CHOICES}
 use Rattle.des_fast.specs.Groups.{word_of_groups, bits_of_groups, IsOfGroups, in_place}
 use Rattle.des_fast.specs.Choices.{choice, choice_tables}
-use Rattle.des_fast.proofs.ListSums.{xor_bits-after}
+use Rattle.des_fast.proofs.XoredLists.{xor_bits-after}
 use Rattle.des_fast.proofs.GroupWords.{IsOfGroups-Holds, bits_of_groups-Holds, Holds-word_of_groups, word_of_groups-lt, IsOfGroups-xor, bits_of_groups-xor}
 
 -- the tables of the code are those of the definition
@@ -23,7 +23,7 @@ unfolding bits_of number_of select
 CHOICES-tables = refl
 
 -- what table i, from 0, has for a value
-abbrev pub entry : ℕ → ℕ → ℕ
+abbrev entry : ℕ → ℕ → ℕ
 entry i value = slice_index_or (slice_index_or CHOICES i []) value 0
 
 -- it is the choice of the definition
@@ -75,11 +75,11 @@ next_four i halves below =
     ap (λ b. front ++ b) (bits_of-four_of i halves below)
     ∙ sym (take-add (4 * i) 4 bits)
     ∙ ap (λ (n : ℕ). take n bits) (omega arith) in
-    let sum : xor_bits (front ++ zeros (4 + rest)) (zeros (4 * i) ++ four ++ zeros rest) ≡ front ++ four ++ zeros rest =
+    let xored : xor_bits (front ++ zeros (4 + rest)) (zeros (4 * i) ++ four ++ zeros rest) ≡ front ++ four ++ zeros rest =
     xor_bits-after (4 * i) 4 rest front four width (length-bits_of 4 (four_of i halves)) in
     let ends : front ++ four ++ zeros rest ≡ take (4 * (i + 1)) bits ++ zeros (56 - 4 * (i + 1)) =
     ap₂ (λ (b : List Bool) (n : ℕ). b ++ zeros n) joined (omega arith) in
-    rw (place, zeros_before) (sum ∙ ends)
+    rw (place, zeros_before) (xored ∙ ends)
 
 pub IsChoiceOf-next : (i halves groups : ℕ) → i < 14 → IsChoiceOf i halves groups
     → IsChoiceOf (i + 1) halves (bit_xor groups (entry i (four_of i halves)))

@@ -9,7 +9,7 @@ use Rattle.des.specs.Tables.{Box, selection_functions, s1, s2, s3, s4, s5, s6, s
 use Rattle.des.specs.CipherFunction.{box_entry, substitute, substitute_by}
 use Rattle.des.specs.Laws.Selections.{length-select, length-xor_bits}
 use Rattle.des.proofs.LinearWords.{bit-xor_bits}
-use Rattle.des_fast.specs.Slices.{column, added_at}
+use Rattle.des_fast.specs.Slices.{column, xor_at}
 
 -- ---- the group of a box
 
@@ -30,39 +30,39 @@ get_or-select_expansion half n k group within =
     get_or-map (bit half) expansion (6 * n + k) 0 false inside
     ∙ ap (λ (i : ℕ). get_or half i false) (expansion-group n k group within)
 
--- six bits that are sums of those of a group are the group of the sum
+-- six bits that are xors of those of a group are the group of the xor
 pub group-xor_bits : (n : ℕ) (group half key : List Bool) → n < 8 → length group ≡ 6 → length key ≡ 48
     → ((k : ℕ) → k < 6 → get_or group k false ≡ xor (get_or half ((4 * n + k + 31) % 32) false) (get_or key (6 * n + k) false))
     → group ≡ take 6 (drop (6 * n) (xor_bits (select expansion half) key))
 group-xor_bits n group half key within six size each =
     let expanded : List Bool = select expansion half in
     let same : length expanded ≡ length key = length-select expansion half ∙ sym size in
-    let sums : List Bool = xor_bits expanded key in
-    let long : length sums ≡ 48 = length-xor_bits expanded key same ∙ length-select expansion half in
-    let rest : List Bool = drop (6 * n) sums in
-    let last : length (take 6 rest) ≡ 6 = rw (length-take 6 rest, length-drop (6 * n) sums, long) (omega arith) in
+    let mixed : List Bool = xor_bits expanded key in
+    let long : length mixed ≡ 48 = length-xor_bits expanded key same ∙ length-select expansion half in
+    let rest : List Bool = drop (6 * n) mixed in
+    let last : length (take 6 rest) ≡ 6 = rw (length-take 6 rest, length-drop (6 * n) mixed, long) (omega arith) in
     ext_get_or false group (take 6 rest) (six ∙ sym last) (λ k below.
     let k_below : k < 6 = omega arith in
     each k k_below
     ∙ ap (λ (bit : Bool). xor bit (get_or key (6 * n + k) false)) (sym (get_or-select_expansion half n k within k_below))
     ∙ sym (bit-xor_bits expanded key (6 * n + k) same)
-    ∙ sym (get_or-drop (6 * n) sums k false)
+    ∙ sym (get_or-drop (6 * n) mixed k false)
     ∙ sym (get_or-take 6 rest k false k_below))
 
 -- ---- the place of an entry
 
--- one more bit added
-pub added_at-more : (bits : List Bool) (indexes : List ℕ) (changes : List Bool) (i : ℕ) → i < length indexes → i < length changes
-    → added_at bits (take (suc i) indexes) (take (suc i) changes)
-    ≡ added_at (added_at bits (take i indexes) (take i changes)) (get_or indexes i 0 ∷ []) (get_or changes i false ∷ [])
-added_at-more bits [] changes i within inside = absurd (omega arith)
-added_at-more bits (index ∷ indexes) [] i within inside = absurd (omega arith)
-added_at-more bits (index ∷ indexes) (change ∷ changes) zero within inside = refl
-added_at-more bits (index ∷ indexes) (change ∷ changes) (suc i) within inside =
-    added_at-more (slice_set bits index (xor (slice_index_or bits index false) change)) indexes changes i (omega arith) (omega arith)
+-- one more bit xored
+pub xor_at-more : (bits : List Bool) (indexes : List ℕ) (changes : List Bool) (i : ℕ) → i < length indexes → i < length changes
+    → xor_at bits (take (suc i) indexes) (take (suc i) changes)
+    ≡ xor_at (xor_at bits (take i indexes) (take i changes)) (get_or indexes i 0 ∷ []) (get_or changes i false ∷ [])
+xor_at-more bits [] changes i within inside = absurd (omega arith)
+xor_at-more bits (index ∷ indexes) [] i within inside = absurd (omega arith)
+xor_at-more bits (index ∷ indexes) (change ∷ changes) zero within inside = refl
+xor_at-more bits (index ∷ indexes) (change ∷ changes) (suc i) within inside =
+    xor_at-more (slice_set bits index (xor (slice_index_or bits index false) change)) indexes changes i (omega arith) (omega arith)
 
 -- the entry of a box for its group
-abbrev pub entry : Box → ℕ → List Bool → ℕ
+abbrev entry : Box → ℕ → List Bool → ℕ
 entry box n bits = box_entry box (take 6 (drop (6 * n) bits))
 
 -- the bits of the entries of boxes for the groups from group n on
@@ -79,57 +79,57 @@ substitute_by-groups (box ∷ boxes) n bits =
     drop-drop 6 (6 * n) bits ∙ ap (λ (k : ℕ). drop k bits) (omega arith) in
     ap (λ rest. bits_of 4 (entry box n bits) ++ rest) (ap (substitute_by boxes) next ∙ substitute_by-groups boxes (n + 1) bits)
 
--- eight entries, added where P puts their bits
-abbrev pub added_entries : List Bool → (x1 x2 x3 x4 x5 x6 x7 x8 : ℕ) → List Bool
-added_entries left x1 x2 x3 x4 x5 x6 x7 x8 =
-    let left_1 = added_at left (8 ∷ 16 ∷ 22 ∷ 30 ∷ []) (bits_of 4 x1) in
-    let left_2 = added_at left_1 (12 ∷ 27 ∷ 1 ∷ 17 ∷ []) (bits_of 4 x2) in
-    let left_3 = added_at left_2 (23 ∷ 15 ∷ 29 ∷ 5 ∷ []) (bits_of 4 x3) in
-    let left_4 = added_at left_3 (25 ∷ 19 ∷ 9 ∷ 0 ∷ []) (bits_of 4 x4) in
-    let left_5 = added_at left_4 (7 ∷ 13 ∷ 24 ∷ 2 ∷ []) (bits_of 4 x5) in
-    let left_6 = added_at left_5 (3 ∷ 28 ∷ 10 ∷ 18 ∷ []) (bits_of 4 x6) in
-    let left_7 = added_at left_6 (31 ∷ 11 ∷ 21 ∷ 6 ∷ []) (bits_of 4 x7) in
-    added_at left_7 (4 ∷ 26 ∷ 14 ∷ 20 ∷ []) (bits_of 4 x8)
+-- eight entries, xored in where P puts their bits
+abbrev xor_entries : List Bool → (x1 x2 x3 x4 x5 x6 x7 x8 : ℕ) → List Bool
+xor_entries left x1 x2 x3 x4 x5 x6 x7 x8 =
+    let left_1 = xor_at left (8 ∷ 16 ∷ 22 ∷ 30 ∷ []) (bits_of 4 x1) in
+    let left_2 = xor_at left_1 (12 ∷ 27 ∷ 1 ∷ 17 ∷ []) (bits_of 4 x2) in
+    let left_3 = xor_at left_2 (23 ∷ 15 ∷ 29 ∷ 5 ∷ []) (bits_of 4 x3) in
+    let left_4 = xor_at left_3 (25 ∷ 19 ∷ 9 ∷ 0 ∷ []) (bits_of 4 x4) in
+    let left_5 = xor_at left_4 (7 ∷ 13 ∷ 24 ∷ 2 ∷ []) (bits_of 4 x5) in
+    let left_6 = xor_at left_5 (3 ∷ 28 ∷ 10 ∷ 18 ∷ []) (bits_of 4 x6) in
+    let left_7 = xor_at left_6 (31 ∷ 11 ∷ 21 ∷ 6 ∷ []) (bits_of 4 x7) in
+    xor_at left_7 (4 ∷ 26 ∷ 14 ∷ 20 ∷ []) (bits_of 4 x8)
 
 -- the same of 32 bits that are written out
-added_entries-listed : (read : ℕ → Bool) (x1 x2 x3 x4 x5 x6 x7 x8 : ℕ)
+xor_entries-listed : (read : ℕ → Bool) (x1 x2 x3 x4 x5 x6 x7 x8 : ℕ)
     → let left = map read (range_with_len 0 32) in
     let entries = bits_of 4 x1 ++ (bits_of 4 x2 ++ (bits_of 4 x3 ++ (bits_of 4 x4
     ++ (bits_of 4 x5 ++ (bits_of 4 x6 ++ (bits_of 4 x7 ++ (bits_of 4 x8 ++ []))))))) in
-    added_entries left x1 x2 x3 x4 x5 x6 x7 x8 ≡ xor_bits left (select permutation entries)
+    xor_entries left x1 x2 x3 x4 x5 x6 x7 x8 ≡ xor_bits left (select permutation entries)
 unfolding bits_of select xor_bits
-added_entries-listed read x1 x2 x3 x4 x5 x6 x7 x8 = refl
+xor_entries-listed read x1 x2 x3 x4 x5 x6 x7 x8 = refl
 
--- the entries of the boxes for their groups, added where P puts their bits, are the substitution permuted by P
-pub added_entries-substitute : (left sums : List Bool) → length left ≡ 32
-    → let x = λ (box : Box) (n : ℕ). box_entry box (take 6 (drop (6 * n) sums)) in
-    added_entries left (x s1 0) (x s2 1) (x s3 2) (x s4 3) (x s5 4) (x s6 5) (x s7 6) (x s8 7)
-    ≡ xor_bits left (select permutation (substitute sums))
-added_entries-substitute left sums size =
-    let x : Box → ℕ → ℕ = λ box n. entry box n sums in
+-- the entries of the boxes for their groups, xored in where P puts their bits, are the substitution permuted by P
+pub xor_entries-substitute : (left mixed : List Bool) → length left ≡ 32
+    → let x = λ (box : Box) (n : ℕ). box_entry box (take 6 (drop (6 * n) mixed)) in
+    xor_entries left (x s1 0) (x s2 1) (x s3 2) (x s4 3) (x s5 4) (x s6 5) (x s7 6) (x s8 7)
+    ≡ xor_bits left (select permutation (substitute mixed))
+xor_entries-substitute left mixed size =
+    let x : Box → ℕ → ℕ = λ box n. entry box n mixed in
     let read : ℕ → Bool = λ i. get_or left i false in
     let listed : left ≡ map read (range_with_len 0 32) = fill_by_all read left 32 false size (λ k below. refl) in
     let replaced : List Bool → Type 0 =
-    λ bits. added_entries bits (x s1 0) (x s2 1) (x s3 2) (x s4 3) (x s5 4) (x s6 5) (x s7 6) (x s8 7)
-    ≡ xor_bits bits (select permutation (substitute sums)) in
+    λ bits. xor_entries bits (x s1 0) (x s2 1) (x s3 2) (x s4 3) (x s5 4) (x s6 5) (x s7 6) (x s8 7)
+    ≡ xor_bits bits (select permutation (substitute mixed)) in
     subst replaced (sym listed) (
-    added_entries-listed read (x s1 0) (x s2 1) (x s3 2) (x s4 3) (x s5 4) (x s6 5) (x s7 6) (x s8 7)
+    xor_entries-listed read (x s1 0) (x s2 1) (x s3 2) (x s4 3) (x s5 4) (x s6 5) (x s7 6) (x s8 7)
     ∙ ap (λ (bits : List Bool). xor_bits (map read (range_with_len 0 32)) (select permutation bits))
-    (sym (substitute_by-groups selection_functions 0 sums)))
+    (sym (substitute_by-groups selection_functions 0 mixed)))
 
 -- ---- on slices
 
--- the step of box n of a round: its entry is added to what the steps before made
-pub column-step : (b n : ℕ) (box : Box) (indexes : List ℕ) (before after group entries : List (List ℕ)) (left sums : List Bool)
+-- the step of box n of a round: its entry is xored into what the steps before made
+pub column-step : (b n : ℕ) (box : Box) (indexes : List ℕ) (before after group entries : List (List ℕ)) (left mixed : List Bool)
     → column b before ≡ left
     → length group ≡ 6
-    → column b group ≡ take 6 (drop (6 * n) sums)
+    → column b group ≡ take 6 (drop (6 * n) mixed)
     → column b entries ≡ bits_of 4 (box_entry box (column b (map (λ i. get_or group i []) (range_with_len 0 6))))
-    → column b after ≡ added_at (column b before) indexes (column b entries)
-    → column b after ≡ added_at left indexes (bits_of 4 (entry box n sums))
-column-step b n box indexes before after group entries left sums so_far six grouped replaced added =
+    → column b after ≡ xor_at (column b before) indexes (column b entries)
+    → column b after ≡ xor_at left indexes (bits_of 4 (entry box n mixed))
+column-step b n box indexes before after group entries left mixed so_far six grouped replaced xored =
     let read : ℕ → List ℕ = λ i. get_or group i [] in
     let listed : group ≡ map read (range_with_len 0 6) = fill_by_all read group 6 [] six (λ k below. refl) in
-    let replaced_group : column b entries ≡ bits_of 4 (entry box n sums) =
+    let replaced_group : column b entries ≡ bits_of 4 (entry box n mixed) =
     replaced ∙ ap (λ (bits : List Bool). bits_of 4 (box_entry box bits)) (ap (column b) (sym listed) ∙ grouped) in
-    added ∙ ap₂ (λ (bits changes : List Bool). added_at bits indexes changes) so_far replaced_group
+    xored ∙ ap₂ (λ (bits changes : List Bool). xor_at bits indexes changes) so_far replaced_group

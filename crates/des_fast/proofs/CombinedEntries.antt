@@ -1,4 +1,4 @@
--- The entries of the combined tables, and their sum for eight groups: the substitution, P and E of the groups' bits.
+-- The entries of the combined tables, and their xor for eight groups: the substitution, P and E of the groups' bits.
 use Rattle.std.proofs.Common.{◌≡◌, ℕ, zero, suc, ◌+◌, ◌-◌, ◌*◌, ◌<◌, List, [], ◌∷◌, ◌++◌, Bool, length, take, drop, slice_index, slice_index_or, bit_xor, refl, ap, ap₂, sym, ◌∙◌, arith, add-zero, zero-add, lit≤}
 use Rattle.std.specs.List.{All}
 use Rattle.std.proofs.lemmas.List.{length-append, length-drop, length-replicate, drop-drop, drop_more}
@@ -12,7 +12,7 @@ use Rattle.des.proofs.LinearWords.{select-xor_bits}
 use Rattle.des_fast.specs.declared.tables.TheConstants.{TABLES}
 use Rattle.des_fast.specs.Groups.{word_of_groups, in_place}
 use Rattle.des_fast.specs.CombinedTables.{combined_entry, combined_table, combined_tables_from, combined_tables}
-use Rattle.des_fast.proofs.ListSums.{xor_bits-in_place}
+use Rattle.des_fast.proofs.XoredLists.{xor_bits-in_place}
 use Rattle.des_fast.proofs.GroupWords.{IsExpansionOf, IsExpansionOf-Holds, Holds-word_of_groups, word_of_groups-lt, IsExpansion-xor, half_of-xor}
 
 -- ---- entries
@@ -32,7 +32,7 @@ slice_index_or-combined_tables_from n (box ∷ boxes) (suc i) below =
     ∙ ap (λ (m : ℕ). combined_table m (slice_index_or boxes i [])) (omega arith)
 
 -- what table i, from 0, has for a group
-abbrev pub entry : ℕ → ℕ → ℕ
+abbrev entry : ℕ → ℕ → ℕ
 entry i group = slice_index_or (slice_index_or TABLES i []) group 0
 
 -- it is the entry of the definition
@@ -55,7 +55,7 @@ entry-expansion i group box_below below =
     (IsExpansionOf-Holds (word_of_groups (select expansion bits)) bits (word_of_groups-lt (select expansion bits))
     (length-select permutation _) (Holds-word_of_groups (select expansion bits)))
 
--- ---- the sum
+-- ---- the xor
 
 -- six bits of a list, from group 0
 abbrev group_of : ℕ → List Bool → List Bool
@@ -86,13 +86,13 @@ length-rest_from i bits =
     length-substitute_by (drop i selection_functions) (drop (6 * i) bits) ∙ ap (λ n. 4 * n) (length-drop i selection_functions)
 
 -- the word is the expansion of P of what the boxes from box i on give, with zeros before it
-abbrev IsSumFrom : ℕ → List Bool → ℕ → Type 0
-IsSumFrom i bits word = IsExpansionOf word (select permutation (zeros (4 * i) ++ rest_from i bits))
+abbrev IsXorFrom : ℕ → List Bool → ℕ → Type 0
+IsXorFrom i bits word = IsExpansionOf word (select permutation (zeros (4 * i) ++ rest_from i bits))
 
 -- zero is that of no box
-IsSumFrom-none : (bits : List Bool) → IsSumFrom 8 bits 0
+IsXorFrom-none : (bits : List Bool) → IsXorFrom 8 bits 0
 unfolding bits_of select substitute_by
-IsSumFrom-none bits = record { is_expansion = record { of_groups = refl; expanded = refl }; has_half = refl }
+IsXorFrom-none bits = record { is_expansion = record { of_groups = refl; expanded = refl }; has_half = refl }
 
 -- the entry of the box before joins its four bits to those of the boxes after it
 in_place-rest_from : (i : ℕ) (bits : List Bool) → i < 8
@@ -107,9 +107,9 @@ in_place-rest_from i bits below =
     (length-rest_from (i + 1) bits ∙ omega arith))
 
 -- so the xor of the entries of the boxes from box i on
-IsSumFrom-box : (i group word : ℕ) (bits : List Bool) → i < 8 → group < 64 → bits_of 6 group ≡ group_of i bits
-    → IsSumFrom (i + 1) bits word → IsSumFrom i bits (bit_xor word (entry i group))
-IsSumFrom-box i group word bits box_below below same rest =
+IsXorFrom-box : (i group word : ℕ) (bits : List Bool) → i < 8 → group < 64 → bits_of 6 group ≡ group_of i bits
+    → IsXorFrom (i + 1) bits word → IsXorFrom i bits (bit_xor word (entry i group))
+IsXorFrom-box i group word bits box_below below same rest =
     let here = entry-expansion i group box_below below in
     let others : List Bool = zeros (4 * (i + 1)) ++ rest_from (i + 1) bits in
     let placed : List Bool = in_place 8 (1 + i) (box_bits i (bits_of 6 group)) in
@@ -131,10 +131,10 @@ module _ (bits : List Bool) (groups : List ℕ) (within : All (λ group. group <
   entry_of : ℕ → ℕ
   entry_of i = entry i (slice_index groups i)
 
-  with_box : (i word : ℕ) → i < 8 → IsSumFrom (i + 1) bits word → IsSumFrom i bits (bit_xor word (entry_of i))
+  with_box : (i word : ℕ) → i < 8 → IsXorFrom (i + 1) bits word → IsXorFrom i bits (bit_xor word (entry_of i))
   unfolding entry_of
   with_box i word below rest =
-      IsSumFrom-box i (slice_index groups i) word bits below (within i 0 (omega arith)) (each i below) rest
+      IsXorFrom-box i (slice_index groups i) word bits below (within i 0 (omega arith)) (each i below) rest
 
   pub IsExpansionOf-entries : let e : ℕ → ℕ = λ i. entry i (slice_index groups i) in
       IsExpansionOf
@@ -143,4 +143,4 @@ module _ (bits : List Bool) (groups : List ℕ) (within : All (λ group. group <
   unfolding entry_of
   IsExpansionOf-entries =
       with_box 0 _ (lit≤ tt) (with_box 1 _ (lit≤ tt) (with_box 2 _ (lit≤ tt) (with_box 3 _ (lit≤ tt)
-      (with_box 4 _ (lit≤ tt) (with_box 5 _ (lit≤ tt) (with_box 6 _ (lit≤ tt) (with_box 7 0 (lit≤ tt) (IsSumFrom-none bits))))))))
+      (with_box 4 _ (lit≤ tt) (with_box 5 _ (lit≤ tt) (with_box 6 _ (lit≤ tt) (with_box 7 0 (lit≤ tt) (IsXorFrom-none bits))))))))

@@ -1,6 +1,6 @@
 -- Eight rows that exchange bits in pairs.
 use Rattle.std.proofs.Common.{◌≡◌, ℕ, zero, suc, ◌+◌, ◌-◌, ◌*◌, ◌/◌, ◌%◌, ◌<◌, List, [], ◌∷◌, ap, ◌∙◌, arith}
-use Rattle.des_fast.specs.Slices.{bit_of_block}
+use Rattle.des_fast.specs.Slices.{batch, bit_of_block}
 use Rattle.des_fast.specs.Transposition.{second, row, ArePairwiseExchanged}
 use Rattle.des_fast.proofs.ExchangedRows.{mod-lt_two}
 
@@ -18,7 +18,7 @@ pub record ExchangeInPairs (distance : ℕ) (rows first second third fourth : Li
   pub fourth_pair : ArePairwiseExchanged 1 distance (row rows 3 ∷ row rows 7 ∷ []) fourth
 
 -- a bit of a row of a pair, by the row of all
-at_pair : (d : ℕ) (rows answer : List (List ℕ)) (i n b : ℕ) → n < 2 → b < 128
+at_pair : (d : ℕ) (rows answer : List (List ℕ)) (i n b : ℕ) → n < 2 → b < batch
     → ArePairwiseExchanged 1 d (row rows i ∷ row rows (4 + i) ∷ []) answer
     → bit_of_block b (row answer n) ≡ bit_of_block (b - d * second d b + d * (n % 2)) (row rows (4 * second d b + i))
 at_pair d rows answer i zero b below within pair =

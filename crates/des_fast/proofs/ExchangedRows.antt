@@ -2,18 +2,18 @@
 use Rattle.std.proofs.Common.{◌≡◌, ℕ, zero, suc, ◌+◌, ◌-◌, ◌*◌, ◌/◌, ◌%◌, ◌^◌, ◌<◌, ◌≤◌, ◌==◌, Bool, true, false, not, ◌&&◌, if◌then◌else◌, nat_lt, List, [], ◌∷◌, length, get_or, bit_and, bit_xor, refl, ap, ap₂, sym, subst, ◌∙◌, arith, ◌≢◌, inl, inr}
 use Rattle.std.specs.Simd.Lanes.{zip2}
 use Rattle.std.proofs.lemmas.Bool.{cases_Bool, cases_lt, and_parts, eqb-true, eqb-false, ltb-false, not-true, cond-true, cond-false}
-use Rattle.des_fast.specs.Slices.{bit_of_block}
+use Rattle.des_fast.specs.Slices.{batch, bit_of_block}
 use Rattle.des_fast.specs.Transposition.{second, pairs_places, row, ArePairwiseExchanged}
 use Rattle.des_fast.proofs.RangeTests.{at_range}
 use Rattle.des_fast.proofs.WordPlaces.{bit_in, bit_in-past, bit_of_block-at}
 use Rattle.des_fast.proofs.Exchanges.{upper, lower, upper-first, upper-second, lower-first, lower-second}
 
 -- the first row with the change
-abbrev pub upper_row : ℕ → ℕ → List ℕ → List ℕ → List ℕ
+abbrev upper_row : ℕ → ℕ → List ℕ → List ℕ → List ℕ
 upper_row d m xs ys = zip2 bit_xor xs (zip2 bit_and (zip2 bit_xor xs (zip2 (λ y k. y / 2 ^ k) ys (d ∷ d ∷ []))) (m ∷ m ∷ []))
 
 -- the second row with the change
-abbrev pub lower_row : ℕ → ℕ → List ℕ → List ℕ → List ℕ
+abbrev lower_row : ℕ → ℕ → List ℕ → List ℕ → List ℕ
 lower_row d m xs ys =
     zip2 bit_xor ys
     (zip2 (λ x k. x * 2 ^ k % 2 ^ 64)
@@ -69,7 +69,7 @@ AreExchangedAt d xs ys above below b t =
     × (bit_of_block b below ≡ bit_of_block (b - d * t + d * 1) (row (xs ∷ ys ∷ []) (1 * t + 0)))
 
 -- at a bit that is second
-exchanged-second : (d m : ℕ) (xs ys : List ℕ) (b : ℕ) → d < 64 → length xs ≡ 2 → length ys ≡ 2 → b < 128
+exchanged-second : (d m : ℕ) (xs ys : List ℕ) (b : ℕ) → d < 64 → length xs ≡ 2 → length ys ≡ 2 → b < batch
     → second_test d m b ≡ true → AreExchangedAt d xs ys (upper_row d m xs ys) (lower_row d m xs ys) b 1
 exchanged-second d m xs ys b small p q within test =
     let place : ℕ = b % 64 in
@@ -91,7 +91,7 @@ exchanged-second d m xs ys b small p q within test =
     )
 
 -- at a bit that is first
-exchanged-first : (d m : ℕ) (xs ys : List ℕ) (b : ℕ) → d < 64 → length xs ≡ 2 → length ys ≡ 2 → b < 128
+exchanged-first : (d m : ℕ) (xs ys : List ℕ) (b : ℕ) → d < 64 → length xs ≡ 2 → length ys ≡ 2 → b < batch
     → first_test d m b ≡ true → AreExchangedAt d xs ys (upper_row d m xs ys) (lower_row d m xs ys) b 0
 exchanged-first d m xs ys b small p q within test =
     let place : ℕ = b % 64 in
@@ -112,7 +112,7 @@ exchanged-first d m xs ys b small p q within test =
     )
 
 -- at each bit
-exchanged-at : (d m : ℕ) (xs ys : List ℕ) (b : ℕ) → d < 64 → length xs ≡ 2 → length ys ≡ 2 → b < 128
+exchanged-at : (d m : ℕ) (xs ys : List ℕ) (b : ℕ) → d < 64 → length xs ≡ 2 → length ys ≡ 2 → b < batch
     → is_paired d m b ≡ true → AreExchangedAt d xs ys (upper_row d m xs ys) (lower_row d m xs ys) b (second d b)
 exchanged-at d m xs ys b small p q within tested =
     let At : ℕ → Type 0 = λ t. AreExchangedAt d xs ys (upper_row d m xs ys) (lower_row d m xs ys) b t in
@@ -132,7 +132,7 @@ exchanged-at d m xs ys b small p q within tested =
 pub ArePairwiseExchanged-rows : (d m : ℕ) (xs ys : List ℕ) → d < 64 → pairs_places d m ≡ true → length xs ≡ 2 → length ys ≡ 2
     → ArePairwiseExchanged 1 d (xs ∷ ys ∷ []) (upper_row d m xs ys ∷ lower_row d m xs ys ∷ [])
 ArePairwiseExchanged-rows d m xs ys small pairs p q zero below b within =
-    (exchanged-at d m xs ys b small p q within (at_range (is_paired d m) 128 b pairs within)).0
+    (exchanged-at d m xs ys b small p q within (at_range (is_paired d m) batch b pairs within)).0
 ArePairwiseExchanged-rows d m xs ys small pairs p q (suc zero) below b within =
-    (exchanged-at d m xs ys b small p q within (at_range (is_paired d m) 128 b pairs within)).1
+    (exchanged-at d m xs ys b small p q within (at_range (is_paired d m) batch b pairs within)).1
 ArePairwiseExchanged-rows d m xs ys small pairs p q (suc (suc n)) below b within = absurd (omega arith)

@@ -5,13 +5,13 @@ use Rattle.std.proofs.Math.Bool.{and-false}
 use Rattle.des.specs.Bits.{xor}
 use Rattle.des_fast.proofs.WordPlaces.{bit_in, bit_in-bitwise, bit_in-shr, bit_in-shl, bit_in-past}
 use Rattle.des_fast.proofs.SliceBits.{IsBitwise-and, IsBitwise-xor}
-use Rattle.des_fast.proofs.ListSums.{xor-false}
+use Rattle.des_fast.proofs.XoredLists.{xor-false}
 
 -- the bits that two words exchange, at the places of the second
-abbrev pub change : ℕ → ℕ → ℕ → ℕ → ℕ
+abbrev change : ℕ → ℕ → ℕ → ℕ → ℕ
 change d m x y = bit_and (bit_xor x (y / 2 ^ d)) m
 
--- a bit added to the sum of itself and another, where the other is taken
+-- a bit xor the xor of itself and another, where the other is taken
 take_other : (x y t : Bool) → t ≡ true → xor x (xor x y && t) ≡ y
 take_other x y t is = grind (arith, is)
 

@@ -85,24 +85,24 @@ IsExpansionOf-Holds word half below width holds =
       has_half = found;
     }
 
--- ---- sums modulo 2
+-- ---- xor
 
 -- the xor of two words of groups is one
 pub IsOfGroups-xor : (a b : ℕ) → IsOfGroups a → IsOfGroups b → IsOfGroups (bit_xor a b)
 IsOfGroups-xor a b first second = and-xor a b 0x3f3f3f3f3f3f3f3f ∙ ap₂ bit_xor first second
 
--- a selection from the bits of a xor is the sum of the selections
+-- a selection from the bits of a xor is the xor of the selections
 select-xor : (places : List ℕ) (a b : ℕ)
     → select places (bits_of_word (bit_xor a b)) ≡ xor_bits (select places (bits_of_word a)) (select places (bits_of_word b))
 select-xor places a b =
     ap (select places) (bits_of-xor 64 a b)
     ∙ select-xor_bits places (bits_of_word a) (bits_of_word b) (length-bits_of 64 a ∙ sym (length-bits_of 64 b))
 
--- it has the sums of the groups
+-- it has the xor of the groups
 pub bits_of_groups-xor : (a b : ℕ) → bits_of_groups (bit_xor a b) ≡ xor_bits (bits_of_groups a) (bits_of_groups b)
 bits_of_groups-xor a b = select-xor group_positions a b
 
--- and the sum of the half blocks
+-- and the xor of the half blocks
 pub half_of-xor : (a b : ℕ) → half_of (bit_xor a b) ≡ xor_bits (half_of a) (half_of b)
 half_of-xor a b = select-xor half_positions a b
 
@@ -110,7 +110,7 @@ half_of-xor a b = select-xor half_positions a b
 length-half_of : (word : ℕ) → length (half_of word) ≡ 32
 length-half_of word = length-select half_positions (bits_of_word word)
 
--- the xor of two expansions is that of the sum
+-- the xor of two expansions is that of the xor
 pub IsExpansion-xor : (a b : ℕ) → IsExpansion a → IsExpansion b → IsExpansion (bit_xor a b)
 IsExpansion-xor a b first second = record {
   of_groups = IsOfGroups-xor a b first.of_groups second.of_groups;

@@ -68,10 +68,10 @@ IsLinearUnder-even_groups =
     (IsLinearUnder-mask 0x0000000100000001 (IsLinear-shr 31 IsLinear-id)) refl
 
 -- the expansion of the left half, and that of the right
-abbrev pub left_groups : ℕ → ℕ
+abbrev left_groups : ℕ → ℕ
 left_groups word = bit_or (bit_and (odd_groups word) 0x3f3f3f3f00000000) (even_groups word / 2 ^ 32)
 
-abbrev pub right_groups : ℕ → ℕ
+abbrev right_groups : ℕ → ℕ
 right_groups word = bit_or (odd_groups word * 2 ^ 32 % 2 ^ 64) (bit_and (even_groups word) 0x000000003f3f3f3f)
 
 IsLinearUnder-left_groups : IsLinearUnder 0x3f3f3f3f3f3f3f3f left_groups
@@ -112,7 +112,7 @@ IsExpansionOf-right_groups word below =
 -- ---- the half block of an expansion
 
 -- the middle four bits of each group, in the last 32 bits of a word
-abbrev pub middle_bits : ℕ → ℕ
+abbrev middle_bits : ℕ → ℕ
 middle_bits groups = bit_or (bit_and (groups / 2 ^ 29) 0x00000000f0f0f0f0) (bit_and (groups / 2 ^ 1) 0x000000000f0f0f0f)
 
 IsLinearUnder-middle_bits : IsLinearUnder 0x00000000ffffffff middle_bits

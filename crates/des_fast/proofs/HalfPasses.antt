@@ -13,7 +13,7 @@ abbrev pub after : List (List Bool) → List Bool × List Bool → List Bool × 
 after keys halves = after_rounds keys halves.0 halves.1
 
 -- each in the place of the other
-abbrev pub turned : List Bool × List Bool → List Bool × List Bool
+abbrev turned : List Bool × List Bool → List Bool × List Bool
 turned halves = (halves.1, halves.0)
 
 -- what the rounds make of a block, from its halves

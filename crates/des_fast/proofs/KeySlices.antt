@@ -5,19 +5,19 @@ use Rattle.std.proofs.lemmas.Bool.{not-true}
 use Rattle.std.proofs.lemmas.Nat.Bits.{shr_and_one}
 use Rattle.des.specs.Bits.{bit, bits_of, bits_of_word, select}
 use Rattle.des.proofs.BitParts.{bit-bits_of}
-use Rattle.des_fast.specs.Slices.{bit_of_block, column}
+use Rattle.des_fast.specs.Slices.{batch, bit_of_block, column}
 use Rattle.des_fast.specs.Transposition.{row}
 use Rattle.des_fast.proofs.RangeTests.{at_range}
 
 -- a slice of ones has the bit of each block
-bit_of_block-ones : (b : ℕ) → b < 128 → bit_of_block b (18446744073709551615 ∷ 18446744073709551615 ∷ []) ≡ true
+bit_of_block-ones : (b : ℕ) → b < batch → bit_of_block b (18446744073709551615 ∷ 18446744073709551615 ∷ []) ≡ true
 unfolding bits_of
-bit_of_block-ones b within = at_range (λ k. bit_of_block k (18446744073709551615 ∷ 18446744073709551615 ∷ [])) 128 b refl within
+bit_of_block-ones b within = at_range (λ k. bit_of_block k (18446744073709551615 ∷ 18446744073709551615 ∷ [])) batch b refl within
 
 -- a slice of zeros has none
-bit_of_block-zeros : (b : ℕ) → b < 128 → bit_of_block b (0 ∷ 0 ∷ []) ≡ false
+bit_of_block-zeros : (b : ℕ) → b < batch → bit_of_block b (0 ∷ 0 ∷ []) ≡ false
 unfolding bits_of
-bit_of_block-zeros b within = not-true _ (at_range (λ k. not (bit_of_block k (0 ∷ 0 ∷ []))) 128 b refl within)
+bit_of_block-zeros b within = not-true _ (at_range (λ k. not (bit_of_block k (0 ∷ 0 ∷ []))) batch b refl within)
 
 -- a bit of a word, shifted to the end
 pub bit-shifted : (word position : ℕ) → 1 ≤ position → position ≤ 64
@@ -26,7 +26,7 @@ bit-shifted word position from to =
     bit-bits_of 64 word position (from, to) ∙ ap (λ (k : ℕ). k == 1) (sym (shr_and_one word (64 - position)))
 
 -- a bit times a word of ones is that word, or one of zeros
-pub bit_of_block-filled : (b value : ℕ) → b < 128 → value < 2
+pub bit_of_block-filled : (b value : ℕ) → b < batch → value < 2
     → (let word : ℕ = value * 18446744073709551615 in bit_of_block b (word ∷ word ∷ []) ≡ (value == 1))
 bit_of_block-filled b zero within below = bit_of_block-zeros b within
 bit_of_block-filled b (suc zero) within below = bit_of_block-ones b within

@@ -16,7 +16,7 @@ pub mod AnsweredBatches
 pub mod UnchainedBatches
 pub mod ThreePasses
 pub mod CipherFunctionByGroups
-pub mod ListSums
+pub mod XoredLists
 pub mod GroupWords
 pub mod GroupBytes
 pub mod CombinedEntries
@@ -25,5 +25,4 @@ pub mod RoundKeysByPlace
 pub mod RoundPairs
 pub mod ChoiceEntries
 pub mod HalfPasses
-pub mod KeyAnswers
 pub mod RotatedTwice

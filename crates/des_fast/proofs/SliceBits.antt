@@ -1,15 +1,16 @@
 -- The bits of slices under operations on words.
-use Rattle.std.proofs.Common.{◌≡◌, ℕ, zero, suc, ◌+◌, ◌-◌, ◌*◌, ◌%◌, ◌^◌, ◌<◌, ◌≤◌, ◌==◌, min, max, Bool, false, not, ◌&&◌, ◌||◌, List, [], ◌∷◌, ◌++◌, length, map, get_or, bit_and, bit_or, bit_xor, Fits, w64, refl, sym, ap, ap₂, ◌∙◌, arith, length-append}
+use Rattle.std.proofs.Common.{◌≡◌, ℕ, zero, suc, ◌-◌, ◌*◌, ◌^◌, ◌<◌, ◌≤◌, ◌==◌, min, max, Bool, false, not, ◌&&◌, ◌||◌, List, [], ◌∷◌, ◌++◌, length, map, get_or, bit_and, bit_or, bit_xor, Fits, w64, refl, sym, ap, ap₂, ◌∙◌, arith, length-append}
 use Rattle.std.specs.Int.{bit_at, bit_not}
 use Rattle.std.specs.Simd.Lanes.{zip2, Each1}
 use Rattle.std.proofs.lemmas.Nat.{or_lt, xor_lt, and_le_l}
-use Rattle.std.proofs.lemmas.Nat.Bits.{bit_at-lt, bit_at_and, bit_at_or, bit_at_xor, bit_at_not}
+use Rattle.std.proofs.lemmas.Nat.Bits.{bit_at-lt, bit_at_and, bit_at_or, bit_at_not}
 use Rattle.std.proofs.lemmas.Bool.Decides.{nat_tests}
 use Rattle.std.proofs.lemmas.List.{length-map, get_or-map, map-append}
 use Rattle.std.proofs.lemmas.Simd.{get_or-zip2, length-zip2}
 use Rattle.des.specs.Bits.{bits_of, bits_of_word, xor}
 use Rattle.des.specs.Laws.BitLists.{length-bits_of}
-use Rattle.des_fast.specs.Slices.{bits_of_slice, bit_of_block}
+use Rattle.des.proofs.BitParts.{bit_at-xor}
+use Rattle.des_fast.specs.Slices.{batch, bits_of_slice, bit_of_block}
 
 -- two words
 abbrev pub IsSlice : List ℕ → Type 0
@@ -30,10 +31,6 @@ min_test a b p q = grind (arith, nat_tests)
 -- the most of two digits is 1 where one of them is
 max_test : (a b : ℕ) → a < 2 → b < 2 → (max a b == 1) ≡ ((a == 1) || (b == 1))
 max_test a b p q = grind (arith, nat_tests)
-
--- the sum of two digits is odd where one of them alone is 1
-sum_test : (a b : ℕ) → a < 2 → b < 2 → ((a + b) % 2 == 1) ≡ xor (a == 1) (b == 1)
-sum_test a b p q = grind (arith, nat_tests)
 
 -- a digit from 1
 not_test : (a : ℕ) → a < 2 → (1 - a == 1) ≡ not (a == 1)
@@ -56,7 +53,7 @@ IsBitwise-or = (
 -- `^` goes bit by bit
 pub IsBitwise-xor : IsBitwise bit_xor xor
 IsBitwise-xor = (
-  λ x y i. ap (λ (k : ℕ). k == 1) (bit_at_xor x y i) ∙ sum_test _ _ (bit_at-lt x i) (bit_at-lt y i),
+  bit_at-xor,
   λ x y p q. record { fits = xor_lt 64 x y p.fits q.fits },
 )
 
@@ -78,7 +75,7 @@ bits_of-not (suc n) x within fits =
 
 -- ---- slices
 
--- a slice has a bit for each of 128 blocks
+-- a slice has a bit for each block of a batch
 length-bits_of_slice : (slice : List ℕ) → length (bits_of_slice slice) ≡ 64 * length slice
 length-bits_of_slice [] = refl
 length-bits_of_slice (word ∷ words) =
@@ -127,7 +124,7 @@ HasBit b slice bit = IsSlice slice × (bit_of_block b slice ≡ bit)
 
 -- the bit of a block under such an operation
 pub HasBit-bitwise : (on_words : ℕ → ℕ → ℕ) (on_bits : Bool → Bool → Bool) → IsBitwise on_words on_bits
-    → (b : ℕ) (xs ys : List ℕ) (x y : Bool) → b < 128 → HasBit b xs x → HasBit b ys y → HasBit b (zip2 on_words xs ys) (on_bits x y)
+    → (b : ℕ) (xs ys : List ℕ) (x y : Bool) → b < batch → HasBit b xs x → HasBit b ys y → HasBit b (zip2 on_words xs ys) (on_bits x y)
 HasBit-bitwise on_words on_bits is b xs ys x y within p q =
     let same : length xs ≡ length ys = omega arith in
     let below_x : b < length (bits_of_slice xs) = rw (length-bits_of_slice xs) (omega arith) in
@@ -139,7 +136,7 @@ HasBit-bitwise on_words on_bits is b xs ys x y within p q =
     )
 
 -- the bit of a block under `!`
-pub HasBit-not : (b : ℕ) (xs : List ℕ) (x : Bool) → b < 128 → HasBit b xs x → HasBit b (map (bit_not w64) xs) (not x)
+pub HasBit-not : (b : ℕ) (xs : List ℕ) (x : Bool) → b < batch → HasBit b xs x → HasBit b (map (bit_not w64) xs) (not x)
 HasBit-not b xs x within p =
     let below : b < length (bits_of_slice xs) = rw (length-bits_of_slice xs) (omega arith) in (
       (length-map xs (bit_not w64) ∙ p.0.0, Each1-not xs),

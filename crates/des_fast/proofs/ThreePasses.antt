@@ -7,7 +7,7 @@ use Rattle.des.specs.Rounds.{through_rounds, answer_by}
 use Rattle.des.specs.Triple.{through}
 use Rattle.des.specs.Laws.BlockBits.{bits_of_bytes-block_of_bits}
 use Rattle.des.specs.Laws.RoundsUndone.{length-through_rounds}
-use Rattle.des_fast.specs.Passes.{answer_through}
+use Rattle.des_fast.specs.Passes.{block_through_passes}
 
 -- the bits of the block that a pass makes
 bits_of_bytes-answer_by : (keys : List (List Bool)) (block : List ℕ)
@@ -16,9 +16,9 @@ bits_of_bytes-answer_by keys block =
     bits_of_bytes-block_of_bits (through_rounds keys (bits_of_bytes block)) (length-through_rounds keys (bits_of_bytes block))
 
 -- three passes are three answers
-pub answer_through-three : (first second third : List (List Bool))
-    → answer_through (first ∷ second ∷ third ∷ []) ≡ through (answer_by first) (answer_by second) (answer_by third)
-answer_through-three first second third =
+pub block_through_passes-three : (first second third : List (List Bool))
+    → block_through_passes (first ∷ second ∷ third ∷ []) ≡ through (answer_by first) (answer_by second) (answer_by third)
+block_through_passes-three first second third =
     fun_ext (λ (block : List ℕ).
     let bits : List Bool = bits_of_bytes block in
     let one : bits_of_bytes (answer_by first block) ≡ through_rounds first bits = bits_of_bytes-answer_by first block in

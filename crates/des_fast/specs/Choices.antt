@@ -5,7 +5,8 @@ use Rattle.des.specs.Bits.{bits_of, select}
 use Rattle.des.specs.Tables.{permuted_choice_2}
 use Rattle.des_fast.specs.Groups.{word_of_groups, in_place}
 
--- what permuted choice 2 makes of a value in place n, from 1, of the fourteen that 56 bits have: a word of groups
+-- what permuted choice 2 makes of a value in place n, from 1, of the fourteen that 56 bits have: a
+-- word of groups
 abbrev pub choice : ℕ → ℕ → ℕ
 choice n value = word_of_groups (select permuted_choice_2 (in_place 14 n (bits_of 4 value)))
 

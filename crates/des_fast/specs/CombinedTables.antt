@@ -1,4 +1,5 @@
--- The combined tables: for each box and each group of six bits, what P and then E make of the box's entry.
+-- The combined tables: for each box and each group of six bits, what P and then E make of the box's
+-- entry.
 use Rattle.std.specs.Prelude.{ℕ, ◌+◌, List, [], ◌∷◌, map}
 use Rattle.std.specs.List.{range_with_len}
 use Rattle.des.specs.Bits.{bits_of, select}
@@ -6,7 +7,8 @@ use Rattle.des.specs.Tables.{Box, selection_functions, expansion, permutation}
 use Rattle.des.specs.CipherFunction.{box_entry}
 use Rattle.des_fast.specs.Groups.{word_of_groups, in_place}
 
--- the entry of box n, from 1, for a group, in its place among those of the eight boxes, after P and E: a word of groups
+-- the entry of box n, from 1, for a group, in its place among those of the eight boxes, after P and
+-- E: a word of groups
 abbrev pub combined_entry : ℕ → Box → ℕ → ℕ
 combined_entry n box group =
     let entry = in_place 8 n (bits_of 4 (box_entry box (bits_of 6 group))) in

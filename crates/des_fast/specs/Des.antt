@@ -1,7 +1,8 @@
--- What a `Des` of this crate is, and what it answers to a block: said with the rounds of `des`, so that both answer alike.
+-- What a `Des` of this crate is, and what it answers to a block: said with the rounds of `des`, so
+-- that both answer alike.
 use Rattle.std.specs.Prelude.{◌≡◌, ℕ, List, reverse}
 use Rattle.des.specs.Bits.{bits_of_bytes}
-use Rattle.des.specs.Blocks.{IsKey, IsBlock}
+use Rattle.des.specs.Blocks.{IsKey}
 use Rattle.des.specs.KeySchedule.{key_schedule}
 use Rattle.des.specs.Rounds.{answer_by}
 use Rattle.des_fast.specs.declared.single.Des.{Des}
@@ -9,7 +10,8 @@ use Rattle.des_fast.specs.HalfBlocks.{round_keys_of}
 
 -- the cipher is a DES of the key of eight bytes: it holds the key's sixteen round keys
 abbrev pub IsDesOf : Des → List ℕ → Type 0
-IsDesOf cipher key = IsKey 8 key × (round_keys_of cipher.round_keys ≡ key_schedule (bits_of_bytes key))
+IsDesOf cipher key =
+    IsKey 8 key × (round_keys_of cipher.round_keys ≡ key_schedule (bits_of_bytes key))
 
 -- the block that the cipher makes of a block by encryption, with the round keys that it holds
 abbrev pub encrypted : Des → List ℕ → List ℕ
@@ -18,7 +20,3 @@ encrypted cipher block = answer_by (round_keys_of cipher.round_keys) block
 -- the block that the cipher makes of a block by decryption
 abbrev pub decrypted : Des → List ℕ → List ℕ
 decrypted cipher block = answer_by (reverse (round_keys_of cipher.round_keys)) block
-
--- two functions answer each block alike
-abbrev pub AnswerAlike : (List ℕ → List ℕ) → (List ℕ → List ℕ) → Type 0
-AnswerAlike answer other_answer = (block : List ℕ) → IsBlock block → answer block ≡ other_answer block

@@ -1,5 +1,6 @@
--- Words of groups: 48 bits in eight groups of six, each in the last six bits of a byte of a word, with zeros before it.
--- The groups 1, 3, 5 and 7 stand in bytes 1 to 4, the groups 2, 4, 6 and 8 in bytes 5 to 8.
+-- Words of groups: 48 bits in eight groups of six, each in the last six bits of a byte of a word,
+-- with zeros before it. The groups 1, 3, 5 and 7 stand in bytes 1 to 4, the groups 2, 4, 6 and 8 in
+-- bytes 5 to 8.
 use Rattle.std.specs.Prelude.{◌≡◌, ℕ, ◌-◌, ◌*◌, List, [], ◌∷◌, ◌++◌, Bool, bit_and}
 use Rattle.des.specs.Bits.{bits_of_word, number_of, zeros, select}
 use Rattle.des.specs.Tables.{expansion}
@@ -16,7 +17,8 @@ group_positions =
     27 ∷ 28 ∷ 29 ∷ 30 ∷ 31 ∷ 32 ∷
     59 ∷ 60 ∷ 61 ∷ 62 ∷ 63 ∷ 64 ∷ []
 
--- the bits of such a word by their positions in the 48, a byte a row: 49 is past the last, and stands for a zero
+-- the bits of such a word by their positions in the 48, a byte a row: 49 is past the last, and
+-- stands for a zero
 abbrev pub positions_in_word : List ℕ
 positions_in_word =
     49 ∷ 49 ∷ 1 ∷ 2 ∷ 3 ∷ 4 ∷ 5 ∷ 6 ∷
@@ -32,7 +34,8 @@ positions_in_word =
 abbrev pub word_of_groups : List Bool → ℕ
 word_of_groups bits = number_of (select positions_in_word bits)
 
--- the middle four positions of each group: those of a half block, where the groups are those of its expansion E
+-- the middle four positions of each group: those of a half block, where the groups are those of its
+-- expansion E
 abbrev pub half_positions : List ℕ
 half_positions =
     4 ∷ 5 ∷ 6 ∷ 7 ∷

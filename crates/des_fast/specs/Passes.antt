@@ -2,8 +2,11 @@
 use Rattle.std.specs.Prelude.{◌≡◌, ℕ, List, [], ◌∷◌, Bool, map}
 use Rattle.des.specs.Bits.{bits_of_bytes}
 use Rattle.des.specs.Blocks.{block_of_bits}
-use Rattle.des.specs.Rounds.{through_rounds}
-use Rattle.des_fast.specs.Slices.{column, InEachBlock}
+use Rattle.des.specs.Rounds.{through_rounds, answer_by}
+use Rattle.des.specs.Triple.{through}
+use Rattle.des_fast.specs.declared.many.passes.Passes.{Passes}
+use Rattle.des_fast.specs.HalfBlocks.{round_keys_of}
+use Rattle.des_fast.specs.Slices.{Slice, column, InEachBlock}
 
 -- what passes make of 64 bits, each by its round keys
 abbrev pub through_passes : List (List (List Bool)) → List Bool → List Bool
@@ -11,9 +14,15 @@ through_passes [] bits = bits
 through_passes (keys ∷ passes) bits = through_passes passes (through_rounds keys bits)
 
 -- what they make of a block
-abbrev pub answer_through : List (List (List Bool)) → List ℕ → List ℕ
-answer_through passes block = block_of_bits (through_passes passes (bits_of_bytes block))
+abbrev pub block_through_passes : List (List (List Bool)) → List ℕ → List ℕ
+block_through_passes passes block = block_of_bits (through_passes passes (bits_of_bytes block))
 
 -- the slices hold these round keys for each block, those of a pass in its order
-abbrev pub HoldPasses : List (List (List (List ℕ))) → List (List (List Bool)) → Type 0
+abbrev pub HoldPasses : List (List (List Slice)) → List (List (List Bool)) → Type 0
 HoldPasses slices keys = InEachBlock (λ b. map (map (column b)) slices ≡ keys)
+
+-- what the three passes of a triple cipher make of a block
+abbrev pub passed : Passes → List ℕ → List ℕ
+passed passes =
+    through (answer_by (round_keys_of passes.first)) (answer_by (round_keys_of passes.second))
+    (answer_by (round_keys_of passes.third))

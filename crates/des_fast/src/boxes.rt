@@ -1,23 +1,24 @@
-//! The boxes S1 to S8 on slices: circuits of gates that answer 128 groups at once.
+//! The boxes S1 to S8 on slices: circuits of gates that answer a group of each block of a batch
+//! at once.
 //!
 //! The six slices that a box takes are the bits of its groups, bit 1 first, and the four that it
-//! gives are the bits of its entries, bit 1 first. They are parameters one by one, not an array, since
-//! of a parameter a proof knows that it is two words of 64 bits.
+//! gives are the bits of its entries, bit 1 first. They are parameters one by one, not an array,
+//! since of a parameter a proof knows that it is two words of 64 bits.
 //!
-//! The circuits were found by a search, on which nothing rests: that they answer as the boxes is proved.
-//! `a & !b` counts as one gate. Who changes a gate changes it in the list of gates of the proof of the
-//! box too, which has them in the same order.
+//! The circuits were found by a search, on which nothing rests: that they answer as the boxes is
+//! proved. `a & !b` counts as one gate. Who changes a gate changes it in the list of gates of the
+//! proof of the box too, which has them in the same order.
 
 ghost use Rattle.std.specs.Prelude.{[], ◌∷◌};
 ghost use Rattle.des.specs.Tables.{s1, s2, s3, s4, s5, s6, s7, s8};
 ghost use Rattle.des_fast.specs.Slices.{ReplacesGroups};
 
-use std::simd::prelude::*;
+use crate::slices::Slice;
 
 /// The box S1 on slices (FIPS 46-3, S-boxes): a circuit of 57 gates.
 #[inline(always)]
 #[rattlefmt::skip]
-pub(crate) fn s1(x1: u64x2, x2: u64x2, x3: u64x2, x4: u64x2, x5: u64x2, x6: u64x2) -> [u64x2; 4]
+pub(crate) fn s1(x1: Slice, x2: Slice, x3: Slice, x4: Slice, x5: Slice, x6: Slice) -> [Slice; 4]
     ensures { ReplacesGroups s1 (x1 ∷ x2 ∷ x3 ∷ x4 ∷ x5 ∷ x6 ∷ []) result }
 {
     let x7 = !x3; let x8 = x4 ^ x1; let x9 = x8 & !x6; let x10 = x7 ^ x9;
@@ -41,7 +42,7 @@ pub(crate) fn s1(x1: u64x2, x2: u64x2, x3: u64x2, x4: u64x2, x5: u64x2, x6: u64x
 /// The box S2 on slices (FIPS 46-3, S-boxes): a circuit of 52 gates.
 #[inline(always)]
 #[rattlefmt::skip]
-pub(crate) fn s2(x1: u64x2, x2: u64x2, x3: u64x2, x4: u64x2, x5: u64x2, x6: u64x2) -> [u64x2; 4]
+pub(crate) fn s2(x1: Slice, x2: Slice, x3: Slice, x4: Slice, x5: Slice, x6: Slice) -> [Slice; 4]
     ensures { ReplacesGroups s2 (x1 ∷ x2 ∷ x3 ∷ x4 ∷ x5 ∷ x6 ∷ []) result }
 {
     let x7 = x6 ^ x5; let x8 = x7 ^ x1; let x9 = x7 & !x8; let x10 = x5 & !x9;
@@ -63,7 +64,7 @@ pub(crate) fn s2(x1: u64x2, x2: u64x2, x3: u64x2, x4: u64x2, x5: u64x2, x6: u64x
 /// The box S3 on slices (FIPS 46-3, S-boxes): a circuit of 51 gates.
 #[inline(always)]
 #[rattlefmt::skip]
-pub(crate) fn s3(x1: u64x2, x2: u64x2, x3: u64x2, x4: u64x2, x5: u64x2, x6: u64x2) -> [u64x2; 4]
+pub(crate) fn s3(x1: Slice, x2: Slice, x3: Slice, x4: Slice, x5: Slice, x6: Slice) -> [Slice; 4]
     ensures { ReplacesGroups s3 (x1 ∷ x2 ∷ x3 ∷ x4 ∷ x5 ∷ x6 ∷ []) result }
 {
     let x7 = x6 ^ x3; let x8 = x6 | x4; let x9 = x8 & x1; let x10 = x7 ^ x9;
@@ -85,7 +86,7 @@ pub(crate) fn s3(x1: u64x2, x2: u64x2, x3: u64x2, x4: u64x2, x5: u64x2, x6: u64x
 /// The box S4 on slices (FIPS 46-3, S-boxes): a circuit of 41 gates.
 #[inline(always)]
 #[rattlefmt::skip]
-pub(crate) fn s4(x1: u64x2, x2: u64x2, x3: u64x2, x4: u64x2, x5: u64x2, x6: u64x2) -> [u64x2; 4]
+pub(crate) fn s4(x1: Slice, x2: Slice, x3: Slice, x4: Slice, x5: Slice, x6: Slice) -> [Slice; 4]
     ensures { ReplacesGroups s4 (x1 ∷ x2 ∷ x3 ∷ x4 ∷ x5 ∷ x6 ∷ []) result }
 {
     let x7 = x5 ^ x4; let x8 = !x7; let x9 = x5 & !x8; let x10 = x9 ^ x3;
@@ -105,7 +106,7 @@ pub(crate) fn s4(x1: u64x2, x2: u64x2, x3: u64x2, x4: u64x2, x5: u64x2, x6: u64x
 /// The box S5 on slices (FIPS 46-3, S-boxes): a circuit of 56 gates.
 #[inline(always)]
 #[rattlefmt::skip]
-pub(crate) fn s5(x1: u64x2, x2: u64x2, x3: u64x2, x4: u64x2, x5: u64x2, x6: u64x2) -> [u64x2; 4]
+pub(crate) fn s5(x1: Slice, x2: Slice, x3: Slice, x4: Slice, x5: Slice, x6: Slice) -> [Slice; 4]
     ensures { ReplacesGroups s5 (x1 ∷ x2 ∷ x3 ∷ x4 ∷ x5 ∷ x6 ∷ []) result }
 {
     let x7 = x6 & x3; let x8 = x7 | x1; let x9 = x8 ^ x4; let x10 = x9 | x3;
@@ -128,7 +129,7 @@ pub(crate) fn s5(x1: u64x2, x2: u64x2, x3: u64x2, x4: u64x2, x5: u64x2, x6: u64x
 /// The box S6 on slices (FIPS 46-3, S-boxes): a circuit of 53 gates.
 #[inline(always)]
 #[rattlefmt::skip]
-pub(crate) fn s6(x1: u64x2, x2: u64x2, x3: u64x2, x4: u64x2, x5: u64x2, x6: u64x2) -> [u64x2; 4]
+pub(crate) fn s6(x1: Slice, x2: Slice, x3: Slice, x4: Slice, x5: Slice, x6: Slice) -> [Slice; 4]
     ensures { ReplacesGroups s6 (x1 ∷ x2 ∷ x3 ∷ x4 ∷ x5 ∷ x6 ∷ []) result }
 {
     let x7 = x5 | x1; let x8 = x7 ^ x2; let x9 = x5 ^ x1; let x10 = x9 & x3;
@@ -151,7 +152,7 @@ pub(crate) fn s6(x1: u64x2, x2: u64x2, x3: u64x2, x4: u64x2, x5: u64x2, x6: u64x
 /// The box S7 on slices (FIPS 46-3, S-boxes): a circuit of 54 gates.
 #[inline(always)]
 #[rattlefmt::skip]
-pub(crate) fn s7(x1: u64x2, x2: u64x2, x3: u64x2, x4: u64x2, x5: u64x2, x6: u64x2) -> [u64x2; 4]
+pub(crate) fn s7(x1: Slice, x2: Slice, x3: Slice, x4: Slice, x5: Slice, x6: Slice) -> [Slice; 4]
     ensures { ReplacesGroups s7 (x1 ∷ x2 ∷ x3 ∷ x4 ∷ x5 ∷ x6 ∷ []) result }
 {
     let x7 = x3 | x2; let x8 = x7 ^ x5; let x9 = x8 ^ x1; let x10 = x5 | x3;
@@ -174,7 +175,7 @@ pub(crate) fn s7(x1: u64x2, x2: u64x2, x3: u64x2, x4: u64x2, x5: u64x2, x6: u64x
 /// The box S8 on slices (FIPS 46-3, S-boxes): a circuit of 51 gates.
 #[inline(always)]
 #[rattlefmt::skip]
-pub(crate) fn s8(x1: u64x2, x2: u64x2, x3: u64x2, x4: u64x2, x5: u64x2, x6: u64x2) -> [u64x2; 4]
+pub(crate) fn s8(x1: Slice, x2: Slice, x3: Slice, x4: Slice, x5: Slice, x6: Slice) -> [Slice; 4]
     ensures { ReplacesGroups s8 (x1 ∷ x2 ∷ x3 ∷ x4 ∷ x5 ∷ x6 ∷ []) result }
 {
     let x7 = x3 ^ x2; let x8 = x3 ^ x1; let x9 = x7 | x2; let x10 = x8 & x9;
@@ -192,6 +193,3 @@ pub(crate) fn s8(x1: u64x2, x2: u64x2, x3: u64x2, x4: u64x2, x5: u64x2, x6: u64x
     let x55 = x52 | x54; let x56 = x55 & x6; let x57 = x51 ^ x56;
     [x50, x39, x24, x57]
 }
-
-#[cfg(test)]
-mod tests;

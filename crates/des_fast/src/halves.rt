@@ -32,8 +32,8 @@ impl HalfBlock {
         ensures within { result < 2 ^ 32 }
         ensures half { bits_of 32 result ≡ half_of self.groups }
     {
-        // The middle four bits of a group are the half's own: the first half of each byte comes from the
-        // groups 1, 3, 5 and 7, the second from the groups 2, 4, 6 and 8.
+        // The middle four bits of a group are the half's own: the first half of each byte comes
+        // from the groups 1, 3, 5 and 7, the second from the groups 2, 4, 6 and 8.
         ((self.groups >> 29) & 0x00000000f0f0f0f0) | ((self.groups >> 1) & 0x000000000f0f0f0f)
     }
 }
@@ -73,9 +73,10 @@ impl Halves {
         ensures left { half_of result.left.groups ≡ take 32 (bits_of_word word) }
         ensures right { half_of result.right.groups ≡ drop 32 (bits_of_word word) }
     {
-        // Both halves at once. The groups 1, 3, 5 and 7 are a half rotated right by three, the groups 2,
-        // 4, 6 and 8 a half rotated left by one, without the first two bits of each byte. The second term
-        // is what comes round: bit 32 of a half to the first bit of group 1, bit 1 to the last of group 8.
+        // Both halves at once. The groups 1, 3, 5 and 7 are a half rotated right by three, the
+        // groups 2, 4, 6 and 8 a half rotated left by one, without the first two bits of each byte.
+        // The second term is what comes round: bit 32 of a half to the first bit of group 1, bit 1
+        // to the last of group 8.
         let odd = ((word >> 3) & 0x1f3f3f3f1f3f3f3f) | ((word << 29) & 0x2000000020000000);
         let even = ((word << 1) & 0x3f3f3f3e3f3f3f3e) | ((word >> 31) & 0x0000000100000001);
         let left = HalfBlock {
@@ -94,8 +95,8 @@ impl Halves {
         (self.left.word() << 32) | self.right.word()
     }
 
-    /// The two halves, each in the place of the other: all that is left to do between two passes of DES,
-    /// where the final permutation of the one and the initial permutation of the other cancel.
+    /// The two halves, each in the place of the other: all that is left to do between two passes of
+    /// DES, where the final permutation of the one and the initial permutation of the other cancel.
     pub(crate) fn swapped(self) -> Halves
         ensures { result ≡ record { left = self.right; right = self.left } }
     {
@@ -105,7 +106,8 @@ impl Halves {
         }
     }
 
-    /// The halves after sixteen rounds, with the round keys in their order (FIPS 46-3, enciphering).
+    /// The halves after sixteen rounds, with the round keys in their order (FIPS 46-3,
+    /// enciphering).
     pub(crate) fn enciphered(self, round_keys: &[RoundKey; 16]) -> Halves
         ensures { half_blocks_of result ≡ after_rounds (round_keys_of round_keys.now)
             (half_of self.left.groups) (half_of self.right.groups) }

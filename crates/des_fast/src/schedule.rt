@@ -139,8 +139,8 @@ pub(crate) fn round_keys(key: u64) -> [RoundKey; 16]
     round_keys
 }
 
-// A half of 28 bits rotated left, of the word that has it twice, one after the other, in its last 56
-// bits.
+// A half of 28 bits rotated left, of the word that has it twice, one after the other, in its last
+// 56 bits.
 #[inline]
 fn rotated(twice: u64, places: u8) -> u64
     requires { places ≤ 28 }
@@ -163,6 +163,3 @@ fn choose(halves: u64) -> RoundKey
     }
     RoundKey { groups }
 }
-
-#[cfg(test)]
-mod tests;

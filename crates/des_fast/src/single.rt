@@ -3,16 +3,18 @@
 
 ghost use Rattle.std.specs.Prelude.{◌≡◌, ℕ, List, codes, Some};
 ghost use Rattle.std.specs.Fmt.{DisplaysOnOk, DisplaysStyledOnOk};
-ghost use Rattle.des.specs.Relations.{IsTheOne, HasOneAnswerEachWay, IsGraphOf};
+ghost use Rattle.des.specs.Relations.{IsTheOne, HasOneAnswerEachWay, IsGraphOf, AnswerAlike};
+ghost use Rattle.des.specs.Des.{encryption as encryption_by, decryption as decryption_by};
+ghost use Rattle.des.specs.Des as port_of;
 ghost use Rattle.des.specs.Enciphering.{Enciphers};
 ghost use Rattle.des.specs.declared.des.Des as port;
-ghost use Rattle.des_fast.specs.Des.{IsDesOf, AnswerAlike, encrypted as encrypted_by, decrypted as decrypted_by};
+ghost use Rattle.des_fast.specs.Des.{IsDesOf, encrypted as encrypted_by, decrypted as decrypted_by};
 
 use crate::halves::{Halves, RoundKey};
 use crate::schedule;
 use des::cipher::{
     AlgorithmName, BlockCipher, BlockCipherDecrypt, BlockCipherEncrypt, BlockSizeUser,
-    Complementing, KeyInit, KeySizeUser, KeyedCipher, ParBlocksSizeUser,
+    Complementing, KeyInit, KeySizeUser, KeyedCipher, ParBlocksSizeUser, Relating,
 };
 use std::alloc::AllocError;
 use std::fmt;
@@ -45,16 +47,12 @@ impl KeyInit for Des {
     fn new(key: &[u8; 8]) -> Des
         ensures made { IsDesOf result key.now }
         ensures one_answer_each_way { HasOneAnswerEachWay (Enciphers key.now) }
-        ensures encryption { IsGraphOf (⟦<Des as KeyedCipher>⟧.encryption key.now)
-            (Enciphers key.now) }
-        ensures decryption { IsGraphOf (⟦<Des as KeyedCipher>⟧.decryption key.now)
-            (λ y x. Enciphers key.now x y) }
-        ensures encrypts_alike { (other : port.Des)
-            → ⟦<des::Des as KeyInit>⟧.is_made_from other key.now
-            → AnswerAlike (encrypted_by result) (⟦<des::Des as BlockCipherEncrypt>⟧.encrypted other) }
-        ensures decrypts_alike { (other : port.Des)
-            → ⟦<des::Des as KeyInit>⟧.is_made_from other key.now
-            → AnswerAlike (decrypted_by result) (⟦<des::Des as BlockCipherDecrypt>⟧.decrypted other) }
+        ensures encryption { IsGraphOf (encryption_by key.now) (Enciphers key.now) }
+        ensures decryption { IsGraphOf (decryption_by key.now) (λ y x. Enciphers key.now x y) }
+        ensures encrypts_alike { (other : port.Des) → port_of.IsDesOf other key.now
+            → AnswerAlike (encrypted_by result) (port_of.encrypted other) }
+        ensures decrypts_alike { (other : port.Des) → port_of.IsDesOf other key.now
+            → AnswerAlike (decrypted_by result) (port_of.decrypted other) }
     {
         Des {
             round_keys: schedule::round_keys(u64::from_be_bytes(*key)),
@@ -132,7 +130,6 @@ impl BlockCipher for Des {
 }
 
 impl KeyedCipher for Des {
-    ghost use Rattle.des.specs.Des.{encryption as encryption_by, decryption as decryption_by};
     ghost use Rattle.des_fast.specs.Laws.DesLaws.{Agree-encrypted, Agree-decrypted};
 
     ghost encryption = { encryption_by };
@@ -144,6 +141,12 @@ impl KeyedCipher for Des {
 
     ghost decrypts_by_key = { λ cipher key block _ made is_block.
         (Agree-decrypted cipher key made).at block is_block };
+}
+
+impl Relating for Des {
+    ghost relation = { λ key block answer. Enciphers key block answer };
+
+    fn relate_lists(&self) {}
 }
 
 impl Complementing for Des {
@@ -182,6 +185,3 @@ impl fmt::Debug for Des {
         f.write_str("Des { ... }")
     }
 }
-
-#[cfg(test)]
-mod tests;

@@ -14,10 +14,10 @@ ghost use Rattle.des_fast.specs.CombinedTables.{combined_tables};
 /// For each box S1 to S8 and each group of six bits, as they stand (the first of them the highest):
 /// the word of groups of E of P of the four bits of the box's entry in their place, with zeros in
 /// the places of the other boxes (FIPS 46-3, S-boxes, and the tables P and E). Each entry is what
-/// `combined_table` of `specs/CombinedTables.antt` computes, which the clause `tables` of `substitute`
-/// says of all.
+/// `combined_table` of `specs/CombinedTables.antt` computes, which the clause `tables` of
+/// `substitute` says of all.
 #[rattlefmt::skip]
-pub static TABLES: [[u64; 64]; 8] = [
+pub(crate) static TABLES: [[u64; 64]; 8] = [
     // S1
     [
         0x0010100001010400, 0x0000000000000000, 0x0000100000010000, 0x0010100001010404,
@@ -175,14 +175,14 @@ pub static TABLES: [[u64; 64]; 8] = [
 /// The substitution by S1 to S8 of the 48 bits in a word of groups, and P after it, as the word of
 /// groups of its expansion E (FIPS 46-3, cipher function).
 #[inline]
-pub fn substitute(word: u64) -> u64
+pub(crate) fn substitute(word: u64) -> u64
     requires { IsOfGroups word }
     ensures tables { TABLES ≡ combined_tables }
     ensures expansion { IsExpansion result }
     ensures substituted { half_of result ≡ select permutation (substitute (bits_of_groups word)) }
 {
     let group = groups_of(word);
-    // The order is free; the proof adds them from the last box to the first.
+    // The order is free; the proof xors them from the last box to the first.
     TABLES[7][group[7]]
         ^ TABLES[6][group[6]]
         ^ TABLES[5][group[5]]
@@ -213,6 +213,3 @@ fn groups_of(word: u64) -> [usize; 8]
         bytes[7] as usize,
     ]
 }
-
-#[cfg(test)]
-mod tests;

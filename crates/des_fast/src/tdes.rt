@@ -11,16 +11,41 @@ ghost use Rattle.des_fast.specs.Des.{encrypted, decrypted};
 
 use crate::halves::Halves;
 use crate::single::Des;
+use des::tdes::{Ede2, Ede3, Eee2, Eee3, SingleDes};
 
-mod ede2;
-mod ede3;
-mod eee2;
-mod eee3;
+/// Triple DES in the EDE form over the `Des` of this crate, with a key of 16 bytes, two parts.
+pub type TdesEde2 = Ede2<Des>;
 
-pub use ede2::TdesEde2;
-pub use ede3::TdesEde3;
-pub use eee2::TdesEee2;
-pub use eee3::TdesEee3;
+/// Triple DES in the EDE form over the `Des` of this crate, with a key of 24 bytes, three parts.
+pub type TdesEde3 = Ede3<Des>;
+
+/// Triple DES in the EEE form over the `Des` of this crate, with a key of 16 bytes, two parts.
+pub type TdesEee2 = Eee2<Des>;
+
+/// Triple DES in the EEE form over the `Des` of this crate, with a key of 24 bytes, three parts.
+pub type TdesEee3 = Eee3<Des>;
+
+impl SingleDes for Des {
+    ghost use Rattle.des_fast.specs.Laws.DesLaws.{AnswersAsDes-Des};
+
+    fn encrypt_ede(first: &Des, second: &Des, third: &Des, block: &mut [u8; 8]) {
+        encrypt_ede(first, second, third, block);
+    }
+
+    fn decrypt_ede(first: &Des, second: &Des, third: &Des, block: &mut [u8; 8]) {
+        decrypt_ede(first, second, third, block);
+    }
+
+    fn encrypt_eee(first: &Des, second: &Des, third: &Des, block: &mut [u8; 8]) {
+        encrypt_eee(first, second, third, block);
+    }
+
+    fn decrypt_eee(first: &Des, second: &Des, third: &Des, block: &mut [u8; 8]) {
+        decrypt_eee(first, second, third, block);
+    }
+
+    ghost answers_as_des = { AnswersAsDes-Des };
+}
 
 // Encryption by the EDE form: encryption, decryption, encryption.
 fn encrypt_ede(first: &Des, second: &Des, third: &Des, block: &mut [u8; 8])
@@ -81,6 +106,3 @@ fn decrypt_eee(first: &Des, second: &Des, third: &Des, block: &mut [u8; 8])
         .deciphered(&first.round_keys)
         .into_block();
 }
-
-#[cfg(test)]
-mod tests;

@@ -1,5 +1,5 @@
 -- Lists of blocks that a function answers block by block, and that another one brings back.
-use Rattle.std.proofs.Common.{◌≡◌, ℕ, List, [], ◌∷◌, map, refl, ◌∙◌}
+use Rattle.std.proofs.Common.{◌≡◌, ℕ, List, [], ◌∷◌, map, refl, ◌∙◌, suc, arith}
 use Rattle.std.specs.List.{All}
 use Rattle.std.proofs.lemmas.Simd.{map-map}
 use Rattle.std.proofs.lemmas.List.Folds.{map_fixed}
@@ -15,3 +15,10 @@ pub map-undone : (f g : List ℕ → List ℕ) (blocks : List (List ℕ)) → ((
     → All IsBlock blocks → map g (map f blocks) ≡ blocks
 map-undone f g blocks undoes are_blocks =
     map-map g f blocks ∙ map_fixed (λ block. g (f block)) blocks (λ i d within. undoes _ (are_blocks i d within))
+
+-- two functions that answer each block alike make one list of a list of blocks
+pub map-alike : (f g : List ℕ → List ℕ) (blocks : List (List ℕ)) → ((block : List ℕ) → IsBlock block → f block ≡ g block)
+    → All IsBlock blocks → map f blocks ≡ map g blocks
+map-alike f g [] alike are_blocks = refl
+map-alike f g (block ∷ blocks) alike are_blocks =
+    λ i. alike block (are_blocks 0 block (omega arith)) i ∷ map-alike f g blocks alike (λ k d within. are_blocks (suc k) d (omega arith)) i

@@ -1,4 +1,5 @@
--- Ciphers that keep the laws and hide nothing, for generic code: what they answer, and the lemmas that their laws stand on.
+-- Ciphers that keep the laws and hide nothing, for generic code: what they answer, and the lemmas
+-- that their laws stand on.
 use Rattle.std.proofs.Common.{◌≡◌, ℕ, ◌%◌, ◌^◌, ◌<◌, ◌-◌, List, length, reverse, refl, ◌∙◌, arith, bit_xor, mod-eq_of_lt}
 use Rattle.std.specs.Int.{w64, to_be_bytes, from_be_bytes}
 use Rattle.std.specs.Int.Bits.{xor_self, xor_assoc, xor_zero_r}
@@ -8,8 +9,8 @@ use Rattle.std.proofs.lemmas.List.Elements.{All-from_get_or}
 use Rattle.des.specs.Blocks.{IsBlock}
 use Rattle.des.specs.Laws.BlockBits.{IsBlock-to_be_bytes, from_be_bytes-lt, to_be_bytes-from_be_bytes}
 
--- the block whose word is that of a block xor that of a key. In a law a key may be any list of numbers, so the lowest
--- 64 bits of what it writes are taken
+-- the block whose word is that of a block xor that of a key. In a law a key may be any list of
+-- numbers, so the lowest 64 bits of what it writes are taken
 unfoldable pub xored : List ℕ → List ℕ → List ℕ
 xored key block = to_be_bytes w64 (bit_xor (from_be_bytes w64 block) (from_be_bytes w64 key % 2 ^ 64))
 

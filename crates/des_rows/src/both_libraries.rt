@@ -1,33 +1,17 @@
-//! One key, in a cipher of each library: what the clauses on equal answers give to a caller.
+//! One key, in a cipher of `des` and in one over another single cipher, such as that of `des_fast`:
+//! what the clauses on equal answers give to a caller.
 
-ghost use Rattle.std.specs.Prelude.{◌≡◌};
-ghost use Rattle.des.specs.Relations.{IsTheOne};
-ghost use Rattle.des.specs.Triple.{EnciphersEde3};
+mod ede2;
+mod ede3;
+mod eee2;
+mod eee3;
+mod single;
 
-use des::cipher::{BlockCipherDecrypt, BlockCipherEncrypt, KeyInit};
-
-/// What `TdesEde3` of `des` makes of a block by encryption, and then what that of `des_fast` makes of it,
-/// under a key of 24 bytes. The two are one.
-pub fn encrypted_by_both(key: &[u8; 24], block: &[u8; 8]) -> ([u8; 8], [u8; 8])
-    ensures enciphers { IsTheOne (λ answer. EnciphersEde3 key.now block.now answer) result.0 }
-    ensures alike { result.1 ≡ result.0 }
-{
-    let (mut answer, mut other_answer) = (*block, *block);
-    des::TdesEde3::new(key).encrypt_block(&mut answer);
-    des_fast::TdesEde3::new(key).encrypt_block(&mut other_answer);
-    (answer, other_answer)
-}
-
-/// The same by decryption.
-pub fn decrypted_by_both(key: &[u8; 24], block: &[u8; 8]) -> ([u8; 8], [u8; 8])
-    ensures deciphers { IsTheOne (λ answer. EnciphersEde3 key.now answer block.now) result.0 }
-    ensures alike { result.1 ≡ result.0 }
-{
-    let (mut answer, mut other_answer) = (*block, *block);
-    des::TdesEde3::new(key).decrypt_block(&mut answer);
-    des_fast::TdesEde3::new(key).decrypt_block(&mut other_answer);
-    (answer, other_answer)
-}
+pub use ede2::{decrypted_by_ede2, encrypted_by_ede2};
+pub use ede3::{decrypted_by_ede3, encrypted_by_ede3};
+pub use eee2::{decrypted_by_eee2, encrypted_by_eee2};
+pub use eee3::{decrypted_by_eee3, encrypted_by_eee3};
+pub use single::{decrypted_by_des, encrypted_by_des};
 
 #[cfg(test)]
 mod tests;

@@ -2,25 +2,22 @@
 
 ghost use Rattle.des.specs.Cbc.{Cbc, Unchains};
 
-use crate::there_and_back::are_blocks;
 use des::cbc;
 use des::cipher::BlockCipher;
 
-/// Encrypts a list of blocks by CBC, in place: each block as it was is the decryption of the new one,
-/// xor the new block before it, or for the first the initialization vector.
+/// Encrypts a list of blocks by CBC, in place: each block as it was is the decryption of the new
+/// one, xor the new block before it, or for the first the initialization vector.
 pub fn chain<C: BlockCipher>(cipher: &C, iv: &[u8; 8], blocks: &mut [[u8; 8]])
     ensures { Unchains (C.decrypted cipher.now) iv.now blocks.new blocks.old }
 {
-    are_blocks(blocks);
     cbc::encrypt(cipher, iv, blocks);
 }
 
-/// Decrypts a list of blocks by CBC, in place: CBC encryption takes the new blocks to the blocks as they
-/// were.
+/// Decrypts a list of blocks by CBC, in place: CBC encryption takes the new blocks to the blocks as
+/// they were.
 pub fn unchain<C: BlockCipher>(cipher: &C, iv: &[u8; 8], blocks: &mut [[u8; 8]])
     ensures { Cbc (C.encrypted cipher.now) iv.now blocks.new blocks.old }
 {
-    are_blocks(blocks);
     cbc::decrypt(cipher, iv, blocks);
 }
 

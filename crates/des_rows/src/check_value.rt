@@ -1,5 +1,6 @@
-//! Key check values: the first three bytes of the block of 64 zero bits, encrypted under the key. They
-//! tell whether two sides hold the same key, and are the small caller that `docs/CALLING.md` shows.
+//! Key check values: the first three bytes of the block of 64 zero bits, encrypted under the key.
+//! They tell whether two sides hold the same key, and are the small caller that `docs/CALLING.md`
+//! shows.
 
 ghost use Rattle.std.specs.Prelude.{◌≡◌, ◌↔◌, ℕ, List, length, take, replicate, IsOk, IfOk};
 ghost use Rattle.des.specs.Triple.{EnciphersEde3};

@@ -1,6 +1,6 @@
 //! Complements by generic code: what the laws of `Complementing` give to a caller.
 
-ghost use Rattle.std.specs.Prelude.{◌≡◌, ◌↔◌, length, IsOk, OnOk};
+ghost use Rattle.std.specs.Prelude.{◌≡◌, ◌↔◌, length, IsOk, OnOk, OnErr};
 ghost use Rattle.des.specs.Complement.{complement};
 
 use des::cipher::{BlockCipherDecrypt, BlockCipherEncrypt, Complementing, InvalidLength, KeyInit};
@@ -14,15 +14,17 @@ pub fn complement_bytes(bytes: &mut [u8])
     }
 }
 
-/// Complements a key and a block of 8 bytes, in place, and encrypts the one under the other: the block
-/// becomes the complement of what the key as it was answers to the block as it was. `InvalidLength`
-/// where the key does not have `KEY_SIZE` bytes.
+/// Complements a key and a block of 8 bytes, in place, and encrypts the one under the other: the
+/// block becomes the complement of what the key as it was answers to the block as it was.
+/// `InvalidLength` where the key does not have `KEY_SIZE` bytes: then both are complemented alone.
 pub fn encrypt_complements<C: Complementing + Drop>(
     key: &mut [u8],
     block: &mut [u8; 8],
 ) -> Result<(), InvalidLength>
     ensures accepted { IsOk result ↔ (length key.old ≡ C.KEY_SIZE) }
     ensures answered { OnOk result (block.new ≡ complement (C.encryption key.old block.old)) }
+    ensures refused { OnErr result (block.new ≡ complement block.old) }
+    ensures key { key.new ≡ complement key.old }
 {
     complement_bytes(key);
     complement_bytes(block);
@@ -37,6 +39,8 @@ pub fn decrypt_complements<C: Complementing + Drop>(
 ) -> Result<(), InvalidLength>
     ensures accepted { IsOk result ↔ (length key.old ≡ C.KEY_SIZE) }
     ensures answered { OnOk result (block.new ≡ complement (C.decryption key.old block.old)) }
+    ensures refused { OnErr result (block.new ≡ complement block.old) }
+    ensures key { key.new ≡ complement key.old }
 {
     complement_bytes(key);
     complement_bytes(block);

@@ -1,18 +1,17 @@
 //! A reader of long records that were kept under a block cipher and CBC: what a caller of
 //! `des_fast::many` can promise, of any cipher with its calls by the laws of the traits.
 
-ghost use Rattle.std.specs.Prelude.{◌≡◌, ◌↔◌, length, IsOk, OnOk, OnErr};
+ghost use Rattle.std.specs.Prelude.{◌≡◌, ◌↔◌, length, map, IsOk, OnOk, OnErr};
 ghost use Rattle.des.specs.Cbc.{Chains};
 ghost use Rattle.des.specs.Relations.{TakesBlock};
 
-use crate::there_and_back::are_blocks;
 use des::cipher::{InvalidLength, KeyedCipher};
 use des_fast::many::ManyBlocks;
 
-/// Decrypts in place the blocks of a record, many at a time, which CBC under a cipher chained from the
-/// initialization vector: the key's encryption takes each new block xor the block of the record before
-/// it, or for the first the vector, to the block of the record. A key that does not have `KEY_SIZE` bytes
-/// is `InvalidLength`, and the record stays.
+/// Decrypts in place the blocks of a record, many at a time, which CBC under a cipher chained from
+/// the initialization vector: the key's encryption takes each new block xor the block of the record
+/// before it, or for the first the vector, to the block of the record. A key that does not have
+/// `KEY_SIZE` bytes is `InvalidLength`, and the record stays.
 pub fn read_long_chain<C: KeyedCipher + ManyBlocks + Drop>(
     key: &[u8],
     iv: &[u8; 8],
@@ -24,8 +23,36 @@ pub fn read_long_chain<C: KeyedCipher + ManyBlocks + Drop>(
     ensures kept { OnErr result (blocks.new ≡ blocks.old) }
 {
     let cipher = C::new_from_slice(key)?;
-    are_blocks(blocks);
     cipher.decrypt_cbc(iv, blocks);
+    Ok(())
+}
+
+/// Encrypts in place each block of a list, of any length: what the key answers to it. A key that
+/// does not have `KEY_SIZE` bytes is `InvalidLength`, and the list stays.
+pub fn encrypt_list<C: KeyedCipher + ManyBlocks + Drop>(
+    key: &[u8],
+    blocks: &mut [[u8; 8]],
+) -> Result<(), InvalidLength>
+    ensures accepted { IsOk result ↔ (length key.now ≡ C.KEY_SIZE) }
+    ensures encrypted { OnOk result (blocks.new ≡ map (C.encryption key.now) blocks.old) }
+    ensures kept { OnErr result (blocks.new ≡ blocks.old) }
+{
+    let cipher = C::new_from_slice(key)?;
+    cipher.encrypt_many(blocks);
+    Ok(())
+}
+
+/// The same by decryption.
+pub fn decrypt_list<C: KeyedCipher + ManyBlocks + Drop>(
+    key: &[u8],
+    blocks: &mut [[u8; 8]],
+) -> Result<(), InvalidLength>
+    ensures accepted { IsOk result ↔ (length key.now ≡ C.KEY_SIZE) }
+    ensures decrypted { OnOk result (blocks.new ≡ map (C.decryption key.now) blocks.old) }
+    ensures kept { OnErr result (blocks.new ≡ blocks.old) }
+{
+    let cipher = C::new_from_slice(key)?;
+    cipher.decrypt_many(blocks);
     Ok(())
 }
 

@@ -1,23 +1,9 @@
 //! Lists there and back: what the laws of `BlockCipher` give to a caller of the list calls.
 
-ghost use Rattle.std.specs.Prelude.{◌≡◌, length};
-ghost use Rattle.std.specs.List.{All};
-ghost use Rattle.des.specs.Blocks.{AreBytes, IsBlock, AnswersEach};
+ghost use Rattle.std.specs.Prelude.{◌≡◌, ◌↔◌, length, map, IsTrue, IsFalse};
+ghost use Rattle.des.specs.Blocks.{AnswersEach};
 
 use des::cipher::{BlockCipher, BlockCipherDecrypt, BlockCipherEncrypt};
-
-// The numbers of a slice of bytes are bytes.
-fn are_bytes(bytes: &[u8])
-    ensures { AreBytes bytes.now }
-{}
-
-// The elements of a list of blocks are blocks, since the numbers of the joined list are bytes: of a
-// list of arrays a proof knows nothing more than the lengths.
-pub(crate) fn are_blocks(blocks: &[[u8; 8]])
-    ensures { All IsBlock blocks.now }
-{
-    are_bytes(blocks.as_flattened());
-}
 
 /// Encrypts the blocks into `answers`, and decrypts these into `back`, which so becomes the blocks
 /// again. The three lists have one length, which may be zero.
@@ -35,9 +21,35 @@ pub fn there_and_back<C: BlockCipher>(
         answers.new back.new }
     ensures same { back.new ≡ blocks.now }
 {
-    are_blocks(blocks);
     cipher.encrypt_blocks_b2b(blocks, answers).unwrap();
     cipher.decrypt_blocks_b2b(answers, back).unwrap();
+}
+
+/// Encrypts the blocks into `output`, and tells whether it did: lists of two lengths leave `output`
+/// as it was.
+pub fn encrypt_into<C: BlockCipherEncrypt>(
+    cipher: &C,
+    blocks: &[[u8; 8]],
+    output: &mut [[u8; 8]],
+) -> bool
+    ensures fits { IsTrue result ↔ (length blocks.now ≡ length output.old) }
+    ensures encrypted { IsTrue result → output.new ≡ map (C.encrypted cipher.now) blocks.now }
+    ensures kept { IsFalse result → output.new ≡ output.old }
+{
+    cipher.encrypt_blocks_b2b(blocks, output).is_ok()
+}
+
+/// The same by decryption.
+pub fn decrypt_into<C: BlockCipherDecrypt>(
+    cipher: &C,
+    blocks: &[[u8; 8]],
+    output: &mut [[u8; 8]],
+) -> bool
+    ensures fits { IsTrue result ↔ (length blocks.now ≡ length output.old) }
+    ensures decrypted { IsTrue result → output.new ≡ map (C.decrypted cipher.now) blocks.now }
+    ensures kept { IsFalse result → output.new ≡ output.old }
+{
+    cipher.decrypt_blocks_b2b(blocks, output).is_ok()
 }
 
 #[cfg(test)]

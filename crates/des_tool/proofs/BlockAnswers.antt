@@ -6,8 +6,8 @@ use Rattle.des.specs.Blocks.{IsKey, IsBlock, AnswersEach}
 use Rattle.des.specs.Cbc.{Chains, Cbc, Unchains}
 use Rattle.des.specs.Relations.{TakesBlock, IsGraphOf}
 use Rattle.des.proofs.ChainedBlocks.{Chains-weaker, Chains-from_Cbc, Chains-from_Unchains}
-use Rattle.des_tool.specs.declared.command.Direction.{Direction}
-use Rattle.des_tool.specs.declared.command.Direction.TheVariants.{Encrypt, Decrypt}
+use Rattle.des_tool.specs.declared.command.request.Direction.{Direction}
+use Rattle.des_tool.specs.declared.command.request.Direction.TheVariants.{Encrypt, Decrypt}
 use Rattle.des_tool.specs.Answer.{IsTextOf, ReadIn}
 use Rattle.des_tool.specs.Ciphers.{in_direction, IsMadeBy}
 

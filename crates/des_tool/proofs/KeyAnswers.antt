@@ -4,8 +4,8 @@ use Rattle.des.specs.Blocks.{IsKey, part}
 use Rattle.des.specs.Des.{encryption, decryption}
 use Rattle.des.proofs.Graphs.{IsGraphOf-encryption, IsGraphOf-decryption, HasOneAnswerEachWay-key}
 use Rattle.des.proofs.TripleGraphs.{AnswerBy, ede, ede_back, eee, eee_back, AnswerBy-Ede3, AnswerBy-Eee3, AnswerBy-Ede2, AnswerBy-Eee2}
-use Rattle.des_tool.specs.declared.command.Cipher.{Cipher}
-use Rattle.des_tool.specs.declared.command.Cipher.TheVariants.{Des, Ede3, Eee3, Ede2, Eee2}
+use Rattle.des_tool.specs.declared.command.request.Cipher.{Cipher}
+use Rattle.des_tool.specs.declared.command.request.Cipher.TheVariants.{Des, Ede3, Eee3, Ede2, Eee2}
 use Rattle.des_tool.specs.Answer.{relation_of}
 use Rattle.des_tool.specs.Request.{key_size_of}
 

@@ -6,14 +6,15 @@ use Rattle.des.specs.Cbc.{Chains}
 use Rattle.des.specs.Enciphering.{Enciphers}
 use Rattle.des.specs.WeakKeys.{IsRefused}
 use Rattle.des.specs.Triple.{EnciphersEde3, EnciphersEee3, EnciphersEde2, EnciphersEee2}
-use Rattle.des_tool.specs.declared.command.Cipher.{Cipher}
-use Rattle.des_tool.specs.declared.command.Cipher.TheVariants.{Des, Ede3, Eee3, Ede2, Eee2}
-use Rattle.des_tool.specs.declared.command.Direction.{Direction}
-use Rattle.des_tool.specs.declared.command.Direction.TheVariants.{Encrypt, Decrypt}
+use Rattle.des_tool.specs.declared.command.request.Cipher.{Cipher}
+use Rattle.des_tool.specs.declared.command.request.Cipher.TheVariants.{Des, Ede3, Eee3, Ede2, Eee2}
+use Rattle.des_tool.specs.declared.command.request.Direction.{Direction}
+use Rattle.des_tool.specs.declared.command.request.Direction.TheVariants.{Encrypt, Decrypt}
 use Rattle.des_tool.specs.Digits.{bytes_of_digits, text_of_blocks}
 use Rattle.des_tool.specs.Request.{Request, of_blocks, of_chain, of_weak, request_of, block_cipher_of}
 
--- what a cipher is: the relation between the bytes of a key, a block and the block that it is enciphered to
+-- what a cipher is: the relation between the bytes of a key, a block and the block that it is
+-- enciphered to
 abbrev pub relation_of : Cipher → List ℕ → List ℕ → List ℕ → Type 0
 relation_of Des key first last = Enciphers key first last
 relation_of Ede3 key first last = EnciphersEde3 key first last
@@ -21,15 +22,17 @@ relation_of Eee3 key first last = EnciphersEee3 key first last
 relation_of Ede2 key first last = EnciphersEde2 key first last
 relation_of Eee2 key first last = EnciphersEee2 key first last
 
--- a relation of blocks, or of lists of blocks, read in a direction: from the first to the second, or from the second to
--- the first
+-- a relation of blocks, or of lists of blocks, read in a direction: from the first to the second,
+-- or from the second to the first
 abbrev pub ReadIn : {A : Type 0} → Direction → (A → A → Type 0) → A → A → Type 0
 ReadIn Encrypt Relates given answer = Relates given answer
 ReadIn Decrypt Relates given answer = Relates answer given
 
--- the text is that of the list which answers the list of blocks that the digits write. What a cipher relates are blocks,
--- each by itself or chained, so there is one way to cut the digits' bytes
-pub record IsTextOf (Answers : List (List ℕ) → List (List ℕ) → Type 0) (digits text : List ℕ) : Type 0 where
+-- the text is that of the list which answers the list of blocks that the digits write. What a
+-- cipher relates are blocks, each by itself or chained, so there is one way to cut the bytes of the
+-- digits
+pub record IsTextOf (Answers : List (List ℕ) → List (List ℕ) → Type 0)
+    (digits text : List ℕ) : Type 0 where
   pub blocks : List (List ℕ)
   pub answers : List (List ℕ)
   pub joined : concat blocks ≡ bytes_of_digits digits
@@ -38,16 +41,22 @@ pub record IsTextOf (Answers : List (List ℕ) → List (List ℕ) → Type 0) (
 
 -- the text says whether the weak key test refuses the key
 abbrev pub IsVerdict : List ℕ → List ℕ → Type 0
-IsVerdict key text = (IsRefused key × (text ≡ codes "WeakKey\n")) ⊎ ((¬ (IsRefused key)) × (text ≡ codes "Ok\n"))
+IsVerdict key text =
+    (IsRefused key × (text ≡ codes "WeakKey\n"))
+    ⊎ ((¬ (IsRefused key)) × (text ≡ codes "Ok\n"))
 
--- the text answers the request, under the key that its digits write: block by block, or chained from the vector
+-- the text answers the request, under the key that its digits write: block by block, or chained
+-- from the vector
 abbrev pub AnswersRequest : Request → List ℕ → Type 0
 AnswersRequest (of_blocks cipher direction key digits) text =
     IsTextOf (AnswersEach (ReadIn direction (relation_of cipher (bytes_of_digits key)))) digits text
 AnswersRequest (of_chain cipher direction key vector digits) text =
-    IsTextOf (ReadIn direction (Chains (relation_of (block_cipher_of cipher) (bytes_of_digits key)) (bytes_of_digits vector))) digits text
+    IsTextOf (ReadIn direction (Chains
+    (relation_of (block_cipher_of cipher) (bytes_of_digits key)) (bytes_of_digits vector)))
+    digits text
 AnswersRequest (of_weak key) text = IsVerdict (bytes_of_digits key) text
 
 -- the text answers the arguments
 abbrev pub IsAnswer : List (List ℕ) → List ℕ → Type 0
-IsAnswer arguments text = MatchOption (request_of arguments) ⊥ (λ request. AnswersRequest request text)
+IsAnswer arguments text =
+    MatchOption (request_of arguments) ⊥ (λ request. AnswersRequest request text)

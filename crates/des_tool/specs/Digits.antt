@@ -11,8 +11,10 @@ digit_value digit = unwrap_or (hex_digit_value digit) 0
 unfoldable pub bytes_of_digits : List ℕ → List ℕ
 bytes_of_digits [] = []
 bytes_of_digits (digit ∷ []) = []
-bytes_of_digits (high ∷ low ∷ digits) = (digit_value high * 16 + digit_value low) ∷ bytes_of_digits digits
+bytes_of_digits (high ∷ low ∷ digits) =
+    (digit_value high * 16 + digit_value low) ∷ bytes_of_digits digits
 
--- the text of blocks: each byte as two lower-case digits, the upper four bits first, and a newline at the end
+-- the text of blocks: each byte as two lower-case digits, the upper four bits first, and a newline
+-- at the end
 abbrev pub text_of_blocks : List (List ℕ) → List ℕ
 text_of_blocks blocks = encode_lower (concat blocks) ++ codes "\n"

@@ -1,13 +1,14 @@
 -- The faults of a command line that are found before any memory is asked for, and their names.
-use Rattle.std.specs.Prelude.{ℕ, ◌*◌, ◌%◌, ◌==◌, ◌||◌, not, if◌then◌else◌, List, length, codes, Option, Some, None}
+use Rattle.std.specs.Prelude.{◌≡◌, ℕ, ◌*◌, ◌%◌, ◌==◌, ◌||◌, not, if◌then◌else◌, List, length, codes, Option, Some, None, Result, Err, IsOk, IfErr}
 use Rattle.std.specs.List.{list_all}
 use Rattle.std.specs.Option.{option_map_or, option_or}
 use Rattle.hex.specs.Hex.{is_hex_digit}
 use Rattle.des_tool.specs.Request.{Request, of_blocks, of_chain, of_weak, request_of, key_size_of, block_cipher_of}
-use Rattle.des_tool.specs.declared.command.Fault.{Fault}
-use Rattle.des_tool.specs.declared.command.Fault.TheVariants.{Usage, KeyLength, KeyText, BlockLength, BlockText, Memory}
+use Rattle.des_tool.specs.declared.command.fault.Fault.{Fault}
+use Rattle.des_tool.specs.declared.command.fault.Fault.TheVariants.{Usage, KeyLength, KeyText, BlockLength, BlockText, Memory}
 
--- the first fault of the key argument, which has to have two digits for each byte of a key of this size
+-- the first fault of the key argument, which has to have two digits for each byte of a key of this
+-- size
 abbrev pub key_fault : ℕ → List ℕ → Option Fault
 key_fault size key =
     if not (length key == 2 * size) then Some KeyLength
@@ -37,14 +38,26 @@ blocks_fault blocks =
 
 -- the first fault of a request
 abbrev pub fault_of_request : Request → Option Fault
-fault_of_request (of_blocks cipher direction key digits) = option_or (key_fault (key_size_of cipher) key) (blocks_fault digits)
+fault_of_request (of_blocks cipher direction key digits) =
+    option_or (key_fault (key_size_of cipher) key) (blocks_fault digits)
 fault_of_request (of_chain cipher direction key vector digits) =
-    option_or (key_fault (key_size_of (block_cipher_of cipher)) key) (option_or (vector_fault vector) (blocks_fault digits))
+    option_or (key_fault (key_size_of (block_cipher_of cipher)) key)
+    (option_or (vector_fault vector) (blocks_fault digits))
 fault_of_request (of_weak key) = tested_key_fault key
 
 -- the first fault of the arguments, but for memory
 abbrev pub fault_of : List (List ℕ) → Option Fault
 fault_of arguments = option_map_or fault_of_request (request_of arguments) (Some Usage)
+
+-- a call gives this fault, where there is one, and else fails for want of memory alone
+abbrev pub FailsBy : {A : Type 0} → Option Fault → Result A Fault → Type 0
+FailsBy (Some fault) result = result ≡ Err fault
+FailsBy None result = IfErr result (λ fault. fault ≡ Memory)
+
+-- a call that takes no memory gives this fault, where there is one, and else does not fail
+abbrev pub FailsOnlyBy : {A : Type 0} → Option Fault → Result A Fault → Type 0
+FailsOnlyBy (Some fault) result = result ≡ Err fault
+FailsOnlyBy None result = IsOk result
 
 -- the name that `Display` writes
 abbrev pub name_of : Fault → List ℕ

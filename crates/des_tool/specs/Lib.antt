@@ -4,3 +4,4 @@ pub mod Fault
 pub mod Status
 pub mod Answer
 pub mod Ciphers
+pub mod Run

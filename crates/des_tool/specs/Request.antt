@@ -2,14 +2,14 @@
 use Rattle.std.specs.Prelude.{ℕ, if◌then◌else◌, List, [], ◌∷◌, map, codes, bytes_eq, Option, Some, None}
 use Rattle.std.specs.Option.{option_and_then, option_map}
 use Rattle.std.specs.Borrow.{Bor}
-use Rattle.des_tool.specs.declared.command.Cipher.{Cipher}
-use Rattle.des_tool.specs.declared.command.Cipher.TheVariants.{Des, Ede3, Eee3, Ede2, Eee2}
-use Rattle.des_tool.specs.declared.command.ChainedCipher.{ChainedCipher}
-use Rattle.des_tool.specs.declared.command.ChainedCipher.TheVariants.{DesCbc, Ede3Cbc}
-use Rattle.des_tool.specs.declared.command.Direction.{Direction}
-use Rattle.des_tool.specs.declared.command.Direction.TheVariants.{Encrypt, Decrypt}
-use Rattle.des_tool.specs.declared.command.Command.{Command}
-use Rattle.des_tool.specs.declared.command.Command.TheVariants.{Blocks, Chain, Weak}
+use Rattle.des_tool.specs.declared.command.request.Cipher.{Cipher}
+use Rattle.des_tool.specs.declared.command.request.Cipher.TheVariants.{Des, Ede3, Eee3, Ede2, Eee2}
+use Rattle.des_tool.specs.declared.command.request.ChainedCipher.{ChainedCipher}
+use Rattle.des_tool.specs.declared.command.request.ChainedCipher.TheVariants.{DesCbc, Ede3Cbc}
+use Rattle.des_tool.specs.declared.command.request.Direction.{Direction}
+use Rattle.des_tool.specs.declared.command.request.Direction.TheVariants.{Encrypt, Decrypt}
+use Rattle.des_tool.specs.declared.command.request.Command.{Command}
+use Rattle.des_tool.specs.declared.command.request.Command.TheVariants.{Blocks, Chain, Weak}
 
 -- a request, with the arguments that hold digits
 pub data Request : Type 0 where
@@ -58,16 +58,19 @@ direction_of argument =
     else if bytes_eq argument (codes "decrypt") then Some Decrypt
     else None
 
--- the request that the arguments are, if they have a shape that is known: CIPHER DIRECTION KEY BLOCKS,
--- CHAINED DIRECTION KEY VECTOR BLOCKS, where CHAINED is the name of a chained cipher, or weak KEY
+-- the request that the arguments are, if they have a shape that is known: CIPHER DIRECTION KEY
+-- BLOCKS, CHAINED DIRECTION KEY VECTOR BLOCKS, where CHAINED is the name of a chained cipher, or
+-- weak KEY
 abbrev pub request_of : List (List ℕ) → Option Request
 request_of (cipher ∷ direction ∷ key ∷ digits ∷ []) =
     option_and_then
-    (λ cipher. option_map (λ direction. of_blocks cipher direction key digits) (direction_of direction))
+    (λ cipher. option_map (λ direction. of_blocks cipher direction key digits)
+    (direction_of direction))
     (cipher_of cipher)
 request_of (cipher ∷ direction ∷ key ∷ vector ∷ digits ∷ []) =
     option_and_then
-    (λ cipher. option_map (λ direction. of_chain cipher direction key vector digits) (direction_of direction))
+    (λ cipher. option_map (λ direction. of_chain cipher direction key vector digits)
+    (direction_of direction))
     (chained_cipher_of cipher)
 request_of (test ∷ key ∷ []) = if bytes_eq test (codes "weak") then Some (of_weak key) else None
 request_of _ = None
@@ -75,5 +78,6 @@ request_of _ = None
 -- the request that a `Command` holds
 abbrev pub request : Command → Request
 request (Blocks cipher direction key digits) = of_blocks cipher direction key.now digits.now
-request (Chain cipher direction key vector digits) = of_chain cipher direction key.now vector.now digits.now
+request (Chain cipher direction key vector digits) =
+    of_chain cipher direction key.now vector.now digits.now
 request (Weak key) = of_weak key.now

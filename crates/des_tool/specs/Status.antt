@@ -1,7 +1,10 @@
 -- The statuses that the program ends with.
-use Rattle.std.specs.Prelude.{◌≡◌, ◌⊎◌, ℕ, Result, Ok, Err}
-use Rattle.des_tool.specs.declared.command.Fault.{Fault}
-use Rattle.des_tool.specs.declared.command.Fault.TheVariants.{Memory}
+use Rattle.std.specs.Prelude.{◌≡◌, ◌⊎◌, ℕ, List, Option, Result, Ok, Err}
+use Rattle.std.specs.Io.KnownBytes.{Appends}
+use Rattle.std.specs.declared.vec.Vec.{Vec}
+use Rattle.std.specs.declared.alloc.Global.{Global}
+use Rattle.des_tool.specs.declared.command.fault.Fault.{Fault}
+use Rattle.des_tool.specs.declared.command.fault.Fault.TheVariants.{Memory}
 
 -- the whole answer was written
 abbrev pub answer_written : ℕ
@@ -32,7 +35,14 @@ IsOfAnswer status = (status ≡ answer_written) ⊎ (status ≡ answer_not_writt
 abbrev pub IsOfFault : ℕ → Type 0
 IsOfFault status = (status ≡ arguments_at_fault) ⊎ (status ≡ memory_refused)
 
--- the status is one that the program may end with, once it has this answer or fault to show
-abbrev pub IsStatusOf : {A : Type 0} → Result A Fault → ℕ → Type 0
-IsStatusOf (Ok text) status = IsOfAnswer status
-IsStatusOf (Err fault) status = status ≡ status_of fault
+-- what a status says of an answer or a fault that was shown, and of the writers before and after:
+-- whether the whole of the answer stands in `out`, or which fault there is. The other writer stays
+-- as it is
+abbrev pub IsShown : {W E : Type 0} → (W → Option (List ℕ)) → Result (Vec ℕ Global) Fault → ℕ
+    → W → W → E → E → Type 0
+IsShown contents (Ok text) status out_old out_new err_old err_new =
+    IsOfAnswer status
+    × (status ≡ answer_written → Appends (contents out_old) (contents out_new) text.items)
+    × (err_new ≡ err_old)
+IsShown contents (Err fault) status out_old out_new err_old err_new =
+    (status ≡ status_of fault) × (out_new ≡ out_old)

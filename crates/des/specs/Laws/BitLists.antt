@@ -33,13 +33,21 @@ bits_of-split (suc m) n x = rw (suc-add m n, bits_of-split m n x, shr-shr x n m,
 pub bits_of-mod : (n x : ℕ) → bits_of n (x % 2 ^ n) ≡ bits_of n x
 bits_of-mod n x =
     bits_of-same n (x % 2 ^ n) x
-    (λ i below. sym (bit_at_cat_low (x / 2 ^ n) n (x % 2 ^ n) i below) ∙ ap (λ (y : ℕ). bit_at y i) (shr_split x n))
+    (λ i below.
+    sym (bit_at_cat_low (x / 2 ^ n) n (x % 2 ^ n) i below)
+    ∙ ap (λ (y : ℕ). bit_at y i) (shr_split x n))
 
 -- a number made of a high and a low part has the bits of the two, one after the other
-pub bits_of-cat : (m n high low : ℕ) → low < 2 ^ n → bits_of (m + n) (high * 2 ^ n + low) ≡ bits_of m high ++ bits_of n low
+pub bits_of-cat : (m n high low : ℕ) → low < 2 ^ n
+    → bits_of (m + n) (high * 2 ^ n + low) ≡ bits_of m high ++ bits_of n low
 bits_of-cat m n high low fits =
     let number : ℕ = high * 2 ^ n + low in
-    rw (bits_of-split m n number, shr_high high n low fits, ← bits_of-mod n number, mod_low high n low fits)
+    rw (
+      bits_of-split m n number,
+      shr_high high n low fits,
+      ← bits_of-mod n number,
+      mod_low high n low fits,
+    )
 
 -- ---- the number that bits write
 
@@ -52,7 +60,12 @@ pub number_of-bits_of : (n x : ℕ) → number_of (bits_of n x) ≡ x % 2 ^ n
 unfolding bits_of number_of
 number_of-bits_of zero x = omega arith
 number_of-bits_of (suc n) x =
-    rw (length-bits_of n x, number_of-bits_of n x, digit_worth (bit_at x n) (2 ^ n) (bit_at-lt x n), ← one-add n)
+    rw (
+      length-bits_of n x,
+      number_of-bits_of n x,
+      digit_worth (bit_at x n) (2 ^ n) (bit_at-lt x n),
+      ← one-add n,
+    )
     (sym (mod-pow-add x 1 n))
 
 -- the bits of a word write it
@@ -66,19 +79,23 @@ number_of-lt [] = omega arith
 number_of-lt (bit ∷ bits) = grind (arith, number_of-lt bits, pow-suc 2 (length bits))
 
 -- a bit worth 2 ^ n, and n bits after it
-bits_of-worth : (bit : Bool) (n low : ℕ) → low < 2 ^ n → bits_of (suc n) ((if bit then 2 ^ n else 0) + low) ≡ bit ∷ bits_of n low
+bits_of-worth : (bit : Bool) (n low : ℕ) → low < 2 ^ n
+    → bits_of (suc n) ((if bit then 2 ^ n else 0) + low) ≡ bit ∷ bits_of n low
 unfolding bits_of
 bits_of-worth true n low fits =
-    ap₂ (λ (k high : ℕ). bits_of k (high + low)) (sym (one-add n)) (sym (one-mul (2 ^ n))) ∙ bits_of-cat 1 n 1 low fits
+    ap₂ (λ (k high : ℕ). bits_of k (high + low)) (sym (one-add n)) (sym (one-mul (2 ^ n)))
+    ∙ bits_of-cat 1 n 1 low fits
 bits_of-worth false n low fits =
-    ap₂ (λ (k high : ℕ). bits_of k (high + low)) (sym (one-add n)) (sym (zero-mul (2 ^ n))) ∙ bits_of-cat 1 n 0 low fits
+    ap₂ (λ (k high : ℕ). bits_of k (high + low)) (sym (one-add n)) (sym (zero-mul (2 ^ n)))
+    ∙ bits_of-cat 1 n 0 low fits
 
 -- the bits of the number that bits write are those bits
 pub bits_of-number_of : (bits : List Bool) → bits_of (length bits) (number_of bits) ≡ bits
 unfolding bits_of number_of
 bits_of-number_of [] = refl
 bits_of-number_of (bit ∷ bits) =
-    bits_of-worth bit (length bits) (number_of bits) (number_of-lt bits) ∙ ap (λ (rest : List Bool). bit ∷ rest) (bits_of-number_of bits)
+    bits_of-worth bit (length bits) (number_of bits) (number_of-lt bits)
+    ∙ ap (λ (rest : List Bool). bit ∷ rest) (bits_of-number_of bits)
 
 -- ---- the bits of bytes
 
@@ -97,10 +114,12 @@ pow_256 (suc k) = rw (mul-suc 8 k, pow-add 2 (8 * k) 8, ← pow_256 k) (pow-suc 
 -- the bits of byte k of a number, the lowest being byte 0
 bits_of-byte_at : (k n : ℕ) → bits_of 8 (byte_at k n) ≡ bits_of 8 (n / 2 ^ (8 * k))
 bits_of-byte_at zero n = bits_of-mod 8 n ∙ ap (bits_of 8) (sym (div-one n))
-bits_of-byte_at (suc k) n = bits_of-mod 8 (n / 256 ^ suc k) ∙ ap (λ (m : ℕ). bits_of 8 (n / m)) (pow_256 (suc k))
+bits_of-byte_at (suc k) n =
+    bits_of-mod 8 (n / 256 ^ suc k) ∙ ap (λ (m : ℕ). bits_of 8 (n / m)) (pow_256 (suc k))
 
 -- the bits of the lowest k bytes of a number, the highest first, are its lowest 8 * k bits
-bits_of_bytes-bytes_high_first : (k n : ℕ) → bits_of_bytes (bytes_high_first k n) ≡ bits_of (8 * k) n
+bits_of_bytes-bytes_high_first : (k n : ℕ)
+    → bits_of_bytes (bytes_high_first k n) ≡ bits_of (8 * k) n
 unfolding bits_of_bytes bits_of
 bits_of_bytes-bytes_high_first zero n = refl
 bits_of_bytes-bytes_high_first (suc k) n =
@@ -113,7 +132,8 @@ pub bits_of_bytes-to_be : (word : ℕ) → bits_of_bytes (to_be_bytes w64 word) 
 bits_of_bytes-to_be word = bits_of_bytes-bytes_high_first 8 word
 
 -- eight bytes have the bits of the word that they write, the highest first
-pub bits_of_bytes-from_be : (bytes : List ℕ) → length bytes ≡ 8 → ((i : ℕ) → slice_index bytes i < 256)
+pub bits_of_bytes-from_be : (bytes : List ℕ) → length bytes ≡ 8
+    → ((i : ℕ) → slice_index bytes i < 256)
     → bits_of_bytes bytes ≡ bits_of_word (from_be_bytes w64 bytes)
 bits_of_bytes-from_be bytes eight small =
     ap bits_of_bytes (sym (be_bytes_8 bytes (from_be_bytes w64 bytes) eight small refl))

@@ -17,7 +17,8 @@ byte_at-lt (suc k) n = omega arith
 AreBytes-bytes_high_first : (k n : ℕ) → AreBytes (bytes_high_first k n)
 AreBytes-bytes_high_first zero n = All-nil (λ byte. byte < 256)
 AreBytes-bytes_high_first (suc k) n =
-    All-cons (λ byte. byte < 256) (byte_at k n) (bytes_high_first k n) (byte_at-lt k n) (AreBytes-bytes_high_first k n)
+    All-cons (λ byte. byte < 256) (byte_at k n) (bytes_high_first k n) (byte_at-lt k n)
+    (AreBytes-bytes_high_first k n)
 
 -- the eight bytes of a word are a block
 pub IsBlock-to_be_bytes : (word : ℕ) → IsBlock (to_be_bytes w64 word)
@@ -33,7 +34,8 @@ pub length-bits_of_block : (block : List ℕ) → IsBlock block → length (bits
 length-bits_of_block block is_block = omega (arith, length-bits_of_bytes block)
 
 -- the block of 64 bits has these bits
-pub bits_of_bytes-block_of_bits : (bits : List Bool) → length bits ≡ 64 → bits_of_bytes (block_of_bits bits) ≡ bits
+pub bits_of_bytes-block_of_bits : (bits : List Bool) → length bits ≡ 64
+    → bits_of_bytes (block_of_bits bits) ≡ bits
 unfolding block_of_bits
 bits_of_bytes-block_of_bits bits width =
     rw (bits_of_bytes-to_be (number_of bits), ← width) (bits_of-number_of bits)
@@ -49,19 +51,26 @@ from_be_bytes-lt block is_block =
     omega (arith, small 0, small 1, small 2, small 3, small 4, small 5, small 6, small 7)
 
 -- it makes the block again
-pub to_be_bytes-from_be_bytes : (block : List ℕ) → IsBlock block → to_be_bytes w64 (from_be_bytes w64 block) ≡ block
+pub to_be_bytes-from_be_bytes : (block : List ℕ) → IsBlock block
+    → to_be_bytes w64 (from_be_bytes w64 block) ≡ block
 to_be_bytes-from_be_bytes block is_block =
     be_bytes_8 block (from_be_bytes w64 block) is_block.0 (slice_index-lt block is_block.1) refl
 
 -- the bits of a block write the word that its bytes write
-number_of-bits_of_block : (block : List ℕ) → IsBlock block → number_of (bits_of_bytes block) ≡ from_be_bytes w64 block
+number_of-bits_of_block : (block : List ℕ) → IsBlock block
+    → number_of (bits_of_bytes block) ≡ from_be_bytes w64 block
 number_of-bits_of_block block is_block =
     let small : (i : ℕ) → slice_index block i < 256 = slice_index-lt block is_block.1 in
-    rw (bits_of_bytes-from_be block is_block.0 small, number_of-bits_of 64 (from_be_bytes w64 block))
+    rw (
+      bits_of_bytes-from_be block is_block.0 small,
+      number_of-bits_of 64 (from_be_bytes w64 block),
+    )
     (mod-eq_of_lt (from_be_bytes-lt block is_block))
 
 -- a block is the block of its bits
-pub block_of_bits-bits_of_bytes : (block : List ℕ) → IsBlock block → block_of_bits (bits_of_bytes block) ≡ block
+pub block_of_bits-bits_of_bytes : (block : List ℕ) → IsBlock block
+    → block_of_bits (bits_of_bytes block) ≡ block
 unfolding block_of_bits
 block_of_bits-bits_of_bytes block is_block =
-    be_bytes_8 block (number_of (bits_of_bytes block)) is_block.0 (slice_index-lt block is_block.1) (number_of-bits_of_block block is_block)
+    be_bytes_8 block (number_of (bits_of_bytes block)) is_block.0 (slice_index-lt block is_block.1)
+    (number_of-bits_of_block block is_block)

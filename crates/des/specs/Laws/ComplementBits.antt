@@ -14,7 +14,8 @@ use Rattle.des.specs.Laws.BlockBits.{IsBlock-block_of_bits, bits_of_bytes-block_
 -- ---- bytes
 
 -- the complement of a byte has its bits, each the other one
-bits_of-complement_of_byte : (byte : ℕ) → bits_of 8 (complement_of_byte byte) ≡ complement_bits (bits_of 8 byte)
+bits_of-complement_of_byte : (byte : ℕ)
+    → bits_of 8 (complement_of_byte byte) ≡ complement_bits (bits_of 8 byte)
 unfolding bits_of complement_of_byte
 bits_of-complement_of_byte byte = bits_of-number_of (complement_bits (bits_of 8 byte))
 
@@ -22,10 +23,12 @@ bits_of-complement_of_byte byte = bits_of-number_of (complement_bits (bits_of 8 
 pub complement_of_byte-rest : (byte : ℕ) → byte < 256 → complement_of_byte byte ≡ 255 - byte
 unfolding bits_of number_of complement_of_byte
 complement_of_byte-rest byte small =
-    eqb-true _ _ (agree_below_at (λ b. complement_of_byte b == 255 - b) (λ b. true) 256 byte refl small)
+    eqb-true _ _
+    (agree_below_at (λ b. complement_of_byte b == 255 - b) (λ b. true) 256 byte refl small)
 
 -- the complement of bytes has their bits, each the other one
-pub bits_of_bytes-complement : (bytes : List ℕ) → bits_of_bytes (complement bytes) ≡ complement_bits (bits_of_bytes bytes)
+pub bits_of_bytes-complement : (bytes : List ℕ)
+    → bits_of_bytes (complement bytes) ≡ complement_bits (bits_of_bytes bytes)
 unfolding bits_of_bytes
 bits_of_bytes-complement [] = refl
 bits_of_bytes-complement (byte ∷ bytes) =
@@ -37,12 +40,14 @@ AreBytes-complement : (bytes : List ℕ) → AreBytes (complement bytes)
 unfolding bits_of complement_of_byte
 AreBytes-complement [] = All-nil (λ byte. byte < 256)
 AreBytes-complement (byte ∷ bytes) =
-    All-cons (λ byte. byte < 256) (complement_of_byte byte) (complement bytes) (number_of-lt (complement_bits (bits_of 8 byte)))
+    All-cons (λ byte. byte < 256) (complement_of_byte byte) (complement bytes)
+    (number_of-lt (complement_bits (bits_of 8 byte)))
     (AreBytes-complement bytes)
 
 -- and as many
 pub IsKey-complement : (n : ℕ) (key : List ℕ) → IsKey n key → IsKey n (complement key)
-IsKey-complement n key is_key = (length-map key complement_of_byte ∙ is_key.0, AreBytes-complement key)
+IsKey-complement n key is_key =
+    (length-map key complement_of_byte ∙ is_key.0, AreBytes-complement key)
 
 -- the block of complemented bits is the complement of the block
 pub block_of_bits-complement : (bits : List Bool) → length bits ≡ 64
@@ -50,8 +55,14 @@ pub block_of_bits-complement : (bits : List Bool) → length bits ≡ 64
 block_of_bits-complement bits width =
     let other : List ℕ = complement (block_of_bits bits) in
     let its_bits : bits_of_bytes other ≡ complement_bits bits =
-    rw (bits_of_bytes-complement (block_of_bits bits), bits_of_bytes-block_of_bits bits width) refl in
-    rw (← its_bits) (block_of_bits-bits_of_bytes other (IsKey-complement 8 (block_of_bits bits) (IsBlock-block_of_bits bits)))
+    rw (
+      bits_of_bytes-complement (block_of_bits bits),
+      bits_of_bytes-block_of_bits bits width,
+    )
+    refl in
+    rw (← its_bits)
+    (block_of_bits-bits_of_bytes other
+    (IsKey-complement 8 (block_of_bits bits) (IsBlock-block_of_bits bits)))
 
 -- ---- selections and additions
 
@@ -65,30 +76,36 @@ bit-complement : (bits : List Bool) (position : ℕ) → position - 1 < length b
 bit-complement bits position within = get_or-map not bits (position - 1) false false within
 
 -- a selection from the complement is the complement of the selection
-pub select-complement : (n : ℕ) (positions : List ℕ) (bits : List Bool) → length bits ≡ n → are_within n positions ≡ true
+pub select-complement : (n : ℕ) (positions : List ℕ) (bits : List Bool) → length bits ≡ n
+    → are_within n positions ≡ true
     → select positions (complement_bits bits) ≡ complement_bits (select positions bits)
 unfolding select
 select-complement n [] bits width within = refl
 select-complement n (position ∷ positions) bits width within =
     let parts : (position - 1 < n) × (are_within n positions ≡ true) = grind (arith, nat_tests) in
-    ap₂ ◌∷◌ (bit-complement bits position (omega (arith, parts.0))) (select-complement n positions bits width parts.1)
+    ap₂ ◌∷◌ (bit-complement bits position (omega (arith, parts.0)))
+    (select-complement n positions bits width parts.1)
 
 -- complements cancel in an addition of two
 xor-not : (b c : Bool) → xor (not b) (not c) ≡ xor b c
 xor-not b c = grind arith
 
-pub xor_bits-complements : (bits others : List Bool) → xor_bits (complement_bits bits) (complement_bits others) ≡ xor_bits bits others
+pub xor_bits-complements : (bits others : List Bool)
+    → xor_bits (complement_bits bits) (complement_bits others) ≡ xor_bits bits others
 unfolding xor_bits
 xor_bits-complements [] others = refl
 xor_bits-complements (first ∷ bits) [] = refl
-xor_bits-complements (first ∷ bits) (other ∷ others) = ap₂ ◌∷◌ (xor-not first other) (xor_bits-complements bits others)
+xor_bits-complements (first ∷ bits) (other ∷ others) =
+    ap₂ ◌∷◌ (xor-not first other) (xor_bits-complements bits others)
 
 -- and stay in an addition to other bits
 xor-not_first : (b c : Bool) → xor (not b) c ≡ not (xor b c)
 xor-not_first b c = grind arith
 
-pub xor_bits-complement : (bits others : List Bool) → xor_bits (complement_bits bits) others ≡ complement_bits (xor_bits bits others)
+pub xor_bits-complement : (bits others : List Bool)
+    → xor_bits (complement_bits bits) others ≡ complement_bits (xor_bits bits others)
 unfolding xor_bits
 xor_bits-complement [] others = refl
 xor_bits-complement (first ∷ bits) [] = refl
-xor_bits-complement (first ∷ bits) (other ∷ others) = ap₂ ◌∷◌ (xor-not_first first other) (xor_bits-complement bits others)
+xor_bits-complement (first ∷ bits) (other ∷ others) =
+    ap₂ ◌∷◌ (xor-not_first first other) (xor_bits-complement bits others)

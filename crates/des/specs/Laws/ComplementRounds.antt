@@ -1,5 +1,6 @@
--- Complements of key and block, taken through the rounds: the expansion of a complemented half block cancels with the
--- complemented round key, so the cipher function does not change, and each half block is complemented.
+-- Complements of key and block, taken through the rounds: the expansion of a complemented half
+-- block cancels with the complemented round key, so the cipher function does not change, and each
+-- half block is complemented.
 use Rattle.std.proofs.Common.{◌≡◌, ℕ, ◌+◌, not, List, [], ◌∷◌, ◌++◌, Bool, length, map, take, drop, refl, ap, ◌∙◌, sym, arith, length-append, take-append-drop}
 use Rattle.std.specs.List.{range_with_len}
 use Rattle.std.proofs.lemmas.List.{map-append, take-map, drop-map}
@@ -20,7 +21,8 @@ use Rattle.des.specs.Laws.RoundsUndone.{AreHalves, AreHalves-permuted, AreHalves
 -- ---- the key schedule
 
 -- a rotated complement is the complement rotated
-rotate-complement : (half : List Bool) (n : ℕ) → rotate (complement_bits half) n ≡ complement_bits (rotate half n)
+rotate-complement : (half : List Bool) (n : ℕ)
+    → rotate (complement_bits half) n ≡ complement_bits (rotate half n)
 unfolding rotate
 rotate-complement half n =
     rw (drop-map not n half, take-map not n half) (sym (map-append not (drop n half) (take n half)))
@@ -29,37 +31,60 @@ rotate-complement half n =
 pub length-rotate : (half : List Bool) (n : ℕ) → length (rotate half n) ≡ length half
 unfolding rotate
 length-rotate half n =
-    let parts : length (take n half ++ drop n half) ≡ length half = ap length (take-append-drop n half) in
-    omega (arith, parts, length-append (drop n half) (take n half), length-append (take n half) (drop n half))
+    let parts : length (take n half ++ drop n half) ≡ length half =
+    ap length (take-append-drop n half) in
+    omega (
+      arith,
+      parts,
+      length-append (drop n half) (take n half),
+      length-append (take n half) (drop n half),
+    )
 
 -- C and D have 56 bits
 length-halves : (key : List Bool) → length (c_half key) + length (d_half key) ≡ 56
 unfolding c_half d_half
 length-halves key =
     let chosen : List Bool = select permuted_choice_1 key in
-    let parts : length (take 28 chosen ++ drop 28 chosen) ≡ length chosen = ap length (take-append-drop 28 chosen) in
-    omega (arith, parts, length-append (take 28 chosen) (drop 28 chosen), length-select permuted_choice_1 key)
+    let parts : length (take 28 chosen ++ drop 28 chosen) ≡ length chosen =
+    ap length (take-append-drop 28 chosen) in
+    omega (
+      arith,
+      parts,
+      length-append (take 28 chosen) (drop 28 chosen),
+      length-select permuted_choice_1 key,
+    )
 
 -- the halves of a complemented key are the complements of its halves
-c_half-complement : (key : List Bool) → length key ≡ 64 → c_half (complement_bits key) ≡ complement_bits (c_half key)
+c_half-complement : (key : List Bool) → length key ≡ 64
+    → c_half (complement_bits key) ≡ complement_bits (c_half key)
 unfolding c_half
 c_half-complement key width =
-    rw (select-complement 64 permuted_choice_1 key width refl) (take-map not 28 (select permuted_choice_1 key))
+    rw (select-complement 64 permuted_choice_1 key width refl)
+    (take-map not 28 (select permuted_choice_1 key))
 
-d_half-complement : (key : List Bool) → length key ≡ 64 → d_half (complement_bits key) ≡ complement_bits (d_half key)
+d_half-complement : (key : List Bool) → length key ≡ 64
+    → d_half (complement_bits key) ≡ complement_bits (d_half key)
 unfolding d_half
 d_half-complement key width =
-    rw (select-complement 64 permuted_choice_1 key width refl) (drop-map not 28 (select permuted_choice_1 key))
+    rw (select-complement 64 permuted_choice_1 key width refl)
+    (drop-map not 28 (select permuted_choice_1 key))
 
 -- a round key of a complemented key is the complement of the round key
-round_key-complement : (key : List Bool) (i : ℕ) → length key ≡ 64 → round_key (complement_bits key) i ≡ complement_bits (round_key key i)
+round_key-complement : (key : List Bool) (i : ℕ) → length key ≡ 64
+    → round_key (complement_bits key) i ≡ complement_bits (round_key key i)
 unfolding round_key
 round_key-complement key i width =
     let shifts : ℕ = shifts_through i in
     let c : List Bool = rotate (c_half key) shifts in
     let d : List Bool = rotate (d_half key) shifts in
     let size : length (c ++ d) ≡ 56 =
-    omega (arith, length-append c d, length-halves key, length-rotate (c_half key) shifts, length-rotate (d_half key) shifts) in
+    omega (
+      arith,
+      length-append c d,
+      length-halves key,
+      length-rotate (c_half key) shifts,
+      length-rotate (d_half key) shifts,
+    ) in
     rw (
       c_half-complement key width,
       d_half-complement key width,
@@ -74,33 +99,47 @@ pub key_schedule-complement : (key : List Bool) → length key ≡ 64
     → key_schedule (complement_bits key) ≡ map complement_bits (key_schedule key)
 unfolding key_schedule
 key_schedule-complement key width =
-    ap (λ (each : ℕ → List Bool). map each (range_with_len 1 16)) (fun_ext (λ i. round_key-complement key i width))
+    ap (λ (each : ℕ → List Bool). map each (range_with_len 1 16))
+    (fun_ext (λ i. round_key-complement key i width))
     ∙ sym (map-map complement_bits (round_key key) (range_with_len 1 16))
 
 -- ---- the rounds
 
 -- the cipher function does not change
 cipher_function-complement : (half round_key : List Bool) → length half ≡ 32
-    → cipher_function (complement_bits half) (complement_bits round_key) ≡ cipher_function half round_key
+    → cipher_function (complement_bits half) (complement_bits round_key)
+    ≡ cipher_function half round_key
 unfolding cipher_function
 cipher_function-complement half round_key width =
-    rw (select-complement 32 expansion half width refl, xor_bits-complements (select expansion half) round_key) refl
+    rw (
+      select-complement 32 expansion half width refl,
+      xor_bits-complements (select expansion half) round_key,
+    )
+    refl
 
 -- so the rounds complement each half
-after_rounds-complement : (keys : List (List Bool)) (left right : List Bool) → AreHalves (left, right)
+after_rounds-complement : (keys : List (List Bool)) (left right : List Bool)
+    → AreHalves (left, right)
     → after_rounds (map complement_bits keys) (complement_bits left) (complement_bits right)
-    ≡ (complement_bits (after_rounds keys left right).0, complement_bits (after_rounds keys left right).1)
+    ≡ (
+      complement_bits (after_rounds keys left right).0,
+      complement_bits (after_rounds keys left right).1,
+    )
 unfolding after_rounds
 after_rounds-complement [] left right halves = refl
 after_rounds-complement (key ∷ keys) left right halves =
-    let next : next_half (complement_bits left) (complement_bits right) (complement_bits key) ≡ complement_bits (next_half left right key) =
-    rw (cipher_function-complement right key halves.1) (xor_bits-complement left (cipher_function right key)) in
+    let next : next_half (complement_bits left) (complement_bits right) (complement_bits key)
+    ≡ complement_bits (next_half left right key) =
+    rw (cipher_function-complement right key halves.1)
+    (xor_bits-complement left (cipher_function right key)) in
     ap (after_rounds (map complement_bits keys) (complement_bits right)) next
-    ∙ after_rounds-complement keys right (next_half left right key) (halves.1, length-next_half left right key halves.0)
+    ∙ after_rounds-complement keys right (next_half left right key)
+    (halves.1, length-next_half left right key halves.0)
 
 -- and what they make of 64 bits
 through_rounds-complement : (keys : List (List Bool)) (block : List Bool) → length block ≡ 64
-    → through_rounds (map complement_bits keys) (complement_bits block) ≡ complement_bits (through_rounds keys block)
+    → through_rounds (map complement_bits keys) (complement_bits block)
+    ≡ complement_bits (through_rounds keys block)
 unfolding through_rounds
 through_rounds-complement keys block width =
     let permuted : List Bool = select initial_permutation block in
@@ -115,9 +154,11 @@ through_rounds-complement keys block width =
       after_rounds-complement keys left right halves,
       ← map-append not last.1 last.0,
     )
-    (select-complement 64 final_permutation (swapped last) (length-swapped last (AreHalves-after_rounds keys left right halves)) refl)
+    (select-complement 64 final_permutation (swapped last)
+    (length-swapped last (AreHalves-after_rounds keys left right halves)) refl)
 
--- the rounds of complemented round keys make of a complemented block the complement of what the rounds make of the block
+-- the rounds of complemented round keys make of a complemented block the complement of what the
+-- rounds make of the block
 pub answer_by-complement : (keys : List (List Bool)) (block : List ℕ) → IsBlock block
     → answer_by (map complement_bits keys) (complement block) ≡ complement (answer_by keys block)
 answer_by-complement keys block is_block =

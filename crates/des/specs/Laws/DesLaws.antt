@@ -1,5 +1,5 @@
--- The laws of `Des` as a block cipher, and as one with a key, said of the type, for those who make ciphers of it: a proof
--- of a law cannot cite the law of another impl by its name.
+-- The laws of `Des` as a block cipher, and as one with a key, said of the type, for those who make
+-- ciphers of it: a proof of a law cannot cite the law of another impl by its name.
 use Rattle.std.proofs.Common.{ℕ, List, reverse}
 use Rattle.des.specs.declared.des.Des.{Des}
 use Rattle.des.specs.Bits.{bits_of_bytes}
@@ -7,6 +7,7 @@ use Rattle.des.specs.KeySchedule.{key_schedule}
 use Rattle.des.specs.RoundKeyWords.{round_keys_of}
 use Rattle.des.specs.Des.{IsDesOf, encrypted, decrypted, encryption, decryption}
 use Rattle.des.specs.Laws.Passes.{IsPass, Agree}
+use Rattle.des.specs.Laws.SingleDes.{AnswersAsDes}
 use Rattle.des.specs.Laws.RoundsUndone.{IsPass-answer_by}
 use Rattle.des.specs.Laws.HeldRoundKeys.{answer_by-held}
 
@@ -18,8 +19,20 @@ pub IsPass-key : (key : List ℕ) → IsPass (encryption key) (decryption key)
 IsPass-key key = IsPass-answer_by (key_schedule (bits_of_bytes key))
 
 -- a cipher of a key answers as the key does, in each direction
-pub Agree-encrypted : (cipher : Des) (key : List ℕ) → IsDesOf cipher key → Agree (encrypted cipher) (encryption key)
-Agree-encrypted cipher key made = record { at = λ block is_block. answer_by-held (λ keys. keys) cipher.round_keys key block made.1 }
+pub Agree-encrypted : (cipher : Des) (key : List ℕ) → IsDesOf cipher key
+    → Agree (encrypted cipher) (encryption key)
+Agree-encrypted cipher key made =
+    record { at = λ block _. answer_by-held (λ keys. keys) cipher.round_keys key block made.1 }
 
-pub Agree-decrypted : (cipher : Des) (key : List ℕ) → IsDesOf cipher key → Agree (decrypted cipher) (decryption key)
-Agree-decrypted cipher key made = record { at = λ block is_block. answer_by-held reverse cipher.round_keys key block made.1 }
+pub Agree-decrypted : (cipher : Des) (key : List ℕ) → IsDesOf cipher key
+    → Agree (decrypted cipher) (decryption key)
+Agree-decrypted cipher key made =
+    record { at = λ block is_block. answer_by-held reverse cipher.round_keys key block made.1 }
+
+-- all that a triple cipher asks of a single one
+pub AnswersAsDes-Des : AnswersAsDes IsDesOf encrypted decrypted
+AnswersAsDes-Des = record {
+  is_pass = IsPass-Des;
+  encrypts_as_des = Agree-encrypted;
+  decrypts_as_des = Agree-decrypted;
+}

@@ -16,10 +16,12 @@ length-round_key key i = length-select permuted_choice_2 _
 
 -- the first 48 bits of round keys with zeros after them are the round keys
 take-round_keys : (key : List Bool) (numbers : List ℕ)
-    → map (take 48) (map (λ bits. bits ++ zeros 16) (map (round_key key) numbers)) ≡ map (round_key key) numbers
+    → map (take 48) (map (λ bits. bits ++ zeros 16) (map (round_key key) numbers))
+    ≡ map (round_key key) numbers
 take-round_keys key [] = refl
 take-round_keys key (i ∷ numbers) =
-    ap₂ ◌∷◌ (take_at (round_key key i) (zeros 16) 48 (length-round_key key i)) (take-round_keys key numbers)
+    ap₂ ◌∷◌ (take_at (round_key key i) (zeros 16) 48 (length-round_key key i))
+    (take-round_keys key numbers)
 
 -- words that hold the round keys of a key have them in their first 48 bits
 pub round_keys_of-HoldRoundKeys : (words : List ℕ) (key : List Bool) → HoldRoundKeys words key
@@ -31,7 +33,10 @@ round_keys_of-HoldRoundKeys words key held =
     ∙ take-round_keys key (range_with_len 1 16)
 
 -- they answer a block as the key does, in each order of the round keys
-pub answer_by-held : (order : List (List Bool) → List (List Bool)) (words key block : List ℕ) → HoldRoundKeys words (bits_of_bytes key)
-    → answer_by (order (round_keys_of words)) block ≡ answer_by (order (key_schedule (bits_of_bytes key))) block
+pub answer_by-held : (order : List (List Bool) → List (List Bool)) (words key block : List ℕ)
+    → HoldRoundKeys words (bits_of_bytes key)
+    → answer_by (order (round_keys_of words)) block
+    ≡ answer_by (order (key_schedule (bits_of_bytes key))) block
 answer_by-held order words key block held =
-    ap (λ keys. answer_by (order keys) block) (round_keys_of-HoldRoundKeys words (bits_of_bytes key) held)
+    ap (λ keys. answer_by (order keys) block)
+    (round_keys_of-HoldRoundKeys words (bits_of_bytes key) held)

@@ -1,5 +1,5 @@
--- Passes: two functions on blocks that undo each other. A pass turned round is a pass, and so are three, one after
--- another.
+-- Passes: two functions on blocks that undo each other. A pass turned round is a pass, and so are
+-- three, one after another.
 use Rattle.std.proofs.Common.{◌≡◌, ℕ, List, ap, ◌∙◌}
 use Rattle.des.specs.Blocks.{IsBlock}
 use Rattle.des.specs.Triple.{through}
@@ -21,11 +21,14 @@ IsPass-turned pass = record {
 }
 
 -- three passes, one after another
-pub IsPass-through : {f1 b1 f2 b2 f3 b3 : List ℕ → List ℕ} → IsPass f1 b1 → IsPass f2 b2 → IsPass f3 b3
+pub IsPass-through : {f1 b1 f2 b2 f3 b3 : List ℕ → List ℕ} → IsPass f1 b1 → IsPass f2 b2
+    → IsPass f3 b3
     → IsPass (through f1 f2 f3) (through b3 b2 b1)
 IsPass-through {f1} {b1} {f2} {b2} {f3} {b3} p1 p2 p3 = record {
-  forth_is_block = λ x is_block. p3.forth_is_block _ (p2.forth_is_block _ (p1.forth_is_block x is_block));
-  back_is_block = λ y is_block. p1.back_is_block _ (p2.back_is_block _ (p3.back_is_block y is_block));
+  forth_is_block =
+      λ x is_block. p3.forth_is_block _ (p2.forth_is_block _ (p1.forth_is_block x is_block));
+  back_is_block =
+      λ y is_block. p1.back_is_block _ (p2.back_is_block _ (p3.back_is_block y is_block));
   back_forth = λ x is_block.
       let u_block = p1.forth_is_block x is_block in
       ap (λ (v : List ℕ). b1 (b2 v)) (p3.back_forth _ (p2.forth_is_block _ u_block))
@@ -43,7 +46,8 @@ pub record Agree (f g : List ℕ → List ℕ) : Type 0 where
   pub at : (block : List ℕ) → IsBlock block → f block ≡ g block
 
 -- so they do one after another
-pub Agree-through : {f1 b1 f2 b2 f3 g1 g2 g3 : List ℕ → List ℕ} → IsPass f1 b1 → IsPass f2 b2 → Agree f1 g1 → Agree f2 g2 → Agree f3 g3
+pub Agree-through : {f1 b1 f2 b2 f3 g1 g2 g3 : List ℕ → List ℕ} → IsPass f1 b1 → IsPass f2 b2
+    → Agree f1 g1 → Agree f2 g2 → Agree f3 g3
     → Agree (through f1 f2 f3) (through g1 g2 g3)
 Agree-through {f1} {b1} {f2} {b2} {f3} {g1} {g2} {g3} p1 p2 a1 a2 a3 = record {
   at = λ x is_block.

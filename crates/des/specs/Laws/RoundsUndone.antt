@@ -15,32 +15,40 @@ abbrev pub next_half : List Bool → List Bool → List Bool → List Bool
 next_half left right key = xor_bits left (cipher_function right key)
 
 -- a round keeps the width of 32 bits
-pub length-next_half : (left right key : List Bool) → length left ≡ 32 → length (next_half left right key) ≡ 32
+pub length-next_half : (left right key : List Bool) → length left ≡ 32
+    → length (next_half left right key) ≡ 32
 length-next_half left right key size =
-    length-xor_bits left (cipher_function right key) (size ∙ sym (length-cipher_function right key)) ∙ size
+    length-xor_bits left (cipher_function right key) (size ∙ sym (length-cipher_function right key))
+    ∙ size
 
 -- each of two halves has 32 bits
 abbrev pub AreHalves : List Bool × List Bool → Type 0
 AreHalves halves = (length halves.0 ≡ 32) × (length halves.1 ≡ 32)
 
 -- the rounds keep the widths of the halves
-pub AreHalves-after_rounds : (keys : List (List Bool)) (left right : List Bool) → AreHalves (left, right)
+pub AreHalves-after_rounds : (keys : List (List Bool)) (left right : List Bool)
+    → AreHalves (left, right)
     → AreHalves (after_rounds keys left right)
 unfolding after_rounds
 AreHalves-after_rounds [] left right halves = halves
 AreHalves-after_rounds (key ∷ keys) left right halves =
-    AreHalves-after_rounds keys right (next_half left right key) (halves.1, length-next_half left right key halves.0)
+    AreHalves-after_rounds keys right (next_half left right key)
+    (halves.1, length-next_half left right key halves.0)
 
 -- the rounds of two lists of round keys, one list after the other
 pub after_rounds-append : (keys more : List (List Bool)) (left right : List Bool)
-    → after_rounds (keys ++ more) left right ≡ after_rounds more (after_rounds keys left right).0 (after_rounds keys left right).1
+    → after_rounds (keys ++ more) left right
+    ≡ after_rounds more (after_rounds keys left right).0 (after_rounds keys left right).1
 unfolding after_rounds
 after_rounds-append [] more left right = refl
-after_rounds-append (key ∷ keys) more left right = after_rounds-append keys more right (next_half left right key)
+after_rounds-append (key ∷ keys) more left right =
+    after_rounds-append keys more right (next_half left right key)
 
--- the round keys in the opposite order take the halves after the rounds, swapped, back to the first, swapped
-pub after_rounds-reverse : (keys : List (List Bool)) (left right : List Bool) → AreHalves (left, right)
-    → after_rounds (reverse keys) (after_rounds keys left right).1 (after_rounds keys left right).0 ≡ (right, left)
+-- the round keys in the opposite order take the halves after the rounds, swapped, back to the
+-- first, swapped
+after_rounds-reverse : (keys : List (List Bool)) (left right : List Bool) → AreHalves (left, right)
+    → after_rounds (reverse keys) (after_rounds keys left right).1 (after_rounds keys left right).0
+    ≡ (right, left)
 unfolding after_rounds
 after_rounds-reverse [] left right halves = refl
 after_rounds-reverse (key ∷ keys) left right halves =
@@ -49,7 +57,8 @@ after_rounds-reverse (key ∷ keys) left right halves =
     let rest : after_rounds (reverse keys) last.1 last.0 ≡ (next, right) =
     after_rounds-reverse keys right next (halves.1, length-next_half left right key halves.0) in
     let back : next_half next right key ≡ left =
-    xor_bits-xor_bits left (cipher_function right key) (halves.0 ∙ sym (length-cipher_function right key)) in
+    xor_bits-xor_bits left (cipher_function right key)
+    (halves.0 ∙ sym (length-cipher_function right key)) in
     ap (λ ks. after_rounds ks last.1 last.0) (reverse-append (key ∷ []) keys)
     ∙ after_rounds-append (reverse keys) (key ∷ []) last.1 last.0
     ∙ ap (λ (h : List Bool × List Bool). after_rounds (key ∷ []) h.0 h.1) rest
@@ -57,28 +66,35 @@ after_rounds-reverse (key ∷ keys) left right halves =
 
 -- the halves of a block after the initial permutation
 pub AreHalves-permuted : (block : List Bool)
-    → AreHalves (take 32 (select initial_permutation block), drop 32 (select initial_permutation block))
+    → AreHalves
+    (take 32 (select initial_permutation block), drop 32 (select initial_permutation block))
 AreHalves-permuted block =
     let permuted : List Bool = select initial_permutation block in
     let width : length permuted ≡ 64 = length-select initial_permutation block in
     (length-take-le 32 permuted (omega arith), length-drop 32 permuted ∙ omega arith)
 
 -- two halves, swapped, are 64 bits
-pub length-swapped : (halves : List Bool × List Bool) → AreHalves halves → length (swapped halves) ≡ 64
+pub length-swapped : (halves : List Bool × List Bool) → AreHalves halves
+    → length (swapped halves) ≡ 64
 length-swapped halves widths = length-append halves.1 halves.0 ∙ omega arith
 
 -- what the rounds make of a block, from its halves after the initial permutation
-pub through_rounds-from_halves : (keys : List (List Bool)) (block left right : List Bool) → length left ≡ 32
+pub through_rounds-from_halves : (keys : List (List Bool)) (block left right : List Bool)
+    → length left ≡ 32
     → select initial_permutation block ≡ left ++ right
     → through_rounds keys block ≡ select final_permutation (swapped (after_rounds keys left right))
 unfolding through_rounds
 through_rounds-from_halves keys block left right width begins =
-    let first : take 32 (select initial_permutation block) ≡ left = ap (take 32) begins ∙ take_at left right 32 width in
-    let second : drop 32 (select initial_permutation block) ≡ right = ap (drop 32) begins ∙ drop_at left right 32 width in
-    ap₂ (λ (l r : List Bool). select final_permutation (swapped (after_rounds keys l r))) first second
+    let first : take 32 (select initial_permutation block) ≡ left =
+    ap (take 32) begins ∙ take_at left right 32 width in
+    let second : drop 32 (select initial_permutation block) ≡ right =
+    ap (drop 32) begins ∙ drop_at left right 32 width in
+    ap₂
+    (λ (l r : List Bool). select final_permutation (swapped (after_rounds keys l r))) first second
 
 -- what the rounds make of a block has 64 bits
-pub length-through_rounds : (keys : List (List Bool)) (block : List Bool) → length (through_rounds keys block) ≡ 64
+pub length-through_rounds : (keys : List (List Bool)) (block : List Bool)
+    → length (through_rounds keys block) ≡ 64
 unfolding through_rounds
 length-through_rounds keys block = length-select final_permutation _
 
@@ -93,15 +109,18 @@ through_rounds-reverse keys block width =
     let last : List Bool × List Bool = after_rounds keys left right in
     let halves : AreHalves (left, right) = AreHalves-permuted block in
     let ends : AreHalves last = AreHalves-after_rounds keys left right halves in
-    let begins : select initial_permutation (select final_permutation (swapped last)) ≡ swapped last =
+    let begins : select initial_permutation (select final_permutation (swapped last))
+    ≡ swapped last =
     select-initial_permutation (swapped last) (length-swapped last ends) in
-    through_rounds-from_halves (reverse keys) (select final_permutation (swapped last)) last.1 last.0 ends.1 begins
+    through_rounds-from_halves (reverse keys)
+    (select final_permutation (swapped last)) last.1 last.0 ends.1 begins
     ∙ ap (λ h. select final_permutation (swapped h)) (after_rounds-reverse keys left right halves)
     ∙ ap (select final_permutation) (take-append-drop 32 permuted)
     ∙ select-final_permutation block width
 
 -- the same of blocks of eight bytes
-answer_by-reverse : (keys : List (List Bool)) (block : List ℕ) → IsBlock block → answer_by (reverse keys) (answer_by keys block) ≡ block
+answer_by-reverse : (keys : List (List Bool)) (block : List ℕ) → IsBlock block
+    → answer_by (reverse keys) (answer_by keys block) ≡ block
 answer_by-reverse keys block is_block =
     let bits : List Bool = bits_of_bytes block in
     ap (λ (x : List Bool). block_of_bits (through_rounds (reverse keys) x))
@@ -110,10 +129,12 @@ answer_by-reverse keys block is_block =
     ∙ block_of_bits-bits_of_bytes block is_block
 
 -- the rounds of a list of round keys, and those of the opposite order, are a pass
-pub IsPass-answer_by : (keys : List (List Bool)) → IsPass (answer_by keys) (answer_by (reverse keys))
+pub IsPass-answer_by : (keys : List (List Bool))
+    → IsPass (answer_by keys) (answer_by (reverse keys))
 IsPass-answer_by keys = record {
   forth_is_block = λ block is_block. IsBlock-block_of_bits _;
   back_is_block = λ block is_block. IsBlock-block_of_bits _;
   back_forth = answer_by-reverse keys;
-  forth_back = λ block is_block. rw reverse-reverse at (answer_by-reverse (reverse keys) block is_block);
+  forth_back =
+      λ block is_block. rw reverse-reverse at (answer_by-reverse (reverse keys) block is_block);
 }

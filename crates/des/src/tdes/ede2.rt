@@ -1,33 +1,37 @@
-//! The triple cipher `TdesEde2`.
+//! The triple cipher `Ede2` over any single DES, and `TdesEde2`, which is it over `Des`.
 
-ghost use Rattle.std.specs.Prelude.{◌≡◌, ℕ, List, codes, Some, refl, ⊤};
+ghost use Rattle.std.specs.Prelude.{◌≡◌, ℕ, List, codes, Some, refl};
 ghost use Rattle.std.specs.Fmt.{DisplaysOnOk, DisplaysStyledOnOk};
-ghost use Rattle.des.specs.Relations.{IsTheOne, HasOneAnswerEachWay, IsGraphOf};
-ghost use Rattle.des.specs.Triple.{through, EnciphersEde2};
-ghost use Rattle.des.specs.Blocks.{IsKey, part};
+ghost use Rattle.des.specs.Relations.{IsTheOne, HasOneAnswerEachWay, IsGraphOf, AnswerAlike};
+ghost use Rattle.des.specs.Triple.{EnciphersEde2};
 ghost use Rattle.des.specs.Des.{IsDesOf, encrypted as des_encrypted, decrypted as des_decrypted};
-ghost use Rattle.des.specs.Des.{encryption as des_encryption, decryption as des_decryption};
-ghost use Rattle.des.specs.Laws.TriplePasses.{IsPass-ede, Agree-ede, Agree-ede_back};
+ghost use Rattle.des.specs.TripleCiphers.{IsEde2Of, ede2_encrypted, ede2_decrypted, ede2_encryption, ede2_decryption};
+ghost use Rattle.des.specs.declared.des.Des as single;
+ghost use Rattle.des.specs.declared.tdes.ede2.Ede2 as triple;
+ghost use Rattle.des.specs.Laws.TriplePasses.{IsPass-ede2, Agree-ede2_encrypted, Agree-ede2_decrypted};
 ghost use Rattle.des.specs.Laws.ComplementedKeys.{Complements-ede, Complements-ede_back};
 
-use super::{decrypt_ede, encrypt_ede, key_part};
+use super::key_part;
+use super::single::SingleDes;
 use crate::cipher::{
-    AlgorithmName, BlockCipher, BlockCipherDecrypt, BlockCipherEncrypt, BlockSizeUser,
-    Complementing, KeyInit, KeySizeUser, KeyedCipher, ParBlocksSizeUser,
+    AlgorithmName, BlockCipher, BlockCipherDecrypt, BlockCipherEncrypt, Complementing, KeyInit,
+    KeySizeUser, KeyedCipher, OneBlockAtATime, Relating,
 };
 use crate::des::Des;
-use std::alloc::AllocError;
 use std::fmt;
 
 /// Triple DES, encryption, decryption, encryption, under the two parts of a key of 16 bytes and the
 /// first again (FIPS 46-3, triple data encryption algorithm, keying option 2).
-#[derive(Drop)]
-pub struct TdesEde2 {
-    first: Des,
-    second: Des,
+#[derive(Clone, Drop)]
+pub struct Ede2<D> {
+    pub(super) first: D,
+    pub(super) second: D,
 }
 
-impl KeySizeUser for TdesEde2 {
+/// Triple DES in the EDE form over the `Des` of this crate, with a key of 16 bytes, two parts.
+pub type TdesEde2 = Ede2<Des>;
+
+impl<D: SingleDes> KeySizeUser for Ede2<D> {
     type Key = [u8; 16];
 
     const KEY_SIZE: usize = 16;
@@ -37,114 +41,96 @@ impl KeySizeUser for TdesEde2 {
     ghost key_size_is_len = { refl };
 }
 
-impl KeyInit for TdesEde2 {
-    ghost is_made_from = { λ cipher key. IsKey 16 key × IsDesOf cipher.first (part 1 key)
-        × IsDesOf cipher.second (part 2 key) };
+impl<D: SingleDes> KeyInit for Ede2<D> {
+    ghost is_made_from = { IsEde2Of D.is_made_from };
 
     /// The cipher of a key of 16 bytes, bit 1 the most significant bit of the first. Its parts are
     /// bytes 1 to 8 and 9 to 16, each a key of `Des`.
-    fn new(key: &[u8; 16]) -> TdesEde2
-        ensures made { ⟦<TdesEde2 as KeyInit>⟧.is_made_from result key.now }
+    fn new(key: &[u8; 16]) -> Ede2<D>
+        ensures made { IsEde2Of D.is_made_from result key.now }
         ensures one_answer_each_way { HasOneAnswerEachWay (EnciphersEde2 key.now) }
-        ensures encryption { IsGraphOf (⟦<TdesEde2 as KeyedCipher>⟧.encryption key.now)
-            (EnciphersEde2 key.now) }
-        ensures decryption { IsGraphOf (⟦<TdesEde2 as KeyedCipher>⟧.decryption key.now)
+        ensures encryption { IsGraphOf (ede2_encryption key.now) (EnciphersEde2 key.now) }
+        ensures decryption { IsGraphOf (ede2_decryption key.now)
             (λ y x. EnciphersEde2 key.now x y) }
+        ensures encrypts_alike { (other : triple.Ede2 single.Des) → IsEde2Of IsDesOf other key.now
+            → AnswerAlike (ede2_encrypted D.encrypted D.decrypted result)
+            (ede2_encrypted des_encrypted des_decrypted other) }
+        ensures decrypts_alike { (other : triple.Ede2 single.Des) → IsEde2Of IsDesOf other key.now
+            → AnswerAlike (ede2_decrypted D.encrypted D.decrypted result)
+            (ede2_decrypted des_encrypted des_decrypted other) }
     {
-        TdesEde2 {
-            first: Des::new(&key_part(key, 1)),
-            second: Des::new(&key_part(key, 2)),
+        Ede2 {
+            first: D::new(&key_part(key, 1)),
+            second: D::new(&key_part(key, 2)),
         }
     }
 }
 
-impl BlockSizeUser for TdesEde2 {
-    const BLOCK_SIZE: usize = 8;
+impl<D: SingleDes> OneBlockAtATime for Ede2<D> {}
 
-    ghost BLOCK_SIZE = { 8 };
-
-    ghost block_size_is_eight = { refl };
-}
-
-impl ParBlocksSizeUser for TdesEde2 {
-    ghost use Rattle.std.proofs.Common.{lit≤};
-
-    const PAR_BLOCKS: usize = 1;
-
-    ghost PAR_BLOCKS = { 1 };
-
-    ghost par_blocks_is_positive = { lit≤ tt };
-}
-
-impl AlgorithmName for TdesEde2 {
+impl<D: SingleDes> AlgorithmName for Ede2<D> {
     const NAME: &'static str = "TdesEde2";
 }
 
-impl BlockCipherEncrypt for TdesEde2 {
-    ghost encrypted = { λ cipher. through (des_encrypted cipher.first)
-        (des_decrypted cipher.second) (des_encrypted cipher.first) };
+impl<D: SingleDes> BlockCipherEncrypt for Ede2<D> {
+    ghost encrypted = { ede2_encrypted D.encrypted D.decrypted };
 
     /// Encrypts a block of 8 bytes in place, bit 1 the most significant bit of the first byte: it
     /// is enciphered under the first part of the key, deciphered under the second and enciphered
     /// under the first (FIPS 46-3, triple data encryption algorithm).
     fn encrypt_block(&self, block: &mut [u8; 8])
-        ensures encrypted { block.new
-            ≡ ⟦<TdesEde2 as BlockCipherEncrypt>⟧.encrypted self.now block.old }
-        ensures enciphers { (key : List ℕ) → ⟦<TdesEde2 as KeyInit>⟧.is_made_from self.now key
+        ensures encrypted { block.new ≡ ede2_encrypted D.encrypted D.decrypted self.now block.old }
+        ensures enciphers { (key : List ℕ) → IsEde2Of D.is_made_from self.now key
             → IsTheOne (λ answer. EnciphersEde2 key block.old answer) block.new }
     {
-        encrypt_ede(&self.first, &self.second, &self.first, block);
+        D::encrypt_ede(&self.first, &self.second, &self.first, block);
     }
 }
 
-impl BlockCipherDecrypt for TdesEde2 {
-    ghost decrypted = { λ cipher. through (des_decrypted cipher.first)
-        (des_encrypted cipher.second) (des_decrypted cipher.first) };
+impl<D: SingleDes> BlockCipherDecrypt for Ede2<D> {
+    ghost decrypted = { ede2_decrypted D.encrypted D.decrypted };
 
     /// Decrypts a block of 8 bytes in place, bit 1 the most significant bit of the first byte: it
     /// is deciphered under the first part of the key, enciphered under the second and deciphered
     /// under the first (FIPS 46-3, triple data encryption algorithm).
     fn decrypt_block(&self, block: &mut [u8; 8])
-        ensures decrypted { block.new
-            ≡ ⟦<TdesEde2 as BlockCipherDecrypt>⟧.decrypted self.now block.old }
-        ensures deciphers { (key : List ℕ) → ⟦<TdesEde2 as KeyInit>⟧.is_made_from self.now key
+        ensures decrypted { block.new ≡ ede2_decrypted D.encrypted D.decrypted self.now block.old }
+        ensures deciphers { (key : List ℕ) → IsEde2Of D.is_made_from self.now key
             → IsTheOne (λ answer. EnciphersEde2 key answer block.old) block.new }
     {
-        decrypt_ede(&self.first, &self.second, &self.first, block);
+        D::decrypt_ede(&self.first, &self.second, &self.first, block);
     }
 }
 
-impl BlockCipher for TdesEde2 {
-    ghost encrypted_is_block = { λ cipher.
-        (IsPass-ede cipher.first cipher.second cipher.first).forth_is_block };
+impl<D: SingleDes> BlockCipher for Ede2<D> {
+    ghost encrypted_is_block = { λ cipher. (IsPass-ede2 D.answers_as_des cipher).forth_is_block };
 
-    ghost decrypted_is_block = { λ cipher.
-        (IsPass-ede cipher.first cipher.second cipher.first).back_is_block };
+    ghost decrypted_is_block = { λ cipher. (IsPass-ede2 D.answers_as_des cipher).back_is_block };
 
-    ghost decrypts_encrypted = { λ cipher.
-        (IsPass-ede cipher.first cipher.second cipher.first).back_forth };
+    ghost decrypts_encrypted = { λ cipher. (IsPass-ede2 D.answers_as_des cipher).back_forth };
 
-    ghost encrypts_decrypted = { λ cipher.
-        (IsPass-ede cipher.first cipher.second cipher.first).forth_back };
+    ghost encrypts_decrypted = { λ cipher. (IsPass-ede2 D.answers_as_des cipher).forth_back };
 }
 
-impl KeyedCipher for TdesEde2 {
-    ghost encryption = { λ key. through (des_encryption (part 1 key))
-        (des_decryption (part 2 key)) (des_encryption (part 1 key)) };
+impl<D: SingleDes> KeyedCipher for Ede2<D> {
+    ghost encryption = { ede2_encryption };
 
-    ghost decryption = { λ key. through (des_decryption (part 1 key))
-        (des_encryption (part 2 key)) (des_decryption (part 1 key)) };
+    ghost decryption = { ede2_decryption };
 
     ghost encrypts_by_key = { λ cipher key block _ made is_block.
-        (Agree-ede cipher.first cipher.second cipher.first (part 1 key) (part 2 key) (part 1 key)
-        made.1 made.2 made.1).at block is_block };
+        (Agree-ede2_encrypted D.answers_as_des cipher key made).at block is_block };
 
     ghost decrypts_by_key = { λ cipher key block _ made is_block.
-        (Agree-ede_back cipher.first cipher.second cipher.first (part 1 key) (part 2 key) (part 1 key)
-        made.1 made.2 made.1).at block is_block };
+        (Agree-ede2_decrypted D.answers_as_des cipher key made).at block is_block };
 }
 
-impl Complementing for TdesEde2 {
+impl<D: SingleDes> Relating for Ede2<D> {
+    ghost relation = { λ key block answer. EnciphersEde2 key block answer };
+
+    fn relate_lists(&self) {}
+}
+
+impl<D: SingleDes> Complementing for Ede2<D> {
     ghost encryption_complements = { λ key block is_key is_block.
         (Complements-ede 16 1 2 1 refl key is_key).at block is_block };
 
@@ -152,21 +138,8 @@ impl Complementing for TdesEde2 {
         (Complements-ede_back 16 1 2 1 refl key is_key).at block is_block };
 }
 
-impl Clone for TdesEde2 {
-    ghost is_clone = { λ cipher other. other ≡ cipher };
-
-    ghost is_infallible = { λ _. ⊤ };
-
-    fn clone(&self) -> Result<TdesEde2, AllocError> {
-        Ok(TdesEde2 {
-            first: self.first.clone()?,
-            second: self.second.clone()?,
-        })
-    }
-}
-
 /// Writes the type's name, and no part of the key, whatever options are set.
-impl fmt::Debug for TdesEde2 {
+impl<D: SingleDes> fmt::Debug for Ede2<D> {
     ghost debug_output = { λ _. Some (codes "TdesEde2 { ... }") };
 
     fn fmt<W: fmt::Write>(&self, f: &mut fmt::Formatter<W>) -> fmt::Result

@@ -1,33 +1,37 @@
-//! The triple cipher `TdesEee2`.
+//! The triple cipher `Eee2` over any single DES, and `TdesEee2`, which is it over `Des`.
 
-ghost use Rattle.std.specs.Prelude.{◌≡◌, ℕ, List, codes, Some, refl, ⊤};
+ghost use Rattle.std.specs.Prelude.{◌≡◌, ℕ, List, codes, Some, refl};
 ghost use Rattle.std.specs.Fmt.{DisplaysOnOk, DisplaysStyledOnOk};
-ghost use Rattle.des.specs.Relations.{IsTheOne, HasOneAnswerEachWay, IsGraphOf};
-ghost use Rattle.des.specs.Triple.{through, EnciphersEee2};
-ghost use Rattle.des.specs.Blocks.{IsKey, part};
+ghost use Rattle.des.specs.Relations.{IsTheOne, HasOneAnswerEachWay, IsGraphOf, AnswerAlike};
+ghost use Rattle.des.specs.Triple.{EnciphersEee2};
 ghost use Rattle.des.specs.Des.{IsDesOf, encrypted as des_encrypted, decrypted as des_decrypted};
-ghost use Rattle.des.specs.Des.{encryption as des_encryption, decryption as des_decryption};
-ghost use Rattle.des.specs.Laws.TriplePasses.{IsPass-eee, Agree-eee, Agree-eee_back};
+ghost use Rattle.des.specs.TripleCiphers.{IsEee2Of, eee2_encrypted, eee2_decrypted, eee2_encryption, eee2_decryption};
+ghost use Rattle.des.specs.declared.des.Des as single;
+ghost use Rattle.des.specs.declared.tdes.eee2.Eee2 as triple;
+ghost use Rattle.des.specs.Laws.TriplePasses.{IsPass-eee2, Agree-eee2_encrypted, Agree-eee2_decrypted};
 ghost use Rattle.des.specs.Laws.ComplementedKeys.{Complements-eee, Complements-eee_back};
 
-use super::{decrypt_eee, encrypt_eee, key_part};
+use super::key_part;
+use super::single::SingleDes;
 use crate::cipher::{
-    AlgorithmName, BlockCipher, BlockCipherDecrypt, BlockCipherEncrypt, BlockSizeUser,
-    Complementing, KeyInit, KeySizeUser, KeyedCipher, ParBlocksSizeUser,
+    AlgorithmName, BlockCipher, BlockCipherDecrypt, BlockCipherEncrypt, Complementing, KeyInit,
+    KeySizeUser, KeyedCipher, OneBlockAtATime, Relating,
 };
 use crate::des::Des;
-use std::alloc::AllocError;
 use std::fmt;
 
 /// Triple DES, encryption three times, under the two parts of a key of 16 bytes and the first
 /// again.
-#[derive(Drop)]
-pub struct TdesEee2 {
-    first: Des,
-    second: Des,
+#[derive(Clone, Drop)]
+pub struct Eee2<D> {
+    pub(super) first: D,
+    pub(super) second: D,
 }
 
-impl KeySizeUser for TdesEee2 {
+/// Triple DES in the EEE form over the `Des` of this crate, with a key of 16 bytes, two parts.
+pub type TdesEee2 = Eee2<Des>;
+
+impl<D: SingleDes> KeySizeUser for Eee2<D> {
     type Key = [u8; 16];
 
     const KEY_SIZE: usize = 16;
@@ -37,114 +41,96 @@ impl KeySizeUser for TdesEee2 {
     ghost key_size_is_len = { refl };
 }
 
-impl KeyInit for TdesEee2 {
-    ghost is_made_from = { λ cipher key. IsKey 16 key × IsDesOf cipher.first (part 1 key)
-        × IsDesOf cipher.second (part 2 key) };
+impl<D: SingleDes> KeyInit for Eee2<D> {
+    ghost is_made_from = { IsEee2Of D.is_made_from };
 
     /// The cipher of a key of 16 bytes, bit 1 the most significant bit of the first. Its parts are
     /// bytes 1 to 8 and 9 to 16, each a key of `Des`.
-    fn new(key: &[u8; 16]) -> TdesEee2
-        ensures made { ⟦<TdesEee2 as KeyInit>⟧.is_made_from result key.now }
+    fn new(key: &[u8; 16]) -> Eee2<D>
+        ensures made { IsEee2Of D.is_made_from result key.now }
         ensures one_answer_each_way { HasOneAnswerEachWay (EnciphersEee2 key.now) }
-        ensures encryption { IsGraphOf (⟦<TdesEee2 as KeyedCipher>⟧.encryption key.now)
-            (EnciphersEee2 key.now) }
-        ensures decryption { IsGraphOf (⟦<TdesEee2 as KeyedCipher>⟧.decryption key.now)
+        ensures encryption { IsGraphOf (eee2_encryption key.now) (EnciphersEee2 key.now) }
+        ensures decryption { IsGraphOf (eee2_decryption key.now)
             (λ y x. EnciphersEee2 key.now x y) }
+        ensures encrypts_alike { (other : triple.Eee2 single.Des) → IsEee2Of IsDesOf other key.now
+            → AnswerAlike (eee2_encrypted D.encrypted result)
+            (eee2_encrypted des_encrypted other) }
+        ensures decrypts_alike { (other : triple.Eee2 single.Des) → IsEee2Of IsDesOf other key.now
+            → AnswerAlike (eee2_decrypted D.decrypted result)
+            (eee2_decrypted des_decrypted other) }
     {
-        TdesEee2 {
-            first: Des::new(&key_part(key, 1)),
-            second: Des::new(&key_part(key, 2)),
+        Eee2 {
+            first: D::new(&key_part(key, 1)),
+            second: D::new(&key_part(key, 2)),
         }
     }
 }
 
-impl BlockSizeUser for TdesEee2 {
-    const BLOCK_SIZE: usize = 8;
+impl<D: SingleDes> OneBlockAtATime for Eee2<D> {}
 
-    ghost BLOCK_SIZE = { 8 };
-
-    ghost block_size_is_eight = { refl };
-}
-
-impl ParBlocksSizeUser for TdesEee2 {
-    ghost use Rattle.std.proofs.Common.{lit≤};
-
-    const PAR_BLOCKS: usize = 1;
-
-    ghost PAR_BLOCKS = { 1 };
-
-    ghost par_blocks_is_positive = { lit≤ tt };
-}
-
-impl AlgorithmName for TdesEee2 {
+impl<D: SingleDes> AlgorithmName for Eee2<D> {
     const NAME: &'static str = "TdesEee2";
 }
 
-impl BlockCipherEncrypt for TdesEee2 {
-    ghost encrypted = { λ cipher. through (des_encrypted cipher.first)
-        (des_encrypted cipher.second) (des_encrypted cipher.first) };
+impl<D: SingleDes> BlockCipherEncrypt for Eee2<D> {
+    ghost encrypted = { eee2_encrypted D.encrypted };
 
     /// Encrypts a block of 8 bytes in place, bit 1 the most significant bit of the first byte: it
     /// is enciphered under the first part of the key, enciphered under the second and enciphered
     /// under the first.
     fn encrypt_block(&self, block: &mut [u8; 8])
-        ensures encrypted { block.new
-            ≡ ⟦<TdesEee2 as BlockCipherEncrypt>⟧.encrypted self.now block.old }
-        ensures enciphers { (key : List ℕ) → ⟦<TdesEee2 as KeyInit>⟧.is_made_from self.now key
+        ensures encrypted { block.new ≡ eee2_encrypted D.encrypted self.now block.old }
+        ensures enciphers { (key : List ℕ) → IsEee2Of D.is_made_from self.now key
             → IsTheOne (λ answer. EnciphersEee2 key block.old answer) block.new }
     {
-        encrypt_eee(&self.first, &self.second, &self.first, block);
+        D::encrypt_eee(&self.first, &self.second, &self.first, block);
     }
 }
 
-impl BlockCipherDecrypt for TdesEee2 {
-    ghost decrypted = { λ cipher. through (des_decrypted cipher.first)
-        (des_decrypted cipher.second) (des_decrypted cipher.first) };
+impl<D: SingleDes> BlockCipherDecrypt for Eee2<D> {
+    ghost decrypted = { eee2_decrypted D.decrypted };
 
     /// Decrypts a block of 8 bytes in place, bit 1 the most significant bit of the first byte: it
     /// is deciphered under the first part of the key, deciphered under the second and deciphered
     /// under the first.
     fn decrypt_block(&self, block: &mut [u8; 8])
-        ensures decrypted { block.new
-            ≡ ⟦<TdesEee2 as BlockCipherDecrypt>⟧.decrypted self.now block.old }
-        ensures deciphers { (key : List ℕ) → ⟦<TdesEee2 as KeyInit>⟧.is_made_from self.now key
+        ensures decrypted { block.new ≡ eee2_decrypted D.decrypted self.now block.old }
+        ensures deciphers { (key : List ℕ) → IsEee2Of D.is_made_from self.now key
             → IsTheOne (λ answer. EnciphersEee2 key answer block.old) block.new }
     {
-        decrypt_eee(&self.first, &self.second, &self.first, block);
+        D::decrypt_eee(&self.first, &self.second, &self.first, block);
     }
 }
 
-impl BlockCipher for TdesEee2 {
-    ghost encrypted_is_block = { λ cipher.
-        (IsPass-eee cipher.first cipher.second cipher.first).forth_is_block };
+impl<D: SingleDes> BlockCipher for Eee2<D> {
+    ghost encrypted_is_block = { λ cipher. (IsPass-eee2 D.answers_as_des cipher).forth_is_block };
 
-    ghost decrypted_is_block = { λ cipher.
-        (IsPass-eee cipher.first cipher.second cipher.first).back_is_block };
+    ghost decrypted_is_block = { λ cipher. (IsPass-eee2 D.answers_as_des cipher).back_is_block };
 
-    ghost decrypts_encrypted = { λ cipher.
-        (IsPass-eee cipher.first cipher.second cipher.first).back_forth };
+    ghost decrypts_encrypted = { λ cipher. (IsPass-eee2 D.answers_as_des cipher).back_forth };
 
-    ghost encrypts_decrypted = { λ cipher.
-        (IsPass-eee cipher.first cipher.second cipher.first).forth_back };
+    ghost encrypts_decrypted = { λ cipher. (IsPass-eee2 D.answers_as_des cipher).forth_back };
 }
 
-impl KeyedCipher for TdesEee2 {
-    ghost encryption = { λ key. through (des_encryption (part 1 key))
-        (des_encryption (part 2 key)) (des_encryption (part 1 key)) };
+impl<D: SingleDes> KeyedCipher for Eee2<D> {
+    ghost encryption = { eee2_encryption };
 
-    ghost decryption = { λ key. through (des_decryption (part 1 key))
-        (des_decryption (part 2 key)) (des_decryption (part 1 key)) };
+    ghost decryption = { eee2_decryption };
 
     ghost encrypts_by_key = { λ cipher key block _ made is_block.
-        (Agree-eee cipher.first cipher.second cipher.first (part 1 key) (part 2 key) (part 1 key)
-        made.1 made.2 made.1).at block is_block };
+        (Agree-eee2_encrypted D.answers_as_des cipher key made).at block is_block };
 
     ghost decrypts_by_key = { λ cipher key block _ made is_block.
-        (Agree-eee_back cipher.first cipher.second cipher.first (part 1 key) (part 2 key) (part 1 key)
-        made.1 made.2 made.1).at block is_block };
+        (Agree-eee2_decrypted D.answers_as_des cipher key made).at block is_block };
 }
 
-impl Complementing for TdesEee2 {
+impl<D: SingleDes> Relating for Eee2<D> {
+    ghost relation = { λ key block answer. EnciphersEee2 key block answer };
+
+    fn relate_lists(&self) {}
+}
+
+impl<D: SingleDes> Complementing for Eee2<D> {
     ghost encryption_complements = { λ key block is_key is_block.
         (Complements-eee 16 1 2 1 refl key is_key).at block is_block };
 
@@ -152,21 +138,8 @@ impl Complementing for TdesEee2 {
         (Complements-eee_back 16 1 2 1 refl key is_key).at block is_block };
 }
 
-impl Clone for TdesEee2 {
-    ghost is_clone = { λ cipher other. other ≡ cipher };
-
-    ghost is_infallible = { λ _. ⊤ };
-
-    fn clone(&self) -> Result<TdesEee2, AllocError> {
-        Ok(TdesEee2 {
-            first: self.first.clone()?,
-            second: self.second.clone()?,
-        })
-    }
-}
-
 /// Writes the type's name, and no part of the key, whatever options are set.
-impl fmt::Debug for TdesEee2 {
+impl<D: SingleDes> fmt::Debug for Eee2<D> {
     ghost debug_output = { λ _. Some (codes "TdesEee2 { ... }") };
 
     fn fmt<W: fmt::Write>(&self, f: &mut fmt::Formatter<W>) -> fmt::Result

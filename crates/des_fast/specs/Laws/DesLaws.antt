@@ -3,6 +3,7 @@ use Rattle.std.proofs.Common.{ℕ, List, reverse, ap}
 use Rattle.des.specs.Rounds.{answer_by}
 use Rattle.des.specs.Des.{encryption, decryption}
 use Rattle.des.specs.Laws.Passes.{IsPass, Agree}
+use Rattle.des.specs.Laws.SingleDes.{AnswersAsDes}
 use Rattle.des.specs.Laws.RoundsUndone.{IsPass-answer_by}
 use Rattle.des_fast.specs.declared.single.Des.{Des}
 use Rattle.des_fast.specs.HalfBlocks.{round_keys_of}
@@ -13,8 +14,20 @@ pub IsPass-Des : (cipher : Des) → IsPass (encrypted cipher) (decrypted cipher)
 IsPass-Des cipher = IsPass-answer_by (round_keys_of cipher.round_keys)
 
 -- a cipher of a key answers as the key does, in each direction
-pub Agree-encrypted : (cipher : Des) (key : List ℕ) → IsDesOf cipher key → Agree (encrypted cipher) (encryption key)
-Agree-encrypted cipher key made = record { at = λ block is_block. ap (λ keys. answer_by keys block) made.1 }
+pub Agree-encrypted : (cipher : Des) (key : List ℕ) → IsDesOf cipher key
+    → Agree (encrypted cipher) (encryption key)
+Agree-encrypted cipher key made =
+    record { at = λ block is_block. ap (λ keys. answer_by keys block) made.1 }
 
-pub Agree-decrypted : (cipher : Des) (key : List ℕ) → IsDesOf cipher key → Agree (decrypted cipher) (decryption key)
-Agree-decrypted cipher key made = record { at = λ block is_block. ap (λ keys. answer_by (reverse keys) block) made.1 }
+pub Agree-decrypted : (cipher : Des) (key : List ℕ) → IsDesOf cipher key
+    → Agree (decrypted cipher) (decryption key)
+Agree-decrypted cipher key made =
+    record { at = λ block is_block. ap (λ keys. answer_by (reverse keys) block) made.1 }
+
+-- all that a triple cipher asks of a single one
+pub AnswersAsDes-Des : AnswersAsDes IsDesOf encrypted decrypted
+AnswersAsDes-Des = record {
+  is_pass = IsPass-Des;
+  encrypts_as_des = Agree-encrypted;
+  decrypts_as_des = Agree-decrypted;
+}

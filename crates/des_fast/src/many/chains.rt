@@ -1,19 +1,20 @@
-//! Deciphering of chained blocks (FIPS 81, cipher block chaining mode), 128 at a time: each block is
-//! deciphered by itself, and xored with the ciphertext block before it.
+//! Deciphering of chained blocks (FIPS 81, cipher block chaining mode), a batch at a time: each
+//! block is deciphered by itself, and xored with the ciphertext block before it.
 
 ghost use Rattle.std.specs.Prelude.{◌≡◌, ◌%◌, List, Bool, length};
 ghost use Rattle.des.specs.Cbc.{Unchains};
-ghost use Rattle.des_fast.specs.Passes.{HoldPasses, answer_through};
+ghost use Rattle.des_fast.specs.Passes.{HoldPasses, block_through_passes};
+ghost use Rattle.des_fast.specs.Slices.{batch};
 
-use super::{BATCH, answer_batch};
-use crate::slices::KeySlices;
+use super::answer_batch;
+use crate::slices::{BATCH, KeySlices};
 use des::cbc;
 
 // Takes a batch of blocks through passes, and out of the chain that begins with `iv`.
 fn unchain_batch(blocks: &mut [[u8; 8]], iv: &[u8; 8], passes: &[KeySlices])
-    requires { length blocks.old ≡ 128 }
+    requires { length blocks.old ≡ batch }
     ensures { (keys : List (List (List Bool))) → HoldPasses passes.now keys
-        → Unchains (answer_through keys) iv.now blocks.old blocks.new }
+        → Unchains (block_through_passes keys) iv.now blocks.old blocks.new }
 {
     let mut answers = [[0u8; 8]; BATCH];
     answers.copy_from_slice(blocks);
@@ -29,9 +30,9 @@ fn unchain_batch(blocks: &mut [[u8; 8]], iv: &[u8; 8], passes: &[KeySlices])
 
 /// Takes the blocks of whole batches through passes, and out of the chain that begins with `iv`.
 pub(super) fn unchain_batches(blocks: &mut [[u8; 8]], iv: &[u8; 8], passes: &[KeySlices])
-    requires { length blocks.old % 128 ≡ 0 }
+    requires { length blocks.old % batch ≡ 0 }
     ensures { (keys : List (List (List Bool))) → HoldPasses passes.now keys
-        → Unchains (answer_through keys) iv.now blocks.old blocks.new }
+        → Unchains (block_through_passes keys) iv.now blocks.old blocks.new }
 {
     let mut before = *iv;
     'batches: for k in 0..blocks.len() / BATCH {

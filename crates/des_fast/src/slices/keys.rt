@@ -1,32 +1,33 @@
-//! Round keys as slices: each bit of a round key is the same for all blocks, so a vector of it is all
-//! ones or all zeros.
+//! Round keys as slices: each bit of a round key is the same for all blocks, so a vector of it is
+//! all ones or all zeros.
 
-ghost use Rattle.std.specs.Prelude.{◌≡◌, ◌≤◌, ◌&&◌, IsTrue, nat_lt, map, reverse};
+ghost use Rattle.std.specs.Prelude.{◌≡◌, ◌≤◌, ◌&&◌, IsTrue, nat_lt, map};
 ghost use Rattle.std.specs.List.{list_all};
 ghost use Rattle.des.specs.Bits.{bit, bits_of_word, select};
 ghost use Rattle.des_fast.specs.HalfBlocks.{round_keys_of};
 ghost use Rattle.des_fast.specs.Slices.{bit_of_block, column, InEachBlock};
 
+use super::Slice;
 use super::passes::KeySlices;
 use crate::halves::RoundKey;
-use std::simd::prelude::*;
 
 // The slice of the bit at a position of a word, the same for all blocks.
 #[inline]
-fn bit_slice(word: u64, position: u32) -> u64x2
+fn bit_slice(word: u64, position: u32) -> Slice
     requires from_one { 1 ≤ position }
     requires to_last { position ≤ 64 }
     ensures { InEachBlock (λ b. bit_of_block b result ≡ bit (bits_of_word word) position) }
 {
-    u64x2::splat(((word >> (64 - position)) & 1) * u64::MAX)
+    Slice::splat(((word >> (64 - position)) & 1) * u64::MAX)
 }
 
 // The slices of the bits at these positions of a word.
-fn selection_slices(word: u64, positions: &[u32; 48]) -> [u64x2; 48]
-    requires { IsTrue (list_all (λ position. nat_lt 0 position && nat_lt position 65) positions.now) }
+fn selection_slices(word: u64, positions: &[u32; 48]) -> [Slice; 48]
+    requires { IsTrue (list_all (λ position. nat_lt 0 position && nat_lt position 65)
+        positions.now) }
     ensures { InEachBlock (λ b. column b result ≡ select positions.now (bits_of_word word)) }
 {
-    let mut slices = [u64x2::splat(0); 48];
+    let mut slices = [Slice::splat(0); 48];
     for i in 0..48usize {
         slices[i] = bit_slice(word, positions[i]);
     }
@@ -47,23 +48,12 @@ const GROUP_POSITIONS: [u32; 48] = [
 ];
 
 /// The slices of sixteen round keys, in their order.
-pub(crate) fn enciphering(round_keys: &[RoundKey; 16]) -> KeySlices
+pub(crate) fn key_slices(round_keys: &[RoundKey; 16]) -> KeySlices
     ensures { InEachBlock (λ b. map (column b) result ≡ round_keys_of round_keys.now) }
 {
-    let mut slices = [[u64x2::splat(0); 48]; 16];
+    let mut slices = [[Slice::splat(0); 48]; 16];
     for i in 0..16usize {
         slices[i] = selection_slices(round_keys[i].groups, &GROUP_POSITIONS);
-    }
-    slices
-}
-
-/// The slices of sixteen round keys, from the last to the first.
-pub(crate) fn deciphering(round_keys: &[RoundKey; 16]) -> KeySlices
-    ensures { InEachBlock (λ b. map (column b) result ≡ reverse (round_keys_of round_keys.now)) }
-{
-    let mut slices = [[u64x2::splat(0); 48]; 16];
-    for i in 0..16usize {
-        slices[i] = selection_slices(round_keys[15 - i].groups, &GROUP_POSITIONS);
     }
     slices
 }

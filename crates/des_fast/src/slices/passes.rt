@@ -11,15 +11,15 @@ ghost use Rattle.des_fast.specs.Slices.{column, InEachBlock};
 ghost use Rattle.des_fast.specs.Transposition.{in_order};
 ghost use Rattle.des_fast.specs.Passes.{through_passes};
 
+use super::Slice;
 use super::rounds::round;
 use super::transposition::Rows;
-use std::simd::prelude::*;
 
 /// A half block of each block.
-type Half = [u64x2; 32];
+type Half = [Slice; 32];
 
 /// The sixteen round keys of a pass, in its order, as slices.
-pub(crate) type KeySlices = [[u64x2; 48]; 16];
+pub(crate) type KeySlices = [[Slice; 48]; 16];
 
 // The left half of the initial permutation, in the rows of the standard's table.
 #[rattlefmt::skip]
@@ -57,7 +57,7 @@ fn joined(left: &Half, right: &Half) -> Rows
     ensures { InEachBlock (λ b. column b (in_order result)
         ≡ select final_permutation (column b left.now ++ column b right.now)) }
 {
-    let mut slices = [[u64x2::splat(0); 8]; 8];
+    let mut slices = [[Slice::splat(0); 8]; 8];
     slices[0] = [right[7], left[7], right[15], left[15], right[23], left[23], right[31], left[31]];
     slices[1] = [right[6], left[6], right[14], left[14], right[22], left[22], right[30], left[30]];
     slices[2] = [right[5], left[5], right[13], left[13], right[21], left[21], right[29], left[29]];
@@ -71,7 +71,8 @@ fn joined(left: &Half, right: &Half) -> Rows
 
 // The sixteen rounds of a pass.
 fn sixteen_rounds(left: &mut Half, right: &mut Half, keys: &KeySlices)
-    ensures { InEachBlock (λ b. after_rounds (map (column b) keys.now) (column b left.old) (column b right.old)
+    ensures { InEachBlock (λ b.
+        after_rounds (map (column b) keys.now) (column b left.old) (column b right.old)
         ≡ (column b left.new, column b right.new)) }
 {
     'pairs: for i in 0..8usize {
@@ -81,7 +82,7 @@ fn sixteen_rounds(left: &mut Half, right: &mut Half, keys: &KeySlices)
 }
 
 /// Takes slices through passes, one after another.
-pub(crate) fn pass_through(slices: &Rows, passes: &[KeySlices]) -> Rows
+pub(crate) fn slices_through_passes(slices: &Rows, passes: &[KeySlices]) -> Rows
     ensures { InEachBlock (λ b. column b (in_order result)
         ≡ through_passes (map (map (column b)) passes.now) (column b (in_order slices.now))) }
 {

@@ -3,13 +3,14 @@
 ghost use Rattle.std.specs.Prelude.{◌≡◌, ◌+◌, ◌*◌, ◌<◌, length};
 ghost use Rattle.des.specs.Bits.{bits_of_bytes, bits_of_word};
 ghost use Rattle.des.specs.Blocks.{block_of_bits};
+ghost use Rattle.des_fast.specs.Slices.{batch};
 ghost use Rattle.des_fast.specs.Transposition.{IsRowOf, AreRowsOf, with_row, AreBlocksOfRows};
 
+use super::Slice;
 use super::transposition::Rows;
-use std::simd::prelude::*;
 
-// The word of the bits of a block. This and the next are functions for the proof's sake: of an element
-// of a list of blocks it knows nothing but that it is one.
+// The word of the bits of a block. This and the next are functions for the proof's sake: of an
+// element of a list of blocks it knows nothing but that it is one.
 #[inline(always)]
 fn word_of(block: &[u8; 8]) -> u64
     ensures { bits_of_word result ≡ bits_of_bytes block.now }
@@ -27,19 +28,19 @@ fn block_of(word: u64) -> [u8; 8]
 
 // Row n of the blocks.
 #[inline(always)]
-fn row_of(blocks: &[[u8; 8]], n: usize) -> u64x2
+fn row_of(blocks: &[[u8; 8]], n: usize) -> Slice
     requires { 2 * n + 1 < length blocks.now }
     ensures { IsRowOf blocks.now n result }
 {
-    u64x2::from_array([word_of(&blocks[2 * n]), word_of(&blocks[2 * n + 1])])
+    Slice::from_array([word_of(&blocks[2 * n]), word_of(&blocks[2 * n + 1])])
 }
 
-/// The rows of 128 blocks.
+/// The rows of a batch of blocks.
 pub(super) fn rows_of(blocks: &[[u8; 8]]) -> Rows
-    requires { length blocks.now ≡ 128 }
+    requires { length blocks.now ≡ batch }
     ensures { AreRowsOf blocks.now result }
 {
-    let mut rows = [[u64x2::splat(0); 8]; 8];
+    let mut rows = [[Slice::splat(0); 8]; 8];
     'groups: for g in 0..8usize {
         rows[g] = [
             row_of(blocks, 8 * g),
@@ -57,7 +58,7 @@ pub(super) fn rows_of(blocks: &[[u8; 8]]) -> Rows
 
 // Writes the two blocks of row n.
 #[inline(always)]
-fn write_row(blocks: &mut [[u8; 8]], n: usize, row: u64x2)
+fn write_row(blocks: &mut [[u8; 8]], n: usize, row: Slice)
     requires { 2 * n + 1 < length blocks.old }
     ensures { blocks.new ≡ with_row blocks.old n row }
 {
@@ -66,9 +67,9 @@ fn write_row(blocks: &mut [[u8; 8]], n: usize, row: u64x2)
     blocks[2 * n + 1] = block_of(second);
 }
 
-/// Writes the 128 blocks of the rows.
+/// Writes the batch of blocks of the rows.
 pub(super) fn write_rows(blocks: &mut [[u8; 8]], rows: &Rows)
-    requires { length blocks.old ≡ 128 }
+    requires { length blocks.old ≡ batch }
     ensures { AreBlocksOfRows rows.now blocks.new }
 {
     'rows: for n in 0..64usize {

@@ -6,26 +6,26 @@
 ghost use Rattle.std.specs.Prelude.{◌≡◌, ◌<◌, [], ◌∷◌, IsTrue};
 ghost use Rattle.des_fast.specs.Transposition.{pairs_places, ArePairwiseExchanged, AreBytesExchanged, AreBitsExchanged, AreTransposed};
 
-use std::simd::prelude::*;
+use super::Slice;
 
 /// 64 rows, in eight groups of eight.
-pub(crate) type Rows = [[u64x2; 8]; 8];
+pub(crate) type Rows = [[Slice; 8]; 8];
 
 // Exchanges the bits of `upper` under the mask with those of `lower` at this distance before them.
 #[inline(always)]
-fn exchange_rows(upper: u64x2, lower: u64x2, distance: u64, mask: u64) -> [u64x2; 2]
+fn exchange_rows(upper: Slice, lower: Slice, distance: u64, mask: u64) -> [Slice; 2]
     requires within { distance < 64 }
     requires pairs { IsTrue (pairs_places distance mask) }
     ensures { ArePairwiseExchanged 1 distance (upper ∷ lower ∷ []) result }
 {
-    let change = (upper ^ (lower >> distance)) & u64x2::splat(mask);
+    let change = (upper ^ (lower >> distance)) & Slice::splat(mask);
     [upper ^ change, lower ^ (change << distance)]
 }
 
 // The same of rows 0 and 4, 1 and 5, 2 and 6, 3 and 7, which come out side by side. Three such
 // exchanges, one after another, leave each row in its place.
 #[inline(always)]
-fn exchange_pairs(rows: [u64x2; 8], distance: u64, mask: u64) -> [u64x2; 8]
+fn exchange_pairs(rows: [Slice; 8], distance: u64, mask: u64) -> [Slice; 8]
     requires within { distance < 64 }
     requires pairs { IsTrue (pairs_places distance mask) }
     ensures { ArePairwiseExchanged 4 distance rows result }
@@ -39,7 +39,7 @@ fn exchange_pairs(rows: [u64x2; 8], distance: u64, mask: u64) -> [u64x2; 8]
 
 // Transposes the eight bytes of each of eight rows.
 #[inline(always)]
-fn exchange_bytes(rows: [u64x2; 8]) -> [u64x2; 8]
+fn exchange_bytes(rows: [Slice; 8]) -> [Slice; 8]
     ensures { AreBytesExchanged rows result }
 {
     let rows = exchange_pairs(rows, 32, 0x00000000ffffffff);
@@ -49,7 +49,7 @@ fn exchange_bytes(rows: [u64x2; 8]) -> [u64x2; 8]
 
 // Transposes the bits of each square of eight rows of eight bits.
 #[inline(always)]
-fn exchange_bits(rows: [u64x2; 8]) -> [u64x2; 8]
+fn exchange_bits(rows: [Slice; 8]) -> [Slice; 8]
     ensures { AreBitsExchanged rows result }
 {
     let rows = exchange_pairs(rows, 4, 0x0f0f0f0f0f0f0f0f);
@@ -61,14 +61,14 @@ fn exchange_bits(rows: [u64x2; 8]) -> [u64x2; 8]
 pub(crate) fn transpose(rows: &Rows) -> Rows
     ensures { AreTransposed rows.now result }
 {
-    let mut halfway = [[u64x2::splat(0); 8]; 8];
+    let mut halfway = [[Slice::splat(0); 8]; 8];
     'bytes: for i in 0..8usize {
         halfway[i] = exchange_bytes([
             rows[0][i], rows[1][i], rows[2][i], rows[3][i], rows[4][i], rows[5][i], rows[6][i],
             rows[7][i],
         ]);
     }
-    let mut transposed = [[u64x2::splat(0); 8]; 8];
+    let mut transposed = [[Slice::splat(0); 8]; 8];
     'bits: for i in 0..8usize {
         transposed[i] = exchange_bits([
             halfway[0][i],

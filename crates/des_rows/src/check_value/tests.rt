@@ -2,8 +2,8 @@ use super::*;
 use des::Des;
 use std::test::Fail;
 
-// OpenSSL's `des-ede3` answers the zero block so, under three times the first key and under the parts
-// of the other.
+// OpenSSL's `des-ede3` answers the zero block so, under three times the first key and under the
+// parts of the other.
 #[test]
 fn gives_check_values(rt: HostRuntime) -> Result<(), Fail> {
     let key = 0x133457799bbcdff1u64.to_be_bytes();

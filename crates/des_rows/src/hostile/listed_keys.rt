@@ -6,8 +6,8 @@ use des::Des;
 use des::cipher::{BlockCipherEncrypt, KeyInit};
 use des::weak_key::{WEAK_KEYS, WeakKeyError, equal_but_parity, is_partner, weak_key_test};
 
-// Two keys that are not of the listed class, and one that differs from the first in its eight parity
-// bits alone.
+// Two keys that are not of the listed class, and one that differs from the first in its eight
+// parity bits alone.
 const A: [u8; 8] = [0x01, 0x02, 0x03, 0x04, 0x05, 0x06, 0x07, 0x08];
 
 const B: [u8; 8] = [0x11, 0x12, 0x13, 0x14, 0x15, 0x16, 0x17, 0x18];

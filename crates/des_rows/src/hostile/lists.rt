@@ -1,7 +1,6 @@
 //! Lists of two lengths, and long ones, by each cipher.
 
 use des::cipher::{BlockCipher, BlockCipherDecrypt, BlockCipherEncrypt, KeyInit, NotEqualError};
-use des::{Des, TdesEde2, TdesEde3, TdesEee2, TdesEee3};
 use std::process::Abort;
 use std::test::Fail;
 
@@ -72,11 +71,16 @@ fn try_lengths<C: KeyInit + BlockCipher + Drop>(
 
 #[test]
 fn lists_of_two_lengths_are_refused(rt: HostRuntime) -> Result<(), Fail> {
-    try_lengths::<Des>(&rt, "Des", &KEY[..8])?;
-    try_lengths::<TdesEde3>(&rt, "TdesEde3", &KEY)?;
-    try_lengths::<TdesEee3>(&rt, "TdesEee3", &KEY)?;
-    try_lengths::<TdesEde2>(&rt, "TdesEde2", &KEY[..16])?;
-    try_lengths::<TdesEee2>(&rt, "TdesEee2", &KEY[..16])?;
+    try_lengths::<des::Des>(&rt, "des::Des", &KEY[..8])?;
+    try_lengths::<des_fast::Des>(&rt, "des_fast::Des", &KEY[..8])?;
+    try_lengths::<des::TdesEde3>(&rt, "des::TdesEde3", &KEY)?;
+    try_lengths::<des_fast::TdesEde3>(&rt, "des_fast::TdesEde3", &KEY)?;
+    try_lengths::<des::TdesEee3>(&rt, "des::TdesEee3", &KEY)?;
+    try_lengths::<des_fast::TdesEee3>(&rt, "des_fast::TdesEee3", &KEY)?;
+    try_lengths::<des::TdesEde2>(&rt, "des::TdesEde2", &KEY[..16])?;
+    try_lengths::<des_fast::TdesEde2>(&rt, "des_fast::TdesEde2", &KEY[..16])?;
+    try_lengths::<des::TdesEee2>(&rt, "des::TdesEee2", &KEY[..16])?;
+    try_lengths::<des_fast::TdesEee2>(&rt, "des_fast::TdesEee2", &KEY[..16])?;
     Ok(())
 }
 
@@ -89,8 +93,9 @@ fn counted_blocks() -> [[u8; 8]; 1000] {
     blocks
 }
 
-// Tries the cipher of the key at a thousand blocks: the calls that take a list answer each block as the
-// calls of one block do, and these answer the last one as given, by encryption and by decryption.
+// Tries the cipher of the key at a thousand blocks: the calls that take a list answer each block as
+// the calls of one block do, and these answer the last one as given, by encryption and by
+// decryption.
 fn try_long_lists<C: KeyInit + BlockCipher + Drop>(
     rt: &impl Abort,
     key: &[u8],
@@ -122,41 +127,51 @@ fn try_long_lists<C: KeyInit + BlockCipher + Drop>(
 #[test]
 fn des_answers_long_lists(rt: HostRuntime) -> Result<(), Fail> {
     let answers = [0xe3513719361d7e8a, 0x6ae0813d92200f3c];
-    try_long_lists::<Des>(&rt, &KEY[..8], answers)
+    try_long_lists::<des::Des>(&rt, &KEY[..8], answers)?;
+    try_long_lists::<des_fast::Des>(&rt, &KEY[..8], answers)
 }
 
 // OpenSSL's `des-ede3` answers the last block so.
 #[test]
 fn three_part_ede_answers_long_lists(rt: HostRuntime) -> Result<(), Fail> {
     let answers = [0xe0ea3ee320590e25, 0x011be083f678d6f0];
-    try_long_lists::<TdesEde3>(&rt, &KEY, answers)
+    try_long_lists::<des::TdesEde3>(&rt, &KEY, answers)?;
+    try_long_lists::<des_fast::TdesEde3>(&rt, &KEY, answers)
 }
 
 // Three runs of OpenSSL's `des-ecb` answer the last block so.
 #[test]
 fn three_part_eee_answers_long_lists(rt: HostRuntime) -> Result<(), Fail> {
     let answers = [0x0f3f0b714c03857a, 0xf274c9275819f1fd];
-    try_long_lists::<TdesEee3>(&rt, &KEY, answers)
+    try_long_lists::<des::TdesEee3>(&rt, &KEY, answers)?;
+    try_long_lists::<des_fast::TdesEee3>(&rt, &KEY, answers)
 }
 
 // OpenSSL's `des-ede` answers the last block so.
 #[test]
 fn two_part_ede_answers_long_lists(rt: HostRuntime) -> Result<(), Fail> {
     let answers = [0x38b4a5f41160eed5, 0x57b741e38aa59562];
-    try_long_lists::<TdesEde2>(&rt, &KEY[..16], answers)
+    try_long_lists::<des::TdesEde2>(&rt, &KEY[..16], answers)?;
+    try_long_lists::<des_fast::TdesEde2>(&rt, &KEY[..16], answers)
 }
 
 // Three runs of OpenSSL's `des-ecb` answer the last block so.
 #[test]
 fn two_part_eee_answers_long_lists(rt: HostRuntime) -> Result<(), Fail> {
     let answers = [0x7f0a8b3d964e69ec, 0x0709ac5aa8d59609];
-    try_long_lists::<TdesEee2>(&rt, &KEY[..16], answers)
+    try_long_lists::<des::TdesEee2>(&rt, &KEY[..16], answers)?;
+    try_long_lists::<des_fast::TdesEee2>(&rt, &KEY[..16], answers)
 }
 
 // OpenSSL's `des-ecb` answers the last block so.
 #[test]
 fn long_lists_go_from_buffer_to_buffer(rt: HostRuntime) -> Result<(), Fail> {
-    let cipher = Des::new_from_slice(&KEY[..8])?;
+    try_buffers::<des::Des>(&rt)?;
+    try_buffers::<des_fast::Des>(&rt)
+}
+
+fn try_buffers<C: KeyInit + BlockCipher + Drop>(rt: &impl Abort) -> Result<(), Fail> {
+    let cipher = C::new_from_slice(&KEY[..8])?;
     let blocks = counted_blocks();
     let mut list = blocks;
     let mut output = [FILLED; 1000];

@@ -1,7 +1,6 @@
 use super::*;
 use crate::odd_ciphers::{Reverse, XorKey};
 use des::cipher::{KeyInit, KeyedCipher};
-use des::{Des, TdesEde2, TdesEde3, TdesEee2, TdesEee3};
 use std::test::Fail;
 
 // NIST Special Publication 800-67, appendix B: the parts of a key, and "The qufck brown fox jump".
@@ -43,15 +42,15 @@ fn goes_under<C: KeyedCipher + Drop>(key: &[u8], ciphertext: [u64; 3]) -> Result
 #[test]
 fn lists_go_there_and_back(rt: HostRuntime) -> Result<(), Fail> {
     let des = [0xa28e91724c4bba31, 0x167e47ec24f71d63, 0x2c1a917234425365];
-    assert!(rt; goes_under::<Des>(&KEY[..8], des)?);
+    assert_of_both!(rt; goes_under, Des, &KEY[..8], des);
     let ede3 = [0xa826fd8ce53b855f, 0xcce21c8112256fe6, 0x68d5c05dd9b6b900];
-    assert!(rt; goes_under::<TdesEde3>(&KEY, ede3)?);
+    assert_of_both!(rt; goes_under, TdesEde3, &KEY, ede3);
     let eee3 = [0xce2719ff408a7afa, 0xc3f4683ad32c6b5b, 0xec6ad3d6da9dc9b3];
-    assert!(rt; goes_under::<TdesEee3>(&KEY, eee3)?);
+    assert_of_both!(rt; goes_under, TdesEee3, &KEY, eee3);
     let ede2 = [0xc44862f70cf2fbdc, 0x9077d0909fa91b88, 0x4cabd61fc58e0cbb];
-    assert!(rt; goes_under::<TdesEde2>(&KEY[..16], ede2)?);
+    assert_of_both!(rt; goes_under, TdesEde2, &KEY[..16], ede2);
     let eee2 = [0x500013533151e90c, 0x7314612fb856088e, 0x28b61bd250fe2d39];
-    assert!(rt; goes_under::<TdesEee2>(&KEY[..16], eee2)?);
+    assert_of_both!(rt; goes_under, TdesEee2, &KEY[..16], eee2);
     Ok(())
 }
 
@@ -62,5 +61,24 @@ fn lists_go_there_and_back_by_odd_ciphers(rt: HostRuntime) -> Result<(), Fail> {
     assert!(rt; goes_under::<XorKey>(&[0x0f; 8], xor)?);
     let reversed = [*b"cfuq ehT", *b" nworb k", *b"pmuj xof"];
     assert!(rt; goes_there_and_back(&Reverse, reversed));
+    Ok(())
+}
+
+// Lists of two lengths leave the output; those of one are answered as above.
+#[test]
+fn lists_of_two_lengths_stay(rt: HostRuntime) -> Result<(), Fail> {
+    let cipher = des::Des::new_from_slice(&KEY[..8])?;
+    let mut output = [[0xa5; 8]; 2];
+    assert!(rt; !encrypt_into(&cipher, &PLAINTEXT, &mut output));
+    assert!(rt; !decrypt_into(&cipher, &PLAINTEXT, &mut output));
+    assert_eq!(rt; output, [[0xa5; 8]; 2]);
+    assert!(rt; encrypt_into(&cipher, &PLAINTEXT[..2], &mut output));
+    assert_eq!(rt;
+        output.map(u64::from_be_bytes),
+        [0xa28e91724c4bba31, 0x167e47ec24f71d63]
+    );
+    let answers = output;
+    assert!(rt; decrypt_into(&cipher, &answers, &mut output));
+    assert_eq!(rt; output.as_slice(), &PLAINTEXT[..2]);
     Ok(())
 }

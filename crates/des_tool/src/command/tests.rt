@@ -1,11 +1,18 @@
 ghost use Rattle.std.specs.Prelude.{◌≤◌};
 
 use super::*;
+use std::alloc::Global;
+use std::env::Env;
+use std::io;
+use std::io::{ErrorKind, Write};
+use std::process::ExitCode;
 
 mod answers;
 mod faults;
 mod lines;
+mod long_answers;
 mod memory;
+mod texts;
 mod writers;
 
 const KEY: &str = "133457799BBCDFF1";
@@ -18,13 +25,14 @@ const ANSWER: &str = "85e813540f0ab405\n";
 const ENOUGH: usize = 1000;
 
 // Takes one byte a write, and no memory for it. It refuses one write, after so many that it takes,
-// and may refuse to be flushed.
+// and may refuse to be flushed; where it is flushed, it counts the bytes that it then has.
 #[derive(Drop)]
 struct Page {
     bytes: [u8; 256],
     taken: usize,
     takes: usize,
     flushes: bool,
+    flushed: usize,
     ghost within: { taken ≤ 256 },
 }
 
@@ -35,6 +43,7 @@ impl Page {
             taken: 0,
             takes,
             flushes,
+            flushed: 0,
         }
     }
 
@@ -60,6 +69,7 @@ impl Write for Page {
 
     fn flush(&mut self) -> io::Result<()> {
         if self.flushes {
+            self.flushed = self.taken;
             Ok(())
         } else {
             Err(io::Error::from(ErrorKind::BrokenPipe))

@@ -42,7 +42,7 @@ loop-i-preserved c =
           rw (get_or-set_same, c.pc2.ensures.selected, chosen));
     }
 
-pub returns : goal.returns
-returns c =
+pub returns-clause-words : goal.returns-clause-words
+returns-clause-words c =
     HoldRoundKeys-by_index c.loop-i.keys (bits_of_word c.args.key) c.loop-i.invariant.sixteen
     (λ k within. c.loop-i.invariant.made k (omega arith))

@@ -16,8 +16,8 @@ returns-clause-read g c =
     let is_iv : IsBlock iv = (c.told-iv, All-from_get_or (λ byte. byte < 256) iv 0 (λ i within. c.fits-iv i)) in
     let bytes : AreBytes key = All-from_get_or (λ byte. byte < 256) key 0 (λ i within. search rules) in
     let chained =
-    Chains-from_Unchains encrypts decrypts iv c.decrypt_cbc.new.blocks c.args.blocks.now is_iv c.are_blocks.ensures
-    (g.met.C.BlockCipher.decrypted_is_block cipher) (g.met.C.BlockCipher.encrypts_decrypted cipher) c.decrypt_cbc.ensures in
+    Chains-from_Unchains encrypts decrypts iv c.decrypt_cbc.new.blocks c.args.blocks.now is_iv c.decrypt_cbc.ensures.blocks
+    (g.met.C.BlockCipher.decrypted_is_block cipher) (g.met.C.BlockCipher.encrypts_decrypted cipher) c.decrypt_cbc.ensures.unchained in
     Chains-weaker (TakesBlock encrypts) (TakesBlock (g.C.KeyedCipher.encryption key)) iv c.decrypt_cbc.new.blocks c.args.blocks.now
     (λ x y taken. (
       taken.0,

@@ -16,5 +16,5 @@ returns-clause-same g c =
     search (
       rules,
       map-undone (g.C.BlockCipherEncrypt.encrypted c.args.cipher.now) (g.C.BlockCipherDecrypt.decrypted c.args.cipher.now) c.args.blocks.now
-          (g.met.C.BlockCipher.decrypts_encrypted c.args.cipher.now) c.are_blocks.ensures,
+          (g.met.C.BlockCipher.decrypts_encrypted c.args.cipher.now) c.encrypt_blocks_b2b.ensures.blocks,
     )

@@ -1,5 +1,5 @@
-//! The answers are the xor of key and block, by hand. The second key and block are the complements of
-//! the first, and the answer is the same one: no complement.
+//! The answers are the xor of key and block, by hand. The second key and block are the complements
+//! of the first, and the answer is the same one: no complement.
 
 use super::XorKey;
 use des::cipher::{BlockCipherDecrypt, BlockCipherEncrypt, KeyInit};

@@ -3,11 +3,11 @@
 use super::*;
 use std::test::Fail;
 
-// A cipher, its key, a plaintext, and the ciphertext: the worked example of J. Orlin Grabbe, "The DES
-// Algorithm Illustrated", which keys of equal parts answer too; FIPS 81, appendix B, "Now is the time
-// for all "; and NIST Special Publication 800-67, appendix B, "The qufck brown fox jump", whose
-// answers by the other triple ciphers are OpenSSL's: of `des-ede` for `ede2`, and of three runs of
-// DES for the EEE forms.
+// A cipher, its key, a plaintext, and the ciphertext: the worked example of J. Orlin Grabbe, "The
+// DES Algorithm Illustrated", which keys of equal parts answer too; FIPS 81, appendix B, "Now is
+// the time for all "; and NIST Special Publication 800-67, appendix B, "The qufck brown fox jump",
+// whose answers by the other triple ciphers are OpenSSL's: of `des-ede` for `ede2`, and of three
+// runs of DES for the EEE forms.
 const ANSWERS: [(&str, &str, &str, &str); 9] = [
     (
         "des",
@@ -90,9 +90,10 @@ fn decrypts_blocks(rt: HostRuntime) -> Result<(), Fail> {
     Ok(())
 }
 
-// A chained cipher, its key, an initialization vector, a plaintext, and the ciphertext: FIPS 81, appendix C,
-// "Now is the time for all ", which a key of equal parts answers too; a block from a vector of zeros, which
-// is answered as by the cipher itself; no block; and OpenSSL's answers by `des-ede3-cbc`.
+// A chained cipher, its key, an initialization vector, a plaintext, and the ciphertext: FIPS 81,
+// appendix C, "Now is the time for all ", which a key of equal parts answers too; a block from a
+// vector of zeros, which is answered as by the cipher itself; no block; and OpenSSL's answers by
+// `des-ede3-cbc`.
 const CHAINED_ANSWERS: [(&str, &str, &str, &str, &str); 6] = [
     (
         "des-cbc",
@@ -175,8 +176,8 @@ fn answers_many_blocks(rt: HostRuntime) -> Result<(), Fail> {
     Ok(())
 }
 
-// The ciphertext of the example, again and again, deciphers to its plaintext, from the second block on
-// xor that ciphertext.
+// The ciphertext of the example, again and again, deciphers to its plaintext, from the second block
+// on xor that ciphertext.
 #[test]
 fn answers_many_chained_blocks(rt: HostRuntime) -> Result<(), Fail> {
     let mut blocks = String::new(rt.alloc());

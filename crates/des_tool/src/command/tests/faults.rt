@@ -1,6 +1,7 @@
 //! The faults that `answer` finds, and the first where there are several.
 
 use super::*;
+use std::test::Fail;
 
 // Fourteen digits and a letter of two bytes: as long as a key, and not one.
 const NOT_DIGITS: &str = "11111111111111é";
@@ -58,4 +59,51 @@ fn the_first_fault_is_answered(rt: HostRuntime) {
         let answer = answer(rt.alloc(), words);
         assert_eq!(rt; answer.err(), Some(fault), "{words:?}");
     }
+}
+
+// Words that begin as a shape that is known does, or hold a space, and their fault.
+#[rattlefmt::skip]
+const SPACES_AND_OPTIONS: [(&[&str], Fault); 10] = [
+    (&["--", "weak", KEY], Fault::Usage),
+    (&["--", "des", "encrypt", KEY, BLOCK], Fault::Usage),
+    (&["weak ", KEY], Fault::Usage),
+    (&["weak", "0101010101010101 "], Fault::KeyLength),
+    (&["weak", "010101010101010 "], Fault::KeyText),
+    (&["des", "encrypt ", KEY, BLOCK], Fault::Usage),
+    (&["des", "encrypt", "133457799BBCDFF1 ", BLOCK], Fault::KeyLength),
+    (&["des", "encrypt", KEY, "0123456789ABCDEF "], Fault::BlockLength),
+    (&["des", "encrypt", KEY, "0123456789ABCDE "], Fault::BlockText),
+    (&["des-cbc", "encrypt", KEY, "0000000000000000 ", BLOCK], Fault::BlockLength),
+];
+
+#[test]
+fn spaces_and_options_are_no_part_of_a_shape(rt: HostRuntime) {
+    for (words, fault) in SPACES_AND_OPTIONS {
+        let answer = answer(rt.alloc(), words);
+        assert_eq!(rt; answer.err(), Some(fault), "{words:?}");
+    }
+}
+
+// The words of each shape, with more of them after it than any shape has.
+#[test]
+fn more_words_than_any_shape_has_are_at_fault(rt: HostRuntime) -> Result<(), Fail> {
+    let shapes: [&[&str]; 3] = [
+        &["weak", KEY],
+        &["des", "encrypt", KEY, BLOCK],
+        &["des-cbc", "encrypt", KEY, BLOCK, BLOCK],
+    ];
+    for shape in shapes {
+        for more in [4usize, 5, 1000] {
+            let mut words = Vec::from_slice(rt.alloc(), shape)?;
+            for _ in 0..more {
+                words.push(BLOCK)?;
+            }
+            let (mut out, mut err) = (Page::new(ENOUGH, true), Page::new(ENOUGH, true));
+            let code = run_on(rt.alloc(), words.as_slice(), &mut out, &mut err);
+            assert_eq!(rt; code, ExitCode::from(2));
+            assert_eq!(rt; err.text(), b"Usage\n".as_slice());
+            assert!(rt; out.text().is_empty());
+        }
+    }
+    Ok(())
 }

@@ -4,7 +4,8 @@ use super::*;
 use std::env::FillError;
 use std::process::Abort;
 
-// A process whose arguments, the program's own name first, stand on a line with a space between two.
+// A process whose arguments, the program's own name first, stand on a line with a space between
+// two.
 #[derive(Drop)]
 pub(super) struct Process<'a> {
     pub(super) line: &'a [u8],
@@ -32,8 +33,8 @@ impl Env for Process<'_> {
     }
 }
 
-// A line, what goes to standard output and to standard error, and the exit status. There is a list for
-// each shape of the arguments, since the search for proofs ends at a longer one.
+// A line, what goes to standard output and to standard error, and the exit status. There is a list
+// for each shape of the arguments, since the search for proofs ends at a longer one.
 #[rattlefmt::skip]
 pub(super) const LINES: [(&str, &str, &str, u8); 11] = [
     ("des_tool des encrypt 133457799BBCDFF1 0123456789ABCDEF", ANSWER, "", 0),

@@ -1,6 +1,6 @@
-//! Refused requests for memory. No test here asks for memory but in the call that it is about, so each
-//! can be run with one request of that call refused. `.ci/run` does so, and wants a test named `answers_`
-//! to end with `Memory` where a request is refused, and the others to hold.
+//! Refused requests for memory. No test here asks for memory but in the call that it is about, so
+//! each can be run with one request of that call refused. `.ci/run` does so, and wants a test named
+//! `answers_` to end with `Memory` where a request is refused, and the others to hold.
 
 use super::lines::{CHAINED_LINES, LINES, Process, WEAK_LINES};
 use super::*;

@@ -1,5 +1,6 @@
 //! What `show` and `finish` do where a writer takes one byte at a time, or fails.
 
+use super::super::status::report;
 use super::*;
 use std::test::Fail;
 
@@ -31,6 +32,7 @@ fn finishes_answers(rt: HostRuntime) -> Result<(), Fail> {
             let code = finish(&answer, &mut out, &mut err);
             assert_eq!(rt; code, ExitCode::from(status));
             assert_eq!(rt; out.text(), text.as_bytes());
+            assert_eq!(rt; out.flushed, if flushes { text.len() } else { 0 });
             assert!(rt; err.text().is_empty());
         }
     }
@@ -50,6 +52,11 @@ const FAULTS: [(Fault, usize, bool, &str, u8); 9] = [
     (Fault::Memory, 0, true, "", 3),
 ];
 
+// Whether a fault is written whole and flushed.
+fn is_told(takes: usize, flushes: bool) -> bool {
+    takes == ENOUGH && flushes
+}
+
 #[test]
 fn finishes_faults(rt: HostRuntime) {
     for (fault, takes, flushes, reported, status) in FAULTS {
@@ -57,6 +64,14 @@ fn finishes_faults(rt: HostRuntime) {
         let code = finish(&Err(fault), &mut out, &mut err);
         assert_eq!(rt; code, ExitCode::from(status));
         assert_eq!(rt; err.text(), reported.as_bytes());
+        assert_eq!(rt;
+            err.flushed,
+            if is_told(takes, flushes) {
+                reported.len()
+            } else {
+                0
+            }
+        );
         assert!(rt; out.text().is_empty());
     }
 }
@@ -75,5 +90,21 @@ fn keeps_the_status_of_a_fault_that_is_not_told(rt: HostRuntime) {
             assert_eq!(rt; err.text(), &reported.as_bytes()[..takes]);
             assert!(rt; out.text().is_empty());
         }
+    }
+}
+
+// What `report` says of a name that is written and flushed, written alone, and written in part.
+#[test]
+fn reports_whether_a_name_is_written(rt: HostRuntime) {
+    for (takes, flushes) in [
+        (ENOUGH, true),
+        (ENOUGH, false),
+        (6, true),
+        (5, true),
+        (0, true),
+    ] {
+        let mut err = Page::new(takes, flushes);
+        let is_reported = report(Fault::Usage, &mut err).is_ok();
+        assert_eq!(rt; is_reported, takes >= 6 && flushes, "after {takes} writes");
     }
 }

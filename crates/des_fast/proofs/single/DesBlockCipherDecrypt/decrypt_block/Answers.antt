@@ -5,7 +5,7 @@ use Rattle.des.proofs.Graphs.{IsGraphOf-decryption}
 use Rattle.des_fast.specs.HalfBlocks.{round_keys_of, last_block}
 use Rattle.des_fast.specs.Laws.DesLaws.{Agree-decrypted}
 use Rattle.des_fast.proofs.HalfPasses.{after, answer_by-halves}
-use Rattle.des_fast.proofs.KeyAnswers.{IsTheOne-answer}
+use Rattle.des.proofs.PassGraphs.{IsTheOne-answer}
 use Rattle.des_fast.proofs.single.DesBlockCipherDecrypt.decrypt_block.Goals as goal
 
 pub returns-clause-decrypted : goal.returns-clause-decrypted

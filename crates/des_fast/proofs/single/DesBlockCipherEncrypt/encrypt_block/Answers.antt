@@ -5,7 +5,7 @@ use Rattle.des.proofs.Graphs.{IsGraphOf-encryption}
 use Rattle.des_fast.specs.HalfBlocks.{round_keys_of, last_block}
 use Rattle.des_fast.specs.Laws.DesLaws.{Agree-encrypted}
 use Rattle.des_fast.proofs.HalfPasses.{after, answer_by-halves}
-use Rattle.des_fast.proofs.KeyAnswers.{IsTheOne-answer}
+use Rattle.des.proofs.PassGraphs.{IsTheOne-answer}
 use Rattle.des_fast.proofs.single.DesBlockCipherEncrypt.encrypt_block.Goals as goal
 
 pub returns-clause-encrypted : goal.returns-clause-encrypted

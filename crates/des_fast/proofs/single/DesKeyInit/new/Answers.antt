@@ -6,7 +6,7 @@ use Rattle.des.specs.Laws.BitLists.{bits_of_bytes-from_be}
 use Rattle.des.specs.Laws.DesLaws as port
 use Rattle.des.proofs.Graphs.{HasOneAnswerEachWay-key, IsGraphOf-encryption, IsGraphOf-decryption}
 use Rattle.des_fast.specs.Laws.DesLaws.{Agree-encrypted, Agree-decrypted}
-use Rattle.des_fast.proofs.KeyAnswers.{AnswerAlike-Agree}
+use Rattle.des.proofs.PassGraphs.{AnswerAlike-Agree}
 use Rattle.des_fast.proofs.single.DesKeyInit.new.Goals as goal
 
 pub returns-clause-made : goal.returns-clause-made

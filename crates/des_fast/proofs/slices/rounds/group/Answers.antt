@@ -8,12 +8,12 @@ use Rattle.des_fast.proofs.slices.rounds.group.Goals as goal
 
 pub loop-i-preserved : goal.loop-i-preserved
 loop-i-preserved c = (
-  length-set c.loop-i.group c.loop-i.i c.sum.result ∙ c.loop-i.invariant.0,
+  length-set c.loop-i.group c.loop-i.i c.xor.result ∙ c.loop-i.invariant.0,
   below_more _ _
       (λ k below b within. let other : k ≢ c.loop-i.i = omega arith in
-      ap (bit_of_block b) (get_or-set_other c.loop-i.group c.loop-i.i k c.sum.result [] other) ∙ c.loop-i.invariant.1 k below b within)
+      ap (bit_of_block b) (get_or-set_other c.loop-i.group c.loop-i.i k c.xor.result [] other) ∙ c.loop-i.invariant.1 k below b within)
       (λ b within. let inside : c.loop-i.i < length c.loop-i.group = omega arith in
-      ap (bit_of_block b) (get_or-set_same c.loop-i.group c.loop-i.i c.sum.result [] inside) ∙ c.sum.ensures b within),
+      ap (bit_of_block b) (get_or-set_same c.loop-i.group c.loop-i.i c.xor.result [] inside) ∙ c.xor.ensures b within),
 )
 
 pub returns : goal.returns

@@ -5,4 +5,4 @@ use Rattle.des_fast.proofs.many.ciphers.DesManyBlocks.encrypt_batches.Goals as g
 pub returns : goal.returns
 returns c =
     c.answer_batches.ensures (round_keys_of c.args.self.now.round_keys ∷ [])
-    (λ b within. ap (λ keys. keys ∷ []) (c.enciphering.ensures b within))
+    (λ b within. ap (λ keys. keys ∷ []) (c.key_slices.ensures b within))

@@ -1,9 +1,0 @@
-use Rattle.des.specs.Blocks.{IsKey, part}
-use Rattle.des.specs.Triple.{Eee2}
-use Rattle.des.proofs.PassGraphs.{IsTheOne-beside}
-use Rattle.des.proofs.tdes.eee2.TdesEee2BlockCipherEncrypt.encrypt_block.Goals as goal
-
-pub returns-clause-enciphers : goal.returns-clause-enciphers
-returns-clause-enciphers c key made =
-    IsTheOne-beside (IsKey 16 key) made.0 (λ answer. Eee2 (part 1 key) (part 2 key) c.args.block.now answer) c.encrypt_eee.new.block
-    (c.encrypt_eee.ensures.enciphers (part 1 key) (part 2 key) (part 1 key) made.1 made.2 made.1)

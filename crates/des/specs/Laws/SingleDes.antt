@@ -1,0 +1,13 @@
+-- What a triple cipher asks of a single one.
+use Rattle.std.specs.Prelude.{ℕ, List}
+use Rattle.des.specs.Des.{encryption, decryption}
+use Rattle.des.specs.Laws.Passes.{IsPass, Agree}
+
+-- a cipher undoes what it does, and answers blocks as DES does under each key that it is made from
+pub record AnswersAsDes {D : Type 0} (IsOf : D → List ℕ → Type 0)
+    (encrypts decrypts : D → List ℕ → List ℕ) : Type 0 where
+  pub is_pass : (cipher : D) → IsPass (encrypts cipher) (decrypts cipher)
+  pub encrypts_as_des : (cipher : D) (key : List ℕ) → IsOf cipher key
+      → Agree (encrypts cipher) (encryption key)
+  pub decrypts_as_des : (cipher : D) (key : List ℕ) → IsOf cipher key
+      → Agree (decrypts cipher) (decryption key)

@@ -1,0 +1,16 @@
+-- The three passes of the cipher, over all batches.
+use Rattle.std.proofs.Common.{ℕ, List, Bool, [], ◌∷◌, subst, ◌∙◌}
+use Rattle.des.specs.Cbc.{Unchains}
+use Rattle.des_fast.specs.HalfBlocks.{round_keys_of}
+use Rattle.des_fast.proofs.ThreePasses.{block_through_passes-three}
+use Rattle.des_fast.proofs.many.ciphers.unchain_triple.Goals as goal
+
+pub returns : goal.returns
+returns g c =
+    let passes = c.decryption_passes.result in
+    let first : List (List Bool) = round_keys_of passes.first in
+    let second : List (List Bool) = round_keys_of passes.second in
+    let third : List (List Bool) = round_keys_of passes.third in
+    subst (λ (f : List ℕ → List ℕ). Unchains f c.args.iv.now c.args.blocks.now c.unchain_batches.new.blocks)
+    (block_through_passes-three first second third ∙ c.decryption_passes.ensures)
+    (c.unchain_batches.ensures (first ∷ second ∷ third ∷ []) c.spread.ensures)

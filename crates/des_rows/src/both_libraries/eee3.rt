@@ -1,0 +1,32 @@
+//! The EEE form under three parts.
+
+ghost use Rattle.std.specs.Prelude.{◌≡◌};
+
+use des::TdesEee3;
+use des::cipher::{BlockCipherDecrypt, BlockCipherEncrypt, KeyInit};
+use des::tdes::{Eee3, SingleDes};
+
+/// What the cipher of `des` makes of a block by encryption, and what the other makes of it, under a
+/// key. The two are one.
+pub fn encrypted_by_eee3<D: SingleDes>(key: &[u8; 24], block: &[u8; 8]) -> ([u8; 8], [u8; 8])
+    ensures { result.1 ≡ result.0 }
+{
+    let (mut answer, mut other_answer) = (*block, *block);
+    let cipher = TdesEee3::new(key);
+    cipher.encrypt_block(&mut answer);
+    let other = Eee3::<D>::new(key);
+    other.encrypt_block(&mut other_answer);
+    (answer, other_answer)
+}
+
+/// The same by decryption.
+pub fn decrypted_by_eee3<D: SingleDes>(key: &[u8; 24], block: &[u8; 8]) -> ([u8; 8], [u8; 8])
+    ensures { result.1 ≡ result.0 }
+{
+    let (mut answer, mut other_answer) = (*block, *block);
+    let cipher = TdesEee3::new(key);
+    cipher.decrypt_block(&mut answer);
+    let other = Eee3::<D>::new(key);
+    other.decrypt_block(&mut other_answer);
+    (answer, other_answer)
+}

@@ -1,0 +1,30 @@
+//! `Des` of each library.
+
+ghost use Rattle.std.specs.Prelude.{◌≡◌};
+
+use des::cipher::{BlockCipherDecrypt, BlockCipherEncrypt, KeyInit};
+
+/// What the cipher of `des` makes of a block by encryption, and what the other makes of it, under a
+/// key. The two are one.
+pub fn encrypted_by_des(key: &[u8; 8], block: &[u8; 8]) -> ([u8; 8], [u8; 8])
+    ensures { result.1 ≡ result.0 }
+{
+    let (mut answer, mut other_answer) = (*block, *block);
+    let cipher = des::Des::new(key);
+    cipher.encrypt_block(&mut answer);
+    let other = des_fast::Des::new(key);
+    other.encrypt_block(&mut other_answer);
+    (answer, other_answer)
+}
+
+/// The same by decryption.
+pub fn decrypted_by_des(key: &[u8; 8], block: &[u8; 8]) -> ([u8; 8], [u8; 8])
+    ensures { result.1 ≡ result.0 }
+{
+    let (mut answer, mut other_answer) = (*block, *block);
+    let cipher = des::Des::new(key);
+    cipher.decrypt_block(&mut answer);
+    let other = des_fast::Des::new(key);
+    other.decrypt_block(&mut other_answer);
+    (answer, other_answer)
+}

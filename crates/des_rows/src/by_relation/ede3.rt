@@ -1,0 +1,33 @@
+//! The EDE form under three parts.
+
+ghost use Rattle.std.specs.Prelude.{◌↔◌, IsTrue};
+ghost use Rattle.des.specs.Relations.{IsTheOne};
+ghost use Rattle.des.specs.Triple.{EnciphersEde3};
+
+use super::{answers, is_same};
+use des::cipher::{BlockCipherDecrypt, BlockCipherEncrypt, KeyInit};
+use des::tdes::{Ede3, SingleDes};
+
+/// What a block becomes by encryption under the key, and what it becomes by decryption.
+pub fn answers_of_ede3<D: SingleDes>(key: &[u8; 24], block: &[u8; 8]) -> ([u8; 8], [u8; 8])
+    ensures enciphers { IsTheOne (λ answer. EnciphersEde3 key.now block.now answer) result.0 }
+    ensures deciphers { IsTheOne (λ answer. EnciphersEde3 key.now answer block.now) result.1 }
+{
+    let cipher = Ede3::<D>::new(key);
+    let (mut encrypted, mut decrypted) = (*block, *block);
+    cipher.encrypt_block(&mut encrypted);
+    cipher.decrypt_block(&mut decrypted);
+    (encrypted, decrypted)
+}
+
+/// Whether the key takes a block to another: by encryption of the one, and by decryption of the
+/// other.
+pub fn relates_ede3<D: SingleDes>(key: &[u8; 24], block: &[u8; 8], answer: &[u8; 8]) -> (bool, bool)
+    ensures there { IsTrue result.0 ↔ EnciphersEde3 key.now block.now answer.now }
+    ensures back { IsTrue result.1 ↔ EnciphersEde3 key.now block.now answer.now }
+{
+    let cipher = Ede3::<D>::new(key);
+    let (encrypted, _) = answers(&cipher, key, block);
+    let (_, decrypted) = answers(&cipher, key, answer);
+    (is_same(&encrypted, answer), is_same(&decrypted, block))
+}

@@ -1,0 +1,73 @@
+-- A run, by the answer that was shown.
+use Rattle.std.proofs.Common.{◌≡◌, ℕ, List, Option, Some, None, Result, Ok, Err, IfSome, IfNone, IfOk, inl, inr, refl, ap, ◌∙◌, arith}
+use Rattle.std.specs.declared.vec.Vec.{Vec}
+use Rattle.std.specs.declared.alloc.Global.{Global}
+use Rattle.std.proofs.lemmas.Result.{IfErr-at_err}
+use Rattle.des_tool.specs.declared.command.fault.Fault.{Fault}
+use Rattle.des_tool.specs.declared.command.fault.Fault.TheVariants.{Usage, KeyLength, KeyText, BlockLength, BlockText, Memory}
+use Rattle.des_tool.specs.Fault.{FailsBy}
+use Rattle.des_tool.specs.Status.{memory_refused, status_of, IsOfAnswer, IsOfFault, IsShown}
+use Rattle.des_tool.specs.Run.{fault_in, IsTheAnswer, IsRun}
+
+-- the status of a fault is one of a fault
+IsOfFault-status_of : (fault : Fault) → IsOfFault (status_of fault)
+IsOfFault-status_of Usage = inl refl
+IsOfFault-status_of KeyLength = inl refl
+IsOfFault-status_of KeyText = inl refl
+IsOfFault-status_of BlockLength = inl refl
+IsOfFault-status_of BlockText = inl refl
+IsOfFault-status_of Memory = inr refl
+
+-- no status is one of an answer and of a fault
+one_kind : (status : ℕ) → IsOfAnswer status → IsOfFault status → ⊥
+one_kind status (inl answer) (inl fault) = omega arith
+one_kind status (inl answer) (inr fault) = omega arith
+one_kind status (inr answer) (inl fault) = omega arith
+one_kind status (inr answer) (inr fault) = omega arith
+
+-- what a fault of the arguments says of a result that failed, said of its status
+fault-status : (given : Option Fault) (fault : Fault) (failed : Result (Vec ℕ Global) Fault) (status : ℕ) → failed ≡ Err fault
+    → FailsBy given failed → status ≡ status_of fault → IfSome given (λ fault. status ≡ status_of fault)
+fault-status (Some other) fault failed status is same shown = shown ∙ ap status_of (cc (is, same))
+fault-status None fault failed status is same shown = tt
+
+memory-status : (given : Option Fault) (fault : Fault) (failed : Result (Vec ℕ Global) Fault) (status : ℕ) → failed ≡ Err fault
+    → FailsBy given failed → status ≡ status_of fault → IfNone given (IsOfFault status → status ≡ memory_refused)
+memory-status (Some other) fault failed status is same shown = tt
+memory-status None fault failed status is same shown =
+    let memory : fault ≡ Memory = IfErr-at_err (λ fault. fault ≡ Memory) is same in
+    λ is_fault. shown ∙ ap status_of memory
+
+-- arguments that are answered have no fault
+no_fault : (given : Option Fault) (text : Vec ℕ Global) (P : Fault → Type 0) → FailsBy given (Ok text) → IfSome given P
+no_fault (Some fault) text P same = absurd (cc same)
+no_fault None text P same = tt
+
+-- the answer of the arguments, once it is shown, is a run
+pub IsRun-from_IsShown : {W E : Type 0} (contents : W → Option (List ℕ)) (arguments : Result (List (List ℕ)) Fault)
+    (answer : Result (Vec ℕ Global) Fault) (status : ℕ) (out_old out_new : W) (err_old err_new : E)
+    → FailsBy (fault_in arguments) answer → IfOk answer (λ text. IsTheAnswer arguments text.items)
+    → IsShown contents answer status out_old out_new err_old err_new
+    → IsRun contents arguments status out_old out_new err_old err_new
+IsRun-from_IsShown contents arguments (Ok text) status out_old out_new err_old err_new fails answers shown = record {
+  ends = inl shown.0;
+  fault = no_fault (fault_in arguments) text _ fails;
+  memory = memory-answered (fault_in arguments);
+  written = λ is. (text.items, (answers, shown.1 is));
+  err = λ is_answer. shown.2;
+  out = λ is_fault. absurd (one_kind status shown.0 is_fault);
+}
+  where
+    memory-answered : (given : Option Fault) → IfNone given (IsOfFault status → status ≡ memory_refused)
+    memory-answered (Some fault) = tt
+    memory-answered None = λ is_fault. absurd (one_kind status shown.0 is_fault)
+IsRun-from_IsShown contents arguments (Err fault) status out_old out_new err_old err_new fails answers shown =
+    let is_fault : IsOfFault status = rw shown.0 (IsOfFault-status_of fault) in
+    record {
+      ends = inr is_fault;
+      fault = fault-status (fault_in arguments) fault (Err fault) status refl fails shown.0;
+      memory = memory-status (fault_in arguments) fault (Err fault) status refl fails shown.0;
+      written = λ is. absurd (one_kind status (inl is) is_fault);
+      err = λ is_answer. absurd (one_kind status is_answer is_fault);
+      out = λ _. shown.1;
+    }

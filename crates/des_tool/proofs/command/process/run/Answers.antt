@@ -1,0 +1,10 @@
+use Rattle.std.proofs.Common.{Err, refl}
+use Rattle.des_tool.proofs.Runs.{IsRun-from_IsShown}
+use Rattle.des_tool.proofs.command.process.run.Goals as goal
+
+-- the arguments were not fetched, and the writers are as they were
+pub returns-in-Err : goal.returns-in-Err
+returns-in-Err g c =
+    let fault = c.in-Err.fault in
+    let shown = rw c.in-Err.ensures.out at c.finish.ensures in
+    (Err fault, IsRun-from_IsShown g.W.Write.contents (Err fault) (Err fault) _ _ _ _ _ refl tt shown)

@@ -1,0 +1,70 @@
+//! Why arguments have no answer.
+
+use std::alloc::{AllocError, AllocFailed};
+use std::error::Error;
+use std::fmt;
+
+/// Why the arguments have no answer. The first fault of the arguments is reported: of the key
+/// before the vector before the blocks, and of each the length before the digits.
+#[derive(Clone, Copy, Debug, PartialEq, Eq)]
+pub enum Fault {
+    /// The arguments do not have a shape that is known.
+    Usage,
+    /// The key argument is not as many bytes long as a key has digits: two for each byte of the
+    /// cipher's key, or 16, 32 or 48 where a key is tested.
+    KeyLength,
+    /// The key argument holds something that is not a hexadecimal digit.
+    KeyText,
+    /// The vector argument is not 16 bytes long, as many as a block has digits, or the length of
+    /// the blocks argument is no multiple of 16.
+    BlockLength,
+    /// The vector argument or the blocks argument holds something that is not a hexadecimal digit.
+    BlockText,
+    /// A request for memory was refused.
+    Memory,
+}
+
+/// Writes the fault's name, whatever options are set.
+impl fmt::Display for Fault {
+    ghost use Rattle.std.specs.Prelude.{Some};
+    ghost use Rattle.des_tool.specs.Fault.{name_of};
+
+    ghost output = { λ fault. Some (name_of fault) };
+
+    ghost styled_output = { λ fault _. Some (name_of fault) };
+
+    fn fmt<W: fmt::Write>(&self, f: &mut fmt::Formatter<W>) -> fmt::Result {
+        match self {
+            Fault::Usage => f.write_str("Usage"),
+            Fault::KeyLength => f.write_str("KeyLength"),
+            Fault::KeyText => f.write_str("KeyText"),
+            Fault::BlockLength => f.write_str("BlockLength"),
+            Fault::BlockText => f.write_str("BlockText"),
+            Fault::Memory => f.write_str("Memory"),
+        }
+    }
+}
+
+impl Error for Fault {}
+
+impl From<AllocError> for Fault {
+    ghost use Rattle.std.specs.Prelude.{◌≡◌};
+    ghost use Rattle.des_tool.specs.declared.command.fault.Fault.TheVariants.{Memory};
+
+    ghost from_gives = { λ _ fault. fault ≡ Memory };
+
+    fn from(_refused: AllocError) -> Fault {
+        Fault::Memory
+    }
+}
+
+impl<T: Drop> From<AllocFailed<T>> for Fault {
+    ghost use Rattle.std.specs.Prelude.{◌≡◌};
+    ghost use Rattle.des_tool.specs.declared.command.fault.Fault.TheVariants.{Memory};
+
+    ghost from_gives = { λ _ fault. fault ≡ Memory };
+
+    fn from(_refused: AllocFailed<T>) -> Fault {
+        Fault::Memory
+    }
+}
