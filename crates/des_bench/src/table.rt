@@ -1,5 +1,8 @@
-//! The table of all figures: a row for each cipher, block by block and by the calls for lists, and
-//! one for the weak key test.
+//! The table of all figures: a row for each cipher, block by block and by the calls for lists, rows
+//! for lists of some lengths over vectors of two and of four words, and one for the weak key test.
+//!
+//! A list shorter than a batch takes the time of a batch, and each call spreads the round keys: what
+//! a list of 128 blocks takes beyond an eighth of one of 1,024 is about what spreading takes.
 //!
 //! What the timed calls answer is joined in the number below the table, so that no compiler can
 //! leave a call out. A run of blocks begins with what the run before it made of them.
@@ -13,6 +16,7 @@ use des_fast::many::ManyBlocks;
 use std::alloc::AllocGlobal;
 use std::io;
 use std::io::Write;
+use std::simd::prelude::*;
 use std::time::{Clock, CpuClock};
 
 // The bytes of the longest key that a cipher has.
@@ -49,6 +53,10 @@ pub fn write_table<R: AllocGlobal + Clock + CpuClock, W: Write>(
     joined ^= write_lists::<des_fast::TdesEee3>(rt, &keys, out)?;
     joined ^= write_lists::<des_fast::TdesEde2>(rt, &keys, out)?;
     joined ^= write_lists::<des_fast::TdesEee2>(rt, &keys, out)?;
+    write_head(out, "Des, blocks", &["two words", "four words", "cbc"])?;
+    joined ^= write_lengths::<des_fast::Des>(rt, &keys, out)?;
+    write_head(out, "TdesEde3, blocks", &["two words", "four words", "cbc"])?;
+    joined ^= write_lengths::<des_fast::TdesEde3>(rt, &keys, out)?;
     write_head(out, "des", &["8 bytes", "16 bytes", "24 bytes"])?;
     joined ^= write_weak_key_test(rt, &keys, out)?;
     writeln!(out, "{joined:016x}")?;
@@ -118,6 +126,51 @@ fn write_lists<C: KeyedCipher + AlgorithmName + ManyBlocks + Drop>(
     Ok(joined(&blocks))
 }
 
+// Writes the rows of a cipher for lists of some lengths, and joins the blocks that its calls ended
+// with.
+fn write_lengths<C: KeyedCipher + AlgorithmName + ManyBlocks + Drop>(
+    rt: &(impl Clock + CpuClock),
+    keys: &[[u8; LONGEST_KEY]; KEYS],
+    out: &mut impl Write,
+) -> io::Result<u64>
+    requires { C.KEY_SIZE ≤ LONGEST_KEY }
+{
+    let cipher: C = cipher_of_key(&keys[0]);
+    let mut joined = write_length::<C, 1>(rt, &cipher, out)?;
+    joined ^= write_length::<C, 16>(rt, &cipher, out)?;
+    joined ^= write_length::<C, 64>(rt, &cipher, out)?;
+    joined ^= write_length::<C, 127>(rt, &cipher, out)?;
+    joined ^= write_length::<C, 128>(rt, &cipher, out)?;
+    joined ^= write_length::<C, 255>(rt, &cipher, out)?;
+    joined ^= write_length::<C, 1024>(rt, &cipher, out)?;
+    joined ^= write_length::<C, 65536>(rt, &cipher, out)?;
+    Ok(joined)
+}
+
+// Writes the row of lists of N blocks: the time of a block, encrypted over vectors of two and of
+// four words, and decrypted by CBC over two.
+fn write_length<C: ManyBlocks, const N: usize>(
+    rt: &(impl Clock + CpuClock),
+    cipher: &C,
+    out: &mut impl Write,
+) -> io::Result<u64>
+    requires some { 1 ≤ N }
+    requires few { N ≤ 65536 }
+{
+    let iv = [0u8; 8];
+    let mut blocks = [[0u8; 8]; N];
+    let two = tenths_of_call(rt, N as u32, || cipher.encrypt_many(&mut blocks))?;
+    let four = tenths_of_call(
+        rt,
+        N as u32,
+        || cipher.encrypt_many_by::<u64x4>(&mut blocks),
+    )?;
+    let cbc = tenths_of_call(rt, N as u32, || cipher.decrypt_cbc(&iv, &mut blocks))?;
+    write!(out, "{N:<16}")?;
+    write_figures(out, &[two, four, cbc])?;
+    Ok(joined(&blocks))
+}
+
 // The cipher of the first bytes of a key, as many as it takes: `new`, which `new_from_slice` calls.
 fn cipher_of_key<C: KeyInit + Drop>(key: &[u8; LONGEST_KEY]) -> C
     requires { C.KEY_SIZE ≤ LONGEST_KEY }
@@ -175,6 +228,11 @@ fn write_head(out: &mut impl Write, name: &str, columns: &[&str; 3]) -> io::Resu
 // Writes a row of figures, which are tenths.
 fn write_row(out: &mut impl Write, name: &str, figures: &[u128; 3]) -> io::Result<()> {
     write!(out, "{name:<16}")?;
+    write_figures(out, figures)
+}
+
+// Writes the figures of a row, which are tenths.
+fn write_figures(out: &mut impl Write, figures: &[u128; 3]) -> io::Result<()> {
     for figure in figures {
         write!(out, "{:>8}.{}", figure / 10, figure % 10)?;
     }

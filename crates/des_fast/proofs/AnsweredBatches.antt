@@ -1,25 +1,23 @@
 -- Blocks answered in place, batch after batch.
-use Rattle.std.proofs.Common.{◌≡◌, ℕ, ◌+◌, ◌-◌, ◌<◌, ◌≤◌, Bool, List, [], ◌++◌, length, take, drop, map, ap, ap₂, sym, ◌∙◌, arith, append_assoc, length-take-le, take-add, take_at, drop_at}
-use Rattle.std.proofs.lemmas.List.{length-append, length-drop, length-map, get_or-map, ext_get_or, map-append, drop-drop, take_all, drop_all, append-nil}
+use Rattle.std.proofs.Common.{◌≡◌, ℕ, ◌+◌, ◌<◌, ◌≤◌, Bool, List, [], ◌++◌, length, take, drop, map, get_or, ap, ap₂, sym, ◌∙◌, arith, append_assoc, length-take-le, take-add, take_at, drop_at}
+use Rattle.std.proofs.lemmas.List.{length-append, length-drop, length-map, get_or-map, ext_get_or, get_or-take, get_or_append_left, map-append, drop-drop, take_all, drop_all, append-nil}
 use Rattle.des.specs.Blocks.{block_of_bits}
-use Rattle.des_fast.specs.Slices.{batch, column, InEachBlock}
-use Rattle.des_fast.specs.Transposition.{in_order, place_of, AreSlicesOf, AreBlocksOf}
+use Rattle.des_fast.specs.Slices.{InEachBlock}
+use Rattle.des_fast.specs.Transposition.{AreSlicesOf, AreBlocksOf}
 use Rattle.des_fast.specs.Passes.{through_passes, HoldPasses, block_through_passes}
 
 -- slices that went through passes are those of the answers
-pub answers-from_slices : (old new : List (List ℕ)) (slices answered : List (List (List ℕ))) (passes : List (List (List (List ℕ))))
-    (keys : List (List (List Bool))) → length old ≡ batch → length new ≡ batch → AreSlicesOf old slices
-    → InEachBlock (λ b. column b (in_order answered) ≡ through_passes (map (map (column b)) passes) (column b (in_order slices)))
-    → AreBlocksOf answered new → HoldPasses passes keys → new ≡ map (block_through_passes keys) old
-answers-from_slices old new slices answered passes keys many same are through made hold =
+pub answers-from_slices : {A : Type 0} (batch : ℕ) (bit : ℕ → A → Bool) (old new : List (List ℕ)) (slices answered : List A)
+    (passes : List (List (List A))) (keys : List (List (List Bool))) → length old ≡ batch → length new ≡ batch
+    → AreSlicesOf batch bit old slices
+    → InEachBlock batch (λ b. map (bit b) answered ≡ through_passes (map (map (map (bit b))) passes) (map (bit b) slices))
+    → AreBlocksOf batch bit answered new → HoldPasses batch bit passes keys → new ≡ map (block_through_passes keys) old
+answers-from_slices batch bit old new slices answered passes keys many same are through made hold =
     ext_get_or [] new (map (block_through_passes keys) old) (same ∙ sym (length-map old (block_through_passes keys) ∙ many))
     (λ k below.
     let inside : k < batch = omega arith in
-    let b : ℕ = place_of k in
-    let within : b < batch = omega arith in
     made k inside
-    ∙ ap block_of_bits (through b within
-    ∙ ap₂ through_passes (hold b within) (are k inside))
+    ∙ ap block_of_bits (through k inside ∙ ap₂ through_passes (hold k inside) (are k inside))
     ∙ sym (get_or-map (block_through_passes keys) old k [] [] (omega arith)))
 
 -- ---- lists
@@ -45,14 +43,25 @@ pub answered-all : (f : List ℕ → List ℕ) (m : ℕ) (old : List (List ℕ))
 answered-all f m old all =
     ap₂ (λ (front back : List (List ℕ)). map f front ++ back) (take_all m old all) (drop_all m old all) ∙ append-nil (map f old)
 
--- a list of which the first m are answered, and then the rest
-pub answered-parts : (f : List ℕ → List ℕ) (m : ℕ) (old part rest : List (List ℕ)) → m ≤ length old → part ≡ map f (take m old)
-    → (let now : List (List ℕ) = part ++ drop m old in let n : ℕ = length now - m in
-    rest ≡ map f (take n (drop m now)) → take m now ++ (rest ++ drop n (drop m now)) ≡ map f old)
-answered-parts f m old part rest within made also =
-    let now : List (List ℕ) = part ++ drop m old in
-    let n : ℕ = length now - m in
-    let size : length part ≡ m = ap length made ∙ length-map (take m old) f ∙ length-take-le m old within in
-    let all : length old ≤ m + n = omega (arith, length-append part (drop m old), length-drop m old) in
-    answered-more f m n old now rest within (ap (λ (xs : List (List ℕ)). xs ++ drop m old) made) also
-    ∙ answered-all f (m + n) old all
+-- the answers to a list that was written over the front of a longer one
+pub answered-front : (f : List ℕ → List ℕ) (n batch : ℕ) (old part filling answers back : List (List ℕ)) → length old ≡ n → n ≤ batch
+    → batch ≤ 256 → length filling ≡ 256 → part ≡ old → answers ≡ map f (take batch (part ++ drop n filling))
+    → take n (answers ++ back) ≡ map f old
+answered-front f n batch old part filling answers back size fits most long same made =
+    let whole : List (List ℕ) = part ++ drop n filling in
+    let in_part : length part ≡ n = ap length same ∙ size in
+    let room : batch ≤ length whole = omega (arith, length-append part (drop n filling), length-drop n filling) in
+    let width : length (take batch whole) ≡ batch = length-take-le batch whole room in
+    let count : length answers ≡ batch = ap length made ∙ length-map (take batch whole) f ∙ width in
+    ext_get_or [] (take n (answers ++ back)) (map f old)
+    (length-take-le n (answers ++ back) (omega (arith, length-append answers back)) ∙ sym (length-map old f ∙ size))
+    (λ k below.
+    let low : k < n = omega (arith, length-take-le n (answers ++ back) (omega (arith, length-append answers back))) in
+    get_or-take n (answers ++ back) k [] low
+    ∙ get_or_append_left answers back [] k (omega arith)
+    ∙ ap (λ (xs : List (List ℕ)). get_or xs k []) made
+    ∙ get_or-map f (take batch whole) k [] [] (omega arith)
+    ∙ ap f (get_or-take batch whole k [] (omega arith)
+    ∙ get_or_append_left part (drop n filling) [] k (omega arith)
+    ∙ ap (λ (xs : List (List ℕ)). get_or xs k []) same)
+    ∙ sym (get_or-map f old k [] [] (omega arith)))

@@ -1,5 +1,5 @@
 -- The cipher function group by group: the six bits that each box replaces, and where P puts the four bits of its entry.
-use Rattle.std.proofs.Common.{◌≡◌, ℕ, zero, suc, ◌+◌, ◌-◌, ◌*◌, ◌%◌, ◌<◌, ◌==◌, Bool, true, false, List, [], ◌∷◌, ◌++◌, length, map, take, drop, get_or, slice_set, slice_index_or, refl, sym, ap, ap₂, ◌∙◌, subst, arith}
+use Rattle.std.proofs.Common.{◌≡◌, ℕ, zero, suc, ◌+◌, ◌-◌, ◌*◌, ◌%◌, ◌<◌, ◌==◌, Bool, true, false, List, [], ◌∷◌, ◌++◌, length, map, take, drop, get_or, slice_set, slice_index_or, refl, sym, ap, ◌∙◌, subst, arith}
 use Rattle.std.specs.List.{range_with_len}
 use Rattle.std.proofs.lemmas.Bool.{eqb-true, agree_below, agree_below_at}
 use Rattle.std.proofs.lemmas.List.{ext_get_or, get_or-take, get_or-drop, get_or-map, length-take, length-drop, drop-drop}
@@ -9,7 +9,7 @@ use Rattle.des.specs.Tables.{Box, selection_functions, s1, s2, s3, s4, s5, s6, s
 use Rattle.des.specs.CipherFunction.{box_entry, substitute, substitute_by}
 use Rattle.des.specs.Laws.Selections.{length-select, length-xor_bits}
 use Rattle.des.proofs.LinearWords.{bit-xor_bits}
-use Rattle.des_fast.specs.Slices.{column, xor_at}
+use Rattle.des_fast.specs.Slices.{xor_at}
 
 -- ---- the group of a box
 
@@ -62,7 +62,7 @@ xor_at-more bits (index ∷ indexes) (change ∷ changes) (suc i) within inside 
     xor_at-more (slice_set bits index (xor (slice_index_or bits index false) change)) indexes changes i (omega arith) (omega arith)
 
 -- the entry of a box for its group
-abbrev entry : Box → ℕ → List Bool → ℕ
+abbrev pub entry : Box → ℕ → List Bool → ℕ
 entry box n bits = box_entry box (take 6 (drop (6 * n) bits))
 
 -- the bits of the entries of boxes for the groups from group n on
@@ -116,20 +116,3 @@ xor_entries-substitute left mixed size =
     xor_entries-listed read (x s1 0) (x s2 1) (x s3 2) (x s4 3) (x s5 4) (x s6 5) (x s7 6) (x s8 7)
     ∙ ap (λ (bits : List Bool). xor_bits (map read (range_with_len 0 32)) (select permutation bits))
     (sym (substitute_by-groups selection_functions 0 mixed)))
-
--- ---- on slices
-
--- the step of box n of a round: its entry is xored into what the steps before made
-pub column-step : (b n : ℕ) (box : Box) (indexes : List ℕ) (before after group entries : List (List ℕ)) (left mixed : List Bool)
-    → column b before ≡ left
-    → length group ≡ 6
-    → column b group ≡ take 6 (drop (6 * n) mixed)
-    → column b entries ≡ bits_of 4 (box_entry box (column b (map (λ i. get_or group i []) (range_with_len 0 6))))
-    → column b after ≡ xor_at (column b before) indexes (column b entries)
-    → column b after ≡ xor_at left indexes (bits_of 4 (entry box n mixed))
-column-step b n box indexes before after group entries left mixed so_far six grouped replaced xored =
-    let read : ℕ → List ℕ = λ i. get_or group i [] in
-    let listed : group ≡ map read (range_with_len 0 6) = fill_by_all read group 6 [] six (λ k below. refl) in
-    let replaced_group : column b entries ≡ bits_of 4 (entry box n mixed) =
-    replaced ∙ ap (λ (bits : List Bool). bits_of 4 (box_entry box bits)) (ap (column b) (sym listed) ∙ grouped) in
-    xored ∙ ap₂ (λ (bits changes : List Bool). xor_at bits indexes changes) so_far replaced_group

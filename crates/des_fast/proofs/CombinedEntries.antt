@@ -1,14 +1,18 @@
 -- The entries of the combined tables, and their xor for eight groups: the substitution, P and E of the groups' bits.
-use Rattle.std.proofs.Common.{◌≡◌, ℕ, zero, suc, ◌+◌, ◌-◌, ◌*◌, ◌<◌, List, [], ◌∷◌, ◌++◌, Bool, length, take, drop, slice_index, slice_index_or, bit_xor, refl, ap, ap₂, sym, ◌∙◌, arith, add-zero, zero-add, lit≤}
+use Rattle.std.proofs.Common.{◌≡◌, ℕ, zero, suc, ◌+◌, ◌-◌, ◌*◌, ◌/◌, ◌<◌, ◌==◌, List, [], ◌∷◌, ◌++◌, Bool, true, length, take, drop, slice_index, slice_index_or, bit_and, bit_or, bit_xor, refl, ap, ap₂, sym, ◌∙◌, arith, add-zero, zero-add, lit≤}
 use Rattle.std.specs.List.{All}
 use Rattle.std.proofs.lemmas.List.{length-append, length-drop, length-replicate, drop-drop, drop_more}
 use Rattle.std.proofs.lemmas.List.FromFn.{get_or-map-range_with_len}
+use Rattle.std.specs.Int.Bits.{xor_disjoint}
+use Rattle.std.proofs.lemmas.Nat.{or_disjoint}
+use Rattle.std.proofs.lemmas.Nat.Bits.{same_from_bits, bit_at_xor}
+use Rattle.std.proofs.lemmas.Bool.{eqb-true, agree_below, agree_below_at}
 use Rattle.des.specs.Bits.{bits_of, number_of, zeros, select, xor_bits}
 use Rattle.des.specs.Tables.{Box, selection_functions, expansion, permutation}
 use Rattle.des.specs.CipherFunction.{box_entry, substitute, substitute_by}
 use Rattle.des.specs.Laws.BitLists.{length-bits_of}
 use Rattle.des.specs.Laws.Selections.{length-select}
-use Rattle.des.proofs.LinearWords.{select-xor_bits}
+use Rattle.des.proofs.LinearWords.{and-xor, and-masked, select-xor_bits}
 use Rattle.des_fast.specs.declared.tables.TheConstants.{TABLES}
 use Rattle.des_fast.specs.Groups.{word_of_groups, in_place}
 use Rattle.des_fast.specs.CombinedTables.{combined_entry, combined_table, combined_tables_from, combined_tables}
@@ -125,6 +129,34 @@ IsXorFrom-box i group word bits box_below below same rest =
           ∙ ap (select permutation) (in_place-rest_from i bits box_below);
     }
 
+-- ---- the tree
+
+-- eight words joined in a tree are the same as in a row
+xor-tree : (a b c d e f g h : ℕ)
+    → bit_xor (bit_xor (bit_xor a b) (bit_xor c d)) (bit_xor (bit_xor e f) (bit_xor g h))
+    ≡ bit_xor (bit_xor (bit_xor (bit_xor (bit_xor (bit_xor (bit_xor h g) f) e) d) c) b) a
+xor-tree a b c d e f g h = same_from_bits _ _ (λ i. simp bit_at_xor (omega arith))
+
+-- a number has no bit beside a mask
+abbrev IsUnder : ℕ → ℕ → Type 0
+IsUnder x mask = bit_and x mask ≡ x
+
+-- numbers under masks that share no bit have the same or as xor
+or-apart : (a b m n : ℕ) → bit_and m n ≡ 0 → IsUnder a m → IsUnder b n → bit_or a b ≡ bit_xor a b
+or-apart a b m n apart a_under b_under =
+    let none : bit_and a b ≡ 0 = ap₂ bit_and (sym a_under) (sym b_under) ∙ and-masked a b m n apart in
+    or_disjoint a b none ∙ sym (xor_disjoint a b none)
+
+-- the bits that the entries of a box, from 0, and of its neighbour have
+abbrev pair_mask : ℕ → ℕ
+pair_mask i = slice_index_or (0x0811180201110424 ∷ 0x1008222808022209 ∷ 0x0624041122080110 ∷ 0x2102010414241802 ∷ []) (i / 2) 0
+
+entry-under : (i group : ℕ) → i < 8 → group < 64 → IsUnder (entry i group) (pair_mask i)
+entry-under i group box_below below =
+    let test : ℕ → ℕ → Bool = λ j g. bit_and (entry j g) (pair_mask j) == entry j g in
+    let box_test : ℕ → Bool = λ j. agree_below (test j) (λ g. true) 64 in
+    eqb-true _ _ (agree_below_at (test i) (λ g. true) 64 group (agree_below_at box_test (λ j. true) 8 i refl box_below) below)
+
 -- the xor of the entries of all boxes is the expansion of P of the substitution
 module _ (bits : List Bool) (groups : List ℕ) (within : All (λ group. group < 64) groups) (eight : length groups ≡ 8)
     (each : (i : ℕ) → i < 8 → bits_of 6 (slice_index groups i) ≡ group_of i bits) where
@@ -136,11 +168,28 @@ module _ (bits : List Bool) (groups : List ℕ) (within : All (λ group. group <
   with_box i word below rest =
       IsXorFrom-box i (slice_index groups i) word bits below (within i 0 (omega arith)) (each i below) rest
 
-  pub IsExpansionOf-entries : let e : ℕ → ℕ = λ i. entry i (slice_index groups i) in
+  IsExpansionOf-row : let e : ℕ → ℕ = λ i. entry i (slice_index groups i) in
       IsExpansionOf
       (bit_xor (bit_xor (bit_xor (bit_xor (bit_xor (bit_xor (bit_xor (e 7) (e 6)) (e 5)) (e 4)) (e 3)) (e 2)) (e 1)) (e 0))
       (select permutation (substitute bits))
   unfolding entry_of
-  IsExpansionOf-entries =
+  IsExpansionOf-row =
       with_box 0 _ (lit≤ tt) (with_box 1 _ (lit≤ tt) (with_box 2 _ (lit≤ tt) (with_box 3 _ (lit≤ tt)
       (with_box 4 _ (lit≤ tt) (with_box 5 _ (lit≤ tt) (with_box 6 _ (lit≤ tt) (with_box 7 0 (lit≤ tt) (IsXorFrom-none bits))))))))
+
+  -- and so is their tree
+  pub IsExpansionOf-entries : let e : ℕ → ℕ = λ i. entry i (slice_index groups i) in
+      IsExpansionOf
+      (bit_xor (bit_or (bit_xor (e 0) (e 1)) (bit_xor (e 2) (e 3))) (bit_or (bit_xor (e 4) (e 5)) (bit_xor (e 6) (e 7))))
+      (select permutation (substitute bits))
+  IsExpansionOf-entries =
+      let e : ℕ → ℕ = λ i. entry i (slice_index groups i) in
+      let under : (i : ℕ) → i < 8 → IsUnder (e i) (pair_mask i) =
+      λ i below. entry-under i (slice_index groups i) below (within i 0 (omega arith)) in
+      let pair : (i : ℕ) → i + 1 < 8 → pair_mask i ≡ pair_mask (i + 1) → IsUnder (bit_xor (e i) (e (i + 1))) (pair_mask i) =
+      λ i below same. and-xor (e i) (e (i + 1)) (pair_mask i)
+      ∙ ap₂ bit_xor (under i (omega arith)) (ap (bit_and (e (i + 1))) same ∙ under (i + 1) below) in
+      let first = or-apart (bit_xor (e 0) (e 1)) (bit_xor (e 2) (e 3)) (pair_mask 0) (pair_mask 2) refl (pair 0 (lit≤ tt) refl) (pair 2 (lit≤ tt) refl) in
+      let last = or-apart (bit_xor (e 4) (e 5)) (bit_xor (e 6) (e 7)) (pair_mask 4) (pair_mask 6) refl (pair 4 (lit≤ tt) refl) (pair 6 (lit≤ tt) refl) in
+      let tree = ap₂ bit_xor first last ∙ xor-tree (e 0) (e 1) (e 2) (e 3) (e 4) (e 5) (e 6) (e 7) in
+      rw tree IsExpansionOf-row

@@ -1,51 +1,78 @@
 -- Eight rows that exchange bits in pairs.
-use Rattle.std.proofs.Common.{◌≡◌, ℕ, zero, suc, ◌+◌, ◌-◌, ◌*◌, ◌/◌, ◌%◌, ◌<◌, List, [], ◌∷◌, ap, ◌∙◌, arith}
-use Rattle.des_fast.specs.Slices.{batch, bit_of_block}
-use Rattle.des_fast.specs.Transposition.{second, row, ArePairwiseExchanged}
+use Rattle.std.proofs.Common.{◌≡◌, ℕ, zero, suc, ◌+◌, ◌-◌, ◌*◌, ◌/◌, ◌%◌, ◌<◌, Bool, false, List, [], ◌∷◌, length, map, get_or, ap, sym, ◌∙◌, arith}
+use Rattle.std.proofs.lemmas.List.{get_or-map}
+use Rattle.des_fast.specs.Transposition.{second, ArePairwiseExchanged}
 use Rattle.des_fast.proofs.ExchangedRows.{mod-lt_two}
 
--- the row of a pair is the row of all
-row-of_pair : (rows : List (List ℕ)) (i t : ℕ) → t < 2 → row (row rows i ∷ row rows (4 + i) ∷ []) (1 * t + 0) ≡ row rows (4 * t + i)
-row-of_pair rows i zero below = ap (row rows) (omega arith)
-row-of_pair rows i (suc zero) below = ap (row rows) (omega arith)
-row-of_pair rows i (suc (suc t)) below = absurd (omega arith)
+-- the bit of one of a pair of rows is that of the row of all
+bit-of_pair : {A : Type 0} (read : A → Bool) (rows : List A) (i t : ℕ) (d0 d1 : A) → t < 2 → 4 + i < length rows
+    → get_or (map read (get_or rows i d0 ∷ get_or rows (4 + i) d1 ∷ [])) (1 * t + 0) false ≡ get_or (map read rows) (4 * t + i) false
+bit-of_pair read rows i zero d0 d1 below inside =
+    sym (get_or-map read rows i d0 false (omega arith)) ∙ ap (λ (k : ℕ). get_or (map read rows) k false) (omega arith)
+bit-of_pair read rows i (suc zero) d0 d1 below inside =
+    sym (get_or-map read rows (4 + i) d1 false inside) ∙ ap (λ (k : ℕ). get_or (map read rows) k false) (omega arith)
+bit-of_pair read rows i (suc (suc t)) d0 d1 below inside = absurd (omega arith)
 
--- rows i and 4 + i exchange bits at a distance, for each i below 4
-pub record ExchangeInPairs (distance : ℕ) (rows first second third fourth : List (List ℕ)) : Type 0 where
-  pub first_pair : ArePairwiseExchanged 1 distance (row rows 0 ∷ row rows 4 ∷ []) first
-  pub second_pair : ArePairwiseExchanged 1 distance (row rows 1 ∷ row rows 5 ∷ []) second
-  pub third_pair : ArePairwiseExchanged 1 distance (row rows 2 ∷ row rows 6 ∷ []) third
-  pub fourth_pair : ArePairwiseExchanged 1 distance (row rows 3 ∷ row rows 7 ∷ []) fourth
-
--- a bit of a row of a pair, by the row of all
-at_pair : (d : ℕ) (rows answer : List (List ℕ)) (i n b : ℕ) → n < 2 → b < batch
-    → ArePairwiseExchanged 1 d (row rows i ∷ row rows (4 + i) ∷ []) answer
-    → bit_of_block b (row answer n) ≡ bit_of_block (b - d * second d b + d * (n % 2)) (row rows (4 * second d b + i))
-at_pair d rows answer i zero b below within pair =
-    pair 0 (omega arith) b within
-    ∙ ap (bit_of_block (b - d * second d b + d * 0)) (row-of_pair rows i (second d b) (mod-lt_two (b / d)))
-at_pair d rows answer i (suc zero) b below within pair =
-    pair 1 (omega arith) b within
-    ∙ ap (bit_of_block (b - d * second d b + d * 1)) (row-of_pair rows i (second d b) (mod-lt_two (b / d)))
-at_pair d rows answer i (suc (suc n)) b below within pair = absurd (omega arith)
+-- a bit of a row of a pair, by the rows of all
+at_pair : {A : Type 0} (batch : ℕ) (bit : ℕ → A → Bool) (d : ℕ) (rows answer : List A) (i n : ℕ) (d0 d1 e : A)
+    → n < 2 → 4 + i < length rows → length answer ≡ 2
+    → ArePairwiseExchanged batch bit 1 d (get_or rows i d0 ∷ get_or rows (4 + i) d1 ∷ []) answer
+    → (b : ℕ) → b < batch
+    → bit b (get_or answer n e) ≡ get_or (map (bit (b - d * second d b + d * (n % 2))) rows) (4 * second d b + i) false
+at_pair batch bit d rows answer i zero d0 d1 e below inside two pair b within =
+    sym (get_or-map (bit b) answer 0 e false (omega arith))
+    ∙ pair 0 (omega arith) b within
+    ∙ bit-of_pair (bit (b - d * second d b + d * 0)) rows i (second d b) d0 d1 (mod-lt_two (b % 64 / d)) inside
+at_pair batch bit d rows answer i (suc zero) d0 d1 e below inside two pair b within =
+    sym (get_or-map (bit b) answer 1 e false (omega arith))
+    ∙ pair 1 (omega arith) b within
+    ∙ bit-of_pair (bit (b - d * second d b + d * 1)) rows i (second d b) d0 d1 (mod-lt_two (b % 64 / d)) inside
+at_pair batch bit d rows answer i (suc (suc n)) d0 d1 e below inside two pair b within = absurd (omega arith)
 
 -- the rows of four pairs, side by side
-pub ArePairwiseExchanged-pairs : (d : ℕ) (rows first second third fourth : List (List ℕ))
-    → ExchangeInPairs d rows first second third fourth
-    → ArePairwiseExchanged 4 d rows
-    (row first 0 ∷ row first 1 ∷ row second 0 ∷ row second 1 ∷ row third 0 ∷ row third 1 ∷ row fourth 0 ∷ row fourth 1 ∷ [])
-ArePairwiseExchanged-pairs d rows p q r s pairs zero below b within = at_pair d rows p 0 0 b (omega arith) within pairs.first_pair
-ArePairwiseExchanged-pairs d rows p q r s pairs (suc zero) below b within = at_pair d rows p 0 1 b (omega arith) within pairs.first_pair
-ArePairwiseExchanged-pairs d rows p q r s pairs (suc (suc zero)) below b within =
-    at_pair d rows q 1 0 b (omega arith) within pairs.second_pair
-ArePairwiseExchanged-pairs d rows p q r s pairs (suc (suc (suc zero))) below b within =
-    at_pair d rows q 1 1 b (omega arith) within pairs.second_pair
-ArePairwiseExchanged-pairs d rows p q r s pairs (suc (suc (suc (suc zero)))) below b within =
-    at_pair d rows r 2 0 b (omega arith) within pairs.third_pair
-ArePairwiseExchanged-pairs d rows p q r s pairs (suc (suc (suc (suc (suc zero))))) below b within =
-    at_pair d rows r 2 1 b (omega arith) within pairs.third_pair
-ArePairwiseExchanged-pairs d rows p q r s pairs (suc (suc (suc (suc (suc (suc zero)))))) below b within =
-    at_pair d rows s 3 0 b (omega arith) within pairs.fourth_pair
-ArePairwiseExchanged-pairs d rows p q r s pairs (suc (suc (suc (suc (suc (suc (suc zero))))))) below b within =
-    at_pair d rows s 3 1 b (omega arith) within pairs.fourth_pair
-ArePairwiseExchanged-pairs d rows p q r s pairs (suc (suc (suc (suc (suc (suc (suc (suc n)))))))) below b within = absurd (omega arith)
+pub ArePairwiseExchanged-pairs : {A : Type 0} (batch : ℕ) (bit : ℕ → A → Bool) (d : ℕ) (rows p q r s : List A)
+    (a0 a1 a2 a3 a4 a5 a6 a7 e0 e1 e2 e3 e4 e5 e6 e7 : A) → length rows ≡ 8
+    → length p ≡ 2 → length q ≡ 2 → length r ≡ 2 → length s ≡ 2
+    → ArePairwiseExchanged batch bit 1 d (get_or rows 0 a0 ∷ get_or rows 4 a4 ∷ []) p
+    → ArePairwiseExchanged batch bit 1 d (get_or rows 1 a1 ∷ get_or rows 5 a5 ∷ []) q
+    → ArePairwiseExchanged batch bit 1 d (get_or rows 2 a2 ∷ get_or rows 6 a6 ∷ []) r
+    → ArePairwiseExchanged batch bit 1 d (get_or rows 3 a3 ∷ get_or rows 7 a7 ∷ []) s
+    → ArePairwiseExchanged batch bit 4 d rows
+    (get_or p 0 e0 ∷ get_or p 1 e1 ∷ get_or q 0 e2 ∷ get_or q 1 e3 ∷ get_or r 0 e4 ∷ get_or r 1 e5 ∷ get_or s 0 e6 ∷ get_or s 1 e7 ∷ [])
+ArePairwiseExchanged-pairs batch bit d rows p q r s a0 a1 a2 a3 a4 a5 a6 a7 e0 e1 e2 e3 e4 e5 e6 e7 eight lp lq lr ls is_p is_q is_r is_s m below b within =
+    elim m as (λ k. k < 8 → get_or (map (bit b) (get_or p 0 e0 ∷ get_or p 1 e1 ∷ get_or q 0 e2 ∷ get_or q 1 e3 ∷ get_or r 0 e4 ∷ get_or r 1 e5 ∷ get_or s 0 e6 ∷ get_or s 1 e7 ∷ [])) k false
+    ≡ get_or (map (bit (b - d * second d b + d * (k % 2))) rows) (4 * second d b + k / 2) false) [
+      | zero ↦ λ under. at_pair batch bit d rows p 0 0 a0 a4 e0 (omega arith) (omega arith) lp is_p b within
+      | suc zero ↦ λ under. at_pair batch bit d rows p 0 1 a0 a4 e1 (omega arith) (omega arith) lp is_p b within
+      | suc (suc zero) ↦ λ under. at_pair batch bit d rows q 1 0 a1 a5 e2 (omega arith) (omega arith) lq is_q b within
+      | suc (suc (suc zero)) ↦ λ under. at_pair batch bit d rows q 1 1 a1 a5 e3 (omega arith) (omega arith) lq is_q b within
+      | suc (suc (suc (suc zero))) ↦ λ under. at_pair batch bit d rows r 2 0 a2 a6 e4 (omega arith) (omega arith) lr is_r b within
+      | suc (suc (suc (suc (suc zero)))) ↦ λ under. at_pair batch bit d rows r 2 1 a2 a6 e5 (omega arith) (omega arith) lr is_r b within
+      | suc (suc (suc (suc (suc (suc zero))))) ↦ λ under. at_pair batch bit d rows s 3 0 a3 a7 e6 (omega arith) (omega arith) ls is_s b within
+      | suc (suc (suc (suc (suc (suc (suc zero)))))) ↦ λ under. at_pair batch bit d rows s 3 1 a3 a7 e7 (omega arith) (omega arith) ls is_s b within
+      | suc (suc (suc (suc (suc (suc (suc (suc n))))))) ↦ λ under. absurd (omega arith)
+    ] below
+
+-- every eighth row, from row i on
+pub bits-every_eighth : {A : Type 0} (read : A → Bool) (rows : List A) (i : ℕ) (d0 d1 d2 d3 d4 d5 d6 d7 : A) → length rows ≡ 64 → i < 8
+    → (j : ℕ) → j < 8
+    → get_or (map read (get_or rows i d0 ∷ get_or rows (8 + i) d1 ∷ get_or rows (16 + i) d2 ∷ get_or rows (24 + i) d3
+    ∷ get_or rows (32 + i) d4 ∷ get_or rows (40 + i) d5 ∷ get_or rows (48 + i) d6 ∷ get_or rows (56 + i) d7 ∷ [])) j false
+    ≡ get_or (map read rows) (8 * j + i) false
+bits-every_eighth read rows i d0 d1 d2 d3 d4 d5 d6 d7 size within zero below =
+    sym (get_or-map read rows i d0 false (omega arith)) ∙ ap (λ (k : ℕ). get_or (map read rows) k false) (omega arith)
+bits-every_eighth read rows i d0 d1 d2 d3 d4 d5 d6 d7 size within (suc zero) below =
+    sym (get_or-map read rows (8 + i) d1 false (omega arith)) ∙ ap (λ (k : ℕ). get_or (map read rows) k false) (omega arith)
+bits-every_eighth read rows i d0 d1 d2 d3 d4 d5 d6 d7 size within (suc (suc zero)) below =
+    sym (get_or-map read rows (16 + i) d2 false (omega arith)) ∙ ap (λ (k : ℕ). get_or (map read rows) k false) (omega arith)
+bits-every_eighth read rows i d0 d1 d2 d3 d4 d5 d6 d7 size within (suc (suc (suc zero))) below =
+    sym (get_or-map read rows (24 + i) d3 false (omega arith)) ∙ ap (λ (k : ℕ). get_or (map read rows) k false) (omega arith)
+bits-every_eighth read rows i d0 d1 d2 d3 d4 d5 d6 d7 size within (suc (suc (suc (suc zero)))) below =
+    sym (get_or-map read rows (32 + i) d4 false (omega arith)) ∙ ap (λ (k : ℕ). get_or (map read rows) k false) (omega arith)
+bits-every_eighth read rows i d0 d1 d2 d3 d4 d5 d6 d7 size within (suc (suc (suc (suc (suc zero))))) below =
+    sym (get_or-map read rows (40 + i) d5 false (omega arith)) ∙ ap (λ (k : ℕ). get_or (map read rows) k false) (omega arith)
+bits-every_eighth read rows i d0 d1 d2 d3 d4 d5 d6 d7 size within (suc (suc (suc (suc (suc (suc zero)))))) below =
+    sym (get_or-map read rows (48 + i) d6 false (omega arith)) ∙ ap (λ (k : ℕ). get_or (map read rows) k false) (omega arith)
+bits-every_eighth read rows i d0 d1 d2 d3 d4 d5 d6 d7 size within (suc (suc (suc (suc (suc (suc (suc zero))))))) below =
+    sym (get_or-map read rows (56 + i) d7 false (omega arith)) ∙ ap (λ (k : ℕ). get_or (map read rows) k false) (omega arith)
+bits-every_eighth read rows i d0 d1 d2 d3 d4 d5 d6 d7 size within (suc (suc (suc (suc (suc (suc (suc (suc j)))))))) below = absurd (omega arith)

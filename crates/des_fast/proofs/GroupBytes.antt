@@ -1,7 +1,7 @@
 -- The bytes of a word of groups: each is the number that its group writes.
-use Rattle.std.proofs.Common.{◌≡◌, ℕ, zero, suc, ◌*◌, ◌/◌, ◌%◌, ◌^◌, ◌<◌, List, [], ◌∷◌, take, drop, slice_index, slice_index_or, bit_and, refl, ap, ◌∙◌, arith, div-one}
+use Rattle.std.proofs.Common.{◌≡◌, ℕ, zero, suc, ◌*◌, ◌/◌, ◌%◌, ◌^◌, ◌<◌, List, [], ◌∷◌, take, drop, slice_index, slice_index_or, bit_and, refl, ap, ap₂, ◌∙◌, arith, div-one}
 use Rattle.std.specs.Int.{w64, to_be_bytes}
-use Rattle.std.proofs.lemmas.Nat.{and_le_r, and_shr, and_mod}
+use Rattle.std.proofs.lemmas.Nat.{and_le_r, and_mask, and_shr, and_mod}
 use Rattle.des.specs.Bits.{bits_of, bits_of_bytes, select}
 use Rattle.des.specs.Laws.BitLists.{bits_of_bytes-to_be}
 use Rattle.des_fast.specs.Groups.{group_positions, bits_of_groups, IsOfGroups}
@@ -54,3 +54,15 @@ pub bits_of-ordered : (word i : ℕ) → i < 8
     → bits_of 6 (slice_index (ordered (to_be_bytes w64 word)) i) ≡ take 6 (drop (6 * i) (bits_of_groups word))
 bits_of-ordered word i below =
     bits_of-byte word i below ∙ ap (λ bits. take 6 (drop (6 * i) (select group_positions bits))) (bits_of_bytes-to_be word)
+
+-- the bytes by shifts and masks
+abbrev pub masked_bytes : ℕ → List ℕ
+masked_bytes word =
+    let byte : ℕ → ℕ = λ k. bit_and (word / 2 ^ k) 0x00000000000000ff in
+    byte 56 ∷ byte 24 ∷ byte 48 ∷ byte 16 ∷ byte 40 ∷ byte 8 ∷ byte 32 ∷ bit_and word 0x00000000000000ff ∷ []
+
+pub masked_bytes-ordered : (word : ℕ) → masked_bytes word ≡ ordered (to_be_bytes w64 word)
+masked_bytes-ordered word =
+    let byte : (k : ℕ) → bit_and (word / 2 ^ k) 0x00000000000000ff ≡ word / 2 ^ k % 2 ^ 8 = λ k. and_mask (word / 2 ^ k) 8 in
+    ap₂ ◌∷◌ (byte 56) (ap₂ ◌∷◌ (byte 24) (ap₂ ◌∷◌ (byte 48) (ap₂ ◌∷◌ (byte 16)
+    (ap₂ ◌∷◌ (byte 40) (ap₂ ◌∷◌ (byte 8) (ap₂ ◌∷◌ (byte 32) (ap₂ ◌∷◌ (and_mask word 8) refl)))))))

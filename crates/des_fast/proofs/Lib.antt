@@ -1,5 +1,6 @@
 pub mod SliceBits
 pub mod Circuits
+pub mod RoundSteps
 pub mod RangeTests
 pub mod WrittenElements
 pub mod WordPlaces
@@ -8,7 +9,6 @@ pub mod ExchangedRows
 pub mod EightRows
 pub mod ThreeExchanges
 pub mod Stages
-pub mod Columns
 pub mod BlockRows
 pub mod PassesOnSlices
 pub mod KeySlices
@@ -21,8 +21,9 @@ pub mod GroupWords
 pub mod GroupBytes
 pub mod CombinedEntries
 pub mod HalfMaps
+pub mod KeyedHalves
 pub mod RoundKeysByPlace
 pub mod RoundPairs
-pub mod ChoiceEntries
+pub mod RoundKeyPositions
+pub mod KeyRows
 pub mod HalfPasses
-pub mod RotatedTwice

@@ -6,26 +6,25 @@ use Rattle.des.specs.Tables.{initial_permutation, final_permutation}
 use Rattle.des.specs.Rounds.{after_rounds, swapped, through_rounds}
 use Rattle.des.specs.Laws.Selections.{select-initial_permutation, select-final_permutation}
 use Rattle.des.specs.Laws.RoundsUndone.{next_half, AreHalves, AreHalves-after_rounds, length-swapped, through_rounds-from_halves, length-through_rounds}
-use Rattle.des_fast.specs.Slices.{column}
 use Rattle.des_fast.specs.Passes.{through_passes}
 use Rattle.des_fast.proofs.RoundPairs.{after_rounds-two_more}
 
 -- ---- rounds
 
 -- the halves of a block after two rounds more
-pub column-two_rounds : (b i : ℕ) (keys : List (List (List ℕ))) (left right first second third fourth : List (List ℕ))
+pub bits-two_rounds : {A : Type 0} (bit : A → Bool) (i : ℕ) (keys : List (List A)) (left right first second third fourth : List A) (d1 d2 : List A)
     → 2 * i + 1 < length keys
-    → after_rounds (take (2 * i) (map (column b) keys)) (column b left) (column b right) ≡ (column b first, column b second)
-    → column b third ≡ next_half (column b first) (column b second) (column b (get_or keys (2 * i) []))
-    → column b fourth ≡ next_half (column b second) (column b third) (column b (get_or keys (2 * i + 1) []))
-    → after_rounds (take (2 * (i + 1)) (map (column b) keys)) (column b left) (column b right) ≡ (column b third, column b fourth)
-column-two_rounds b i keys left right first second third fourth below so_far one two =
-    let key : (n : ℕ) → n < length keys → column b (get_or keys n []) ≡ get_or (map (column b) keys) n [] =
-    λ n inside. sym (get_or-map (column b) keys n [] [] inside) in
-    sym (after_rounds-two_more (map (column b) keys) i (column b left) (column b right)
-    (column b first) (column b second) (column b third) (column b fourth) (omega (arith, length-map keys (column b))) (sym so_far)
-    (one ∙ ap (next_half (column b first) (column b second)) (key (2 * i) (omega arith)))
-    (two ∙ ap (next_half (column b second) (column b third)) (key (2 * i + 1) below)))
+    → after_rounds (take (2 * i) (map (map bit) keys)) (map bit left) (map bit right) ≡ (map bit first, map bit second)
+    → map bit third ≡ next_half (map bit first) (map bit second) (map bit (get_or keys (2 * i) d1))
+    → map bit fourth ≡ next_half (map bit second) (map bit third) (map bit (get_or keys (2 * i + 1) d2))
+    → after_rounds (take (2 * (i + 1)) (map (map bit) keys)) (map bit left) (map bit right) ≡ (map bit third, map bit fourth)
+bits-two_rounds {A} bit i keys left right first second third fourth d1 d2 below so_far one two =
+    let key : (n : ℕ) (d : List A) → n < length keys → map bit (get_or keys n d) ≡ get_or (map (map bit) keys) n [] =
+    λ n d inside. sym (get_or-map (map bit) keys n d [] inside) in
+    sym (after_rounds-two_more (map (map bit) keys) i (map bit left) (map bit right)
+    (map bit first) (map bit second) (map bit third) (map bit fourth) (omega (arith, length-map keys (map bit))) (sym so_far)
+    (one ∙ ap (next_half (map bit first) (map bit second)) (key (2 * i) d1 (omega arith)))
+    (two ∙ ap (next_half (map bit second) (map bit third)) (key (2 * i + 1) d2 below)))
 
 -- ---- passes
 

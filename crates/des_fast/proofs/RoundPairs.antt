@@ -1,5 +1,5 @@
 -- Rounds taken two at a time.
-use Rattle.std.proofs.Common.{◌≡◌, ℕ, ◌+◌, ◌*◌, ◌<◌, List, [], ◌∷◌, ◌++◌, Bool, length, take, slice_index_or, ap, ap₂, sym, ◌∙◌, arith}
+use Rattle.std.proofs.Common.{◌≡◌, ℕ, ◌+◌, ◌*◌, ◌%◌, ◌<◌, List, [], ◌∷◌, ◌++◌, Bool, length, take, slice_index_or, ap, ap₂, sym, ◌∙◌, arith}
 use Rattle.std.proofs.lemmas.List.{append_assoc, take_more}
 use Rattle.des.specs.Rounds.{after_rounds}
 use Rattle.des.specs.Laws.RoundsUndone.{next_half, after_rounds-append}
@@ -28,3 +28,20 @@ after_rounds-two_more keys i first second left right next_left next_right below 
     ∙ ap (λ (h : List Bool × List Bool). after_rounds (k1 ∷ k2 ∷ []) h.0 h.1) so_far
     ∙ sym (after_rounds-append (take (2 * i) keys) (k1 ∷ k2 ∷ []) first second)
     ∙ ap (λ ks. after_rounds ks first second) (sym (ap (λ n. take n keys) count ∙ take-two_more keys (2 * i) [] below))
+
+-- the same where each half brings the round key that it meets
+pub after_rounds-keyed : (keys : List (List Bool)) (i : ℕ) (first second left right next_left next_right left_key right_key : List Bool)
+    → length keys ≡ 16 → i < 8
+    → (left, right) ≡ after_rounds (take (2 * i) keys) first second
+    → left_key ≡ slice_index_or keys ((2 * i + 1) % 16) []
+    → right_key ≡ slice_index_or keys (2 * i % 16) []
+    → next_left ≡ next_half left right right_key
+    → next_right ≡ next_half right next_left left_key
+    → (next_left, next_right) ≡ after_rounds (take (2 * (i + 1)) keys) first second
+after_rounds-keyed keys i first second left right next_left next_right left_key right_key size below so_far has_left has_right makes_left makes_right =
+    let key : ℕ → List Bool = λ n. slice_index_or keys n [] in
+    let even : 2 * i % 16 ≡ 2 * i = omega arith in
+    let odd : (2 * i + 1) % 16 ≡ 2 * i + 1 = omega arith in
+    after_rounds-two_more keys i first second left right next_left next_right (omega arith) so_far
+    (makes_left ∙ ap (next_half left right) (has_right ∙ ap key even))
+    (makes_right ∙ ap (next_half right next_left) (has_left ∙ ap key odd))

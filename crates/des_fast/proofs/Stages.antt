@@ -1,37 +1,72 @@
 -- The two stages of the transposition, and what they come to.
-use Rattle.std.proofs.Common.{◌≡◌, ℕ, ◌+◌, ◌*◌, ◌/◌, ◌%◌, ◌<◌, List, [], length, get_or, ap, ap₂, sym, ◌∙◌, arith, zero-add}
-use Rattle.std.proofs.lemmas.List.FromFn.{get_or-map-range_with_len, length-map-range_with_len}
-use Rattle.des_fast.specs.Slices.{bit_of_block}
-use Rattle.des_fast.specs.Transposition.{row, across, in_order, AreBytesExchanged, AreBitsExchanged, AreTransposed}
+use Rattle.std.proofs.Common.{◌≡◌, ℕ, ◌+◌, ◌-◌, ◌*◌, ◌/◌, ◌%◌, ◌<◌, Bool, false, List, map, get_or, sym, ap, ap₂, ◌∙◌, arith, inl, inr}
+use Rattle.std.proofs.lemmas.Bool.{cases_lt}
+use Rattle.des_fast.specs.Slices.{InEachBlock}
+use Rattle.des_fast.specs.Transposition.{IsFrom, AreTransposed, bytes_from, bits_from}
 
--- a row across eight groups
-row-across : (groups : List (List (List ℕ))) (i g : ℕ) → g < 8 → row (across groups i) g ≡ row (get_or groups g []) i
-row-across groups i g below = get_or-map-range_with_len (λ (h : ℕ). row (get_or groups h []) i) 0 8 g g [] below (zero-add g)
+-- where bit b of row m of 64 comes from, where the bytes of every eight rows, eight rows apart, are transposed and come out
+-- side by side
+abbrev pub from_bytes : ℕ → ℕ → ℕ × ℕ
+from_bytes m b = (8 * (b / 8 % 8) + m / 8, 64 * (b / 64) + 8 * (m % 8) + b % 8)
 
--- a row of 64
-pub row-in_order : (groups : List (List (List ℕ))) (n : ℕ) → n < 64 → row (in_order groups) n ≡ row (get_or groups (n / 8) []) (n % 8)
-row-in_order groups n below =
-    get_or-map-range_with_len (λ (k : ℕ). row (get_or groups (k / 8) []) (k % 8)) 0 64 n n [] below (zero-add n)
+-- the same of the bits of their bytes
+abbrev pub from_bits : ℕ → ℕ → ℕ × ℕ
+from_bits m b = (8 * (b % 8) + m / 8, 8 * (b / 8) + m % 8)
 
--- there are 64
-pub length-in_order : (groups : List (List (List ℕ))) → length (in_order groups) ≡ 64
-length-in_order groups = length-map-range_with_len (λ (k : ℕ). row (get_or groups (k / 8) []) (k % 8)) 0 64
+-- the rows below n come from where they should
+abbrev pub AreFrom : {A : Type 0} → ℕ → (ℕ → A → Bool) → (ℕ → ℕ → ℕ × ℕ) → List A → List A → ℕ → Type 0
+AreFrom batch bit from rows answer n = (m : ℕ) → m < n → InEachBlock batch (λ b. IsFrom bit rows answer m b (from m b))
 
--- the bytes transposed across the groups, and then the bits, are the rows transposed
-pub AreTransposed-stages : (rows halfway answer : List (List (List ℕ)))
-    → ((g : ℕ) → g < 8 → AreBytesExchanged (across rows g) (get_or halfway g []))
-    → ((g : ℕ) → g < 8 → AreBitsExchanged (across halfway g) (get_or answer g []))
-    → AreTransposed rows answer
-AreTransposed-stages rows halfway answer bytes bits m below b within =
+-- a place of eight rows is the one of 64, where the eight are every eighth row from row i on and come out as rows 8 * i to
+-- 8 * i + 7
+abbrev pub IsPlace : ℕ → (ℕ → ℕ → ℕ × ℕ) → (ℕ → ℕ → ℕ × ℕ) → ℕ → ℕ → ℕ → Type 0
+IsPlace batch eight_from from i j b =
+    (((eight_from j b).0 < 8) × ((eight_from j b).1 < batch))
+    × ((8 * (eight_from j b).0 + i ≡ (from (8 * i + j) b).0) × ((eight_from j b).1 ≡ (from (8 * i + j) b).1))
+
+pub IsPlace-bytes : (batch i j b : ℕ) → batch % 64 ≡ 0 → i < 8 → j < 8 → b < batch → IsPlace batch bytes_from from_bytes i j b
+IsPlace-bytes batch i j b whole p q within = ((omega arith, omega arith), (omega arith, omega arith))
+
+pub IsPlace-bits : (batch i j b : ℕ) → batch % 64 ≡ 0 → i < 8 → j < 8 → b < batch → IsPlace batch bits_from from_bits i j b
+IsPlace-bits batch i j b whole p q within = ((omega arith, omega arith), (omega arith, omega arith))
+
+-- eight rows more
+pub AreFrom-eight : {A : Type 0} (batch : ℕ) (bit : ℕ → A → Bool) (from eight_from : ℕ → ℕ → ℕ × ℕ) (rows answer next eight answered : List A) (i : ℕ)
+    → i < 8
+    → ((j b : ℕ) → j < 8 → b < batch → IsPlace batch eight_from from i j b)
+    → AreFrom batch bit from rows answer (8 * i)
+    → InEachBlock batch (λ b. (j : ℕ) → j < 8 → get_or (map (bit b) eight) j false ≡ get_or (map (bit b) rows) (8 * j + i) false)
+    → ((j : ℕ) → j < 8 → InEachBlock batch (λ b. IsFrom bit eight answered j b (eight_from j b)))
+    → InEachBlock batch (λ b. (j : ℕ) → j < 8 → get_or (map (bit b) next) (8 * i + j) false ≡ get_or (map (bit b) answered) j false)
+    → InEachBlock batch (λ b. (m : ℕ) → m < 8 * i → get_or (map (bit b) next) m false ≡ get_or (map (bit b) answer) m false)
+    → AreFrom batch bit from rows next (8 * (i + 1))
+AreFrom-eight batch bit from eight_from rows answer next eight answered i inside places so_far taken exchanged written kept m below b within =
+    elim (cases_lt m (8 * i)) [
+      | inl low ↦ kept b within m low ∙ so_far m low b within
+      | inr high ↦
+          let j : ℕ = m - 8 * i in
+          let same : 8 * i + j ≡ m = omega arith in
+          let low : j < 8 = omega arith in
+          let place = places j b low within in
+          let n : ℕ = (eight_from j b).0 in
+          let c : ℕ = (eight_from j b).1 in
+          ap (λ (k : ℕ). get_or (map (bit b) next) k false) (sym same)
+          ∙ written b within j low
+          ∙ exchanged j low b within
+          ∙ taken c place.0.1 n place.0.0
+          ∙ ap₂ (λ (k d : ℕ). get_or (map (bit d) rows) k false) place.1.0 place.1.1
+          ∙ ap (λ (k : ℕ). get_or (map (bit (from k b).1) rows) (from k b).0 false) same
+    ]
+
+-- the bytes transposed across the rows, and then the bits, are the rows transposed
+pub AreTransposed-stages : {A : Type 0} (batch : ℕ) (bit : ℕ → A → Bool) (rows halfway answer : List A) → batch % 64 ≡ 0
+    → AreFrom batch bit from_bytes rows halfway 64 → AreFrom batch bit from_bits halfway answer 64
+    → AreTransposed batch bit rows answer
+AreTransposed-stages batch bit rows halfway answer whole bytes bits m below b within =
     let c : ℕ = 8 * (b / 8) + m % 8 in
-    let byte : c / 8 % 8 ≡ b % 64 / 8 = omega arith in
-    let bit : b % 8 ≡ b % 64 % 8 = omega arith in
-    let last : 64 * (c / 64) + 8 * (m / 8) + c % 8 ≡ 64 * (b / 64) + m = omega arith in
-    ap (bit_of_block b) (row-in_order answer m below)
-    ∙ bits (m / 8) (omega arith) (m % 8) (omega arith) b within
-    ∙ ap (bit_of_block c) (row-across halfway (m / 8) (b % 8) (omega arith))
-    ∙ bytes (b % 8) (omega arith) (m / 8) (omega arith) c (omega arith)
-    ∙ ap (bit_of_block (64 * (c / 64) + 8 * (m / 8) + c % 8)) (row-across rows (b % 8) (c / 8 % 8) (omega arith))
-    ∙ ap₂ (λ (h i : ℕ). bit_of_block (64 * (c / 64) + 8 * (m / 8) + c % 8) (row (get_or rows h []) i)) byte bit
-    ∙ ap (λ (d : ℕ). bit_of_block d (row (get_or rows (b % 64 / 8) []) (b % 64 % 8))) last
-    ∙ sym (ap (bit_of_block (64 * (b / 64) + m)) (row-in_order rows (b % 64) (omega arith)))
+    let n : ℕ = 8 * (b % 8) + m / 8 in
+    let row : 8 * (c / 8 % 8) + n / 8 ≡ b % 64 = omega arith in
+    let place : 64 * (c / 64) + 8 * (n % 8) + c % 8 ≡ 64 * (b / 64) + m = omega arith in
+    bits m below b within
+    ∙ bytes n (omega arith) c (omega arith)
+    ∙ ap₂ (λ (i k : ℕ). get_or (map (bit k) rows) i false) row place

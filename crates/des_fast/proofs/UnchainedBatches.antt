@@ -1,6 +1,6 @@
 -- Lists out of their chain as a computation, part after part.
 use Rattle.std.proofs.Common.{◌≡◌, ℕ, zero, suc, ◌+◌, ◌-◌, ◌<◌, ◌≤◌, List, [], ◌∷◌, ◌++◌, length, take, drop, get_or, refl, ap, ap₂, sym, ◌∙◌, arith, append_assoc, length-take-le, take-add, take_at, drop_at}
-use Rattle.std.proofs.lemmas.List.{length-append, length-drop, drop-drop, take_all, drop_all, append-nil, ext_get_or}
+use Rattle.std.proofs.lemmas.List.{drop-drop, take_all, drop_all, append-nil, ext_get_or}
 use Rattle.des.specs.Cbc.{xor_blocks, block_at, block_before, Unchains}
 
 -- each block deciphered, xor the block before it
@@ -94,24 +94,3 @@ pub unchained-all : (f : List ℕ → List ℕ) (iv : List ℕ) (m : ℕ) (old :
 unchained-all f iv m old all =
     ap₂ (λ (front back : List (List ℕ)). unchained f iv front ++ back) (take_all m old all) (drop_all m old all)
     ∙ append-nil (unchained f iv old)
-
--- a list of which the first m are out of the chain, and then the rest, from the last block before it
-pub Unchains-parts : (f : List ℕ → List ℕ) (iv : List ℕ) (m : ℕ) (old part rest : List (List ℕ)) → 0 < m → m ≤ length old
-    → Unchains f iv (take m old) part
-    → (let now : List (List ℕ) = part ++ drop m old in let n : ℕ = length now - m in
-    Unchains f (get_or old (m - 1) []) (take n (drop m now)) rest → Unchains f iv old (take m now ++ (rest ++ drop n (drop m now))))
-Unchains-parts f iv m old part rest some within made also =
-    let now : List (List ℕ) = part ++ drop m old in
-    let n : ℕ = length now - m in
-    let index : suc (m - 1) ≡ m = omega arith in
-    let last : get_or old (m - 1) [] ≡ last_of iv (take m old) =
-    sym (last_of-take iv old (m - 1) (omega arith)) ∙ ap (λ (k : ℕ). last_of iv (take k old)) index in
-    let front : part ≡ unchained f iv (take m old) = unchained-from f iv (take m old) part made in
-    let back : rest ≡ unchained f (last_of iv (take m old)) (take n (drop m now)) =
-    unchained-from f (get_or old (m - 1) []) (take n (drop m now)) rest also
-    ∙ ap (λ (before : List ℕ). unchained f before (take n (drop m now))) last in
-    let size : length part ≡ m = made.count ∙ length-take-le m old within in
-    let all : length old ≤ m + n = omega (arith, length-append part (drop m old), length-drop m old) in
-    Unchains-unchained f iv old (take m now ++ (rest ++ drop n (drop m now)))
-    (unchained-more f iv m n old now rest within (ap (λ (xs : List (List ℕ)). xs ++ drop m old) front) back
-    ∙ unchained-all f iv (m + n) old all)

@@ -1,6 +1,6 @@
 -- The xor of bits, and of lists of bits, part by part.
 use Rattle.std.proofs.Common.{◌≡◌, ℕ, zero, suc, ◌+◌, List, [], ◌∷◌, ◌++◌, Bool, true, false, length, refl, ap, ap₂, sym, ◌∙◌, arith}
-use Rattle.std.proofs.lemmas.List.{append_assoc, length-append, replicate-append-replicate, length-replicate}
+use Rattle.std.proofs.lemmas.List.{append_assoc, replicate-append-replicate, length-replicate}
 use Rattle.des.specs.Bits.{zeros, xor, xor_bits}
 
 -- the xor of two lists that are each made of two parts is the xors of the parts
@@ -49,16 +49,3 @@ xor_bits-in_place m n k bits rest width rest_width =
       xor_bits-zeros_right k rest rest_width,
     )
     refl
-
--- bits before zeros, and other bits in the first of those places
-pub xor_bits-after : (m n k : ℕ) (front bits : List Bool) → length front ≡ m → length bits ≡ n
-    → xor_bits (front ++ zeros (n + k)) (zeros m ++ bits ++ zeros k) ≡ front ++ bits ++ zeros k
-xor_bits-after m n k front bits width bits_width =
-    rw (
-      append_assoc (zeros m) bits (zeros k),
-      xor_bits-append front (zeros m) (zeros (n + k)) (bits ++ zeros k) (width ∙ sym (length-replicate m false)),
-      xor_bits-zeros_right m front width,
-      xor_bits-zeros_left (n + k) (bits ++ zeros k)
-          (length-append bits (zeros k) ∙ omega (arith, length-replicate k false)),
-    )
-    (sym (append_assoc front bits (zeros k)))

@@ -3,7 +3,7 @@ pub mod Slices
 pub mod Transposition
 pub mod Passes
 pub mod CombinedTables
-pub mod Choices
+pub mod RoundKeyRows
 pub mod HalfBlocks
 pub mod Des
 pub mod Laws

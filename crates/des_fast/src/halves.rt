@@ -4,7 +4,7 @@
 //! groups 1, 3, 5 and 7 in bytes 1 to 4, the groups 2, 4, 6 and 8 in bytes 5 to 8. So the expansion
 //! E of a half block is the half block rotated, once for each four bytes.
 
-ghost use Rattle.std.specs.Prelude.{◌≡◌, ◌<◌, ◌^◌, ◌++◌, take, drop};
+ghost use Rattle.std.specs.Prelude.{◌≡◌, ◌<◌, ◌^◌, ◌++◌, take, drop, bit_xor};
 ghost use Rattle.des.specs.Bits.{bits_of, bits_of_word, xor_bits};
 ghost use Rattle.des.specs.CipherFunction.{cipher_function};
 ghost use Rattle.des_fast.specs.Groups.{IsOfGroups, IsExpansion, bits_of_groups, half_of};
@@ -112,15 +112,18 @@ impl Halves {
         ensures { half_blocks_of result ≡ after_rounds (round_keys_of round_keys.now)
             (half_of self.left.groups) (half_of self.right.groups) }
     {
-        let Halves {
-            mut left,
-            mut right,
-        } = self;
+        let mut left = KeyedHalf::new(self.left, round_keys[1]);
+        let mut right = KeyedHalf::new(self.right, round_keys[0]);
         for i in 0..8 {
-            left = next_half(left, right, round_keys[2 * i]);
-            right = next_half(right, left, round_keys[2 * i + 1]);
+            left = left.next(right);
+            right = right.with_key(round_keys[(2 * i + 2) % 16]);
+            right = right.next(left);
+            left = left.with_key(round_keys[(2 * i + 3) % 16]);
         }
-        Halves { left, right }
+        Halves {
+            left: left.half(),
+            right: right.half(),
+        }
     }
 
     /// The halves after sixteen rounds, with the round keys from the last to the first (FIPS 46-3,
@@ -129,25 +132,73 @@ impl Halves {
         ensures { half_blocks_of result ≡ after_rounds (reverse (round_keys_of round_keys.now))
             (half_of self.left.groups) (half_of self.right.groups) }
     {
-        let Halves {
-            mut left,
-            mut right,
-        } = self;
+        let mut left = KeyedHalf::new(self.left, round_keys[14]);
+        let mut right = KeyedHalf::new(self.right, round_keys[15]);
         for i in 0..8 {
-            left = next_half(left, right, round_keys[15 - 2 * i]);
-            right = next_half(right, left, round_keys[14 - 2 * i]);
+            left = left.next(right);
+            right = right.with_key(round_keys[(29 - 2 * i) % 16]);
+            right = right.next(left);
+            left = left.with_key(round_keys[(28 - 2 * i) % 16]);
         }
-        Halves { left, right }
+        Halves {
+            left: left.half(),
+            right: right.half(),
+        }
     }
 }
 
-// The half block that a round makes: the left half xor f of the right half and the round key.
-#[inline]
-fn next_half(left: HalfBlock, right: HalfBlock, round_key: RoundKey) -> HalfBlock
-    ensures { half_of result.groups ≡ xor_bits (half_of left.groups)
-        (cipher_function (half_of right.groups) (bits_of_groups round_key.groups)) }
-{
-    HalfBlock {
-        groups: left.groups ^ substitute(right.groups ^ round_key.groups),
+// A half block with a round key xored in. The half that a round makes has that of the round after
+// it, so that what the lookups of one round add up to are the indexes of the next.
+#[derive(Clone, Copy)]
+pub(crate) struct KeyedHalf {
+    groups: u64,
+    round_key: RoundKey,
+    ghost expansion: { IsExpansion (bit_xor groups round_key.groups) },
+}
+
+impl KeyedHalf {
+    ghost use Rattle.des_fast.specs.HalfBlocks.{keyed_half};
+
+    fn new(half: HalfBlock, round_key: RoundKey) -> KeyedHalf
+        ensures half { keyed_half result ≡ half_of half.groups }
+        ensures key { result.round_key ≡ round_key }
+    {
+        KeyedHalf {
+            groups: half.groups ^ round_key.groups,
+            round_key,
+        }
+    }
+
+    // The half block itself.
+    fn half(self) -> HalfBlock
+        ensures { half_of result.groups ≡ keyed_half self }
+    {
+        HalfBlock {
+            groups: self.groups ^ self.round_key.groups,
+        }
+    }
+
+    // The same half block with another round key. The xor of the two keys waits for no lookup.
+    fn with_key(self, round_key: RoundKey) -> KeyedHalf
+        ensures half { keyed_half result ≡ keyed_half self }
+        ensures key { result.round_key ≡ round_key }
+    {
+        KeyedHalf {
+            groups: self.groups ^ (self.round_key.groups ^ round_key.groups),
+            round_key,
+        }
+    }
+    // The half block that a round makes: this one, the left half, xor f of the right half and the
+    // round key in it.
+    #[inline]
+    fn next(self, right: KeyedHalf) -> KeyedHalf
+        ensures half { keyed_half result ≡ xor_bits (keyed_half self)
+            (cipher_function (keyed_half right) (bits_of_groups right.round_key.groups)) }
+        ensures key { result.round_key ≡ self.round_key }
+    {
+        KeyedHalf {
+            groups: self.groups ^ substitute(right.groups),
+            round_key: self.round_key,
+        }
     }
 }

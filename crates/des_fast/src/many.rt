@@ -1,117 +1,141 @@
-//! Lists of blocks, 128 at a time: quicker than one by one where a list is long.
+//! Lists of blocks, a batch at a time: quicker than one by one where a list is long.
 //!
-//! `encrypt_many`, `decrypt_many` and `decrypt_cbc` take lists of any length: each whole batch of
-//! 128 blocks goes through the rounds together, and those after the last batch go one by one. The
-//! calls named for batches take whole batches alone.
+//! `encrypt_many`, `decrypt_many` and `decrypt_cbc` take lists of any length, 128 blocks at a time.
+//! The calls named `_by` take the width from the caller: `cipher.encrypt_many_by::<u64x4>(blocks)`
+//! takes 256 blocks at a time, which is quicker in a program that is built for a processor with
+//! vectors of 256 bits, and slower elsewhere. A list, or what a list has after its last whole
+//! batch, goes through the rounds in a batch that is filled up with zeros: no list takes longer
+//! than the next longer one of whole batches, and no call reads a table at an index that depends
+//! on the key or on a block.
 
-ghost use Rattle.std.specs.Prelude.{◌≡◌, ◌%◌, List, Bool, length, map};
+ghost use Rattle.std.specs.Prelude.{◌≡◌, ◌≤◌, List, Bool, length, map, take};
 ghost use Rattle.std.specs.List.{All};
 ghost use Rattle.des.specs.Blocks.{IsBlock};
 ghost use Rattle.des.specs.Cbc.{Unchains};
 ghost use Rattle.des_fast.specs.Passes.{HoldPasses, block_through_passes};
-ghost use Rattle.des_fast.specs.Slices.{batch};
 
 mod chains;
 mod ciphers;
 mod passes;
 
-use crate::slices::{BATCH, KeySlices, slices_of, slices_through_passes, write_blocks};
-use des::cbc;
-use des::cipher::{BlockCipherDecrypt, BlockCipherEncrypt, are_blocks};
+pub use crate::slices::Slice;
+use crate::slices::{KeySlices, LARGEST_BATCH, slices_of, slices_through_passes, write_blocks};
+use des::cipher::{BlockCipherDecrypt, BlockCipherEncrypt};
 pub use passes::Passes;
+use std::simd::prelude::*;
 
 // Takes a batch of blocks through passes.
-fn answer_batch(blocks: &mut [[u8; 8]], passes: &[KeySlices])
-    requires { length blocks.old ≡ batch }
-    ensures { (keys : List (List (List Bool))) → HoldPasses passes.now keys
+fn answer_batch<S: Slice>(blocks: &mut [[u8; 8]], passes: &[KeySlices<S>])
+    requires { length blocks.old ≡ S.BATCH }
+    ensures { (keys : List (List (List Bool))) → HoldPasses S.BATCH S.bit passes.now keys
         → blocks.new ≡ map (block_through_passes keys) blocks.old }
 {
     let slices = slices_of(blocks);
     write_blocks(blocks, &slices_through_passes(&slices, passes));
 }
 
-// Takes the blocks of whole batches through passes.
-fn answer_batches(blocks: &mut [[u8; 8]], passes: &[KeySlices])
-    requires { length blocks.old % batch ≡ 0 }
-    ensures { (keys : List (List (List Bool))) → HoldPasses passes.now keys
+// What passes make of at most a batch of blocks: the first blocks of an array. They go through
+// the passes in a batch that is filled up with zeros.
+fn answers_of<S: Slice>(blocks: &[[u8; 8]], passes: &[KeySlices<S>]) -> [[u8; 8]; LARGEST_BATCH]
+    requires { length blocks.now ≤ S.BATCH }
+    ensures { (keys : List (List (List Bool))) → HoldPasses S.BATCH S.bit passes.now keys
+        → take (length blocks.now) result ≡ map (block_through_passes keys) blocks.now }
+{
+    let mut answers = [[0u8; 8]; LARGEST_BATCH];
+    answers[..blocks.len()].copy_from_slice(blocks);
+    answer_batch(&mut answers[..S::BATCH], passes);
+    answers
+}
+
+// Takes at most a batch of blocks through passes.
+fn answer_part<S: Slice>(blocks: &mut [[u8; 8]], passes: &[KeySlices<S>])
+    requires { length blocks.old ≤ S.BATCH }
+    ensures { (keys : List (List (List Bool))) → HoldPasses S.BATCH S.bit passes.now keys
         → blocks.new ≡ map (block_through_passes keys) blocks.old }
 {
-    'batches: for k in 0..blocks.len() / BATCH {
-        answer_batch(&mut blocks[BATCH * k..BATCH * k + BATCH], passes);
+    if blocks.len() == S::BATCH {
+        return answer_batch(blocks, passes);
+    }
+    let answers = answers_of(blocks, passes);
+    blocks.copy_from_slice(&answers[..blocks.len()]);
+}
+
+// How many blocks go through the rounds next: a batch, or those that are left over.
+fn next_count<S: Slice>(left: usize) -> usize
+    requires { 1 ≤ left }
+    ensures some { 1 ≤ result }
+    ensures there { result ≤ left }
+    ensures within { result ≤ S.BATCH }
+{
+    if left < S::BATCH { left } else { S::BATCH }
+}
+
+// Takes blocks through passes, batch after batch, and then what is left over.
+fn answer<S: Slice>(blocks: &mut [[u8; 8]], passes: &[KeySlices<S>])
+    ensures { (keys : List (List (List Bool))) → HoldPasses S.BATCH S.bit passes.now keys
+        → blocks.new ≡ map (block_through_passes keys) blocks.old }
+{
+    let mut from = 0;
+    'parts: while from < blocks.len() {
+        let count = next_count::<S>(blocks.len() - from);
+        answer_part(&mut blocks[from..from + count], passes);
+        from += count;
     }
 }
 
 /// A block cipher that treats many blocks of a list together. No call changes the cipher.
 ///
-/// A type writes the three calls for whole batches; the three calls for lists of any length have
-/// their bodies here. The five ciphers of this crate take no memory, but keep their round keys on
-/// the stack during a call, spread over vectors: 12,288 bytes for each pass of DES.
+/// A type writes the three calls over any width; those over vectors of two words have their bodies
+/// here. The five ciphers of this crate take no memory, but keep their round keys on the stack
+/// during a call, spread over slices: 12,288 bytes for each pass of DES over vectors of two words,
+/// 24,576 over vectors of four.
 pub trait ManyBlocks: BlockCipherEncrypt + BlockCipherDecrypt {
-    /// Encrypts each block of 8 bytes in place, in order. Their number must be a multiple of 128;
-    /// it may be zero.
-    fn encrypt_batches(&self, blocks: &mut [[u8; 8]])
-        requires { length blocks.old % batch ≡ 0 }
-        ensures { blocks.new ≡ map (Self.encrypted self.now) blocks.old };
+    /// Encrypts each block of 8 bytes in place, in order, as `encrypt_blocks` does, `S::BATCH`
+    /// blocks at a time. An empty list stays empty.
+    fn encrypt_many_by<S: Slice>(&self, blocks: &mut [[u8; 8]])
+        ensures blocks { All IsBlock blocks.old }
+        ensures encrypted { blocks.new ≡ map (Self.encrypted self.now) blocks.old };
 
-    /// Decrypts each block of 8 bytes in place, in order. Their number must be a multiple of 128;
-    /// it may be zero.
-    fn decrypt_batches(&self, blocks: &mut [[u8; 8]])
-        requires { length blocks.old % batch ≡ 0 }
-        ensures { blocks.new ≡ map (Self.decrypted self.now) blocks.old };
+    /// Decrypts each block of 8 bytes in place, in order, as `decrypt_blocks` does, `S::BATCH`
+    /// blocks at a time. An empty list stays empty.
+    fn decrypt_many_by<S: Slice>(&self, blocks: &mut [[u8; 8]])
+        ensures blocks { All IsBlock blocks.old }
+        ensures decrypted { blocks.new ≡ map (Self.decrypted self.now) blocks.old };
 
-    /// Decrypts in place blocks of 8 bytes that CBC chained from the initialization vector, as
-    /// `decrypt_cbc` does. Their number must be a multiple of 128; it may be zero.
-    fn decrypt_cbc_batches(&self, iv: &[u8; 8], blocks: &mut [[u8; 8]])
-        requires { length blocks.old % batch ≡ 0 }
-        ensures { Unchains (Self.decrypted self.now) iv.now blocks.old blocks.new };
+    /// Decrypts in place a list of blocks of 8 bytes that CBC chained from the initialization
+    /// vector, as `decrypt_cbc` does, `S::BATCH` blocks at a time.
+    fn decrypt_cbc_by<S: Slice>(&self, iv: &[u8; 8], blocks: &mut [[u8; 8]])
+        ensures blocks { All IsBlock blocks.old }
+        ensures unchained { Unchains (Self.decrypted self.now) iv.now blocks.old blocks.new };
 
-    /// Encrypts each block of 8 bytes in place, in order, as `encrypt_blocks` does. An empty list
-    /// stays empty.
+    /// Encrypts each block of 8 bytes in place, in order, as `encrypt_blocks` does, 128 blocks at a
+    /// time. An empty list stays empty.
     final fn encrypt_many(&self, blocks: &mut [[u8; 8]])
         ensures blocks { All IsBlock blocks.old }
         ensures encrypted { blocks.new ≡ map (Self.encrypted self.now) blocks.old }
     {
-        are_blocks(blocks);
-        // Round keys are not spread over vectors for a list that has no batch.
-        if blocks.len() < BATCH {
-            return self.encrypt_blocks(blocks);
-        }
-        let whole = BATCH * (blocks.len() / BATCH);
-        self.encrypt_batches(&mut blocks[..whole]);
-        self.encrypt_blocks(&mut blocks[whole..]);
+        self.encrypt_many_by::<u64x2>(blocks);
     }
 
-    /// Decrypts each block of 8 bytes in place, in order, as `decrypt_blocks` does. An empty list
-    /// stays empty.
+    /// Decrypts each block of 8 bytes in place, in order, as `decrypt_blocks` does, 128 blocks at a
+    /// time. An empty list stays empty.
     final fn decrypt_many(&self, blocks: &mut [[u8; 8]])
         ensures blocks { All IsBlock blocks.old }
         ensures decrypted { blocks.new ≡ map (Self.decrypted self.now) blocks.old }
     {
-        are_blocks(blocks);
-        if blocks.len() < BATCH {
-            return self.decrypt_blocks(blocks);
-        }
-        let whole = BATCH * (blocks.len() / BATCH);
-        self.decrypt_batches(&mut blocks[..whole]);
-        self.decrypt_blocks(&mut blocks[whole..]);
+        self.decrypt_many_by::<u64x2>(blocks);
     }
 
     /// Decrypts in place a list of blocks of 8 bytes that CBC (FIPS 81, cipher block chaining mode)
-    /// chained from the initialization vector, as `des::cbc::decrypt` does: ciphertext goes in, and
-    /// the plaintext comes out, as many blocks. With q the ciphertext and p the plaintext, numbered
-    /// from 1, q(0) the initialization vector and D the cipher's decryption, p(n) = D(q(n)) ^
-    /// q(n-1). An empty list stays empty. Padding and authentication are the caller's.
+    /// chained from the initialization vector, as `des::cbc::decrypt` does, 128 blocks at a time:
+    /// ciphertext goes in, and the plaintext comes out, as many blocks. With q the ciphertext and p
+    /// the plaintext, numbered from 1, q(0) the initialization vector and D the decryption by the
+    /// cipher, p(n) = D(q(n)) ^ q(n-1). An empty list stays empty. Padding and authentication are
+    /// left to the caller.
     final fn decrypt_cbc(&self, iv: &[u8; 8], blocks: &mut [[u8; 8]])
         ensures blocks { All IsBlock blocks.old }
         ensures unchained { Unchains (Self.decrypted self.now) iv.now blocks.old blocks.new }
     {
-        are_blocks(blocks);
-        if blocks.len() < BATCH {
-            return cbc::decrypt(self, iv, blocks);
-        }
-        let whole = BATCH * (blocks.len() / BATCH);
-        let last = blocks[whole - 1];
-        self.decrypt_cbc_batches(iv, &mut blocks[..whole]);
-        cbc::decrypt(self, &last, &mut blocks[whole..]);
+        self.decrypt_cbc_by::<u64x2>(iv, blocks);
     }
 }

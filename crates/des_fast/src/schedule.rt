@@ -1,165 +1,134 @@
-//! The key schedule by tables (FIPS 46-3, key schedule).
+//! The key schedule, all rounds at once (FIPS 46-3, key schedule): no table is read and nothing
+//! branches at a place that depends on the key.
+//!
+//! A bit of a round key is a bit of the half C or D, rotated. The rotations are by 1, 2, 4, .., 14 and
+//! by 15, 17, .., 27 and 28 places: by an even number from 0 to 14, as 28 is 0, or by one from 15 to
+//! 29, as 29 is 1. So where each second bit of a half has been exchanged for that 14 places on, what
+//! a place of a round key is in all sixteen rounds stands in a row: its bit n is of the rotation by n
+//! where n is even, and of that by n + 14 where n is odd. These rows, transposed, are the round keys.
 
-ghost use Rattle.std.specs.Prelude.{◌≡◌, ◌≤◌, ◌<◌, ◌^◌, take, drop};
-ghost use Rattle.des.specs.Bits.{bits_of, bits_of_word, select};
-ghost use Rattle.des.specs.Tables.{permuted_choice_2};
+ghost use Rattle.std.specs.Prelude.{◌≡◌, ◌≤◌, ◌<◌, [], ◌∷◌};
+ghost use Rattle.des.specs.Bits.{bits_of_word};
 ghost use Rattle.des.specs.KeySchedule.{key_schedule};
-ghost use Rattle.des_fast.specs.Groups.{bits_of_groups};
 ghost use Rattle.des_fast.specs.HalfBlocks.{round_keys_of};
-ghost use Rattle.des_fast.specs.Choices.{choice_tables};
+ghost use Rattle.des_fast.specs.RoundKeyRows.{alternating, windows, key_rows, exchanged, exchanged_pairs, transposed};
 
 use crate::halves::RoundKey;
 use des::utils;
 
-// For each four of the 56 bits of the halves C and D, and each value of them, the first bit the
-// highest: the word of groups of what permuted choice 2 makes of them, with zeros in the places of
-// the others (FIPS 46-3, key schedule). Each entry is what `specs/Choices.antt` computes, which the
-// clause `choices` of `choose` says of all.
-#[rattlefmt::skip]
-static CHOICES: [[u64; 16]; 14] = [
-    // bits 1 to 4 of C
-    [
-        0x0000000000000000, 0x0004000000000000, 0x0000000020000000, 0x0004000020000000,
-        0x0000000000010000, 0x0004000000010000, 0x0000000020010000, 0x0004000020010000,
-        0x0200000000000000, 0x0204000000000000, 0x0200000020000000, 0x0204000020000000,
-        0x0200000000010000, 0x0204000000010000, 0x0200000020010000, 0x0204000020010000,
-    ],
-    // bits 5 to 8 of C
-    [
-        0x0000000000000000, 0x0001000000000000, 0x0000000000100000, 0x0001000000100000,
-        0x0000000004000000, 0x0001000004000000, 0x0000000004100000, 0x0001000004100000,
-        0x0100000000000000, 0x0101000000000000, 0x0100000000100000, 0x0101000000100000,
-        0x0100000004000000, 0x0101000004000000, 0x0100000004100000, 0x0101000004100000,
-    ],
-    // bits 9 to 12 of C
-    [
-        0x0000000000000000, 0x0008000000000000, 0x0800000000000000, 0x0808000000000000,
-        0x0000000001000000, 0x0008000001000000, 0x0800000001000000, 0x0808000001000000,
-        0x0000000000000000, 0x0008000000000000, 0x0800000000000000, 0x0808000000000000,
-        0x0000000001000000, 0x0008000001000000, 0x0800000001000000, 0x0808000001000000,
-    ],
-    // bits 13 to 16 of C
-    [
-        0x0000000000000000, 0x0000000000200000, 0x0000000008000000, 0x0000000008200000,
-        0x2000000000000000, 0x2000000000200000, 0x2000000008000000, 0x2000000008200000,
-        0x0000000000020000, 0x0000000000220000, 0x0000000008020000, 0x0000000008220000,
-        0x2000000000020000, 0x2000000000220000, 0x2000000008020000, 0x2000000008220000,
-    ],
-    // bits 17 to 20 of C
-    [
-        0x0000000000000000, 0x0000000000040000, 0x0010000000000000, 0x0010000000040000,
-        0x0000000000000000, 0x0000000000040000, 0x0010000000000000, 0x0010000000040000,
-        0x1000000000000000, 0x1000000000040000, 0x1010000000000000, 0x1010000000040000,
-        0x1000000000000000, 0x1000000000040000, 0x1010000000000000, 0x1010000000040000,
-    ],
-    // bits 21 to 24 of C
-    [
-        0x0000000000000000, 0x0400000000000000, 0x0020000000000000, 0x0420000000000000,
-        0x0000000000000000, 0x0400000000000000, 0x0020000000000000, 0x0420000000000000,
-        0x0000000002000000, 0x0400000002000000, 0x0020000002000000, 0x0420000002000000,
-        0x0000000002000000, 0x0400000002000000, 0x0020000002000000, 0x0420000002000000,
-    ],
-    // bits 25 to 28 of C
-    [
-        0x0000000000000000, 0x0000000010000000, 0x0000000000080000, 0x0000000010080000,
-        0x0002000000000000, 0x0002000010000000, 0x0002000000080000, 0x0002000010080000,
-        0x0000000000000000, 0x0000000010000000, 0x0000000000080000, 0x0000000010080000,
-        0x0002000000000000, 0x0002000010000000, 0x0002000000080000, 0x0002000010080000,
-    ],
-    // bits 1 to 4 of D
-    [
-        0x0000000000000000, 0x0000000000000001, 0x0000080000000000, 0x0000080000000001,
-        0x0000000000002000, 0x0000000000002001, 0x0000080000002000, 0x0000080000002001,
-        0x0000000000000002, 0x0000000000000003, 0x0000080000000002, 0x0000080000000003,
-        0x0000000000002002, 0x0000000000002003, 0x0000080000002002, 0x0000080000002003,
-    ],
-    // bits 5 to 8 of D
-    [
-        0x0000000000000000, 0x0000000000000004, 0x0000000000000000, 0x0000000000000004,
-        0x0000000200000000, 0x0000000200000004, 0x0000000200000000, 0x0000000200000004,
-        0x0000000000000200, 0x0000000000000204, 0x0000000000000200, 0x0000000000000204,
-        0x0000000200000200, 0x0000000200000204, 0x0000000200000200, 0x0000000200000204,
-    ],
-    // bits 9 to 12 of D
-    [
-        0x0000000000000000, 0x0000000000001000, 0x0000000800000000, 0x0000000800001000,
-        0x0000000000000000, 0x0000000000001000, 0x0000000800000000, 0x0000000800001000,
-        0x0000040000000000, 0x0000040000001000, 0x0000040800000000, 0x0000040800001000,
-        0x0000040000000000, 0x0000040000001000, 0x0000040800000000, 0x0000040800001000,
-    ],
-    // bits 13 to 16 of D
-    [
-        0x0000000000000000, 0x0000002000000000, 0x0000000000000000, 0x0000002000000000,
-        0x0000000000000010, 0x0000002000000010, 0x0000000000000010, 0x0000002000000010,
-        0x0000200000000000, 0x0000202000000000, 0x0000200000000000, 0x0000202000000000,
-        0x0000200000000010, 0x0000202000000010, 0x0000200000000010, 0x0000202000000010,
-    ],
-    // bits 17 to 20 of D
-    [
-        0x0000000000000000, 0x0000000000000100, 0x0000020000000000, 0x0000020000000100,
-        0x0000000000000020, 0x0000000000000120, 0x0000020000000020, 0x0000020000000120,
-        0x0000000000000400, 0x0000000000000500, 0x0000020000000400, 0x0000020000000500,
-        0x0000000000000420, 0x0000000000000520, 0x0000020000000420, 0x0000020000000520,
-    ],
-    // bits 21 to 24 of D
-    [
-        0x0000000000000000, 0x0000100000000000, 0x0000000000000800, 0x0000100000000800,
-        0x0000000000000008, 0x0000100000000008, 0x0000000000000808, 0x0000100000000808,
-        0x0000001000000000, 0x0000101000000000, 0x0000001000000800, 0x0000101000000800,
-        0x0000001000000008, 0x0000101000000008, 0x0000001000000808, 0x0000101000000808,
-    ],
-    // bits 25 to 28 of D
-    [
-        0x0000000000000000, 0x0000000400000000, 0x0000010000000000, 0x0000010400000000,
-        0x0000000000000000, 0x0000000400000000, 0x0000010000000000, 0x0000010400000000,
-        0x0000000100000000, 0x0000000500000000, 0x0000010100000000, 0x0000010500000000,
-        0x0000000100000000, 0x0000000500000000, 0x0000010100000000, 0x0000010500000000,
-    ],
-];
+// Sixteen words of four lanes of sixteen bits each.
+type Rows = [u64; 16];
 
-// How many places to the left each half has been rotated by in all, for each of the round keys: the
-// left shifts added up (FIPS 46-3, key schedule).
-const ROTATIONS: [u8; 16] = [1, 2, 4, 6, 8, 10, 12, 14, 15, 17, 19, 21, 23, 25, 27, 28];
+// Which of the transposed rows is the round key of each round: the first bit of a row, which becomes
+// the last row, is of the rotation by 28, and so of the last round.
+const ROWS_OF_ROUNDS: [u8; 16] = [0, 13, 11, 9, 7, 5, 3, 1, 14, 12, 10, 8, 6, 4, 2, 15];
 
 /// The round keys K(1) to K(16) of a key of 64 bits (FIPS 46-3, key schedule).
 pub(crate) fn round_keys(key: u64) -> [RoundKey; 16]
     ensures { round_keys_of result ≡ key_schedule (bits_of_word key) }
 {
-    let halves = utils::pc1(key);
-    let c = halves >> 36;
-    let d = (halves >> 8) & 0x000000000fffffff;
-    let c_twice = (c << 28) | c;
-    let d_twice = (d << 28) | d;
+    let words = transposed(key_rows(utils::pc1(key)));
     let mut round_keys = [RoundKey { groups: 0 }; 16];
-    for (i, &places) in ROTATIONS.iter().enumerate() {
-        let c = rotated(c_twice, places);
-        let d = rotated(d_twice, places);
-        round_keys[i] = choose((c << 28) | d);
+    for (i, &row) in ROWS_OF_ROUNDS.iter().enumerate() {
+        round_keys[i] = RoundKey {
+            groups: words[row as usize],
+        };
     }
     round_keys
 }
 
-// A half of 28 bits rotated left, of the word that has it twice, one after the other, in its last
-// 56 bits.
-#[inline]
-fn rotated(twice: u64, places: u8) -> u64
-    requires { places ≤ 28 }
-    ensures within { result < 2 ^ 28 }
-    ensures rotated { bits_of 28 result ≡ take 28 (drop places (bits_of 56 twice)) }
+// The rows of the halves C and D in the first 56 bits of a word. A row has a window for each of four
+// groups that stand in one word, eight bits apart in pairs: first the groups 3, 7, 4 and 8, from the
+// last bit of a group to its first, then the groups 1, 5, 2 and 6; two rows of each eight stay zero.
+#[rattlefmt::skip]
+#[inline(always)]
+fn key_rows(halves: u64) -> Rows
+    ensures { result ≡ key_rows halves }
 {
-    (twice >> (28 - places)) & 0x000000000fffffff
+    let c = alternating(halves >> 36) << 16;
+    let d = alternating((halves >> 8) & 0x000000000fffffff);
+    [
+        windows(c, d, 21, 24, 15, 17),
+        windows(c, d, 11, 19, 12, 0),
+        windows(c, d, 17, 13, 5, 21),
+        windows(c, d, 25, 10, 26, 7),
+        windows(c, d, 18, 20, 6, 27),
+        windows(c, d, 22, 1, 1, 3),
+        0,
+        0,
+        windows(c, d, 4, 26, 23, 5),
+        windows(c, d, 0, 18, 20, 4),
+        windows(c, d, 9, 8, 19, 16),
+        windows(c, d, 10, 2, 14, 22),
+        windows(c, d, 16, 9, 13, 25),
+        windows(c, d, 27, 12, 2, 15),
+        0,
+        0,
+    ]
 }
 
-// The permuted choice 2 of the halves C and D in the last 56 bits of a word: a round key.
-#[inline]
-fn choose(halves: u64) -> RoundKey
-    ensures choices { CHOICES ≡ choice_tables }
-    ensures chosen { bits_of_groups result.groups
-        ≡ select permuted_choice_2 (bits_of 56 halves) }
+// A half of 28 bits with each second bit exchanged for that 14 places on, and after it its first 16
+// bits once more, so that each window of 16 bits in the circle stands in the 44 in a row.
+#[inline(always)]
+fn alternating(half: u64) -> u64
+    ensures { result ≡ alternating half }
 {
-    let mut groups = 0;
-    for (i, choice) in CHOICES.iter().enumerate() {
-        groups ^= choice[((halves >> (52 - 4 * i)) & 0x000000000000000f) as usize];
-    }
-    RoundKey { groups }
+    let opposite = (half << 14) ^ (half >> 14);
+    let mixed = (half & 0x000000000aaaaaaa) ^ (opposite & 0x0000000005555555);
+    (mixed << 16) ^ (mixed >> 12)
+}
+
+// Four windows of sixteen bits, in the order of the lanes: of C, which stands 16 bits higher than D,
+// of D, of C and of D, each from a place on that counts from 0.
+#[inline(always)]
+fn windows(c: u64, d: u64, first: u32, second: u32, third: u32, fourth: u32) -> u64
+    requires places { (first < 28) × (second < 28) × (third ≤ 28) × (fourth ≤ 28) }
+    ensures { result ≡ windows c d (first ∷ second ∷ third ∷ fourth ∷ []) }
+{
+    ((c << (4 + first)) & 0xffff000000000000)
+        ^ ((d << (4 + second)) & 0x0000ffff00000000)
+        ^ ((c >> (28 - third)) & 0x00000000ffff0000)
+        ^ ((d >> (28 - fourth)) & 0x000000000000ffff)
+}
+
+// The rows transposed, lane by lane: bit n of a lane, from the last, in row m becomes bit m of it in
+// row n.
+#[inline(always)]
+fn transposed(rows: Rows) -> Rows
+    ensures { result ≡ transposed rows }
+{
+    let rows = exchange_pairs(rows, 8, 0x00ff00ff00ff00ff);
+    let rows = exchange_pairs(rows, 4, 0x0f0f0f0f0f0f0f0f);
+    let rows = exchange_pairs(rows, 2, 0x3333333333333333);
+    exchange_pairs(rows, 1, 0x5555555555555555)
+}
+
+// Rows 0 and 8, 1 and 9, .., 7 and 15 exchange bits, and come out side by side. Four such exchanges,
+// one after another, leave each row in its place.
+#[inline(always)]
+fn exchange_pairs(rows: Rows, distance: u32, mask: u64) -> Rows
+    requires { distance < 64 }
+    ensures { result ≡ exchanged_pairs distance mask rows }
+{
+    let [a, b] = exchange(rows[0], rows[8], distance, mask);
+    let [c, d] = exchange(rows[1], rows[9], distance, mask);
+    let [e, f] = exchange(rows[2], rows[10], distance, mask);
+    let [g, h] = exchange(rows[3], rows[11], distance, mask);
+    let [i, j] = exchange(rows[4], rows[12], distance, mask);
+    let [k, l] = exchange(rows[5], rows[13], distance, mask);
+    let [m, n] = exchange(rows[6], rows[14], distance, mask);
+    let [o, p] = exchange(rows[7], rows[15], distance, mask);
+    [a, b, c, d, e, f, g, h, i, j, k, l, m, n, o, p]
+}
+
+// Exchanges the bits of the first row at this distance above the mask with those of the second under
+// it.
+#[inline(always)]
+fn exchange(first: u64, second: u64, distance: u32, mask: u64) -> [u64; 2]
+    requires { distance < 64 }
+    ensures { result ≡ exchanged distance mask first second 0
+        ∷ exchanged distance mask first second 1 ∷ [] }
+{
+    let differing = ((first >> distance) ^ second) & mask;
+    [first ^ (differing << distance), second ^ differing]
 }

@@ -182,15 +182,13 @@ pub(crate) fn substitute(word: u64) -> u64
     ensures substituted { half_of result ≡ select permutation (substitute (bits_of_groups word)) }
 {
     let group = groups_of(word);
-    // The order is free; the proof xors them from the last box to the first.
-    TABLES[7][group[7]]
-        ^ TABLES[6][group[6]]
-        ^ TABLES[5][group[5]]
-        ^ TABLES[4][group[4]]
-        ^ TABLES[3][group[3]]
-        ^ TABLES[2][group[2]]
-        ^ TABLES[1][group[1]]
-        ^ TABLES[0][group[0]]
+    // Entries of different boxes share no bit, so `|` joins them as `^` does. Of one operation alone
+    // the compiler makes a row, where each waits for the one before it; of both it keeps the tree.
+    let first = (TABLES[0][group[0]] ^ TABLES[1][group[1]])
+        | (TABLES[2][group[2]] ^ TABLES[3][group[3]]);
+    let last = (TABLES[4][group[4]] ^ TABLES[5][group[5]])
+        | (TABLES[6][group[6]] ^ TABLES[7][group[7]]);
+    first ^ last
 }
 
 // The groups of a word of groups, in their order.
@@ -201,15 +199,14 @@ fn groups_of(word: u64) -> [usize; 8]
     ensures groups { (i : ℕ) → i < 8
         → bits_of 6 (slice_index result i) ≡ take 6 (drop (6 * i) (bits_of_groups word)) }
 {
-    let bytes = word.to_be_bytes();
     [
-        bytes[0] as usize,
-        bytes[4] as usize,
-        bytes[1] as usize,
-        bytes[5] as usize,
-        bytes[2] as usize,
-        bytes[6] as usize,
-        bytes[3] as usize,
-        bytes[7] as usize,
+        ((word >> 56) & 0x00000000000000ff) as usize,
+        ((word >> 24) & 0x00000000000000ff) as usize,
+        ((word >> 48) & 0x00000000000000ff) as usize,
+        ((word >> 16) & 0x00000000000000ff) as usize,
+        ((word >> 40) & 0x00000000000000ff) as usize,
+        ((word >> 8) & 0x00000000000000ff) as usize,
+        ((word >> 32) & 0x00000000000000ff) as usize,
+        (word & 0x00000000000000ff) as usize,
     ]
 }

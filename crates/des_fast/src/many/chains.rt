@@ -1,26 +1,23 @@
 //! Deciphering of chained blocks (FIPS 81, cipher block chaining mode), a batch at a time: each
 //! block is deciphered by itself, and xored with the ciphertext block before it.
 
-ghost use Rattle.std.specs.Prelude.{◌≡◌, ◌%◌, List, Bool, length};
+ghost use Rattle.std.specs.Prelude.{◌≡◌, ◌≤◌, List, Bool, length};
 ghost use Rattle.des.specs.Cbc.{Unchains};
 ghost use Rattle.des_fast.specs.Passes.{HoldPasses, block_through_passes};
-ghost use Rattle.des_fast.specs.Slices.{batch};
 
-use super::answer_batch;
-use crate::slices::{BATCH, KeySlices};
+use super::{Slice, answers_of, next_count};
+use crate::slices::KeySlices;
 use des::cbc;
 
-// Takes a batch of blocks through passes, and out of the chain that begins with `iv`.
-fn unchain_batch(blocks: &mut [[u8; 8]], iv: &[u8; 8], passes: &[KeySlices])
-    requires { length blocks.old ≡ batch }
-    ensures { (keys : List (List (List Bool))) → HoldPasses passes.now keys
+// Takes at most a batch of blocks through passes, and out of the chain that begins with `iv`.
+fn unchain_part<S: Slice>(blocks: &mut [[u8; 8]], iv: &[u8; 8], passes: &[KeySlices<S>])
+    requires { length blocks.old ≤ S.BATCH }
+    ensures { (keys : List (List (List Bool))) → HoldPasses S.BATCH S.bit passes.now keys
         → Unchains (block_through_passes keys) iv.now blocks.old blocks.new }
 {
-    let mut answers = [[0u8; 8]; BATCH];
-    answers.copy_from_slice(blocks);
-    answer_batch(&mut answers, passes);
+    let answers = answers_of(blocks, passes);
     let mut before = *iv;
-    for k in 0..BATCH {
+    for k in 0..blocks.len() {
         let ciphertext = blocks[k];
         blocks[k] = answers[k];
         cbc::xor(&mut blocks[k], &before);
@@ -28,16 +25,19 @@ fn unchain_batch(blocks: &mut [[u8; 8]], iv: &[u8; 8], passes: &[KeySlices])
     }
 }
 
-/// Takes the blocks of whole batches through passes, and out of the chain that begins with `iv`.
-pub(super) fn unchain_batches(blocks: &mut [[u8; 8]], iv: &[u8; 8], passes: &[KeySlices])
-    requires { length blocks.old % batch ≡ 0 }
-    ensures { (keys : List (List (List Bool))) → HoldPasses passes.now keys
+/// Takes blocks through passes, and out of the chain that begins with `iv`, batch after batch, and
+/// then what is left over.
+pub(super) fn unchain<S: Slice>(blocks: &mut [[u8; 8]], iv: &[u8; 8], passes: &[KeySlices<S>])
+    ensures { (keys : List (List (List Bool))) → HoldPasses S.BATCH S.bit passes.now keys
         → Unchains (block_through_passes keys) iv.now blocks.old blocks.new }
 {
     let mut before = *iv;
-    'batches: for k in 0..blocks.len() / BATCH {
-        let last = blocks[BATCH * k + (BATCH - 1)];
-        unchain_batch(&mut blocks[BATCH * k..BATCH * k + BATCH], &before, passes);
+    let mut from = 0;
+    'parts: while from < blocks.len() {
+        let count = next_count::<S>(blocks.len() - from);
+        let last = blocks[from + count - 1];
+        unchain_part(&mut blocks[from..from + count], &before, passes);
         before = last;
+        from += count;
     }
 }

@@ -6,7 +6,7 @@ ghost use Rattle.des_fast.specs.Passes.{HoldPasses, passed};
 
 use crate::halves::RoundKey;
 use crate::single::Des;
-use crate::slices::{KeySlices, key_slices};
+use crate::slices::{KeySlices, Slice, spread_round_keys};
 use des::tdes::BatchedDes;
 
 /// Three passes of DES, one after another: the round keys of each in the order of the pass.
@@ -17,17 +17,29 @@ pub struct Passes {
     third: [RoundKey; 16],
 }
 
+// The round keys of a pass, spread over slices. This and the next are inlined, so that the slices
+// are not copied.
+#[inline(always)]
+pub(super) fn spread_one<S: Slice>(round_keys: &[RoundKey; 16]) -> [KeySlices<S>; 1]
+    ensures { HoldPasses S.BATCH S.bit result (round_keys_of round_keys.now ∷ []) }
+{
+    let mut slices = [[[S::same(false); 48]; 16]; 1];
+    spread_round_keys(&mut slices[0], round_keys);
+    slices
+}
+
 impl Passes {
     // The round keys of the three passes, spread over slices.
-    pub(super) fn spread(&self) -> [KeySlices; 3]
-        ensures { HoldPasses result (round_keys_of self.now.first
+    #[inline(always)]
+    pub(super) fn spread<S: Slice>(&self) -> [KeySlices<S>; 3]
+        ensures { HoldPasses S.BATCH S.bit result (round_keys_of self.now.first
             ∷ round_keys_of self.now.second ∷ round_keys_of self.now.third ∷ []) }
     {
-        [
-            key_slices(&self.first),
-            key_slices(&self.second),
-            key_slices(&self.third),
-        ]
+        let mut slices = [[[S::same(false); 48]; 16]; 3];
+        spread_round_keys(&mut slices[0], &self.first);
+        spread_round_keys(&mut slices[1], &self.second);
+        spread_round_keys(&mut slices[2], &self.third);
+        slices
     }
 }
 

@@ -1,59 +1,49 @@
 //! A round of DES on slices.
 
-ghost use Rattle.std.specs.Prelude.{◌≡◌, ◌*◌, ◌<◌, take, drop, IsTrue, nat_lt};
+ghost use Rattle.std.specs.Prelude.{◌≡◌, ◌*◌, ◌<◌, map, take, drop, IsTrue, nat_lt};
 ghost use Rattle.std.specs.List.{list_all};
-ghost use Rattle.des.specs.Bits.{select, xor, xor_bits};
+ghost use Rattle.des.specs.Bits.{select, xor_bits};
 ghost use Rattle.des.specs.Tables.{expansion};
 ghost use Rattle.des.specs.CipherFunction.{cipher_function};
-ghost use Rattle.des_fast.specs.Slices.{InEachBlock, bit_of_block, column, xor_at};
+ghost use Rattle.des_fast.specs.Slices.{InEachBlock, xor_at};
 
 use super::Slice;
 use crate::boxes::{s1, s2, s3, s4, s5, s6, s7, s8};
 
-/// The xor of two slices. It is a function of two parameters, since of an element of an array of
-/// vectors a proof knows nothing but that it is one.
-#[inline(always)]
-fn xor(first: Slice, second: Slice) -> Slice
-    ensures { InEachBlock (λ b. bit_of_block b result
-        ≡ xor (bit_of_block b first) (bit_of_block b second)) }
-{
-    first ^ second
-}
-
 /// The group of six bits of E(R) ^ K that a box replaces, for the box S1 at `number` 0 (FIPS 46-3,
 /// cipher function).
 #[inline(always)]
-fn group(half: &[Slice; 32], round_key: &[Slice; 48], number: usize) -> [Slice; 6]
+fn group<S: Slice>(half: &[S; 32], round_key: &[S; 48], number: usize) -> [S; 6]
     requires { number < 8 }
-    ensures { InEachBlock (λ b. column b result ≡ take 6 (drop (6 * number)
-        (xor_bits (select expansion (column b half.now)) (column b round_key.now)))) }
+    ensures { InEachBlock S.BATCH (λ b. map (S.bit b) result ≡ take 6 (drop (6 * number)
+        (xor_bits (select expansion (map (S.bit b) half.now)) (map (S.bit b) round_key.now)))) }
 {
     // A row of E begins one bit before its own four, and goes on in a circle.
-    let mut group = [Slice::splat(0); 6];
+    let mut group = [S::same(false); 6];
     for i in 0..6 {
-        group[i] = xor(half[(4 * number + i + 31) % 32], round_key[6 * number + i]);
+        group[i] = half[(4 * number + i + 31) % 32].xor(round_key[6 * number + i]);
     }
     group
 }
 
 /// Xors four slices into those at four indexes of a half block.
 #[inline(always)]
-fn xor_at(half: &mut [Slice; 32], indexes: [usize; 4], changes: [Slice; 4])
+fn xor_at<S: Slice>(half: &mut [S; 32], indexes: [usize; 4], changes: [S; 4])
     requires { IsTrue (list_all (λ i. nat_lt i 32) indexes) }
-    ensures { InEachBlock (λ b. column b half.new
-        ≡ xor_at (column b half.old) indexes (column b changes)) }
+    ensures { InEachBlock S.BATCH (λ b. map (S.bit b) half.new
+        ≡ xor_at (map (S.bit b) half.old) indexes (map (S.bit b) changes)) }
 {
     for i in 0..4 {
-        half[indexes[i]] = xor(half[indexes[i]], changes[i]);
+        half[indexes[i]] = half[indexes[i]].xor(changes[i]);
     }
 }
 
 /// Xors f(R, K) into the left half of each block: one round, but for the exchange of the halves
 /// (FIPS 46-3, enciphering). The indexes are where P puts the bits of each box, from 0.
-pub(crate) fn round(left: &mut [Slice; 32], right: &[Slice; 32], round_key: &[Slice; 48])
-    ensures { InEachBlock (λ b. column b left.new
-        ≡ xor_bits (column b left.old)
-        (cipher_function (column b right.now) (column b round_key.now))) }
+pub(super) fn round<S: Slice>(left: &mut [S; 32], right: &[S; 32], round_key: &[S; 48])
+    ensures { InEachBlock S.BATCH (λ b. map (S.bit b) left.new
+        ≡ xor_bits (map (S.bit b) left.old)
+        (cipher_function (map (S.bit b) right.now) (map (S.bit b) round_key.now))) }
 {
     let [x1, x2, x3, x4, x5, x6] = group(right, round_key, 0);
     xor_at(left, [8, 16, 22, 30], s1(x1, x2, x3, x4, x5, x6));

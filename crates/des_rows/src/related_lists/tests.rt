@@ -16,7 +16,10 @@ fn lists_are_enciphered_under_a_key(rt: HostRuntime) {
     let refused = encrypt_list_by_ede3(&key.as_flattened()[1..], &mut blocks);
     assert_eq!(rt; refused, Err(InvalidLength));
     assert_eq!(rt; blocks.map(u64::from_be_bytes), PLAINTEXT);
-    assert_eq!(rt; encrypt_list_by_ede3(key.as_flattened(), &mut blocks), Ok(()));
+    assert_eq!(rt;
+        encrypt_list_by_ede3(key.as_flattened(), &mut blocks),
+        Ok(())
+    );
     assert_eq!(rt; blocks.map(u64::from_be_bytes), CIPHERTEXT);
 }
 

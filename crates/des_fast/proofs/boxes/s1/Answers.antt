@@ -1,28 +1,47 @@
 -- The circuit of S1, and that it answers as the box.
-use Rattle.std.proofs.Common.{[], ◌∷◌, refl}
+use Rattle.std.proofs.Common.{[], ◌∷◌, map, refl}
 use Rattle.des.specs.Bits.{bits_of, number_of, select}
 use Rattle.des.specs.Tables.{s1}
 use Rattle.des.specs.CipherFunction.{box_entry}
-use Rattle.des_fast.proofs.Circuits.{complement, and, and_not, or, xor, Circuit, output_slices-replaces}
+use Rattle.des_fast.proofs.Circuits.{complement, and, and_not, or, xor, Circuit, next, done, made-entry}
 use Rattle.des_fast.proofs.boxes.s1.Goals as goal
 
 -- its gates, in the order of the code
 abbrev circuit : Circuit
 circuit = record {
   gates =
-      complement 3 ∷ xor 4 1 ∷ and_not 8 6 ∷ xor 7 9 ∷ and 10 9 ∷ xor 11 8 ∷ xor 10 6 ∷ and 13 4 ∷ or 12 14 ∷
-      and_not 15 5 ∷ xor 10 16 ∷ or 16 6 ∷ or 18 3 ∷ xor 17 12 ∷ and 15 9 ∷ xor 20 21 ∷ and 22 5 ∷ xor 19 23 ∷
-      and_not 24 2 ∷ xor 17 25 ∷ xor 18 5 ∷ and_not 20 3 ∷ xor 27 28 ∷ or 22 17 ∷ and 30 1 ∷ xor 29 31 ∷ or 28 8 ∷
-      and_not 1 20 ∷ and 34 5 ∷ xor 33 35 ∷ and 36 2 ∷ xor 32 37 ∷ and_not 27 32 ∷ xor 39 24 ∷ xor 36 25 ∷
-      and 10 4 ∷ xor 41 42 ∷ and_not 43 2 ∷ xor 40 44 ∷ and_not 41 23 ∷ and_not 5 37 ∷ and_not 26 47 ∷ and 48 3 ∷
-      xor 46 49 ∷ and_not 50 6 ∷ xor 45 51 ∷ xor 49 12 ∷ xor 53 5 ∷ and_not 47 52 ∷ xor 54 55 ∷ xor 53 45 ∷
-      xor 57 39 ∷ or 49 42 ∷ and 59 2 ∷ xor 58 60 ∷ and_not 61 6 ∷ xor 56 62 ∷ [];
-  outputs = 38 ∷ 63 ∷ 26 ∷ 52 ∷ [];
+      complement 3 ∷ xor 4 1 ∷ and 8 6 ∷ xor 9 7 ∷ xor 10 8 ∷ xor 11 9 ∷ or 10 1 ∷ and 5 13 ∷ or 12 14 ∷ xor 15 6 ∷
+      and 16 1 ∷ xor 17 8 ∷ xor 9 5 ∷ and_not 18 19 ∷ and_not 7 20 ∷ xor 15 7 ∷ or 21 22 ∷ and 23 2 ∷ or 20 6 ∷
+      xor 25 5 ∷ xor 26 21 ∷ xor 20 12 ∷ or 28 9 ∷ and 29 1 ∷ xor 27 30 ∷ xor 24 31 ∷ and_not 5 2 ∷ or 25 3 ∷
+      and 14 12 ∷ xor 34 35 ∷ and_not 36 2 ∷ xor 28 37 ∷ and_not 38 33 ∷ and_not 39 7 ∷ xor 37 23 ∷ and_not 41 35 ∷
+      xor 40 42 ∷ and_not 43 6 ∷ and 11 4 ∷ xor 45 24 ∷ xor 46 41 ∷ and_not 47 2 ∷ and_not 26 31 ∷ xor 48 49 ∷
+      xor 50 36 ∷ xor 44 51 ∷ and_not 33 52 ∷ and_not 47 40 ∷ xor 54 36 ∷ and_not 55 6 ∷ xor 56 19 ∷ xor 57 40 ∷
+      xor 53 58 ∷ [];
+  outputs = 32 ∷ 59 ∷ 38 ∷ 52 ∷ [];
 }
 
 pub returns : goal.returns
 unfolding bits_of number_of select box_entry
-returns c =
+returns g c b within =
     let a = c.args in
-    output_slices-replaces s1 circuit (a.x1 ∷ a.x2 ∷ a.x3 ∷ a.x4 ∷ a.x5 ∷ a.x6 ∷ []) refl refl refl
-    (c.fits-x1, (c.fits-x2, (c.fits-x3, (c.fits-x4, (c.fits-x5, (c.fits-x6, tt))))))
+    made-entry s1 circuit (map (g.S.Slice.bit b) (a.x1 ∷ a.x2 ∷ a.x3 ∷ a.x4 ∷ a.x5 ∷ a.x6 ∷ [])) _ refl refl refl (
+    next (c.not-x7.ensures b within) (next (c.xor-x8.ensures b within) (next (c.and-x9.ensures b within) (
+    next (c.xor-x10.ensures b within) (next (c.xor-x11.ensures b within) (next (c.xor-x12.ensures b within) (
+    next (c.or-x13.ensures b within) (next (c.and-x14.ensures b within) (next (c.or-x15.ensures b within) (
+    next (c.xor-x16.ensures b within) (next (c.and-x17.ensures b within) (next (c.xor-x18.ensures b within) (
+    next (c.xor-x19.ensures b within) (next (c.and_not-x20.ensures b within) (
+    next (c.and_not-x21.ensures b within) (next (c.xor-x22.ensures b within) (next (c.or-x23.ensures b within) (
+    next (c.and-x24.ensures b within) (next (c.or-x25.ensures b within) (next (c.xor-x26.ensures b within) (
+    next (c.xor-x27.ensures b within) (next (c.xor-x28.ensures b within) (next (c.or-x29.ensures b within) (
+    next (c.and-x30.ensures b within) (next (c.xor-x31.ensures b within) (next (c.xor-x32.ensures b within) (
+    next (c.and_not-x33.ensures b within) (next (c.or-x34.ensures b within) (next (c.and-x35.ensures b within) (
+    next (c.xor-x36.ensures b within) (next (c.and_not-x37.ensures b within) (next (c.xor-x38.ensures b within) (
+    next (c.and_not-x39.ensures b within) (next (c.and_not-x40.ensures b within) (
+    next (c.xor-x41.ensures b within) (next (c.and_not-x42.ensures b within) (next (c.xor-x43.ensures b within) (
+    next (c.and_not-x44.ensures b within) (next (c.and-x45.ensures b within) (next (c.xor-x46.ensures b within) (
+    next (c.xor-x47.ensures b within) (next (c.and_not-x48.ensures b within) (
+    next (c.and_not-x49.ensures b within) (next (c.xor-x50.ensures b within) (next (c.xor-x51.ensures b within) (
+    next (c.xor-x52.ensures b within) (next (c.and_not-x53.ensures b within) (
+    next (c.and_not-x54.ensures b within) (next (c.xor-x55.ensures b within) (
+    next (c.and_not-x56.ensures b within) (next (c.xor-x57.ensures b within) (next (c.xor-x58.ensures b within) (
+    next (c.xor-x59.ensures b within) (done))))))))))))))))))))))))))))))))))))))))))))))))))))))

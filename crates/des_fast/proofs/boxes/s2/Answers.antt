@@ -1,28 +1,43 @@
 -- The circuit of S2, and that it answers as the box.
-use Rattle.std.proofs.Common.{[], ◌∷◌, refl}
+use Rattle.std.proofs.Common.{[], ◌∷◌, map, refl}
 use Rattle.des.specs.Bits.{bits_of, number_of, select}
 use Rattle.des.specs.Tables.{s2}
 use Rattle.des.specs.CipherFunction.{box_entry}
-use Rattle.des_fast.proofs.Circuits.{complement, and, and_not, or, xor, Circuit, output_slices-replaces}
+use Rattle.des_fast.proofs.Circuits.{complement, and, and_not, or, xor, Circuit, next, done, made-entry}
 use Rattle.des_fast.proofs.boxes.s2.Goals as goal
 
 -- its gates, in the order of the code
 abbrev circuit : Circuit
 circuit = record {
   gates =
-      xor 6 5 ∷ xor 7 1 ∷ and_not 7 8 ∷ and_not 5 9 ∷ and 10 4 ∷ xor 8 11 ∷ and 10 1 ∷ complement 13 ∷
-      and_not 14 3 ∷ xor 12 15 ∷ or 13 4 ∷ or 6 3 ∷ xor 18 11 ∷ and_not 19 1 ∷ xor 17 20 ∷ and 21 2 ∷ xor 16 22 ∷
-      xor 8 4 ∷ xor 19 2 ∷ and_not 25 3 ∷ xor 24 26 ∷ complement 26 ∷ xor 17 15 ∷ or 29 9 ∷ and 30 2 ∷ xor 28 31 ∷
-      and_not 32 6 ∷ xor 27 33 ∷ and 14 8 ∷ xor 35 3 ∷ or 23 9 ∷ and_not 37 5 ∷ xor 36 38 ∷ xor 37 29 ∷
-      and_not 33 37 ∷ xor 41 6 ∷ and_not 42 1 ∷ xor 40 43 ∷ and_not 44 2 ∷ xor 39 45 ∷ or 34 3 ∷ xor 47 25 ∷
-      or 46 36 ∷ xor 49 26 ∷ and_not 50 4 ∷ xor 48 51 ∷ or 35 29 ∷ xor 53 1 ∷ and 45 12 ∷ xor 54 55 ∷ and_not 56 6 ∷
-      xor 52 57 ∷ [];
-  outputs = 23 ∷ 34 ∷ 58 ∷ 46 ∷ [];
+      xor 5 6 ∷ xor 7 1 ∷ and_not 7 8 ∷ and_not 5 9 ∷ and 10 1 ∷ or 11 4 ∷ and 10 4 ∷ or 6 3 ∷ xor 13 14 ∷
+      and_not 15 1 ∷ xor 12 16 ∷ complement 2 ∷ and_not 17 18 ∷ xor 11 8 ∷ xor 3 20 ∷ complement 21 ∷ or 22 11 ∷
+      xor 23 13 ∷ xor 19 24 ∷ or 6 1 ∷ xor 15 2 ∷ or 6 13 ∷ and_not 20 18 ∷ xor 12 23 ∷ or 25 9 ∷ and 31 26 ∷
+      xor 32 7 ∷ xor 30 33 ∷ or 29 34 ∷ or 28 35 ∷ xor 27 36 ∷ and_not 27 3 ∷ or 35 2 ∷ and_not 31 5 ∷ xor 40 22 ∷
+      xor 39 41 ∷ or 42 21 ∷ xor 38 43 ∷ and_not 44 4 ∷ xor 37 45 ∷ xor 26 46 ∷ or 24 19 ∷ and 47 48 ∷ or 18 49 ∷
+      and_not 6 38 ∷ and_not 50 51 ∷ xor 8 4 ∷ xor 52 53 ∷ or 54 3 ∷ xor 47 55 ∷ [];
+  outputs = 25 ∷ 54 ∷ 56 ∷ 42 ∷ [];
 }
 
 pub returns : goal.returns
 unfolding bits_of number_of select box_entry
-returns c =
+returns g c b within =
     let a = c.args in
-    output_slices-replaces s2 circuit (a.x1 ∷ a.x2 ∷ a.x3 ∷ a.x4 ∷ a.x5 ∷ a.x6 ∷ []) refl refl refl
-    (c.fits-x1, (c.fits-x2, (c.fits-x3, (c.fits-x4, (c.fits-x5, (c.fits-x6, tt))))))
+    made-entry s2 circuit (map (g.S.Slice.bit b) (a.x1 ∷ a.x2 ∷ a.x3 ∷ a.x4 ∷ a.x5 ∷ a.x6 ∷ [])) _ refl refl refl (
+    next (c.xor-x7.ensures b within) (next (c.xor-x8.ensures b within) (next (c.and_not-x9.ensures b within) (
+    next (c.and_not-x10.ensures b within) (next (c.and-x11.ensures b within) (next (c.or-x12.ensures b within) (
+    next (c.and-x13.ensures b within) (next (c.or-x14.ensures b within) (next (c.xor-x15.ensures b within) (
+    next (c.and_not-x16.ensures b within) (next (c.xor-x17.ensures b within) (next (c.not-x18.ensures b within) (
+    next (c.and_not-x19.ensures b within) (next (c.xor-x20.ensures b within) (next (c.xor-x21.ensures b within) (
+    next (c.not-x22.ensures b within) (next (c.or-x23.ensures b within) (next (c.xor-x24.ensures b within) (
+    next (c.xor-x25.ensures b within) (next (c.or-x26.ensures b within) (next (c.xor-x27.ensures b within) (
+    next (c.or-x28.ensures b within) (next (c.and_not-x29.ensures b within) (next (c.xor-x30.ensures b within) (
+    next (c.or-x31.ensures b within) (next (c.and-x32.ensures b within) (next (c.xor-x33.ensures b within) (
+    next (c.xor-x34.ensures b within) (next (c.or-x35.ensures b within) (next (c.or-x36.ensures b within) (
+    next (c.xor-x37.ensures b within) (next (c.and_not-x38.ensures b within) (next (c.or-x39.ensures b within) (
+    next (c.and_not-x40.ensures b within) (next (c.xor-x41.ensures b within) (next (c.xor-x42.ensures b within) (
+    next (c.or-x43.ensures b within) (next (c.xor-x44.ensures b within) (next (c.and_not-x45.ensures b within) (
+    next (c.xor-x46.ensures b within) (next (c.xor-x47.ensures b within) (next (c.or-x48.ensures b within) (
+    next (c.and-x49.ensures b within) (next (c.or-x50.ensures b within) (next (c.and_not-x51.ensures b within) (
+    next (c.and_not-x52.ensures b within) (next (c.xor-x53.ensures b within) (next (c.xor-x54.ensures b within) (
+    next (c.or-x55.ensures b within) (next (c.xor-x56.ensures b within) (done)))))))))))))))))))))))))))))))))))))))))))))))))))

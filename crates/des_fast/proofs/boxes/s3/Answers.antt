@@ -1,27 +1,43 @@
 -- The circuit of S3, and that it answers as the box.
-use Rattle.std.proofs.Common.{[], ◌∷◌, refl}
+use Rattle.std.proofs.Common.{[], ◌∷◌, map, refl}
 use Rattle.des.specs.Bits.{bits_of, number_of, select}
 use Rattle.des.specs.Tables.{s3}
 use Rattle.des.specs.CipherFunction.{box_entry}
-use Rattle.des_fast.proofs.Circuits.{complement, and, and_not, or, xor, Circuit, output_slices-replaces}
+use Rattle.des_fast.proofs.Circuits.{complement, and, and_not, or, xor, Circuit, next, done, made-entry}
 use Rattle.des_fast.proofs.boxes.s3.Goals as goal
 
 -- its gates, in the order of the code
 abbrev circuit : Circuit
 circuit = record {
   gates =
-      xor 6 3 ∷ or 6 4 ∷ and 8 1 ∷ xor 7 9 ∷ xor 4 3 ∷ or 11 1 ∷ and_not 12 5 ∷ xor 10 13 ∷ xor 14 4 ∷
-      and_not 15 7 ∷ and 16 1 ∷ xor 2 17 ∷ and 18 2 ∷ xor 14 19 ∷ xor 11 5 ∷ xor 21 1 ∷ complement 15 ∷ xor 18 12 ∷
-      and_not 24 3 ∷ xor 23 25 ∷ and_not 26 2 ∷ xor 22 27 ∷ xor 24 7 ∷ or 29 23 ∷ and 30 6 ∷ xor 28 31 ∷ or 13 9 ∷
-      xor 33 24 ∷ and_not 20 32 ∷ or 35 10 ∷ and_not 36 1 ∷ xor 34 37 ∷ and 33 28 ∷ and_not 34 25 ∷ xor 40 4 ∷
-      and_not 41 5 ∷ xor 39 42 ∷ and 43 6 ∷ xor 38 44 ∷ or 39 29 ∷ and_not 46 2 ∷ xor 32 47 ∷ xor 46 37 ∷
-      and_not 49 1 ∷ xor 48 50 ∷ xor 41 5 ∷ xor 52 45 ∷ and_not 53 12 ∷ xor 52 54 ∷ and 55 4 ∷ xor 51 56 ∷ [];
-  outputs = 32 ∷ 45 ∷ 57 ∷ 20 ∷ [];
+      xor 4 3 ∷ xor 1 7 ∷ xor 8 5 ∷ or 8 7 ∷ and_not 10 5 ∷ or 6 4 ∷ and 12 1 ∷ xor 6 3 ∷ xor 13 14 ∷ xor 11 15 ∷
+      xor 16 4 ∷ complement 17 ∷ and 17 1 ∷ and_not 19 14 ∷ xor 20 2 ∷ xor 21 10 ∷ and_not 22 3 ∷ xor 18 23 ∷
+      and_not 24 2 ∷ xor 9 25 ∷ xor 22 14 ∷ or 27 18 ∷ and 6 28 ∷ xor 26 29 ∷ or 13 11 ∷ and 31 26 ∷ xor 31 22 ∷
+      and_not 33 23 ∷ xor 34 4 ∷ and_not 35 5 ∷ xor 32 36 ∷ and 37 6 ∷ and 21 2 ∷ xor 39 16 ∷ and_not 40 30 ∷
+      or 41 14 ∷ and_not 42 1 ∷ xor 38 43 ∷ xor 44 33 ∷ or 32 27 ∷ xor 2 1 ∷ and 46 47 ∷ xor 43 30 ∷
+      and_not 44 10 ∷ xor 50 35 ∷ xor 51 11 ∷ and_not 4 52 ∷ xor 49 53 ∷ xor 48 54 ∷ [];
+  outputs = 30 ∷ 45 ∷ 55 ∷ 40 ∷ [];
 }
 
 pub returns : goal.returns
 unfolding bits_of number_of select box_entry
-returns c =
+returns g c b within =
     let a = c.args in
-    output_slices-replaces s3 circuit (a.x1 ∷ a.x2 ∷ a.x3 ∷ a.x4 ∷ a.x5 ∷ a.x6 ∷ []) refl refl refl
-    (c.fits-x1, (c.fits-x2, (c.fits-x3, (c.fits-x4, (c.fits-x5, (c.fits-x6, tt))))))
+    made-entry s3 circuit (map (g.S.Slice.bit b) (a.x1 ∷ a.x2 ∷ a.x3 ∷ a.x4 ∷ a.x5 ∷ a.x6 ∷ [])) _ refl refl refl (
+    next (c.xor-x7.ensures b within) (next (c.xor-x8.ensures b within) (next (c.xor-x9.ensures b within) (
+    next (c.or-x10.ensures b within) (next (c.and_not-x11.ensures b within) (next (c.or-x12.ensures b within) (
+    next (c.and-x13.ensures b within) (next (c.xor-x14.ensures b within) (next (c.xor-x15.ensures b within) (
+    next (c.xor-x16.ensures b within) (next (c.xor-x17.ensures b within) (next (c.not-x18.ensures b within) (
+    next (c.and-x19.ensures b within) (next (c.and_not-x20.ensures b within) (next (c.xor-x21.ensures b within) (
+    next (c.xor-x22.ensures b within) (next (c.and_not-x23.ensures b within) (next (c.xor-x24.ensures b within) (
+    next (c.and_not-x25.ensures b within) (next (c.xor-x26.ensures b within) (next (c.xor-x27.ensures b within) (
+    next (c.or-x28.ensures b within) (next (c.and-x29.ensures b within) (next (c.xor-x30.ensures b within) (
+    next (c.or-x31.ensures b within) (next (c.and-x32.ensures b within) (next (c.xor-x33.ensures b within) (
+    next (c.and_not-x34.ensures b within) (next (c.xor-x35.ensures b within) (
+    next (c.and_not-x36.ensures b within) (next (c.xor-x37.ensures b within) (next (c.and-x38.ensures b within) (
+    next (c.and-x39.ensures b within) (next (c.xor-x40.ensures b within) (next (c.and_not-x41.ensures b within) (
+    next (c.or-x42.ensures b within) (next (c.and_not-x43.ensures b within) (next (c.xor-x44.ensures b within) (
+    next (c.xor-x45.ensures b within) (next (c.or-x46.ensures b within) (next (c.xor-x47.ensures b within) (
+    next (c.and-x48.ensures b within) (next (c.xor-x49.ensures b within) (next (c.and_not-x50.ensures b within) (
+    next (c.xor-x51.ensures b within) (next (c.xor-x52.ensures b within) (next (c.and_not-x53.ensures b within) (
+    next (c.xor-x54.ensures b within) (next (c.xor-x55.ensures b within) (done))))))))))))))))))))))))))))))))))))))))))))))))))

@@ -1,26 +1,36 @@
 -- The circuit of S4, and that it answers as the box.
-use Rattle.std.proofs.Common.{[], ◌∷◌, refl}
+use Rattle.std.proofs.Common.{[], ◌∷◌, map, refl}
 use Rattle.des.specs.Bits.{bits_of, number_of, select}
 use Rattle.des.specs.Tables.{s4}
 use Rattle.des.specs.CipherFunction.{box_entry}
-use Rattle.des_fast.proofs.Circuits.{complement, and, and_not, or, xor, Circuit, output_slices-replaces}
+use Rattle.des_fast.proofs.Circuits.{complement, and, and_not, or, xor, Circuit, next, done, made-entry}
 use Rattle.des_fast.proofs.boxes.s4.Goals as goal
 
 -- its gates, in the order of the code
 abbrev circuit : Circuit
 circuit = record {
   gates =
-      xor 5 4 ∷ complement 7 ∷ and_not 5 8 ∷ xor 9 3 ∷ and_not 10 2 ∷ xor 8 11 ∷ xor 12 2 ∷ or 13 4 ∷ and 7 3 ∷
-      xor 14 15 ∷ and 16 1 ∷ xor 12 17 ∷ xor 13 4 ∷ xor 15 3 ∷ and 20 2 ∷ xor 19 21 ∷ and_not 18 5 ∷ and 9 3 ∷
-      xor 23 24 ∷ and_not 25 1 ∷ xor 22 26 ∷ and 27 6 ∷ xor 18 28 ∷ or 16 1 ∷ xor 30 13 ∷ xor 31 23 ∷ and_not 32 1 ∷
-      xor 7 33 ∷ and_not 34 2 ∷ xor 31 35 ∷ xor 22 8 ∷ or 36 23 ∷ and 38 17 ∷ xor 37 39 ∷ and 40 6 ∷ xor 36 41 ∷
-      complement 40 ∷ and_not 43 6 ∷ xor 36 44 ∷ xor 29 27 ∷ xor 46 6 ∷ [];
-  outputs = 45 ∷ 42 ∷ 47 ∷ 29 ∷ [];
+      and_not 5 4 ∷ xor 7 3 ∷ xor 8 4 ∷ and 2 8 ∷ xor 10 9 ∷ complement 11 ∷ xor 12 5 ∷ xor 13 2 ∷ or 9 14 ∷
+      xor 15 3 ∷ and 16 1 ∷ or 16 1 ∷ xor 18 14 ∷ xor 17 13 ∷ or 19 20 ∷ xor 21 7 ∷ and 17 22 ∷ or 14 10 ∷
+      xor 6 24 ∷ xor 25 5 ∷ xor 23 26 ∷ and 27 6 ∷ and 22 5 ∷ xor 29 20 ∷ and_not 30 2 ∷ xor 19 31 ∷ xor 28 32 ∷
+      xor 27 33 ∷ or 29 1 ∷ and_not 12 35 ∷ xor 25 4 ∷ xor 36 37 ∷ and_not 6 38 ∷ xor 39 20 ∷ xor 40 38 ∷ [];
+  outputs = 34 ∷ 33 ∷ 41 ∷ 40 ∷ [];
 }
 
 pub returns : goal.returns
 unfolding bits_of number_of select box_entry
-returns c =
+returns g c b within =
     let a = c.args in
-    output_slices-replaces s4 circuit (a.x1 ∷ a.x2 ∷ a.x3 ∷ a.x4 ∷ a.x5 ∷ a.x6 ∷ []) refl refl refl
-    (c.fits-x1, (c.fits-x2, (c.fits-x3, (c.fits-x4, (c.fits-x5, (c.fits-x6, tt))))))
+    made-entry s4 circuit (map (g.S.Slice.bit b) (a.x1 ∷ a.x2 ∷ a.x3 ∷ a.x4 ∷ a.x5 ∷ a.x6 ∷ [])) _ refl refl refl (
+    next (c.and_not-x7.ensures b within) (next (c.xor-x8.ensures b within) (next (c.xor-x9.ensures b within) (
+    next (c.and-x10.ensures b within) (next (c.xor-x11.ensures b within) (next (c.not-x12.ensures b within) (
+    next (c.xor-x13.ensures b within) (next (c.xor-x14.ensures b within) (next (c.or-x15.ensures b within) (
+    next (c.xor-x16.ensures b within) (next (c.and-x17.ensures b within) (next (c.or-x18.ensures b within) (
+    next (c.xor-x19.ensures b within) (next (c.xor-x20.ensures b within) (next (c.or-x21.ensures b within) (
+    next (c.xor-x22.ensures b within) (next (c.and-x23.ensures b within) (next (c.or-x24.ensures b within) (
+    next (c.xor-x25.ensures b within) (next (c.xor-x26.ensures b within) (next (c.xor-x27.ensures b within) (
+    next (c.and-x28.ensures b within) (next (c.and-x29.ensures b within) (next (c.xor-x30.ensures b within) (
+    next (c.and_not-x31.ensures b within) (next (c.xor-x32.ensures b within) (next (c.xor-x33.ensures b within) (
+    next (c.xor-x34.ensures b within) (next (c.or-x35.ensures b within) (next (c.and_not-x36.ensures b within) (
+    next (c.xor-x37.ensures b within) (next (c.xor-x38.ensures b within) (next (c.and_not-x39.ensures b within) (
+    next (c.xor-x40.ensures b within) (next (c.xor-x41.ensures b within) (done))))))))))))))))))))))))))))))))))))

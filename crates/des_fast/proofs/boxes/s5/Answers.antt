@@ -1,28 +1,44 @@
 -- The circuit of S5, and that it answers as the box.
-use Rattle.std.proofs.Common.{[], ◌∷◌, refl}
+use Rattle.std.proofs.Common.{[], ◌∷◌, map, refl}
 use Rattle.des.specs.Bits.{bits_of, number_of, select}
 use Rattle.des.specs.Tables.{s5}
 use Rattle.des.specs.CipherFunction.{box_entry}
-use Rattle.des_fast.proofs.Circuits.{complement, and, and_not, or, xor, Circuit, output_slices-replaces}
+use Rattle.des_fast.proofs.Circuits.{complement, and, and_not, or, xor, Circuit, next, done, made-entry}
 use Rattle.des_fast.proofs.boxes.s5.Goals as goal
 
 -- its gates, in the order of the code
 abbrev circuit : Circuit
 circuit = record {
   gates =
-      and 6 3 ∷ or 7 1 ∷ xor 8 4 ∷ or 9 3 ∷ and_not 10 6 ∷ and_not 11 4 ∷ xor 3 12 ∷ and 13 5 ∷ xor 9 14 ∷ or 13 5 ∷
-      and 11 5 ∷ complement 17 ∷ or 15 5 ∷ and 19 6 ∷ xor 18 20 ∷ and_not 21 1 ∷ xor 16 22 ∷ and_not 23 2 ∷
-      xor 15 24 ∷ xor 16 6 ∷ xor 5 4 ∷ and 27 1 ∷ xor 26 28 ∷ xor 23 1 ∷ or 12 4 ∷ and 30 31 ∷ and 32 3 ∷
-      xor 29 33 ∷ xor 13 1 ∷ or 35 4 ∷ and_not 36 2 ∷ xor 34 37 ∷ and 34 31 ∷ or 38 15 ∷ and 40 1 ∷ xor 39 41 ∷
-      and 27 6 ∷ xor 42 43 ∷ or 38 16 ∷ xor 45 32 ∷ or 28 14 ∷ and 47 3 ∷ xor 46 48 ∷ and 49 2 ∷ xor 44 50 ∷
-      xor 38 25 ∷ and 51 2 ∷ xor 52 53 ∷ complement 51 ∷ and 55 1 ∷ xor 54 56 ∷ or 55 33 ∷ and 39 24 ∷ xor 58 59 ∷
-      and_not 60 5 ∷ xor 57 61 ∷ [];
-  outputs = 62 ∷ 38 ∷ 25 ∷ 51 ∷ [];
+      xor 3 1 ∷ or 7 3 ∷ and_not 8 6 ∷ xor 7 9 ∷ or 10 1 ∷ or 9 4 ∷ xor 12 5 ∷ xor 13 3 ∷ xor 14 4 ∷ or 15 5 ∷
+      xor 16 14 ∷ xor 11 17 ∷ complement 1 ∷ xor 5 19 ∷ and_not 20 14 ∷ and_not 13 6 ∷ or 21 22 ∷ and_not 19 23 ∷
+      xor 24 16 ∷ xor 25 19 ∷ and_not 26 2 ∷ xor 18 27 ∷ xor 26 13 ∷ xor 29 4 ∷ and_not 25 30 ∷ xor 31 12 ∷
+      and 8 32 ∷ xor 6 33 ∷ xor 34 16 ∷ and 35 12 ∷ and_not 36 29 ∷ xor 20 2 ∷ or 10 4 ∷ and_not 39 2 ∷ xor 40 35 ∷
+      and_not 17 41 ∷ and_not 1 42 ∷ and_not 32 31 ∷ xor 44 15 ∷ and 35 34 ∷ xor 45 46 ∷ and 47 2 ∷ xor 13 48 ∷
+      xor 22 49 ∷ xor 43 50 ∷ xor 36 51 ∷ and 38 52 ∷ or 37 53 ∷ xor 54 20 ∷ xor 55 41 ∷ xor 28 56 ∷ [];
+  outputs = 57 ∷ 41 ∷ 28 ∷ 52 ∷ [];
 }
 
 pub returns : goal.returns
 unfolding bits_of number_of select box_entry
-returns c =
+returns g c b within =
     let a = c.args in
-    output_slices-replaces s5 circuit (a.x1 ∷ a.x2 ∷ a.x3 ∷ a.x4 ∷ a.x5 ∷ a.x6 ∷ []) refl refl refl
-    (c.fits-x1, (c.fits-x2, (c.fits-x3, (c.fits-x4, (c.fits-x5, (c.fits-x6, tt))))))
+    made-entry s5 circuit (map (g.S.Slice.bit b) (a.x1 ∷ a.x2 ∷ a.x3 ∷ a.x4 ∷ a.x5 ∷ a.x6 ∷ [])) _ refl refl refl (
+    next (c.xor-x7.ensures b within) (next (c.or-x8.ensures b within) (next (c.and_not-x9.ensures b within) (
+    next (c.xor-x10.ensures b within) (next (c.or-x11.ensures b within) (next (c.or-x12.ensures b within) (
+    next (c.xor-x13.ensures b within) (next (c.xor-x14.ensures b within) (next (c.xor-x15.ensures b within) (
+    next (c.or-x16.ensures b within) (next (c.xor-x17.ensures b within) (next (c.xor-x18.ensures b within) (
+    next (c.not-x19.ensures b within) (next (c.xor-x20.ensures b within) (next (c.and_not-x21.ensures b within) (
+    next (c.and_not-x22.ensures b within) (next (c.or-x23.ensures b within) (
+    next (c.and_not-x24.ensures b within) (next (c.xor-x25.ensures b within) (next (c.xor-x26.ensures b within) (
+    next (c.and_not-x27.ensures b within) (next (c.xor-x28.ensures b within) (next (c.xor-x29.ensures b within) (
+    next (c.xor-x30.ensures b within) (next (c.and_not-x31.ensures b within) (next (c.xor-x32.ensures b within) (
+    next (c.and-x33.ensures b within) (next (c.xor-x34.ensures b within) (next (c.xor-x35.ensures b within) (
+    next (c.and-x36.ensures b within) (next (c.and_not-x37.ensures b within) (next (c.xor-x38.ensures b within) (
+    next (c.or-x39.ensures b within) (next (c.and_not-x40.ensures b within) (next (c.xor-x41.ensures b within) (
+    next (c.and_not-x42.ensures b within) (next (c.and_not-x43.ensures b within) (
+    next (c.and_not-x44.ensures b within) (next (c.xor-x45.ensures b within) (next (c.and-x46.ensures b within) (
+    next (c.xor-x47.ensures b within) (next (c.and-x48.ensures b within) (next (c.xor-x49.ensures b within) (
+    next (c.xor-x50.ensures b within) (next (c.xor-x51.ensures b within) (next (c.xor-x52.ensures b within) (
+    next (c.and-x53.ensures b within) (next (c.or-x54.ensures b within) (next (c.xor-x55.ensures b within) (
+    next (c.xor-x56.ensures b within) (next (c.xor-x57.ensures b within) (done))))))))))))))))))))))))))))))))))))))))))))))))))))

@@ -1,28 +1,44 @@
 -- The circuit of S6, and that it answers as the box.
-use Rattle.std.proofs.Common.{[], ◌∷◌, refl}
+use Rattle.std.proofs.Common.{[], ◌∷◌, map, refl}
 use Rattle.des.specs.Bits.{bits_of, number_of, select}
 use Rattle.des.specs.Tables.{s6}
 use Rattle.des.specs.CipherFunction.{box_entry}
-use Rattle.des_fast.proofs.Circuits.{complement, and, and_not, or, xor, Circuit, output_slices-replaces}
+use Rattle.des_fast.proofs.Circuits.{complement, and, and_not, or, xor, Circuit, next, done, made-entry}
 use Rattle.des_fast.proofs.boxes.s6.Goals as goal
 
 -- its gates, in the order of the code
 abbrev circuit : Circuit
 circuit = record {
   gates =
-      or 5 1 ∷ xor 7 2 ∷ xor 5 1 ∷ and 9 3 ∷ xor 8 10 ∷ or 11 3 ∷ xor 12 9 ∷ and_not 13 4 ∷ xor 11 14 ∷ and 12 1 ∷
-      and_not 13 15 ∷ xor 17 5 ∷ and 18 4 ∷ or 16 19 ∷ and 20 6 ∷ xor 15 21 ∷ xor 13 4 ∷ complement 21 ∷ and 24 6 ∷
-      xor 23 25 ∷ or 24 5 ∷ and 27 3 ∷ xor 26 28 ∷ xor 29 13 ∷ and_not 22 30 ∷ xor 31 15 ∷ or 32 14 ∷ and_not 33 5 ∷
-      xor 31 34 ∷ and 35 2 ∷ xor 29 36 ∷ and_not 10 35 ∷ and_not 21 38 ∷ xor 26 39 ∷ and 32 6 ∷ xor 30 27 ∷
-      and_not 42 25 ∷ and_not 43 3 ∷ xor 41 44 ∷ and_not 45 5 ∷ xor 40 46 ∷ xor 29 11 ∷ xor 34 9 ∷ or 49 47 ∷
-      and_not 50 6 ∷ xor 48 51 ∷ and 37 4 ∷ xor 53 26 ∷ and_not 4 47 ∷ and_not 55 5 ∷ xor 54 56 ∷ and_not 57 1 ∷
-      xor 52 58 ∷ [];
-  outputs = 47 ∷ 59 ∷ 37 ∷ 22 ∷ [];
+      complement 3 ∷ and 7 1 ∷ or 8 5 ∷ or 7 1 ∷ and 9 10 ∷ xor 11 2 ∷ or 12 3 ∷ xor 13 1 ∷ xor 5 14 ∷ xor 6 4 ∷
+      xor 15 16 ∷ and_not 15 4 ∷ xor 18 12 ∷ and_not 19 5 ∷ and_not 20 16 ∷ and_not 13 21 ∷ xor 22 16 ∷ and 23 14 ∷
+      xor 24 1 ∷ and 25 6 ∷ xor 26 19 ∷ xor 26 23 ∷ and_not 27 28 ∷ xor 20 29 ∷ or 6 5 ∷ and_not 4 1 ∷ and 31 32 ∷
+      xor 33 7 ∷ and_not 34 16 ∷ xor 30 35 ∷ and 36 33 ∷ or 17 37 ∷ and_not 36 5 ∷ xor 38 39 ∷ and_not 38 1 ∷
+      or 40 28 ∷ and_not 42 6 ∷ xor 43 12 ∷ and_not 44 32 ∷ xor 45 33 ∷ and 26 9 ∷ xor 47 3 ∷ xor 48 17 ∷
+      xor 46 49 ∷ xor 41 50 ∷ and_not 9 30 ∷ and_not 2 52 ∷ xor 53 49 ∷ [];
+  outputs = 40 ∷ 51 ∷ 54 ∷ 27 ∷ [];
 }
 
 pub returns : goal.returns
 unfolding bits_of number_of select box_entry
-returns c =
+returns g c b within =
     let a = c.args in
-    output_slices-replaces s6 circuit (a.x1 ∷ a.x2 ∷ a.x3 ∷ a.x4 ∷ a.x5 ∷ a.x6 ∷ []) refl refl refl
-    (c.fits-x1, (c.fits-x2, (c.fits-x3, (c.fits-x4, (c.fits-x5, (c.fits-x6, tt))))))
+    made-entry s6 circuit (map (g.S.Slice.bit b) (a.x1 ∷ a.x2 ∷ a.x3 ∷ a.x4 ∷ a.x5 ∷ a.x6 ∷ [])) _ refl refl refl (
+    next (c.not-x7.ensures b within) (next (c.and-x8.ensures b within) (next (c.or-x9.ensures b within) (
+    next (c.or-x10.ensures b within) (next (c.and-x11.ensures b within) (next (c.xor-x12.ensures b within) (
+    next (c.or-x13.ensures b within) (next (c.xor-x14.ensures b within) (next (c.xor-x15.ensures b within) (
+    next (c.xor-x16.ensures b within) (next (c.xor-x17.ensures b within) (next (c.and_not-x18.ensures b within) (
+    next (c.xor-x19.ensures b within) (next (c.and_not-x20.ensures b within) (
+    next (c.and_not-x21.ensures b within) (next (c.and_not-x22.ensures b within) (
+    next (c.xor-x23.ensures b within) (next (c.and-x24.ensures b within) (next (c.xor-x25.ensures b within) (
+    next (c.and-x26.ensures b within) (next (c.xor-x27.ensures b within) (next (c.xor-x28.ensures b within) (
+    next (c.and_not-x29.ensures b within) (next (c.xor-x30.ensures b within) (next (c.or-x31.ensures b within) (
+    next (c.and_not-x32.ensures b within) (next (c.and-x33.ensures b within) (next (c.xor-x34.ensures b within) (
+    next (c.and_not-x35.ensures b within) (next (c.xor-x36.ensures b within) (next (c.and-x37.ensures b within) (
+    next (c.or-x38.ensures b within) (next (c.and_not-x39.ensures b within) (next (c.xor-x40.ensures b within) (
+    next (c.and_not-x41.ensures b within) (next (c.or-x42.ensures b within) (
+    next (c.and_not-x43.ensures b within) (next (c.xor-x44.ensures b within) (
+    next (c.and_not-x45.ensures b within) (next (c.xor-x46.ensures b within) (next (c.and-x47.ensures b within) (
+    next (c.xor-x48.ensures b within) (next (c.xor-x49.ensures b within) (next (c.xor-x50.ensures b within) (
+    next (c.xor-x51.ensures b within) (next (c.and_not-x52.ensures b within) (
+    next (c.and_not-x53.ensures b within) (next (c.xor-x54.ensures b within) (done)))))))))))))))))))))))))))))))))))))))))))))))))

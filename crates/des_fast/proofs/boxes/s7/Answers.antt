@@ -1,28 +1,44 @@
 -- The circuit of S7, and that it answers as the box.
-use Rattle.std.proofs.Common.{[], ◌∷◌, refl}
+use Rattle.std.proofs.Common.{[], ◌∷◌, map, refl}
 use Rattle.des.specs.Bits.{bits_of, number_of, select}
 use Rattle.des.specs.Tables.{s7}
 use Rattle.des.specs.CipherFunction.{box_entry}
-use Rattle.des_fast.proofs.Circuits.{complement, and, and_not, or, xor, Circuit, output_slices-replaces}
+use Rattle.des_fast.proofs.Circuits.{complement, and, and_not, or, xor, Circuit, next, done, made-entry}
 use Rattle.des_fast.proofs.boxes.s7.Goals as goal
 
 -- its gates, in the order of the code
 abbrev circuit : Circuit
 circuit = record {
   gates =
-      or 3 2 ∷ xor 7 5 ∷ xor 8 1 ∷ or 5 3 ∷ and 10 4 ∷ xor 9 11 ∷ xor 12 3 ∷ and 13 1 ∷ and 14 2 ∷ xor 6 15 ∷
-      or 14 2 ∷ and_not 17 5 ∷ and 18 4 ∷ xor 16 19 ∷ and 20 6 ∷ xor 12 21 ∷ xor 11 2 ∷ and_not 8 4 ∷ xor 23 24 ∷
-      complement 25 ∷ and_not 26 4 ∷ xor 13 27 ∷ and_not 28 1 ∷ xor 25 29 ∷ xor 25 9 ∷ xor 19 3 ∷ and 32 2 ∷
-      or 31 33 ∷ and 34 6 ∷ xor 30 35 ∷ and_not 8 20 ∷ xor 37 28 ∷ and_not 36 37 ∷ xor 39 25 ∷ and 40 6 ∷
-      xor 38 41 ∷ xor 36 26 ∷ xor 42 10 ∷ or 44 9 ∷ and_not 45 6 ∷ xor 43 46 ∷ and_not 47 3 ∷ xor 42 48 ∷
-      and 49 32 ∷ complement 50 ∷ and 51 6 ∷ xor 25 52 ∷ and_not 44 53 ∷ xor 54 47 ∷ or 52 33 ∷ and_not 56 4 ∷
-      xor 55 57 ∷ and 58 1 ∷ xor 53 59 ∷ [];
-  outputs = 60 ∷ 36 ∷ 49 ∷ 22 ∷ [];
+      complement 3 ∷ or 3 2 ∷ xor 8 5 ∷ xor 9 2 ∷ and_not 4 10 ∷ xor 9 1 ∷ or 10 3 ∷ and 13 4 ∷ xor 12 14 ∷
+      xor 15 10 ∷ xor 16 7 ∷ xor 11 17 ∷ and_not 18 1 ∷ and 9 4 ∷ xor 20 16 ∷ and_not 2 17 ∷ or 21 22 ∷ and 23 6 ∷
+      xor 19 24 ∷ and 22 1 ∷ xor 26 6 ∷ xor 11 27 ∷ and_not 9 28 ∷ and_not 6 29 ∷ and 25 30 ∷ xor 31 29 ∷
+      xor 18 32 ∷ xor 33 13 ∷ or 34 12 ∷ and_not 35 30 ∷ xor 36 25 ∷ and_not 7 37 ∷ xor 38 33 ∷ xor 21 12 ∷
+      xor 40 25 ∷ xor 21 9 ∷ xor 42 27 ∷ or 34 22 ∷ and 43 44 ∷ and_not 27 4 ∷ xor 45 46 ∷ xor 47 37 ∷ and 1 48 ∷
+      and 41 49 ∷ and_not 30 50 ∷ and 51 3 ∷ and 39 52 ∷ xor 53 49 ∷ xor 54 43 ∷ xor 51 15 ∷ [];
+  outputs = 55 ∷ 41 ∷ 39 ∷ 56 ∷ [];
 }
 
 pub returns : goal.returns
 unfolding bits_of number_of select box_entry
-returns c =
+returns g c b within =
     let a = c.args in
-    output_slices-replaces s7 circuit (a.x1 ∷ a.x2 ∷ a.x3 ∷ a.x4 ∷ a.x5 ∷ a.x6 ∷ []) refl refl refl
-    (c.fits-x1, (c.fits-x2, (c.fits-x3, (c.fits-x4, (c.fits-x5, (c.fits-x6, tt))))))
+    made-entry s7 circuit (map (g.S.Slice.bit b) (a.x1 ∷ a.x2 ∷ a.x3 ∷ a.x4 ∷ a.x5 ∷ a.x6 ∷ [])) _ refl refl refl (
+    next (c.not-x7.ensures b within) (next (c.or-x8.ensures b within) (next (c.xor-x9.ensures b within) (
+    next (c.xor-x10.ensures b within) (next (c.and_not-x11.ensures b within) (next (c.xor-x12.ensures b within) (
+    next (c.or-x13.ensures b within) (next (c.and-x14.ensures b within) (next (c.xor-x15.ensures b within) (
+    next (c.xor-x16.ensures b within) (next (c.xor-x17.ensures b within) (next (c.xor-x18.ensures b within) (
+    next (c.and_not-x19.ensures b within) (next (c.and-x20.ensures b within) (next (c.xor-x21.ensures b within) (
+    next (c.and_not-x22.ensures b within) (next (c.or-x23.ensures b within) (next (c.and-x24.ensures b within) (
+    next (c.xor-x25.ensures b within) (next (c.and-x26.ensures b within) (next (c.xor-x27.ensures b within) (
+    next (c.xor-x28.ensures b within) (next (c.and_not-x29.ensures b within) (
+    next (c.and_not-x30.ensures b within) (next (c.and-x31.ensures b within) (next (c.xor-x32.ensures b within) (
+    next (c.xor-x33.ensures b within) (next (c.xor-x34.ensures b within) (next (c.or-x35.ensures b within) (
+    next (c.and_not-x36.ensures b within) (next (c.xor-x37.ensures b within) (
+    next (c.and_not-x38.ensures b within) (next (c.xor-x39.ensures b within) (next (c.xor-x40.ensures b within) (
+    next (c.xor-x41.ensures b within) (next (c.xor-x42.ensures b within) (next (c.xor-x43.ensures b within) (
+    next (c.or-x44.ensures b within) (next (c.and-x45.ensures b within) (next (c.and_not-x46.ensures b within) (
+    next (c.xor-x47.ensures b within) (next (c.xor-x48.ensures b within) (next (c.and-x49.ensures b within) (
+    next (c.and-x50.ensures b within) (next (c.and_not-x51.ensures b within) (next (c.and-x52.ensures b within) (
+    next (c.and-x53.ensures b within) (next (c.xor-x54.ensures b within) (next (c.xor-x55.ensures b within) (
+    next (c.xor-x56.ensures b within) (done)))))))))))))))))))))))))))))))))))))))))))))))))))

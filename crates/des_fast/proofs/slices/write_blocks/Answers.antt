@@ -1,5 +1,11 @@
+use Rattle.std.proofs.Common.{arith}
 use Rattle.des_fast.proofs.BlockRows.{AreBlocksOf-rows}
 use Rattle.des_fast.proofs.slices.write_blocks.Goals as goal
 
 pub returns : goal.returns
-returns c = AreBlocksOf-rows c.args.slices.now c.transpose.result _ c.transpose.ensures c.write_rows.ensures
+returns g c = record {
+  written =
+      AreBlocksOf-rows g.S.Slice.BATCH g.S.Slice.bit c.args.slices.now c.transpose.result _ g.met.S.Slice.whole_words (omega arith)
+      c.transpose.ensures c.write_rows.ensures.written;
+  count = c.write_rows.ensures.count;
+}

@@ -1,4 +1,3 @@
-use Rattle.std.proofs.Common.{ℕ, List}
 use Rattle.des.specs.Enciphering.{Enciphers}
 use Rattle.des.proofs.Graphs.{IsGraphOf-encryption, IsGraphOf-decryption}
 use Rattle.des.proofs.RelatedLists.{IsTheOneList-agreeing, IsTheOneList-agreeing_turned}

@@ -1,39 +1,39 @@
--- A round xors in the entries of the eight boxes one after another, where P puts their bits.
-use Rattle.std.proofs.Common.{List, [], ◌∷◌, Bool, refl, ◌∙◌, arith}
+-- A round xors the entries of the eight boxes one after another, where P puts their bits.
+use Rattle.std.proofs.Common.{List, [], ◌∷◌, Bool, map, refl, ◌∙◌, arith}
 use Rattle.std.proofs.lemmas.List.{length-map}
 use Rattle.des.specs.Bits.{select, xor_bits}
 use Rattle.des.specs.Tables.{s1, s2, s3, s4, s5, s6, s7, s8, expansion}
 use Rattle.des.specs.CipherFunction.{cipher_function}
-use Rattle.des_fast.specs.Slices.{bit_of_block, column}
-use Rattle.des_fast.proofs.CipherFunctionByGroups.{xor_entries-substitute, column-step}
+use Rattle.des_fast.proofs.CipherFunctionByGroups.{xor_entries-substitute}
+use Rattle.des_fast.proofs.RoundSteps.{bits-step}
 use Rattle.des_fast.proofs.slices.rounds.round.Goals as goal
 
 pub returns : goal.returns
 unfolding cipher_function
-returns c b within =
-    let mixed : List Bool = xor_bits (select expansion (column b c.args.right.now)) (column b c.args.round_key.now) in
+returns g c b within =
+    let mixed : List Bool = xor_bits (select expansion (map (g.S.Slice.bit b) c.args.right.now)) (map (g.S.Slice.bit b) c.args.round_key.now) in
     let left_1 =
-    column-step b 0 s1 (8 ∷ 16 ∷ 22 ∷ 30 ∷ []) c.args.left.now c.xor_at.new.half c.group.result c.s1.result _ mixed
+    bits-step (g.S.Slice.bit b) 0 s1 (8 ∷ 16 ∷ 22 ∷ 30 ∷ []) c.args.left.now c.xor_at.new.half c.group.result c.s1.result _ mixed _ _ _ _ _ _
     refl (omega arith) (c.group.ensures b within) (c.s1.ensures b within) (c.xor_at.ensures b within) in
     let left_2 =
-    column-step b 1 s2 (12 ∷ 27 ∷ 1 ∷ 17 ∷ []) c.xor_at.new.half c.xor_at-2.new.half c.group-2.result c.s2.result _ mixed
+    bits-step (g.S.Slice.bit b) 1 s2 (12 ∷ 27 ∷ 1 ∷ 17 ∷ []) c.xor_at.new.half c.xor_at-2.new.half c.group-2.result c.s2.result _ mixed _ _ _ _ _ _
     left_1 (omega arith) (c.group-2.ensures b within) (c.s2.ensures b within) (c.xor_at-2.ensures b within) in
     let left_3 =
-    column-step b 2 s3 (23 ∷ 15 ∷ 29 ∷ 5 ∷ []) c.xor_at-2.new.half c.xor_at-3.new.half c.group-3.result c.s3.result _ mixed
+    bits-step (g.S.Slice.bit b) 2 s3 (23 ∷ 15 ∷ 29 ∷ 5 ∷ []) c.xor_at-2.new.half c.xor_at-3.new.half c.group-3.result c.s3.result _ mixed _ _ _ _ _ _
     left_2 (omega arith) (c.group-3.ensures b within) (c.s3.ensures b within) (c.xor_at-3.ensures b within) in
     let left_4 =
-    column-step b 3 s4 (25 ∷ 19 ∷ 9 ∷ 0 ∷ []) c.xor_at-3.new.half c.xor_at-4.new.half c.group-4.result c.s4.result _ mixed
+    bits-step (g.S.Slice.bit b) 3 s4 (25 ∷ 19 ∷ 9 ∷ 0 ∷ []) c.xor_at-3.new.half c.xor_at-4.new.half c.group-4.result c.s4.result _ mixed _ _ _ _ _ _
     left_3 (omega arith) (c.group-4.ensures b within) (c.s4.ensures b within) (c.xor_at-4.ensures b within) in
     let left_5 =
-    column-step b 4 s5 (7 ∷ 13 ∷ 24 ∷ 2 ∷ []) c.xor_at-4.new.half c.xor_at-5.new.half c.group-5.result c.s5.result _ mixed
+    bits-step (g.S.Slice.bit b) 4 s5 (7 ∷ 13 ∷ 24 ∷ 2 ∷ []) c.xor_at-4.new.half c.xor_at-5.new.half c.group-5.result c.s5.result _ mixed _ _ _ _ _ _
     left_4 (omega arith) (c.group-5.ensures b within) (c.s5.ensures b within) (c.xor_at-5.ensures b within) in
     let left_6 =
-    column-step b 5 s6 (3 ∷ 28 ∷ 10 ∷ 18 ∷ []) c.xor_at-5.new.half c.xor_at-6.new.half c.group-6.result c.s6.result _ mixed
+    bits-step (g.S.Slice.bit b) 5 s6 (3 ∷ 28 ∷ 10 ∷ 18 ∷ []) c.xor_at-5.new.half c.xor_at-6.new.half c.group-6.result c.s6.result _ mixed _ _ _ _ _ _
     left_5 (omega arith) (c.group-6.ensures b within) (c.s6.ensures b within) (c.xor_at-6.ensures b within) in
     let left_7 =
-    column-step b 6 s7 (31 ∷ 11 ∷ 21 ∷ 6 ∷ []) c.xor_at-6.new.half c.xor_at-7.new.half c.group-7.result c.s7.result _ mixed
+    bits-step (g.S.Slice.bit b) 6 s7 (31 ∷ 11 ∷ 21 ∷ 6 ∷ []) c.xor_at-6.new.half c.xor_at-7.new.half c.group-7.result c.s7.result _ mixed _ _ _ _ _ _
     left_6 (omega arith) (c.group-7.ensures b within) (c.s7.ensures b within) (c.xor_at-7.ensures b within) in
     let left_8 =
-    column-step b 7 s8 (4 ∷ 26 ∷ 14 ∷ 20 ∷ []) c.xor_at-7.new.half c.xor_at-8.new.half c.group-8.result c.s8.result _ mixed
+    bits-step (g.S.Slice.bit b) 7 s8 (4 ∷ 26 ∷ 14 ∷ 20 ∷ []) c.xor_at-7.new.half c.xor_at-8.new.half c.group-8.result c.s8.result _ mixed _ _ _ _ _ _
     left_7 (omega arith) (c.group-8.ensures b within) (c.s8.ensures b within) (c.xor_at-8.ensures b within) in
-    left_8 ∙ xor_entries-substitute (column b c.args.left.now) mixed (length-map c.args.left.now (bit_of_block b) ∙ c.told-left)
+    left_8 ∙ xor_entries-substitute (map (g.S.Slice.bit b) c.args.left.now) mixed (length-map c.args.left.now (g.S.Slice.bit b) ∙ c.told-left)

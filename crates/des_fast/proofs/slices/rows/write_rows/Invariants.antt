@@ -1,12 +1,10 @@
--- The blocks of the rows below n are written.
-use Rattle.std.proofs.Common.{◌≡◌, ℕ, ◌*◌, ◌<◌, length}
-use Rattle.des.specs.Bits.{bits_of_word}
+-- The blocks below k are written.
+use Rattle.std.proofs.Common.{◌≡◌, ℕ, ◌<◌, [], get_or, length}
 use Rattle.des.specs.Blocks.{block_of_bits}
-use Rattle.des_fast.specs.Slices.{batch}
-use Rattle.des_fast.specs.Transposition.{row, in_order, word_at}
+use Rattle.des_fast.specs.Transposition.{bits_of_row}
 use Rattle.des_fast.proofs.slices.rows.write_rows.Given as goal
 
-abbrev pub invariant-rows : goal.invariant-rows
-invariant-rows l =
-    (length l.blocks ≡ batch)
-    × ((k : ℕ) → k < 2 * l.n → row l.blocks k ≡ block_of_bits (bits_of_word (word_at (in_order l.rows) k)))
+abbrev pub invariant-each : goal.invariant-each
+invariant-each g l =
+    (length l.blocks ≡ g.S.Slice.BATCH)
+    × ((j : ℕ) → j < l.k → get_or l.blocks j [] ≡ block_of_bits (bits_of_row g.S.Slice.bit l.rows j))

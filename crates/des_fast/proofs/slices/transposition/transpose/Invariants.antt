@@ -1,12 +1,10 @@
--- The groups below i are made.
-use Rattle.std.proofs.Common.{◌≡◌, ℕ, ◌<◌, [], length, slice_index_or}
-use Rattle.des_fast.specs.Transposition.{across, AreBytesExchanged, AreBitsExchanged}
+-- Eight rows more with each i.
+use Rattle.std.proofs.Common.{◌*◌}
+use Rattle.des_fast.proofs.Stages.{AreFrom, from_bytes, from_bits}
 use Rattle.des_fast.proofs.slices.transposition.transpose.Given as goal
 
 abbrev pub invariant-bytes : goal.invariant-bytes
-invariant-bytes l =
-    (length l.halfway ≡ 8) × ((g : ℕ) → g < l.i → AreBytesExchanged (across l.rows g) (slice_index_or l.halfway g []))
+invariant-bytes g l = AreFrom g.S.Slice.BATCH g.S.Slice.bit from_bytes l.rows l.halfway (8 * l.i)
 
 abbrev pub invariant-bits : goal.invariant-bits
-invariant-bits l =
-    (length l.transposed ≡ 8) × ((g : ℕ) → g < l.i → AreBitsExchanged (across l.halfway g) (slice_index_or l.transposed g []))
+invariant-bits g l = AreFrom g.S.Slice.BATCH g.S.Slice.bit from_bits l.halfway l.transposed (8 * l.i)

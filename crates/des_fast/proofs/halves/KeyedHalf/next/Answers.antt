@@ -1,0 +1,32 @@
+use Rattle.std.proofs.Common.{ℕ, bit_xor, ap, ◌∙◌}
+use Rattle.des.specs.Bits.{select, xor_bits}
+use Rattle.des.specs.Tables.{permutation}
+use Rattle.des.specs.CipherFunction.{cipher_function, substitute}
+use Rattle.des_fast.specs.Groups.{half_of}
+use Rattle.des_fast.proofs.GroupWords.{IsExpansion-xor, half_of-xor}
+use Rattle.des_fast.proofs.KeyedHalves.{xor-beside_key, IsOfGroups-keyed, bits_of_groups-keyed}
+use Rattle.des_fast.proofs.halves.KeyedHalf.next.Goals as goal
+
+pub substitute-requires : goal.substitute-requires
+substitute-requires c =
+    IsOfGroups-keyed c.args.right.groups c.args.right.round_key.groups c.args.right.expansion c.args.right.round_key.of_groups
+
+pub invariant_of-result : goal.invariant_of-result
+invariant_of-result c =
+    let left = c.args.self in
+    record {
+      expansion = rw (xor-beside_key left.groups c.substitute.result left.round_key.groups)
+          (IsExpansion-xor (bit_xor left.groups left.round_key.groups) c.substitute.result left.expansion c.substitute.ensures.expansion);
+    }
+
+pub returns-clause-half : goal.returns-clause-half
+unfolding cipher_function
+returns-clause-half c =
+    let left = c.args.self in
+    let half : ℕ = bit_xor left.groups left.round_key.groups in
+    ap half_of (xor-beside_key left.groups c.substitute.result left.round_key.groups)
+    ∙ half_of-xor half c.substitute.result
+    ∙ ap (xor_bits (half_of half))
+    (c.substitute.ensures.substituted
+    ∙ ap (λ bits. select permutation (substitute bits))
+    (bits_of_groups-keyed c.args.right.groups c.args.right.round_key.groups c.args.right.expansion))

@@ -1,0 +1,15 @@
+use Rattle.std.proofs.Common.{[], ◌∷◌, reverse, ap, ◌∙◌, arith}
+use Rattle.des_fast.specs.HalfBlocks.{round_keys_of}
+use Rattle.des_fast.proofs.many.ciphers.DesManyBlocks.decrypt_cbc_by.Goals as goal
+
+pub returns-clause-unchained : goal.returns-clause-unchained
+returns-clause-unchained g c = c.unchain.ensures (reverse (round_keys_of c.args.self.now.round_keys) ∷ []) (λ b within. c.spread_one.ensures b within ∙ ap (λ keys. keys ∷ []) c.reversed.ensures)
+
+pub spread_one-requires : goal.spread_one-requires
+spread_one-requires g c = (omega (arith, g.met.S.Slice.few_bytes), (omega (arith, g.met.S.Slice.few_bytes), omega (arith, g.met.S.Slice.few_bytes)))
+
+pub shared_whole_as_slice-unchain : goal.shared_whole_as_slice-unchain
+shared_whole_as_slice-unchain g c = omega (arith, g.met.S.Slice.few_bytes)
+
+pub unchain-requires : goal.unchain-requires
+unchain-requires g c = (omega (arith, g.met.S.Slice.few_bytes), omega (arith, g.met.S.Slice.few_bytes))

@@ -1,0 +1,7 @@
+use Rattle.std.proofs.Common.{bit_or, ◌||◌, refl}
+use Rattle.des_fast.proofs.SliceBits.{IsBitwise-or, HasBit-bitwise}
+use Rattle.des_fast.proofs.slices.vectors.U64x2Slice.or.Goals as goal
+
+pub returns : goal.returns
+returns c b within =
+    (HasBit-bitwise bit_or ◌||◌ IsBitwise-or 2 b c.args.self c.args.other _ _ within (c.fits-self, refl) (c.fits-other, refl)).1
