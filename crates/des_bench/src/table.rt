@@ -53,9 +53,9 @@ pub fn write_table<R: AllocGlobal + Clock + CpuClock, W: Write>(
     joined ^= write_lists::<des_fast::TdesEee3>(rt, &keys, out)?;
     joined ^= write_lists::<des_fast::TdesEde2>(rt, &keys, out)?;
     joined ^= write_lists::<des_fast::TdesEee2>(rt, &keys, out)?;
-    write_head(out, "Des, blocks", &["two words", "four words", "cbc"])?;
+    write_head(out, "Des, blocks", &["2 words", "4 words", "cbc"])?;
     joined ^= write_lengths::<des_fast::Des>(rt, &keys, out)?;
-    write_head(out, "TdesEde3, blocks", &["two words", "four words", "cbc"])?;
+    write_head(out, "TdesEde3, blocks", &["2 words", "4 words", "cbc"])?;
     joined ^= write_lengths::<des_fast::TdesEde3>(rt, &keys, out)?;
     write_head(out, "des", &["8 bytes", "16 bytes", "24 bytes"])?;
     joined ^= write_weak_key_test(rt, &keys, out)?;

@@ -138,7 +138,8 @@ impl<D: SingleDes> Complementing for Ede2<D> {
         (Complements-ede_back 16 1 2 1 refl key is_key).at block is_block };
 }
 
-/// Writes the type's name, and no part of the key, whatever options are set.
+/// Writes the type's name, and no part of the key, whatever options are set. What a writer that
+/// refuses a write has got by then is tested to be a front of that text, and not proved.
 impl<D: SingleDes> fmt::Debug for Ede2<D> {
     ghost debug_output = { λ _. Some (codes "TdesEde2 { ... }") };
 

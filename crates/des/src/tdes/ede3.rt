@@ -140,7 +140,8 @@ impl<D: SingleDes> Complementing for Ede3<D> {
         (Complements-ede_back 24 1 2 3 refl key is_key).at block is_block };
 }
 
-/// Writes the type's name, and no part of the key, whatever options are set.
+/// Writes the type's name, and no part of the key, whatever options are set. What a writer that
+/// refuses a write has got by then is tested to be a front of that text, and not proved.
 impl<D: SingleDes> fmt::Debug for Ede3<D> {
     ghost debug_output = { λ _. Some (codes "TdesEde3 { ... }") };
 
