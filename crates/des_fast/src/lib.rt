@@ -5,8 +5,8 @@
 //!
 //! DES is broken: its key of 56 bits can be searched. It is here for data and protocols that still
 //! use it. A block cipher hides nothing about repeated blocks and does not authenticate, and no
-//! claim is made on the time that a call takes: `new` reads tables at indexes that depend on the
-//! key, and the calls for one block at indexes that depend on the key and the block.
+//! claim is made on the time that a call takes: the calls for one block read tables at indexes that
+//! depend on the key and the block.
 #![tactic(auto)]
 
 mod boxes;
