@@ -1,2 +1,1 @@
 pub mod BlockLists
-pub mod KnownAnswers

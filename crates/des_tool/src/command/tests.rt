@@ -6,6 +6,7 @@ use std::env::Env;
 use std::io;
 use std::io::{ErrorKind, Write};
 use std::process::ExitCode;
+use std::test::Fail;
 
 mod answers;
 mod faults;
@@ -20,6 +21,17 @@ const KEY: &str = "133457799BBCDFF1";
 const BLOCK: &str = "0123456789ABCDEF";
 
 const ANSWER: &str = "85e813540f0ab405\n";
+
+// Whether the words are answered with these digits and a newline.
+fn is_answered(alloc: Global, words: &[&str], digits: &str) -> Result<bool, Fail> {
+    let text = answer(alloc, words)?;
+    Ok(text.as_slice().split_last() == Some((&b'\n', digits.as_bytes())))
+}
+
+// Whether they are answered with this fault.
+fn is_at_fault(alloc: Global, words: &[&str], fault: Fault) -> bool {
+    answer(alloc, words).err() == Some(fault)
+}
 
 // More writes than a test asks for, so that none is refused.
 const ENOUGH: usize = 1000;

@@ -1,7 +1,6 @@
 //! The faults that `answer` finds, and the first where there are several.
 
 use super::*;
-use std::test::Fail;
 
 // Fourteen digits and a letter of two bytes: as long as a key, and not one.
 const NOT_DIGITS: &str = "11111111111111é";
@@ -56,8 +55,7 @@ const FAULTS: [(&[&str], Fault); 42] = [
 #[test]
 fn the_first_fault_is_answered(rt: HostRuntime) {
     for (words, fault) in FAULTS {
-        let answer = answer(rt.alloc(), words);
-        assert_eq!(rt; answer.err(), Some(fault), "{words:?}");
+        assert!(rt; is_at_fault(rt.alloc(), words, fault));
     }
 }
 
@@ -79,9 +77,19 @@ const SPACES_AND_OPTIONS: [(&[&str], Fault); 10] = [
 #[test]
 fn spaces_and_options_are_no_part_of_a_shape(rt: HostRuntime) {
     for (words, fault) in SPACES_AND_OPTIONS {
-        let answer = answer(rt.alloc(), words);
-        assert_eq!(rt; answer.err(), Some(fault), "{words:?}");
+        assert!(rt; is_at_fault(rt.alloc(), words, fault));
     }
+}
+
+// Whether the program tells `Usage` of these words with so many more after them.
+fn is_told_of_more(alloc: Global, shape: &[&str], more: usize) -> Result<bool, Fail> {
+    let mut words = Vec::from_slice(alloc, shape)?;
+    for _ in 0..more {
+        words.push(BLOCK)?;
+    }
+    let (mut out, mut err) = (Page::new(ENOUGH, true), Page::new(ENOUGH, true));
+    let code = run_on(alloc, words.as_slice(), &mut out, &mut err);
+    Ok(code == ExitCode::from(2) && err.text() == b"Usage\n".as_slice() && out.text().is_empty())
 }
 
 // The words of each shape, with more of them after it than any shape has.
@@ -94,15 +102,7 @@ fn more_words_than_any_shape_has_are_at_fault(rt: HostRuntime) -> Result<(), Fai
     ];
     for shape in shapes {
         for more in [4usize, 5, 1000] {
-            let mut words = Vec::from_slice(rt.alloc(), shape)?;
-            for _ in 0..more {
-                words.push(BLOCK)?;
-            }
-            let (mut out, mut err) = (Page::new(ENOUGH, true), Page::new(ENOUGH, true));
-            let code = run_on(rt.alloc(), words.as_slice(), &mut out, &mut err);
-            assert_eq!(rt; code, ExitCode::from(2));
-            assert_eq!(rt; err.text(), b"Usage\n".as_slice());
-            assert!(rt; out.text().is_empty());
+            assert!(rt; is_told_of_more(rt.alloc(), shape, more)?);
         }
     }
     Ok(())

@@ -2,7 +2,6 @@
 
 use super::*;
 use std::env::FillError;
-use std::process::Abort;
 
 // A process whose arguments, the program's own name first, stand on a line with a space between
 // two.
@@ -74,36 +73,35 @@ pub(super) const WEAK_LINES: [(&str, &str, &str, u8); 10] = [
     ("des_tool weak gggggggggggggggggggggggggggggggggggggggggggggggg", "", "KeyText\n", 2),
 ];
 
-// Asserts what the program writes on a line, and how it ends.
-fn runs_as(rt: &impl Abort, alloc: Global, line: &str, written: &str, reported: &str, status: u8) {
+// Whether the program writes so on a line, and ends with this status.
+fn runs_as(alloc: Global, line: &str, written: &str, reported: &str, status: u8) -> bool {
     let process = Process {
         line: line.as_bytes(),
     };
     let (mut out, mut err) = (Page::new(ENOUGH, true), Page::new(ENOUGH, true));
-    let code = run(&(process, alloc), &mut out, &mut err);
-    assert_eq!(rt; code, ExitCode::from(status), "{line}");
-    assert_eq!(rt; out.text(), written.as_bytes(), "{line}");
-    assert_eq!(rt; err.text(), reported.as_bytes(), "{line}");
+    run(&(process, alloc), &mut out, &mut err) == ExitCode::from(status)
+        && out.text() == written.as_bytes()
+        && err.text() == reported.as_bytes()
 }
 
 #[test]
 fn runs_lines(rt: HostRuntime) {
     for (line, written, reported, status) in LINES {
-        runs_as(&rt, rt.alloc(), line, written, reported, status);
+        assert!(rt; runs_as(rt.alloc(), line, written, reported, status));
     }
 }
 
 #[test]
 fn runs_chained_lines(rt: HostRuntime) {
     for (line, written, reported, status) in CHAINED_LINES {
-        runs_as(&rt, rt.alloc(), line, written, reported, status);
+        assert!(rt; runs_as(rt.alloc(), line, written, reported, status));
     }
 }
 
 #[test]
 fn runs_weak_lines(rt: HostRuntime) {
     for (line, written, reported, status) in WEAK_LINES {
-        runs_as(&rt, rt.alloc(), line, written, reported, status);
+        assert!(rt; runs_as(rt.alloc(), line, written, reported, status));
     }
 }
 

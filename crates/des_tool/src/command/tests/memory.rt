@@ -4,20 +4,13 @@
 
 use super::lines::{CHAINED_LINES, LINES, Process, WEAK_LINES};
 use super::*;
-use std::process::Abort;
-use std::test::Fail;
-
-// Asserts that the words are answered with the text, or ends with the fault.
-fn is_answered(rt: &impl Abort, alloc: Global, words: &[&str], text: &str) -> Result<(), Fail> {
-    let answer = answer(alloc, words)?;
-    assert_eq!(rt; answer.as_slice(), text.as_bytes());
-    Ok(())
-}
 
 // The worked example of J. Orlin Grabbe, "The DES Algorithm Illustrated".
 #[test]
 fn answers_des(rt: HostRuntime) -> Result<(), Fail> {
-    is_answered(&rt, rt.alloc(), &["des", "encrypt", KEY, BLOCK], ANSWER)
+    let words = ["des", "encrypt", KEY, BLOCK];
+    assert!(rt; is_answered(rt.alloc(), &words, "85e813540f0ab405")?);
+    Ok(())
 }
 
 // NIST Special Publication 800-67, appendix B, and OpenSSL's answers by the other triple ciphers.
@@ -30,42 +23,30 @@ const TEXT: &str = "5468652071756663";
 
 #[test]
 fn answers_ede3(rt: HostRuntime) -> Result<(), Fail> {
-    is_answered(
-        &rt,
-        rt.alloc(),
-        &["ede3", "encrypt", KEYS[0], TEXT],
-        "a826fd8ce53b855f\n",
-    )
+    let words = ["ede3", "encrypt", KEYS[0], TEXT];
+    assert!(rt; is_answered(rt.alloc(), &words, "a826fd8ce53b855f")?);
+    Ok(())
 }
 
 #[test]
 fn answers_eee3(rt: HostRuntime) -> Result<(), Fail> {
-    is_answered(
-        &rt,
-        rt.alloc(),
-        &["eee3", "encrypt", KEYS[0], TEXT],
-        "ce2719ff408a7afa\n",
-    )
+    let words = ["eee3", "encrypt", KEYS[0], TEXT];
+    assert!(rt; is_answered(rt.alloc(), &words, "ce2719ff408a7afa")?);
+    Ok(())
 }
 
 #[test]
 fn answers_ede2(rt: HostRuntime) -> Result<(), Fail> {
-    is_answered(
-        &rt,
-        rt.alloc(),
-        &["ede2", "decrypt", KEYS[1], "c44862f70cf2fbdc"],
-        "5468652071756663\n",
-    )
+    let words = ["ede2", "decrypt", KEYS[1], "c44862f70cf2fbdc"];
+    assert!(rt; is_answered(rt.alloc(), &words, TEXT)?);
+    Ok(())
 }
 
 #[test]
 fn answers_eee2(rt: HostRuntime) -> Result<(), Fail> {
-    is_answered(
-        &rt,
-        rt.alloc(),
-        &["eee2", "decrypt", KEYS[1], "500013533151e90c"],
-        "5468652071756663\n",
-    )
+    let words = ["eee2", "decrypt", KEYS[1], "500013533151e90c"];
+    assert!(rt; is_answered(rt.alloc(), &words, TEXT)?);
+    Ok(())
 }
 
 // FIPS 81, appendix C, and OpenSSL's answer by `des-ede3-cbc`.
@@ -73,39 +54,24 @@ const VECTOR: &str = "1234567890abcdef";
 
 #[test]
 fn answers_des_cbc(rt: HostRuntime) -> Result<(), Fail> {
-    is_answered(
-        &rt,
-        rt.alloc(),
-        &[
-            "des-cbc",
-            "encrypt",
-            "0123456789abcdef",
-            VECTOR,
-            "4e6f77206973207468652074696d6520",
-        ],
-        "e5c7cdde872bf27c43e934008c389c0f\n",
-    )
+    let text = "4e6f77206973207468652074696d6520";
+    let words = ["des-cbc", "encrypt", "0123456789abcdef", VECTOR, text];
+    assert!(rt; is_answered(rt.alloc(), &words, "e5c7cdde872bf27c43e934008c389c0f")?);
+    Ok(())
 }
 
 #[test]
 fn answers_ede3_cbc(rt: HostRuntime) -> Result<(), Fail> {
-    is_answered(
-        &rt,
-        rt.alloc(),
-        &[
-            "ede3-cbc",
-            "decrypt",
-            KEYS[0],
-            VECTOR,
-            "38413d4ba2325cf1141f707471ac2ced",
-        ],
-        "54686520717566636b2062726f776e20\n",
-    )
+    let text = "38413d4ba2325cf1141f707471ac2ced";
+    let words = ["ede3-cbc", "decrypt", KEYS[0], VECTOR, text];
+    assert!(rt; is_answered(rt.alloc(), &words, "54686520717566636b2062726f776e20")?);
+    Ok(())
 }
 
 #[test]
 fn answers_weak(rt: HostRuntime) -> Result<(), Fail> {
-    is_answered(&rt, rt.alloc(), &["weak", "0101010101010101"], "WeakKey\n")
+    assert!(rt; is_answered(rt.alloc(), &["weak", "0101010101010101"], "WeakKey")?);
+    Ok(())
 }
 
 // Words with a fault, and the fault: it is found before any memory is asked for.
@@ -130,7 +96,21 @@ const FAULTS: [(&[&str], Fault); 9] = [
 #[test]
 fn faults_are_told_without_memory(rt: HostRuntime) {
     for (words, fault) in FAULTS {
-        assert_eq!(rt; answer(rt.alloc(), words).err(), Some(fault));
+        assert!(rt; is_at_fault(rt.alloc(), words, fault));
+    }
+}
+
+// Whether a line is answered so, or ends with `Memory` and no answer.
+fn is_answered_or_refused(alloc: Global, line: &str, answer: &str) -> bool {
+    let process = Process {
+        line: line.as_bytes(),
+    };
+    let (mut out, mut err) = (Page::new(ENOUGH, true), Page::new(ENOUGH, true));
+    let code = run(&(process, alloc), &mut out, &mut err);
+    if code == ExitCode::SUCCESS {
+        out.text() == answer.as_bytes() && err.text().is_empty()
+    } else {
+        code == ExitCode::from(3) && out.text().is_empty() && err.text() == b"Memory\n".as_slice()
     }
 }
 
@@ -138,19 +118,6 @@ fn faults_are_told_without_memory(rt: HostRuntime) {
 #[test]
 fn reports_a_refused_request_for_memory(rt: HostRuntime) {
     for (line, answer, _, _) in [LINES[0], WEAK_LINES[1], CHAINED_LINES[0]] {
-        let process = Process {
-            line: line.as_bytes(),
-        };
-        let (mut out, mut err) = (Page::new(ENOUGH, true), Page::new(ENOUGH, true));
-        let code = run(&(process, rt.alloc()), &mut out, &mut err);
-        let is_refused = code != ExitCode::SUCCESS;
-        let (written, reported, status) = if is_refused {
-            ("", "Memory\n", 3)
-        } else {
-            (answer, "", 0)
-        };
-        assert_eq!(rt; code, ExitCode::from(status));
-        assert_eq!(rt; out.text(), written.as_bytes());
-        assert_eq!(rt; err.text(), reported.as_bytes());
+        assert!(rt; is_answered_or_refused(rt.alloc(), line, answer));
     }
 }

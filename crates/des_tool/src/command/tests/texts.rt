@@ -1,7 +1,6 @@
 //! The names that faults are written as.
 
 use super::*;
-use std::test::Fail;
 
 const NAMES: [(Fault, &str); 6] = [
     (Fault::Usage, "Usage"),
@@ -12,17 +11,23 @@ const NAMES: [(Fault, &str); 6] = [
     (Fault::Memory, "Memory"),
 ];
 
+// Whether the fault is written as this name, whatever options are set.
+fn is_displayed_as(alloc: Global, fault: Fault, name: &str) -> Result<bool, Fail> {
+    Ok(
+        format!(in alloc; "{fault}")?.as_str() == name
+            && format!(in alloc; "{fault:#}")?.as_str() == name
+            && format!(in alloc; "{fault:20}")?.as_str() == name
+            && format!(in alloc; "{fault:>20}")?.as_str() == name
+            && format!(in alloc; "{fault:*^30}")?.as_str() == name
+            && format!(in alloc; "{fault:.2}")?.as_str() == name
+            && format!(in alloc; "{fault:#>+020.3}")?.as_str() == name,
+    )
+}
+
 #[test]
 fn names_are_plain_whatever_options_are_set(rt: HostRuntime) -> Result<(), Fail> {
-    let alloc = rt.alloc();
     for (fault, name) in NAMES {
-        assert_eq!(rt; format!(in alloc; "{fault}")?.as_str(), name);
-        assert_eq!(rt; format!(in alloc; "{fault:#}")?.as_str(), name);
-        assert_eq!(rt; format!(in alloc; "{fault:20}")?.as_str(), name);
-        assert_eq!(rt; format!(in alloc; "{fault:>20}")?.as_str(), name);
-        assert_eq!(rt; format!(in alloc; "{fault:*^30}")?.as_str(), name);
-        assert_eq!(rt; format!(in alloc; "{fault:.2}")?.as_str(), name);
-        assert_eq!(rt; format!(in alloc; "{fault:#>+020.3}")?.as_str(), name);
+        assert!(rt; is_displayed_as(rt.alloc(), fault, name)?);
     }
     Ok(())
 }

@@ -1,40 +1,50 @@
 //! What `show` and `finish` do where a writer takes one byte at a time, or fails.
 
+ghost use Rattle.std.specs.Prelude.{◌≤◌, length};
+
 use super::super::status::report;
 use super::*;
-use std::test::Fail;
 
 // An answer of eight blocks, so long that it takes many writes.
 const LONG_ANSWER: &str = "3fa40e8a984d48156a271787ab8883f9893d51ec4b563b533fa40e8a984d4815\
 6a271787ab8883f9893d51ec4b563b533fa40e8a984d48156a271787ab8883f9\n";
+
+// Whether `show` stops after so many bytes of the answer.
+fn stops_after(answer: &Result<Vec<u8>, Fault>, text: &str, takes: usize) -> bool
+    requires { takes ≤ length text.now }
+{
+    let (mut out, mut err) = (Page::new(takes, true), Page::new(ENOUGH, true));
+    show(answer, &mut out, &mut err) == 4
+        && out.text() == &text.as_bytes()[..takes]
+        && err.text().is_empty()
+}
 
 #[test]
 fn stops_at_a_refused_write(rt: HostRuntime) -> Result<(), Fail> {
     for text in [ANSWER, LONG_ANSWER] {
         let answer = Ok(Vec::from_slice(rt.alloc(), text.as_bytes())?);
         for takes in 0..text.len() {
-            let (mut out, mut err) = (Page::new(takes, true), Page::new(ENOUGH, true));
-            let status = show(&answer, &mut out, &mut err);
-            assert_eq!(rt; status, 4, "after {takes} writes");
-            assert_eq!(rt; out.text(), &text.as_bytes()[..takes]);
-            assert!(rt; err.text().is_empty());
+            assert!(rt; stops_after(&answer, text, takes));
         }
     }
     Ok(())
+}
+
+// Whether `finish` writes all of the answer, and ends with this status where `out` is flushed or not.
+fn finishes(answer: &Result<Vec<u8>, Fault>, text: &str, flushes: bool, status: u8) -> bool {
+    let (mut out, mut err) = (Page::new(ENOUGH, flushes), Page::new(ENOUGH, true));
+    finish(answer, &mut out, &mut err) == ExitCode::from(status)
+        && out.text() == text.as_bytes()
+        && out.flushed == (if flushes { text.len() } else { 0 })
+        && err.text().is_empty()
 }
 
 #[test]
 fn finishes_answers(rt: HostRuntime) -> Result<(), Fail> {
     for text in ["\n", ANSWER, LONG_ANSWER] {
         let answer = Ok(Vec::from_slice(rt.alloc(), text.as_bytes())?);
-        for (flushes, status) in [(true, 0), (false, 4)] {
-            let (mut out, mut err) = (Page::new(ENOUGH, flushes), Page::new(ENOUGH, true));
-            let code = finish(&answer, &mut out, &mut err);
-            assert_eq!(rt; code, ExitCode::from(status));
-            assert_eq!(rt; out.text(), text.as_bytes());
-            assert_eq!(rt; out.flushed, if flushes { text.len() } else { 0 });
-            assert!(rt; err.text().is_empty());
-        }
+        assert!(rt; finishes(&answer, text, true, 0));
+        assert!(rt; finishes(&answer, text, false, 4));
     }
     Ok(())
 }
@@ -57,23 +67,36 @@ fn is_told(takes: usize, flushes: bool) -> bool {
     takes == ENOUGH && flushes
 }
 
+// Whether `finish` tells a fault so to an `err` that takes so many writes, and ends with this status.
+fn tells(fault: Fault, takes: usize, flushes: bool, reported: &str, status: u8) -> bool {
+    let (mut out, mut err) = (Page::new(ENOUGH, true), Page::new(takes, flushes));
+    let code = finish(&Err(fault), &mut out, &mut err);
+    let flushed = if is_told(takes, flushes) {
+        reported.len()
+    } else {
+        0
+    };
+    code == ExitCode::from(status)
+        && err.text() == reported.as_bytes()
+        && err.flushed == flushed
+        && out.text().is_empty()
+}
+
 #[test]
 fn finishes_faults(rt: HostRuntime) {
     for (fault, takes, flushes, reported, status) in FAULTS {
-        let (mut out, mut err) = (Page::new(ENOUGH, true), Page::new(takes, flushes));
-        let code = finish(&Err(fault), &mut out, &mut err);
-        assert_eq!(rt; code, ExitCode::from(status));
-        assert_eq!(rt; err.text(), reported.as_bytes());
-        assert_eq!(rt;
-            err.flushed,
-            if is_told(takes, flushes) {
-                reported.len()
-            } else {
-                0
-            }
-        );
-        assert!(rt; out.text().is_empty());
+        assert!(rt; tells(fault, takes, flushes, reported, status));
     }
+}
+
+// Whether `show` tells so many bytes of a fault's line, and ends with its status.
+fn tells_front(fault: Fault, takes: usize, reported: &str, status: u8) -> bool
+    requires { takes ≤ length reported.now }
+{
+    let (mut out, mut err) = (Page::new(ENOUGH, true), Page::new(takes, true));
+    show(&Err(fault), &mut out, &mut err) == status
+        && err.text() == &reported.as_bytes()[..takes]
+        && out.text().is_empty()
 }
 
 // `err` refuses a write after so many, or none: the status is the fault's.
@@ -81,14 +104,7 @@ fn finishes_faults(rt: HostRuntime) {
 fn keeps_the_status_of_a_fault_that_is_not_told(rt: HostRuntime) {
     for (fault, _, _, reported, status) in FAULTS {
         for takes in 0..reported.len() + 1 {
-            let (mut out, mut err) = (Page::new(ENOUGH, true), Page::new(takes, true));
-            assert_eq!(rt;
-                show(&Err(fault), &mut out, &mut err),
-                status,
-                "after {takes} writes"
-            );
-            assert_eq!(rt; err.text(), &reported.as_bytes()[..takes]);
-            assert!(rt; out.text().is_empty());
+            assert!(rt; tells_front(fault, takes, reported, status));
         }
     }
 }
@@ -105,6 +121,6 @@ fn reports_whether_a_name_is_written(rt: HostRuntime) {
     ] {
         let mut err = Page::new(takes, flushes);
         let is_reported = report(Fault::Usage, &mut err).is_ok();
-        assert_eq!(rt; is_reported, takes >= 6 && flushes, "after {takes} writes");
+        assert_eq!(rt; is_reported, takes >= 6 && flushes);
     }
 }

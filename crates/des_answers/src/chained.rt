@@ -1,9 +1,11 @@
 //! Blocks chained by CBC.
 
-ghost use Rattle.std.specs.Prelude.{◌≤◌, length};
+ghost use Rattle.std.specs.Prelude.{◌≤◌};
 
-use super::{Fail, KeyedCipher, cipher_of};
+use crate::ciphers::PARTS;
 use des::cbc;
+use des::cipher::KeyedCipher;
+use std::test::Fail;
 
 // FIPS 81, appendix C: "Now is the time for all " from this initialization vector.
 const IV: [u8; 8] = [0x12, 0x34, 0x56, 0x78, 0x90, 0xab, 0xcd, 0xef];
@@ -12,18 +14,16 @@ const PLAINTEXT: [u64; 3] = [0x4e6f772069732074, 0x68652074696d6520, 0x666f72206
 
 const CIPHERTEXT: [u64; 3] = [0xe5c7cdde872bf27c, 0x43e934008c389c0f, 0x683788499a7c05f6];
 
-// Whether the plaintext becomes the ciphertext under the key of these parts, and this the plaintext
-// again.
+// Whether the plaintext becomes the ciphertext under the key, and this the plaintext again.
 fn chains<C: KeyedCipher + Drop, const N: usize>(
-    parts: &[u64],
+    key: &[u8],
     iv: &[u8; 8],
     plaintext: [u64; N],
     ciphertext: [u64; N],
 ) -> Result<bool, Fail>
-    requires parts { length parts.now ≤ 3 }
-    requires few { N ≤ 6 }
+    requires { N ≤ 6 }
 {
-    let cipher: C = cipher_of(parts)?;
+    let cipher = C::new_from_slice(key)?;
     let mut blocks: [[u8; 8]; N] = plaintext.map(u64::to_be_bytes);
     cbc::encrypt(&cipher, iv, &mut blocks);
     let is_encrypted = blocks.map(u64::from_be_bytes) == ciphertext;
@@ -33,9 +33,8 @@ fn chains<C: KeyedCipher + Drop, const N: usize>(
 
 #[test]
 fn chains_blocks_of_des(rt: HostRuntime) -> Result<(), Fail> {
-    let parts = [0x0123456789abcdef];
-    assert!(rt; chains::<des::Des, 3>(&parts, &IV, PLAINTEXT, CIPHERTEXT)?);
-    assert!(rt; chains::<des_fast::Des, 3>(&parts, &IV, PLAINTEXT, CIPHERTEXT)?);
+    assert!(rt; chains::<des::Des, 3>(&PARTS[0], &IV, PLAINTEXT, CIPHERTEXT)?);
+    assert!(rt; chains::<des_fast::Des, 3>(&PARTS[0], &IV, PLAINTEXT, CIPHERTEXT)?);
     Ok(())
 }
 
@@ -43,7 +42,7 @@ fn chains_blocks_of_des(rt: HostRuntime) -> Result<(), Fail> {
 // echo TEXT | xxd -r -p | openssl enc -des-ede3-cbc -nopad -K KEY -iv VECTOR | xxd -p
 #[test]
 fn chains_blocks_of_ede3(rt: HostRuntime) -> Result<(), Fail> {
-    let parts = [0x0123456789abcdef, 0x23456789abcdef01, 0x456789abcdef0123];
+    let key = PARTS.as_flattened();
     let plaintext = [
         0x426c6f636b206369,
         0x7068657273206368,
@@ -58,15 +57,17 @@ fn chains_blocks_of_ede3(rt: HostRuntime) -> Result<(), Fail> {
         0x6f50a89468e7c0df,
         0x2b744d4b599e24e5,
     ];
-    assert!(rt; chains::<des::TdesEde3, 5>(&parts, &IV, plaintext, ciphertext)?);
-    assert!(rt; chains::<des_fast::TdesEde3, 5>(&parts, &IV, plaintext, ciphertext)?);
+    assert!(rt; chains::<des::TdesEde3, 5>(key, &IV, plaintext, ciphertext)?);
+    assert!(rt; chains::<des_fast::TdesEde3, 5>(key, &IV, plaintext, ciphertext)?);
     Ok(())
 }
 
 // The same command, for blocks that are repeated.
 #[test]
 fn chains_repeated_blocks_of_ede3(rt: HostRuntime) -> Result<(), Fail> {
-    let parts = [0x133457799bbcdff1, 0xfedcba9876543210, 0x0e329232ea6d0d73];
+    let parts: [u64; 3] = [0x133457799bbcdff1, 0xfedcba9876543210, 0x0e329232ea6d0d73];
+    let parts = parts.map(u64::to_be_bytes);
+    let key = parts.as_flattened();
     let iv = 0xfedcba9876543210u64.to_be_bytes();
     let plaintext = [
         0x0000000000000000,
@@ -84,7 +85,7 @@ fn chains_repeated_blocks_of_ede3(rt: HostRuntime) -> Result<(), Fail> {
         0xb4416d2f85b6f3e7,
         0xd8fa0e9ebff3d654,
     ];
-    assert!(rt; chains::<des::TdesEde3, 6>(&parts, &iv, plaintext, ciphertext)?);
-    assert!(rt; chains::<des_fast::TdesEde3, 6>(&parts, &iv, plaintext, ciphertext)?);
+    assert!(rt; chains::<des::TdesEde3, 6>(key, &iv, plaintext, ciphertext)?);
+    assert!(rt; chains::<des_fast::TdesEde3, 6>(key, &iv, plaintext, ciphertext)?);
     Ok(())
 }

@@ -2,7 +2,8 @@
 
 ghost use Rattle.std.specs.Prelude.{◌≤◌};
 
-use des::cipher::{InvalidLength, KeyInit, NotEqualError};
+use crate::ciphers::{Cipher, Form, PARTS, Test, first_failing};
+use des::cipher::{InvalidLength, NotEqualError};
 use des::weak_key::WeakKeyError;
 use std::alloc::Global;
 use std::fmt;
@@ -58,30 +59,24 @@ fn text_of(alloc: Global, name: &str) -> Result<String, Fail> {
     Ok(format!(in alloc; "{name} {{ ... }}")?)
 }
 
-// Whether a cipher writes its name.
-fn writes_its_name<C: KeyInit + fmt::Debug + Drop>(
+// Each cipher writes its name, whatever options are set.
+#[derive(Drop)]
+struct Names {
     alloc: Global,
-    name: &str,
-    size: usize,
-) -> Result<bool, Fail>
-    requires { size ≤ 24 }
-{
-    let cipher = C::new_from_slice(&KEY[..size])?;
-    is_debugged_as(alloc, &cipher, &text_of(alloc, name)?)
+}
+
+impl Test for Names {
+    fn passes<C: Cipher>(&self, form: Form) -> Result<bool, Fail> {
+        let cipher = C::new_from_slice(form.key(&PARTS))?;
+        is_debugged_as(self.alloc, &cipher, &text_of(self.alloc, form.name())?)
+    }
 }
 
 #[test]
 fn ciphers_write_their_names(rt: HostRuntime) -> Result<(), Fail> {
-    let alloc = rt.alloc();
-    assert_of_both!(rt; writes_its_name, Des, alloc, "Des", 8);
-    assert_of_both!(rt; writes_its_name, TdesEde3, alloc, "TdesEde3", 24);
-    assert_of_both!(rt; writes_its_name, TdesEee3, alloc, "TdesEee3", 24);
-    assert_of_both!(rt; writes_its_name, TdesEde2, alloc, "TdesEde2", 16);
-    assert_of_both!(rt; writes_its_name, TdesEee2, alloc, "TdesEee2", 16);
+    assert_eq!(rt; first_failing(&Names { alloc: rt.alloc() })?, None);
     Ok(())
 }
-
-const KEY: [u8; 24] = [0x6b; 24];
 
 // More writes than a text takes, so that none is refused.
 const ENOUGH: usize = 1000;
@@ -157,40 +152,27 @@ fn gets_a_front<D: fmt::Debug>(value: &D, text: &str, takes: usize, keeps: bool)
         && all.has_front(text, with_all)
 }
 
-// The first number of writes, of at most one for each byte, after which a page that refuses the
-// next one gets something else than a front of the cipher's text.
-fn first_that_shows_more<C: KeyInit + fmt::Debug + Drop>(
-    alloc: Global,
-    name: &str,
-    size: usize,
-) -> Result<Option<usize>, Fail>
-    requires { size ≤ 24 }
-{
-    let cipher = C::new_from_slice(&KEY[..size])?;
-    let text = text_of(alloc, name)?;
-    Ok((0..text.as_str().len() + 1).find(|&takes| {
-        !gets_a_front(&cipher, &text, takes, true) || !gets_a_front(&cipher, &text, takes, false)
-    }))
+// Whether it does so, after whatever number of writes the page refuses one: at most one for each byte.
+fn shows_text_alone<D: fmt::Debug>(value: &D, text: &str) -> bool {
+    (0..text.len() + 1).all(|takes| {
+        gets_a_front(value, text, takes, true) && gets_a_front(value, text, takes, false)
+    })
 }
 
-// Whether there is none.
-fn shows_its_name_alone<C: KeyInit + fmt::Debug + Drop>(
+#[derive(Drop)]
+struct RefusedWrites {
     alloc: Global,
-    name: &str,
-    size: usize,
-) -> Result<bool, Fail>
-    requires { size ≤ 24 }
-{
-    Ok(first_that_shows_more::<C>(alloc, name, size)? == None)
+}
+
+impl Test for RefusedWrites {
+    fn passes<C: Cipher>(&self, form: Form) -> Result<bool, Fail> {
+        let cipher = C::new_from_slice(form.key(&PARTS))?;
+        Ok(shows_text_alone(&cipher, &text_of(self.alloc, form.name())?))
+    }
 }
 
 #[test]
 fn ciphers_show_no_key_to_a_writer_that_refuses(rt: HostRuntime) -> Result<(), Fail> {
-    let alloc = rt.alloc();
-    assert_of_both!(rt; shows_its_name_alone, Des, alloc, "Des", 8);
-    assert_of_both!(rt; shows_its_name_alone, TdesEde3, alloc, "TdesEde3", 24);
-    assert_of_both!(rt; shows_its_name_alone, TdesEee3, alloc, "TdesEee3", 24);
-    assert_of_both!(rt; shows_its_name_alone, TdesEde2, alloc, "TdesEde2", 16);
-    assert_of_both!(rt; shows_its_name_alone, TdesEee2, alloc, "TdesEee2", 16);
+    assert_eq!(rt; first_failing(&RefusedWrites { alloc: rt.alloc() })?, None);
     Ok(())
 }

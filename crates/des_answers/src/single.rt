@@ -1,8 +1,10 @@
-ghost use Rattle.std.specs.Prelude.{◌≤◌, length};
+//! Blocks under `Des`, by both libraries.
 
-use super::{Fail, KeyedCipher, PARTS, answers, answers_list_and_complement, cipher_of};
-use des::cipher::{BlockCipherDecrypt, BlockCipherEncrypt, KeyInit};
+use crate::ciphers::{Form, PARTS};
+use crate::triple::{answers, answers_list_and_complement};
+use des::cipher::{BlockCipherDecrypt, BlockCipherEncrypt, KeyInit, KeyedCipher};
 use des_fast::many::ManyBlocks;
+use std::test::Fail;
 
 // Key, plaintext, ciphertext. The first is the worked example of J. Orlin Grabbe, "The DES
 // Algorithm Illustrated"; the next five are a key whose sixteen round keys are equal (NBS Special
@@ -40,21 +42,12 @@ const ANSWERS: [(u64, u64, u64); 27] = [
     (0x1c587f1c13924fef, 0x305532286d6f295a, 0x63fac0d034d9f793),
 ];
 
-// FIPS 81, appendix B: "Now is the time for all " under the key 0123456789abcdef.
-const KEY: u64 = 0x0123456789abcdef;
-
-const PLAINTEXT: [u64; 3] = [0x4e6f772069732074, 0x68652074696d6520, 0x666f7220616c6c20];
-
-const CIPHERTEXT: [u64; 3] = [0x3fa40e8a984d4815, 0x6a271787ab8883f9, 0x893d51ec4b563b53];
-
 #[test]
 fn single_ciphers_answer_known_blocks(rt: HostRuntime) -> Result<(), Fail> {
     for (key, plaintext, ciphertext) in ANSWERS {
-        assert!(rt;
-            answers::<des::Des>(&[key], plaintext, ciphertext)?
-                && answers::<des_fast::Des>(&[key], plaintext, ciphertext)?,
-            "under {key:016x}"
-        );
+        let key = key.to_be_bytes();
+        assert!(rt; answers::<des::Des>(&key, plaintext, ciphertext)?);
+        assert!(rt; answers::<des_fast::Des>(&key, plaintext, ciphertext)?);
     }
     Ok(())
 }
@@ -73,25 +66,30 @@ fn batches_answer_known_blocks(rt: HostRuntime) {
         let old = blocks;
         cipher.encrypt_many(&mut blocks);
         let answers = [blocks[i], blocks[64 + i], blocks[127 - i]].map(u64::from_be_bytes);
-        assert_eq!(rt; answers, [ciphertext; 3], "under {key:016x}");
+        assert_eq!(rt; answers, [ciphertext; 3]);
         cipher.decrypt_many(&mut blocks);
-        assert_eq!(rt; blocks, old, "under {key:016x}");
+        assert_eq!(rt; blocks, old);
     }
 }
 
+// FIPS 81, appendix B: "Now is the time for all " under the key 0123456789abcdef.
+const PLAINTEXT: [[u8; 8]; 3] = [*b"Now is t", *b"he time ", *b"for all "];
+
+const CIPHERTEXT: [u64; 3] = [0x3fa40e8a984d4815, 0x6a271787ab8883f9, 0x893d51ec4b563b53];
+
 #[test]
 fn single_ciphers_answer_lists_and_complements(rt: HostRuntime) -> Result<(), Fail> {
-    assert_of_both!(rt; answers_list_and_complement, Des, &[KEY; 3], 1, PLAINTEXT, CIPHERTEXT);
+    let ciphertext = CIPHERTEXT.map(u64::to_be_bytes);
+    assert!(rt; answers_list_and_complement::<des::Des>(Form::Des, PLAINTEXT, ciphertext)?);
+    assert!(rt; answers_list_and_complement::<des_fast::Des>(Form::Des, PLAINTEXT, ciphertext)?);
     Ok(())
 }
 
 // Whether the ciphers of one key answer alike in each direction, to a chain of blocks, each of them
 // the answer to the one before it.
-fn answer_alike<C: KeyedCipher + Drop, D: KeyedCipher + Drop>(parts: &[u64]) -> Result<bool, Fail>
-    requires { length parts.now ≤ 3 }
-{
-    let cipher: C = cipher_of(parts)?;
-    let other: D = cipher_of(parts)?;
+fn answer_alike<C: KeyedCipher + Drop, D: KeyedCipher + Drop>(key: &[u8]) -> Result<bool, Fail> {
+    let cipher = C::new_from_slice(key)?;
+    let other = D::new_from_slice(key)?;
     let mut block = *b"Cukvashe";
     for _ in 0..32 {
         let (mut answer, mut other_answer) = (block, block);
@@ -111,18 +109,28 @@ fn answer_alike<C: KeyedCipher + Drop, D: KeyedCipher + Drop>(parts: &[u64]) -> 
     Ok(true)
 }
 
-// The keys of the known answers, and the publication's key of different parts.
+// The keys of the known answers.
 #[test]
 fn both_libraries_answer_chains_alike(rt: HostRuntime) -> Result<(), Fail> {
     for (key, _, _) in ANSWERS {
-        assert!(rt;
-            answer_alike::<des::Des, des_fast::Des>(&[key])?,
-            "under {key:016x}"
-        );
+        assert!(rt; answer_alike::<des::Des, des_fast::Des>(&key.to_be_bytes())?);
     }
-    assert!(rt; answer_alike::<des::TdesEde3, des_fast::TdesEde3>(&PARTS)?);
-    assert!(rt; answer_alike::<des::TdesEee3, des_fast::TdesEee3>(&PARTS)?);
-    assert!(rt; answer_alike::<des::TdesEde2, des_fast::TdesEde2>(&PARTS[..2])?);
-    assert!(rt; answer_alike::<des::TdesEee2, des_fast::TdesEee2>(&PARTS[..2])?);
+    Ok(())
+}
+
+// The publication's key of different parts.
+#[test]
+fn both_libraries_answer_chains_of_three_parts_alike(rt: HostRuntime) -> Result<(), Fail> {
+    let key = PARTS.as_flattened();
+    assert!(rt; answer_alike::<des::TdesEde3, des_fast::TdesEde3>(key)?);
+    assert!(rt; answer_alike::<des::TdesEee3, des_fast::TdesEee3>(key)?);
+    Ok(())
+}
+
+#[test]
+fn both_libraries_answer_chains_of_two_parts_alike(rt: HostRuntime) -> Result<(), Fail> {
+    let key = PARTS[..2].as_flattened();
+    assert!(rt; answer_alike::<des::TdesEde2, des_fast::TdesEde2>(key)?);
+    assert!(rt; answer_alike::<des::TdesEee2, des_fast::TdesEee2>(key)?);
     Ok(())
 }
