@@ -12,6 +12,7 @@ mod ede2;
 mod ede3;
 mod eee2;
 mod eee3;
+pub mod joined;
 mod single;
 
 pub use batches::{BatchedDes, BatchedTriple};

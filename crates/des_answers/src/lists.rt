@@ -6,7 +6,7 @@ ghost use Rattle.std.specs.Prelude.{◌≤◌};
 use crate::ciphers::{Cipher, Form, OfEach, Test, first_failing};
 use des::cbc;
 use des::cipher::{BlockCipher, KeyInit};
-use des_fast::many::{ManyBlocks, Slice};
+use des_fast::many::{ListKeys, ManyBlocks, Slice, SpreadOnce};
 use des_fast::{Des, TdesEde2, TdesEde3, TdesEee2, TdesEee3};
 use std::alloc::Global;
 use std::marker::PhantomData;
@@ -16,7 +16,7 @@ use std::test::Fail;
 // A test of one cipher of `des_fast`, beside that of the same name of `des`.
 trait ListTest {
     // Whether the cipher passes, which is of this form.
-    fn passes<C: ManyBlocks + KeyInit + Drop, P: BlockCipher + KeyInit + Drop>(
+    fn passes<C: SpreadOnce + KeyInit + Drop, P: BlockCipher + KeyInit + Drop>(
         &self,
         form: Form,
     ) -> Result<bool, Fail>;
@@ -117,7 +117,7 @@ const ANSWERS: OfEach<[[u64; 4]; 3]> = OfEach {
 struct Lists;
 
 impl ListTest for Lists {
-    fn passes<C: ManyBlocks + KeyInit + Drop, P: BlockCipher + KeyInit + Drop>(
+    fn passes<C: SpreadOnce + KeyInit + Drop, P: BlockCipher + KeyInit + Drop>(
         &self,
         form: Form,
     ) -> Result<bool, Fail> {
@@ -143,7 +143,7 @@ struct ListsBy<S> {
 }
 
 impl<S: Slice> ListTest for ListsBy<S> {
-    fn passes<C: ManyBlocks + KeyInit + Drop, P: BlockCipher + KeyInit + Drop>(
+    fn passes<C: SpreadOnce + KeyInit + Drop, P: BlockCipher + KeyInit + Drop>(
         &self,
         form: Form,
     ) -> Result<bool, Fail> {
@@ -160,6 +160,46 @@ impl<S: Slice> ListTest for ListsBy<S> {
 fn lists_are_answered_over_four_words_as_by_openssl(rt: HostRuntime) -> Result<(), Fail> {
     assert!(rt;
         all_pass(&ListsBy {
+            width: PhantomData::<u64x4>
+        })?
+    );
+    Ok(())
+}
+
+// Those of keys that are spread once.
+#[derive(Drop)]
+struct SpreadBy<S> {
+    width: PhantomData<S>,
+}
+
+impl<S: Slice> ListTest for SpreadBy<S> {
+    fn passes<C: SpreadOnce + KeyInit + Drop, P: BlockCipher + KeyInit + Drop>(
+        &self,
+        form: Form,
+    ) -> Result<bool, Fail> {
+        let keys = C::new_from_slice(form.key(&PARTS))?.spread_keys::<S>();
+        let mut lists = Answered::new();
+        keys.encrypt_many(&mut lists.encrypted);
+        keys.decrypt_many(&mut lists.decrypted);
+        keys.decrypt_cbc(&IV, &mut lists.unchained);
+        Ok(lists.are(ANSWERS.of(form)))
+    }
+}
+
+#[test]
+fn spread_keys_answer_lists_as_openssl(rt: HostRuntime) -> Result<(), Fail> {
+    assert!(rt;
+        all_pass(&SpreadBy {
+            width: PhantomData::<u64x2>
+        })?
+    );
+    Ok(())
+}
+
+#[test]
+fn spread_keys_answer_lists_over_four_words_as_openssl(rt: HostRuntime) -> Result<(), Fail> {
+    assert!(rt;
+        all_pass(&SpreadBy {
             width: PhantomData::<u64x4>
         })?
     );
@@ -228,7 +268,7 @@ struct Fronts<S> {
 }
 
 impl<S: Slice> ListTest for Fronts<S> {
-    fn passes<C: ManyBlocks + KeyInit + Drop, P: BlockCipher + KeyInit + Drop>(
+    fn passes<C: SpreadOnce + KeyInit + Drop, P: BlockCipher + KeyInit + Drop>(
         &self,
         form: Form,
     ) -> Result<bool, Fail> {
@@ -300,7 +340,7 @@ struct Sums<S> {
 }
 
 impl<S: Slice> ListTest for Sums<S> {
-    fn passes<C: ManyBlocks + KeyInit + Drop, P: BlockCipher + KeyInit + Drop>(
+    fn passes<C: SpreadOnce + KeyInit + Drop, P: BlockCipher + KeyInit + Drop>(
         &self,
         form: Form,
     ) -> Result<bool, Fail> {

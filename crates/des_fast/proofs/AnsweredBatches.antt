@@ -4,13 +4,15 @@ use Rattle.std.proofs.lemmas.List.{length-append, length-drop, length-map, get_o
 use Rattle.des.specs.Blocks.{block_of_bits}
 use Rattle.des_fast.specs.Slices.{InEachBlock}
 use Rattle.des_fast.specs.Transposition.{AreSlicesOf, AreBlocksOf}
+use Rattle.des_fast.specs.declared.slices.keys.PassSlices.{PassSlices}
+use Rattle.des_fast.specs.RoundKeySlices.{round_keys_in}
 use Rattle.des_fast.specs.Passes.{through_passes, HoldPasses, block_through_passes}
 
 -- slices that went through passes are those of the answers
 pub answers-from_slices : {A : Type 0} (batch : ℕ) (bit : ℕ → A → Bool) (old new : List (List ℕ)) (slices answered : List A)
-    (passes : List (List (List A))) (keys : List (List (List Bool))) → length old ≡ batch → length new ≡ batch
+    (passes : List (PassSlices A)) (keys : List (List (List Bool))) → length old ≡ batch → length new ≡ batch
     → AreSlicesOf batch bit old slices
-    → InEachBlock batch (λ b. map (bit b) answered ≡ through_passes (map (map (map (bit b))) passes) (map (bit b) slices))
+    → InEachBlock batch (λ b. map (bit b) answered ≡ through_passes (map (round_keys_in (bit b)) passes) (map (bit b) slices))
     → AreBlocksOf batch bit answered new → HoldPasses batch bit passes keys → new ≡ map (block_through_passes keys) old
 answers-from_slices batch bit old new slices answered passes keys many same are through made hold =
     ext_get_or [] new (map (block_through_passes keys) old) (same ∙ sym (length-map old (block_through_passes keys) ∙ many))

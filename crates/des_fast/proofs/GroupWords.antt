@@ -24,7 +24,7 @@ bits_of_groups-Holds word bits width holds =
     ap (select group_positions) holds ∙ select-select 49 group_positions positions_in_word bits (omega arith) ∙ select-all 48 bits width
 
 -- a mask keeps the groups, with zeros beside them
-bits_of_word-mask : (x : ℕ) → x < 2 ^ 64 → Holds (bit_and x 0x3f3f3f3f3f3f3f3f) (bits_of_groups x)
+pub bits_of_word-mask : (x : ℕ) → x < 2 ^ 64 → Holds (bit_and x 0x3f3f3f3f3f3f3f3f) (bits_of_groups x)
 unfolding bits_of select
 bits_of_word-mask x below =
     select-from_units (λ u. bit_and u 0x3f3f3f3f3f3f3f3f) (composed 65 positions_in_word group_positions) 0
@@ -35,6 +35,11 @@ bits_of_word-mask x below =
 -- a word of groups is below 2 ^ 64
 pub IsOfGroups-lt : (word : ℕ) → IsOfGroups word → word < 2 ^ 64
 IsOfGroups-lt word of_groups = omega (arith, of_groups, and_le_r word 0x3f3f3f3f3f3f3f3f)
+
+-- it holds the bits of its groups
+pub Holds-groups : (word : ℕ) → IsOfGroups word → Holds word (bits_of_groups word)
+Holds-groups word of_groups =
+    ap bits_of_word (sym of_groups) ∙ bits_of_word-mask word (IsOfGroups-lt word of_groups)
 
 -- a word that holds 48 bits is a word of groups
 pub IsOfGroups-Holds : (word : ℕ) (bits : List Bool) → word < 2 ^ 64 → length bits ≡ 48 → Holds word bits → IsOfGroups word

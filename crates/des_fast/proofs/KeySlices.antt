@@ -1,15 +1,19 @@
--- Round keys as slices.
-use Rattle.std.proofs.Common.{◌≡◌, ℕ, ◌-◌, ◌/◌, ◌^◌, ◌<◌, ◌≤◌, ◌==◌, Bool, false, List, [], length, map, get_or, bit_and, ap, sym, ◌∙◌, arith}
-use Rattle.std.proofs.lemmas.List.{length-map, get_or-map, ext_get_or}
+-- The halves C and D as slices, each of which stands twice in a row.
+use Rattle.std.proofs.Common.{◌≡◌, ◌≢◌, ℕ, ◌+◌, ◌-◌, ◌*◌, ◌/◌, ◌%◌, ◌^◌, ◌<◌, ◌==◌, ◌&&◌, Bool, true, false, List, ◌++◌, length, map, nat_lt, get_or, bit_and, refl, ap, sym, ◌∙◌, arith, inl, inr, subst}
+use Rattle.std.proofs.Math.ListN.{set}
+use Rattle.std.proofs.lemmas.List.{length-map, length-set, get_or-map, ext_get_or, get_or-set_same, get_or-set_other, map-set}
 use Rattle.std.proofs.lemmas.Nat.Bits.{shr_and_one}
-use Rattle.des.specs.Bits.{bit, bits_of_word, select}
-use Rattle.des.proofs.BitParts.{bit-bits_of}
+use Rattle.std.proofs.lemmas.Bool.{cases_eq, and_parts, eqb-true, ltb-true, agree_below_at}
+use Rattle.des.specs.Bits.{bit, select}
+use Rattle.des.proofs.BitParts.{get_or-bits_of}
+use Rattle.des_fast.specs.declared.slices.keys.TheConstants.{HALVES}
+use Rattle.des_fast.specs.RoundKeySlices.{c_positions, d_positions}
+use Rattle.des_fast.proofs.WordPlaces.{bit_in}
 
 -- a bit of a word, shifted to the end
-pub bit-shifted : (word position : ℕ) → 1 ≤ position → position ≤ 64
-    → bit (bits_of_word word) position ≡ (bit_and (word / 2 ^ (64 - position)) 1 == 1)
-bit-shifted word position from to =
-    bit-bits_of 64 word position (from, to) ∙ ap (λ (k : ℕ). k == 1) (sym (shr_and_one word (64 - position)))
+pub bit_in-shifted : (word place : ℕ) → place < 64 → bit_in word place ≡ (bit_and (word / 2 ^ (63 - place)) 1 == 1)
+bit_in-shifted word place below =
+    get_or-bits_of 64 word place below ∙ ap (λ (k : ℕ). k == 1) (sym (shr_and_one word (63 - place)))
 
 -- bits that are those at some positions, one by one, are the selection of these
 pub bits-selection : (bits whole : List Bool) (positions : List ℕ) → length bits ≡ length positions
@@ -21,12 +25,64 @@ bits-selection bits whole positions same each =
     (λ i below. let inside : i < length positions = omega arith in
     each i inside ∙ sym (get_or-map (bit whole) positions i 0 false inside))
 
--- the slices of round keys, one by one
-pub bits-of_keys : {A : Type 0} (bit : A → Bool) (keys : List (List Bool)) (slices : List (List A)) → length slices ≡ length keys
-    → ((i : ℕ) → i < length keys → map bit (get_or slices i []) ≡ get_or keys i [])
-    → map (map bit) slices ≡ keys
-bits-of_keys bit keys slices same each =
-    ext_get_or [] (map (map bit) slices) keys (length-map slices (map bit) ∙ same)
-    (λ i below.
-    let inside : i < length keys = omega (arith, length-map slices (map bit)) in
-    get_or-map (map bit) slices i [] [] (omega arith) ∙ each i inside)
+-- where the bits of C stand, twice, and those of D, twice
+abbrev pub positions : List ℕ
+positions = c_positions ++ c_positions ++ d_positions ++ d_positions
+
+-- the place among the 56 bits of C and D of the one that stands at a place of the 112
+abbrev pub once : ℕ → ℕ
+once m = m % 28 + m / 56 * 28
+
+-- the table of the code has a position for each of the 56, and that position stands at its two places
+pub record IsPosition (n : ℕ) : Type 0 where
+  pub from : 0 < get_or HALVES n 0
+  pub to : get_or HALVES n 0 < 129
+  pub first : get_or positions (n + n / 28 * 28) 0 ≡ get_or HALVES n 0
+  pub second : get_or positions (n + n / 28 * 28 + 28) 0 ≡ get_or HALVES n 0
+
+pub position-at : (n : ℕ) → n < 56 → IsPosition n
+position-at n below =
+    let position : ℕ → ℕ = λ k. get_or HALVES k 0 in
+    let place : ℕ → ℕ = λ k. k + k / 28 * 28 in
+    let bounds : (nat_lt 0 (position n) && nat_lt (position n) 129) ≡ true =
+    agree_below_at (λ k. nat_lt 0 (position k) && nat_lt (position k) 129) (λ k. true) 56 n refl below in
+    let places : (get_or positions (place n) 0 == position n && (get_or positions (place n + 28) 0 == position n)) ≡ true =
+    agree_below_at (λ k. get_or positions (place k) 0 == position k && (get_or positions (place k + 28) 0 == position k))
+    (λ k. true) 56 n refl below in
+    let bound = and_parts _ _ bounds in
+    let at = and_parts _ _ places in
+    record { from = ltb-true _ _ bound.0; to = ltb-true _ _ bound.1; first = eqb-true _ _ at.0; second = eqb-true _ _ at.1 }
+
+-- an element written at two places
+written_twice : {X : Type 0} (P : ℕ → X → Type 0) (xs : List X) (p q : ℕ) (x d : X) → p < length xs → q < length xs
+    → P p x → P q x → (m : ℕ) → (m ≢ p → m ≢ q → P m (get_or xs m d)) → P m (get_or (set (set xs p x) q x) m d)
+written_twice P xs p q x d first second at_first at_second m other =
+    let inside : q < length (set xs p x) = omega (arith, length-set xs p x) in
+    elim (cases_eq m q) [
+      | inl same ↦
+          let at : get_or (set (set xs p x) q x) q d ≡ x = get_or-set_same (set xs p x) q x d inside in
+          subst (λ (k : ℕ). P k (get_or (set (set xs p x) q x) k d)) (sym same) (subst (P q) (sym at) at_second)
+      | inr not_second ↦
+          let kept : get_or (set (set xs p x) q x) m d ≡ get_or (set xs p x) m d = get_or-set_other (set xs p x) q m x d not_second in
+          subst (P m) (sym kept) (elim (cases_eq m p) [
+            | inl same ↦
+                let at : get_or (set xs p x) p d ≡ x = get_or-set_same xs p x d first in
+                subst (λ (k : ℕ). P k (get_or (set xs p x) k d)) (sym same) (subst (P p) (sym at) at_first)
+            | inr not_first ↦ subst (P m) (sym (get_or-set_other xs p m x d not_first)) (other not_first not_second)
+          ])
+    ]
+
+pub bits_written_twice : {X : Type 0} (bit : X → Bool) (P : ℕ → Bool → Type 0) (xs : List X) (p q : ℕ) (x : X)
+    → p < length xs → q < length xs → P p (bit x) → P q (bit x) → (m : ℕ)
+    → (m ≢ p → m ≢ q → P m (get_or (map bit xs) m false)) → P m (get_or (map bit (set (set xs p x) q x)) m false)
+bits_written_twice bit P xs p q x first second at_first at_second m other =
+    let in_first : p < length (map bit xs) = rw (length-map xs bit) first in
+    let in_second : q < length (map bit xs) = rw (length-map xs bit) second in
+    let mapped : map bit (set (set xs p x) q x) ≡ set (set (map bit xs) p (bit x)) q (bit x) =
+    map-set bit (set xs p x) q x ∙ ap (λ (bits : List Bool). set bits q (bit x)) (map-set bit xs p x) in
+    subst (λ (bits : List Bool). P m (get_or bits m false)) (sym mapped)
+    (written_twice P (map bit xs) p q (bit x) false in_first in_second at_first at_second m other)
+
+-- the other places of the bits up to n are those of the bits below n
+pub once-below : (m n : ℕ) → m < 112 → once m < n + 1 → m ≢ n + n / 28 * 28 → m ≢ n + n / 28 * 28 + 28 → once m < n
+once-below m n below done not_first not_second = omega arith

@@ -11,7 +11,9 @@ pub mod ThreeExchanges
 pub mod Stages
 pub mod BlockRows
 pub mod PassesOnSlices
+pub mod SliceSizes
 pub mod KeySlices
+pub mod RotatedHalves
 pub mod AnsweredBatches
 pub mod UnchainedBatches
 pub mod ThreePasses
@@ -26,4 +28,6 @@ pub mod RoundKeysByPlace
 pub mod RoundPairs
 pub mod RoundKeyPositions
 pub mod KeyRows
+pub mod ScheduledHalves
 pub mod HalfPasses
+pub mod KeptRoundKeys

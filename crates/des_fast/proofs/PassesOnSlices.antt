@@ -1,6 +1,6 @@
 -- Rounds and passes of each block, as slices go through them.
-use Rattle.std.proofs.Common.{◌≡◌, ℕ, ◌+◌, ◌*◌, ◌<◌, Bool, List, [], ◌∷◌, ◌++◌, length, take, map, get_or, refl, ap, sym, ◌∙◌, arith}
-use Rattle.std.proofs.lemmas.List.{length-map, get_or-map, take_more}
+use Rattle.std.proofs.Common.{◌≡◌, ℕ, ◌+◌, ◌*◌, ◌<◌, Bool, List, [], ◌∷◌, ◌++◌, length, take, get_or, refl, ap, sym, ◌∙◌}
+use Rattle.std.proofs.lemmas.List.{take_more}
 use Rattle.des.specs.Bits.{select}
 use Rattle.des.specs.Tables.{initial_permutation, final_permutation}
 use Rattle.des.specs.Rounds.{after_rounds, swapped, through_rounds}
@@ -12,19 +12,13 @@ use Rattle.des_fast.proofs.RoundPairs.{after_rounds-two_more}
 -- ---- rounds
 
 -- the halves of a block after two rounds more
-pub bits-two_rounds : {A : Type 0} (bit : A → Bool) (i : ℕ) (keys : List (List A)) (left right first second third fourth : List A) (d1 d2 : List A)
-    → 2 * i + 1 < length keys
-    → after_rounds (take (2 * i) (map (map bit) keys)) (map bit left) (map bit right) ≡ (map bit first, map bit second)
-    → map bit third ≡ next_half (map bit first) (map bit second) (map bit (get_or keys (2 * i) d1))
-    → map bit fourth ≡ next_half (map bit second) (map bit third) (map bit (get_or keys (2 * i + 1) d2))
-    → after_rounds (take (2 * (i + 1)) (map (map bit) keys)) (map bit left) (map bit right) ≡ (map bit third, map bit fourth)
-bits-two_rounds {A} bit i keys left right first second third fourth d1 d2 below so_far one two =
-    let key : (n : ℕ) (d : List A) → n < length keys → map bit (get_or keys n d) ≡ get_or (map (map bit) keys) n [] =
-    λ n d inside. sym (get_or-map (map bit) keys n d [] inside) in
-    sym (after_rounds-two_more (map (map bit) keys) i (map bit left) (map bit right)
-    (map bit first) (map bit second) (map bit third) (map bit fourth) (omega (arith, length-map keys (map bit))) (sym so_far)
-    (one ∙ ap (next_half (map bit first) (map bit second)) (key (2 * i) d1 (omega arith)))
-    (two ∙ ap (next_half (map bit second) (map bit third)) (key (2 * i + 1) d2 below)))
+pub bits-two_rounds : (i : ℕ) (keys : List (List Bool)) (left right first second third fourth : List Bool) → 2 * i + 1 < length keys
+    → after_rounds (take (2 * i) keys) left right ≡ (first, second)
+    → third ≡ next_half first second (get_or keys (2 * i) [])
+    → fourth ≡ next_half second third (get_or keys (2 * i + 1) [])
+    → after_rounds (take (2 * (i + 1)) keys) left right ≡ (third, fourth)
+bits-two_rounds i keys left right first second third fourth below so_far one two =
+    sym (after_rounds-two_more keys i left right first second third fourth below (sym so_far) one two)
 
 -- ---- passes
 

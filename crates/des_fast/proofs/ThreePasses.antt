@@ -1,5 +1,6 @@
 -- Three passes, one after another.
-use Rattle.std.proofs.Common.{◌≡◌, ℕ, List, [], ◌∷◌, Bool, ap, sym, ◌∙◌}
+use Rattle.std.proofs.Common.{◌≡◌, ℕ, List, [], ◌∷◌, Bool, length, refl, ap, sym, ◌∙◌, arith}
+use Rattle.std.proofs.Math.ListN.{set}
 use Rattle.std.proofs.Math.Path.{fun_ext}
 use Rattle.des.specs.Bits.{bits_of_bytes}
 use Rattle.des.specs.Blocks.{block_of_bits}
@@ -25,3 +26,19 @@ block_through_passes-three first second third =
     let two : bits_of_bytes (answer_by second (answer_by first block)) ≡ through_rounds second (through_rounds first bits) =
     bits_of_bytes-answer_by second (answer_by first block) ∙ ap (through_rounds second) one in
     ap (λ (bits : List Bool). block_of_bits (through_rounds third bits)) (sym two))
+
+-- three passes by the same round keys
+pub through-same : {a b c d e f : List (List Bool)} → a ≡ d → b ≡ e → c ≡ f
+    → through (answer_by a) (answer_by b) (answer_by c) ≡ through (answer_by d) (answer_by e) (answer_by f)
+through-same {a} {b} {c} {d} {e} {f} first second third =
+    ap (λ x. through (answer_by x) (answer_by b) (answer_by c)) first
+    ∙ ap (λ x. through (answer_by d) (answer_by x) (answer_by c)) second
+    ∙ ap (λ x. through (answer_by d) (answer_by e) (answer_by x)) third
+
+-- a list of three, of which each is written
+pub three-written : {X : Type 0} (xs : List X) (x y z : X) → length xs ≡ 3 → set (set (set xs 0 x) 1 y) 2 z ≡ x ∷ y ∷ z ∷ []
+three-written [] x y z three = absurd (omega arith)
+three-written (a ∷ []) x y z three = absurd (omega arith)
+three-written (a ∷ b ∷ []) x y z three = absurd (omega arith)
+three-written (a ∷ b ∷ c ∷ []) x y z three = refl
+three-written (a ∷ b ∷ c ∷ d ∷ xs) x y z three = absurd (omega arith)

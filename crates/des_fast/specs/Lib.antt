@@ -1,9 +1,12 @@
 pub mod Groups
 pub mod Slices
 pub mod Transposition
+pub mod RoundKeySlices
 pub mod Passes
+pub mod SpreadKeys
 pub mod CombinedTables
 pub mod RoundKeyRows
 pub mod HalfBlocks
 pub mod Des
+pub mod Words
 pub mod Laws

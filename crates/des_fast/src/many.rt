@@ -4,8 +4,8 @@
 //! The calls named `_by` take the width from the caller: `cipher.encrypt_many_by::<u64x4>(blocks)`
 //! takes 256 blocks at a time, which is quicker in a program that is built for a processor with
 //! vectors of 256 bits, and slower elsewhere. A list, or what a list has after its last whole
-//! batch, goes through the rounds in a batch that is filled up with zeros: no list takes longer
-//! than the next longer one of whole batches, and no call reads a table at an index that depends
+//! batch, goes through the rounds in a batch that is filled up with zeros: a list takes about as
+//! long as the next longer one of whole batches, and no call reads a table at an index that depends
 //! on the key or on a block.
 
 ghost use Rattle.std.specs.Prelude.{◌≡◌, ◌≤◌, List, Bool, length, map, take};
@@ -17,15 +17,17 @@ ghost use Rattle.des_fast.specs.Passes.{HoldPasses, block_through_passes};
 mod chains;
 mod ciphers;
 mod passes;
+mod spread;
 
 pub use crate::slices::Slice;
-use crate::slices::{KeySlices, LARGEST_BATCH, slices_of, slices_through_passes, write_blocks};
+use crate::slices::{LARGEST_BATCH, PassSlices, slices_of, slices_through_passes, write_blocks};
 use des::cipher::{BlockCipherDecrypt, BlockCipherEncrypt};
 pub use passes::Passes;
+pub use spread::{ListKeys, SpreadKeys, SpreadOnce};
 use std::simd::prelude::*;
 
 // Takes a batch of blocks through passes.
-fn answer_batch<S: Slice>(blocks: &mut [[u8; 8]], passes: &[KeySlices<S>])
+fn answer_batch<S: Slice>(blocks: &mut [[u8; 8]], passes: &[PassSlices<S>])
     requires { length blocks.old ≡ S.BATCH }
     ensures { (keys : List (List (List Bool))) → HoldPasses S.BATCH S.bit passes.now keys
         → blocks.new ≡ map (block_through_passes keys) blocks.old }
@@ -36,7 +38,7 @@ fn answer_batch<S: Slice>(blocks: &mut [[u8; 8]], passes: &[KeySlices<S>])
 
 // What passes make of at most a batch of blocks: the first blocks of an array. They go through
 // the passes in a batch that is filled up with zeros.
-fn answers_of<S: Slice>(blocks: &[[u8; 8]], passes: &[KeySlices<S>]) -> [[u8; 8]; LARGEST_BATCH]
+fn answers_of<S: Slice>(blocks: &[[u8; 8]], passes: &[PassSlices<S>]) -> [[u8; 8]; LARGEST_BATCH]
     requires { length blocks.now ≤ S.BATCH }
     ensures { (keys : List (List (List Bool))) → HoldPasses S.BATCH S.bit passes.now keys
         → take (length blocks.now) result ≡ map (block_through_passes keys) blocks.now }
@@ -48,7 +50,7 @@ fn answers_of<S: Slice>(blocks: &[[u8; 8]], passes: &[KeySlices<S>]) -> [[u8; 8]
 }
 
 // Takes at most a batch of blocks through passes.
-fn answer_part<S: Slice>(blocks: &mut [[u8; 8]], passes: &[KeySlices<S>])
+fn answer_part<S: Slice>(blocks: &mut [[u8; 8]], passes: &[PassSlices<S>])
     requires { length blocks.old ≤ S.BATCH }
     ensures { (keys : List (List (List Bool))) → HoldPasses S.BATCH S.bit passes.now keys
         → blocks.new ≡ map (block_through_passes keys) blocks.old }
@@ -71,7 +73,7 @@ fn next_count<S: Slice>(left: usize) -> usize
 }
 
 // Takes blocks through passes, batch after batch, and then what is left over.
-fn answer<S: Slice>(blocks: &mut [[u8; 8]], passes: &[KeySlices<S>])
+fn answer<S: Slice>(blocks: &mut [[u8; 8]], passes: &[PassSlices<S>])
     ensures { (keys : List (List (List Bool))) → HoldPasses S.BATCH S.bit passes.now keys
         → blocks.new ≡ map (block_through_passes keys) blocks.old }
 {
@@ -86,9 +88,9 @@ fn answer<S: Slice>(blocks: &mut [[u8; 8]], passes: &[KeySlices<S>])
 /// A block cipher that treats many blocks of a list together. No call changes the cipher.
 ///
 /// A type writes the three calls over any width; those over vectors of two words have their bodies
-/// here. The five ciphers of this crate take no memory, but keep their round keys on the stack
-/// during a call, spread over slices: 12,288 bytes for each pass of DES over vectors of two words,
-/// 24,576 over vectors of four.
+/// here. The five ciphers of this crate take no memory, but keep the halves C and D of their keys
+/// on the stack during a call, spread over slices: 1,800 bytes for each pass of DES over vectors of
+/// two words, 3,600 over vectors of four.
 pub trait ManyBlocks: BlockCipherEncrypt + BlockCipherDecrypt {
     /// Encrypts each block of 8 bytes in place, in order, as `encrypt_blocks` does, `S::BATCH`
     /// blocks at a time. An empty list stays empty.

@@ -11,6 +11,7 @@ ghost use Rattle.std.specs.Prelude.{◌≡◌, ◌≤◌, ◌<◌, [], ◌∷◌
 ghost use Rattle.des.specs.Bits.{bits_of_word};
 ghost use Rattle.des.specs.KeySchedule.{key_schedule};
 ghost use Rattle.des_fast.specs.HalfBlocks.{round_keys_of};
+ghost use Rattle.des_fast.specs.RoundKeySlices.{AreScheduled};
 ghost use Rattle.des_fast.specs.RoundKeyRows.{alternating, windows, key_rows, exchanged, exchanged_pairs, transposed};
 
 use crate::halves::RoundKey;
@@ -23,9 +24,28 @@ type Rows = [u64; 16];
 // the last row, is of the rotation by 28, and so of the last round.
 const ROWS_OF_ROUNDS: [u8; 16] = [0, 13, 11, 9, 7, 5, 3, 1, 14, 12, 10, 8, 6, 4, 2, 15];
 
-/// The round keys K(1) to K(16) of a key of 64 bits (FIPS 46-3, key schedule).
-pub(crate) fn round_keys(key: u64) -> [RoundKey; 16]
-    ensures { round_keys_of result ≡ key_schedule (bits_of_word key) }
+/// The sixteen round keys of a key.
+#[derive(Clone, Copy)]
+pub(crate) struct KeySchedule {
+    pub(crate) round_keys: [RoundKey; 16],
+    ghost scheduled: { AreScheduled round_keys },
+}
+
+impl KeySchedule {
+    /// The key schedule of a key of 64 bits (FIPS 46-3, key schedule).
+    pub(crate) fn new(key: u64) -> KeySchedule
+        ensures { round_keys_of result.round_keys ≡ key_schedule (bits_of_word key) }
+    {
+        KeySchedule {
+            round_keys: round_keys(key),
+        }
+    }
+}
+
+// The round keys K(1) to K(16) of a key of 64 bits.
+fn round_keys(key: u64) -> [RoundKey; 16]
+    ensures made { round_keys_of result ≡ key_schedule (bits_of_word key) }
+    ensures scheduled { AreScheduled result }
 {
     let words = transposed(key_rows(utils::pc1(key)));
     let mut round_keys = [RoundKey { groups: 0 }; 16];

@@ -10,8 +10,8 @@ ghost use Rattle.des.specs.Enciphering.{Enciphers};
 ghost use Rattle.des.specs.declared.des.Des as port;
 ghost use Rattle.des_fast.specs.Des.{IsDesOf, encrypted as encrypted_by, decrypted as decrypted_by};
 
-use crate::halves::{Halves, RoundKey};
-use crate::schedule;
+use crate::halves::Halves;
+use crate::schedule::KeySchedule;
 use des::cipher::{
     AlgorithmName, BlockCipher, BlockCipherDecrypt, BlockCipherEncrypt, BlockSizeUser,
     Complementing, KeyInit, KeySizeUser, KeyedCipher, ParBlocksSizeUser, Relating,
@@ -25,7 +25,7 @@ use std::fmt;
 /// included; its parity bits (bits 8, 16, .., 64) are neither tested nor used.
 #[derive(Drop)]
 pub struct Des {
-    pub(crate) round_keys: [RoundKey; 16],
+    pub(crate) schedule: KeySchedule,
 }
 
 impl KeySizeUser for Des {
@@ -55,7 +55,7 @@ impl KeyInit for Des {
             → AnswerAlike (decrypted_by result) (port_of.decrypted other) }
     {
         Des {
-            round_keys: schedule::round_keys(u64::from_be_bytes(*key)),
+            schedule: KeySchedule::new(u64::from_be_bytes(*key)),
         }
     }
 }
@@ -95,7 +95,7 @@ impl BlockCipherEncrypt for Des {
             → IsTheOne (λ answer. Enciphers key block.old answer) block.new }
     {
         *block = Halves::of_block(block)
-            .enciphered(&self.round_keys)
+            .enciphered(&self.schedule.round_keys)
             .into_block();
     }
 }
@@ -112,7 +112,7 @@ impl BlockCipherDecrypt for Des {
             → IsTheOne (λ answer. Enciphers key answer block.old) block.new }
     {
         *block = Halves::of_block(block)
-            .deciphered(&self.round_keys)
+            .deciphered(&self.schedule.round_keys)
             .into_block();
     }
 }
@@ -167,8 +167,8 @@ impl Clone for Des {
     ghost is_infallible = { λ _. ⊤ };
 
     fn clone(&self) -> Result<Des, AllocError> {
-        let round_keys = self.round_keys;
-        Ok(Des { round_keys })
+        let schedule = self.schedule;
+        Ok(Des { schedule })
     }
 }
 

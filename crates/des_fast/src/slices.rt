@@ -4,6 +4,7 @@
 //! All is written once, over the width: what a slice must be is said by the trait `Slice`.
 
 ghost use Rattle.std.specs.Prelude.{◌≡◌, ◌<◌, ◌*◌, ◌+◌, ◌%◌, ◌≤◌, ◌&&◌, ◌||◌, Bool, true, ℕ, [], ◌∷◌, IsTrue, length, not, slice_index_or};
+ghost use Rattle.std.specs.Align.{type_align};
 ghost use Rattle.std.specs.Mem.{type_size};
 ghost use Rattle.des.specs.Bits.{bits_of_bytes, bits_of_word, xor};
 ghost use Rattle.des_fast.specs.Slices.{InEachBlock};
@@ -16,8 +17,8 @@ mod rows;
 mod transposition;
 mod vectors;
 
-pub(crate) use keys::spread_round_keys;
-pub(crate) use passes::{KeySlices, slices_through_passes};
+pub(crate) use keys::{Pass, PassSlices};
+pub(crate) use passes::slices_through_passes;
 use rows::{read_rows, write_rows};
 use transposition::{Rows, transpose};
 
@@ -84,8 +85,10 @@ pub trait Slice: Copy {
 
     ghost at_most: { BATCH ≤ 256 };
 
-    // A slice takes few bytes, so that arrays of slices fit in memory.
+    // A slice takes few bytes, and so do gaps before it, so that arrays of slices fit in memory.
     ghost few_bytes: { type_size Self.row ≤ 32 };
+
+    ghost small_gaps: { type_align Self.row ≤ 64 };
 
     // Exchanges in words transpose bytes, and bits of bytes.
     ghost bytes: { all_come_from BATCH 32 16 8 bytes_from ≡ true };

@@ -54,11 +54,11 @@ fn encrypt_ede(first: &Des, second: &Des, third: &Des, block: &mut [u8; 8])
         ≡ through (encrypted first.now) (decrypted second.now) (encrypted third.now) block.old }
 {
     *block = Halves::of_block(block)
-        .enciphered(&first.round_keys)
+        .enciphered(&first.schedule.round_keys)
         .swapped()
-        .deciphered(&second.round_keys)
+        .deciphered(&second.schedule.round_keys)
         .swapped()
-        .enciphered(&third.round_keys)
+        .enciphered(&third.schedule.round_keys)
         .into_block();
 }
 
@@ -69,11 +69,11 @@ fn decrypt_ede(first: &Des, second: &Des, third: &Des, block: &mut [u8; 8])
         ≡ through (decrypted third.now) (encrypted second.now) (decrypted first.now) block.old }
 {
     *block = Halves::of_block(block)
-        .deciphered(&third.round_keys)
+        .deciphered(&third.schedule.round_keys)
         .swapped()
-        .enciphered(&second.round_keys)
+        .enciphered(&second.schedule.round_keys)
         .swapped()
-        .deciphered(&first.round_keys)
+        .deciphered(&first.schedule.round_keys)
         .into_block();
 }
 
@@ -84,11 +84,11 @@ fn encrypt_eee(first: &Des, second: &Des, third: &Des, block: &mut [u8; 8])
         ≡ through (encrypted first.now) (encrypted second.now) (encrypted third.now) block.old }
 {
     *block = Halves::of_block(block)
-        .enciphered(&first.round_keys)
+        .enciphered(&first.schedule.round_keys)
         .swapped()
-        .enciphered(&second.round_keys)
+        .enciphered(&second.schedule.round_keys)
         .swapped()
-        .enciphered(&third.round_keys)
+        .enciphered(&third.schedule.round_keys)
         .into_block();
 }
 
@@ -99,10 +99,10 @@ fn decrypt_eee(first: &Des, second: &Des, third: &Des, block: &mut [u8; 8])
         ≡ through (decrypted third.now) (decrypted second.now) (decrypted first.now) block.old }
 {
     *block = Halves::of_block(block)
-        .deciphered(&third.round_keys)
+        .deciphered(&third.schedule.round_keys)
         .swapped()
-        .deciphered(&second.round_keys)
+        .deciphered(&second.schedule.round_keys)
         .swapped()
-        .deciphered(&first.round_keys)
+        .deciphered(&first.schedule.round_keys)
         .into_block();
 }

@@ -11,7 +11,7 @@ use Rattle.des_fast.specs.Des.{IsDesOf, encrypted, decrypted}
 
 -- a cipher is a pass
 pub IsPass-Des : (cipher : Des) → IsPass (encrypted cipher) (decrypted cipher)
-IsPass-Des cipher = IsPass-answer_by (round_keys_of cipher.round_keys)
+IsPass-Des cipher = IsPass-answer_by (round_keys_of cipher.schedule.round_keys)
 
 -- a cipher of a key answers as the key does, in each direction
 pub Agree-encrypted : (cipher : Des) (key : List ℕ) → IsDesOf cipher key

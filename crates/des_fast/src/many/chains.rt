@@ -6,11 +6,11 @@ ghost use Rattle.des.specs.Cbc.{Unchains};
 ghost use Rattle.des_fast.specs.Passes.{HoldPasses, block_through_passes};
 
 use super::{Slice, answers_of, next_count};
-use crate::slices::KeySlices;
+use crate::slices::PassSlices;
 use des::cbc;
 
 // Takes at most a batch of blocks through passes, and out of the chain that begins with `iv`.
-fn unchain_part<S: Slice>(blocks: &mut [[u8; 8]], iv: &[u8; 8], passes: &[KeySlices<S>])
+fn unchain_part<S: Slice>(blocks: &mut [[u8; 8]], iv: &[u8; 8], passes: &[PassSlices<S>])
     requires { length blocks.old ≤ S.BATCH }
     ensures { (keys : List (List (List Bool))) → HoldPasses S.BATCH S.bit passes.now keys
         → Unchains (block_through_passes keys) iv.now blocks.old blocks.new }
@@ -27,7 +27,7 @@ fn unchain_part<S: Slice>(blocks: &mut [[u8; 8]], iv: &[u8; 8], passes: &[KeySli
 
 /// Takes blocks through passes, and out of the chain that begins with `iv`, batch after batch, and
 /// then what is left over.
-pub(super) fn unchain<S: Slice>(blocks: &mut [[u8; 8]], iv: &[u8; 8], passes: &[KeySlices<S>])
+pub(super) fn unchain<S: Slice>(blocks: &mut [[u8; 8]], iv: &[u8; 8], passes: &[PassSlices<S>])
     ensures { (keys : List (List (List Bool))) → HoldPasses S.BATCH S.bit passes.now keys
         → Unchains (block_through_passes keys) iv.now blocks.old blocks.new }
 {

@@ -1,66 +1,92 @@
-//! Round keys as slices: each bit of a round key is the same for all blocks, so a slice of it is
-//! all ones or all zeros.
+//! Round keys as slices. A bit of a round key is the same for all blocks, so a slice of it is all
+//! ones or all zeros; and it is a bit of one of the halves C and D, which a round rotates. So a key
+//! has 56 slices. Those of C stand twice in a row, and so do those of D: in 56 slices that begin
+//! anywhere in the first half, all rotations of a half are there as they are.
 
-ghost use Rattle.std.specs.Prelude.{◌≡◌, ◌≤◌, ◌+◌, ◌==◌, IsTrue, length, map, slice_index};
-ghost use Rattle.std.specs.List.{list_all, range_with_len};
-ghost use Rattle.des.specs.Bits.{bit, bits_of_word};
-ghost use Rattle.des_fast.specs.Groups.{bits_of_groups, group_positions};
-ghost use Rattle.des_fast.specs.HalfBlocks.{round_keys_of};
-ghost use Rattle.des_fast.specs.Slices.{InEachBlock, HoldBelow};
+ghost use Rattle.std.specs.Prelude.{◌≡◌, ◌≤◌, map};
+ghost use Rattle.des.specs.Bits.{bit};
+ghost use Rattle.des_fast.specs.Slices.{InEachBlock, bits_of_slice};
+ghost use Rattle.des_fast.specs.RoundKeySlices.{halves_in, round_keys_of_pass, round_keys_in};
 
 use super::Slice;
-use super::passes::KeySlices;
 use crate::halves::RoundKey;
 
-// The slice of the bit at a position of a word, the same for all blocks.
-#[inline(always)]
-fn bit_slice<S: Slice>(word: u64, position: u32) -> S
-    requires from_one { 1 ≤ position }
-    requires to_last { position ≤ 64 }
-    ensures { InEachBlock S.BATCH (λ b. S.bit b result ≡ bit (bits_of_word word) position) }
-{
-    S::same((word >> (64 - position)) & 1 == 1)
+/// The slices of the halves C and D of a key: those of C, those of C again, and those of D, twice.
+pub(crate) type KeyHalves<S> = [S; 112];
+
+/// A pass of DES: the last two round keys of its key, in which all bits of C and D stand, and
+/// whether it takes the round keys from the last to the first.
+#[derive(Clone, Copy)]
+pub(crate) struct Pass {
+    pub(crate) fifteenth: RoundKey,
+    pub(crate) sixteenth: RoundKey,
+    pub(crate) deciphers: bool,
 }
 
-// Makes six slices, from index `first` on, those of the bits of a group, whose positions begin with
-// this one. They are written where they stand, since a copy of them takes longer.
+/// A pass of DES as slices.
+#[derive(Clone, Copy)]
+pub(crate) struct PassSlices<S> {
+    pub(super) halves: KeyHalves<S>,
+    pub(super) deciphers: bool,
+}
+
+// Where the bits of C and then those of D stand in the words of the last two round keys, from 1.
+// In the sixteenth, after 28 places, each is where it was at first; the four bits of each half that
+// it leaves out are in the fifteenth, one place on.
+#[rattlefmt::skip]
+const HALVES: [usize; 56] = [
+    71, 112, 99, 78, 72, 102, 108,
+    80, 40, 104, 69, 77, 111, 67,
+    101, 107, 68, 12, 76, 110, 103,
+    11, 75, 70, 15, 79, 109, 100,
+    127, 115, 85, 128, 119, 95, 62,
+    126, 86, 29, 93, 116, 83, 124,
+    27, 91, 118, 123, 87, 120, 92,
+    125, 117, 84, 96, 24, 88, 94,
+];
+
+// The slice of the bit at a position of two words, the same for all blocks.
 #[inline(always)]
-fn spread_group<S: Slice>(slices: &mut [S; 48], word: u64, first: usize, position: u32)
-    requires within { first ≤ 42 }
+fn bit_slice<S: Slice>(words: &[u64; 2], position: usize) -> S
     requires from_one { 1 ≤ position }
-    requires to_last { position ≤ 59 }
-    requires group { IsTrue (list_all (λ j. slice_index group_positions (first + j)
-        == position + j) (range_with_len 0 6)) }
-    ensures count { length slices.new ≡ 48 }
-    ensures held { InEachBlock S.BATCH (λ b.
-        HoldBelow (S.bit b) (bits_of_word word) group_positions first slices.old
-        → HoldBelow (S.bit b) (bits_of_word word) group_positions (first + 6) slices.new) }
+    requires to_last { position ≤ 128 }
+    ensures { InEachBlock S.BATCH (λ b. S.bit b result ≡ bit (bits_of_slice words.now) position) }
 {
-    for j in 0..6u32 {
-        slices[first + j as usize] = bit_slice(word, position + j);
+    let word = words[(position - 1) / 64];
+    S::same((word >> (63 - (position - 1) % 64)) & 1 == 1)
+}
+
+// Makes the slices those of the halves C and D that stand in two words.
+#[inline(always)]
+fn spread_halves<S: Slice>(halves: &mut KeyHalves<S>, words: &[u64; 2])
+    ensures { InEachBlock S.BATCH (λ b. map (S.bit b) halves.new ≡ halves_in words.now) }
+{
+    for n in 0..56usize {
+        let slice = bit_slice(words, HALVES[n]);
+        let place = n + n / 28 * 28;
+        halves[place] = slice;
+        halves[place + 28] = slice;
     }
 }
 
-// Makes the slices those of the 48 bits of a word of groups.
-fn spread_groups<S: Slice>(slices: &mut [S; 48], word: u64)
-    ensures { InEachBlock S.BATCH (λ b. map (S.bit b) slices.new ≡ bits_of_groups word) }
-{
-    spread_group(slices, word, 0, 3);
-    spread_group(slices, word, 6, 35);
-    spread_group(slices, word, 12, 11);
-    spread_group(slices, word, 18, 43);
-    spread_group(slices, word, 24, 19);
-    spread_group(slices, word, 30, 51);
-    spread_group(slices, word, 36, 27);
-    spread_group(slices, word, 42, 59);
-}
+impl<S: Slice> PassSlices<S> {
+    /// Slices that are written over.
+    #[inline(always)]
+    pub(crate) fn unwritten() -> PassSlices<S> {
+        PassSlices {
+            halves: [S::same(false); 112],
+            deciphers: false,
+        }
+    }
 
-/// Makes the slices those of sixteen round keys, in their order.
-pub(crate) fn spread_round_keys<S: Slice>(slices: &mut KeySlices<S>, round_keys: &[RoundKey; 16])
-    ensures { InEachBlock S.BATCH (λ b. map (map (S.bit b)) slices.new
-        ≡ round_keys_of round_keys.now) }
-{
-    for i in 0..16usize {
-        spread_groups(&mut slices[i], round_keys[i].groups);
+    /// Makes the slices those of a pass.
+    #[inline(always)]
+    pub(crate) fn spread(&mut self, pass: &Pass)
+        ensures { InEachBlock S.BATCH (λ b. round_keys_in (S.bit b) self.new
+            ≡ round_keys_of_pass pass.now) }
+    {
+        let words = [pass.fifteenth.groups, pass.sixteenth.groups];
+        spread_halves(&mut self.halves, &words);
+        self.deciphers = pass.deciphers;
     }
 }

@@ -10,16 +10,15 @@ ghost use Rattle.des.specs.Tables.{initial_permutation, final_permutation};
 ghost use Rattle.des.specs.Rounds.{after_rounds};
 ghost use Rattle.des_fast.specs.Slices.{InEachBlock};
 ghost use Rattle.des_fast.specs.Passes.{through_passes};
+ghost use Rattle.des_fast.specs.RoundKeySlices.{rotations, round_keys_in};
 
 use super::Slice;
+use super::keys::PassSlices;
 use super::rounds::round;
 use super::transposition::Rows;
 
 /// A half block of each block.
 type Half<S> = [S; 32];
-
-/// The sixteen round keys of a pass, in its order, as slices.
-pub(crate) type KeySlices<S> = [[S; 48]; 16];
 
 // The left half of the initial permutation IP, in the rows of the standard's table.
 #[rattlefmt::skip]
@@ -82,23 +81,42 @@ fn joined<S: Slice>(left: &Half<S>, right: &Half<S>) -> Rows<S>
     selection(&both, &FINAL)
 }
 
+// How far C and D are rotated in each round, from the first to the last.
+const ROTATIONS: [usize; 16] = [1, 2, 4, 6, 8, 10, 12, 14, 15, 17, 19, 21, 23, 25, 27, 28];
+
+// The same from the last to the first.
+const ROTATIONS_REVERSED: [usize; 16] = [28, 27, 25, 23, 21, 19, 17, 15, 14, 12, 10, 8, 6, 4, 2, 1];
+
+// How far C and D are rotated in each round of a pass.
+#[inline(always)]
+fn rotations(deciphers: bool) -> [usize; 16]
+    ensures { result ≡ rotations deciphers }
+{
+    if deciphers {
+        ROTATIONS_REVERSED
+    } else {
+        ROTATIONS
+    }
+}
+
 // The sixteen rounds of a pass.
-fn sixteen_rounds<S: Slice>(left: &mut Half<S>, right: &mut Half<S>, keys: &KeySlices<S>)
+fn sixteen_rounds<S: Slice>(left: &mut Half<S>, right: &mut Half<S>, pass: &PassSlices<S>)
     ensures { InEachBlock S.BATCH (λ b.
-        after_rounds (map (map (S.bit b)) keys.now) (map (S.bit b) left.old)
+        after_rounds (round_keys_in (S.bit b) pass.now) (map (S.bit b) left.old)
         (map (S.bit b) right.old)
         ≡ (map (S.bit b) left.new, map (S.bit b) right.new)) }
 {
+    let rotations = rotations(pass.deciphers);
     'pairs: for i in 0..8usize {
-        round(left, right, &keys[2 * i]);
-        round(right, left, &keys[2 * i + 1]);
+        round(left, right, &pass.halves, rotations[2 * i]);
+        round(right, left, &pass.halves, rotations[2 * i + 1]);
     }
 }
 
 /// Takes slices through passes, one after another.
-pub(crate) fn slices_through_passes<S: Slice>(slices: &Rows<S>, passes: &[KeySlices<S>]) -> Rows<S>
+pub(crate) fn slices_through_passes<S: Slice>(slices: &Rows<S>, passes: &[PassSlices<S>]) -> Rows<S>
     ensures { InEachBlock S.BATCH (λ b. map (S.bit b) result
-        ≡ through_passes (map (map (map (S.bit b))) passes.now) (map (S.bit b) slices.now)) }
+        ≡ through_passes (map (round_keys_in (S.bit b)) passes.now) (map (S.bit b) slices.now)) }
 {
     let mut left = selection(slices, &INITIAL_LEFT);
     let mut right = selection(slices, &INITIAL_RIGHT);

@@ -71,6 +71,8 @@ impl Slice for u64x2 {
 
     ghost few_bytes = { lit≤ tt };
 
+    ghost small_gaps = { lit≤ tt };
+
     ghost bytes = { refl };
 
     ghost bits = { refl };
@@ -142,6 +144,8 @@ impl Slice for u64x4 {
     ghost at_most = { lit≤ tt };
 
     ghost few_bytes = { lit≤ tt };
+
+    ghost small_gaps = { lit≤ tt };
 
     ghost bytes = { refl };
 

@@ -6,6 +6,7 @@ use Rattle.des.proofs.Traces.{half_block-key_schedule, length-key_schedule}
 use Rattle.des_fast.specs.RoundKeyRows.{key_rows, transposed}
 use Rattle.des_fast.proofs.KeyRows.{IsRoundKey-row}
 use Rattle.des_fast.proofs.RoundKeysByPlace.{round_keys_of-by_index}
+use Rattle.des_fast.proofs.ScheduledHalves.{AreScheduled-key}
 use Rattle.des_fast.proofs.schedule.round_keys.Goals as goal
 
 pub invariant_of-round_keys-in-loop-i : goal.invariant_of-round_keys-in-loop-i
@@ -32,8 +33,8 @@ loop-i-preserved c =
           (λ d. let lt : i < length c.loop-i.round_keys = omega arith in rw get_or-set_same is.bits);
     }
 
-pub returns : goal.returns
-returns c =
+pub returns-clause-made : goal.returns-clause-made
+returns-clause-made c =
     let key : List Bool = bits_of_word c.args.key in
     round_keys_of-by_index c.loop-i.round_keys (key_schedule key) (c.loop-i.invariant.sixteen ∙ sym (length-key_schedule key))
     (λ i d below.
@@ -41,3 +42,8 @@ returns c =
     c.loop-i.invariant.made i (omega arith) d
     ∙ ap (round_key key) (add-one i)
     ∙ sym (half_block-key_schedule key i within))
+
+pub returns-clause-scheduled : goal.returns-clause-scheduled
+returns-clause-scheduled c =
+    AreScheduled-key c.loop-i.round_keys c.pc1.result (bits_of_word c.args.key) c.loop-i.invariant.sixteen
+    c.pc1.ensures.selected (returns-clause-made c)

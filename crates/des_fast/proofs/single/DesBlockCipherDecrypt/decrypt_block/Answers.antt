@@ -10,7 +10,7 @@ use Rattle.des_fast.proofs.single.DesBlockCipherDecrypt.decrypt_block.Goals as g
 
 pub returns-clause-decrypted : goal.returns-clause-decrypted
 returns-clause-decrypted c =
-    let keys = reverse (round_keys_of c.args.self.now.round_keys) in
+    let keys = reverse (round_keys_of c.args.self.now.schedule.round_keys) in
     c.into_block.ensures
     ∙ ap last_block (c.deciphered.ensures ∙ ap (after keys) c.of_block.ensures.halves)
     ∙ sym (answer_by-halves keys c.args.block.now)

@@ -10,7 +10,7 @@ use Rattle.des_fast.proofs.single.DesBlockCipherEncrypt.encrypt_block.Goals as g
 
 pub returns-clause-encrypted : goal.returns-clause-encrypted
 returns-clause-encrypted c =
-    let keys = round_keys_of c.args.self.now.round_keys in
+    let keys = round_keys_of c.args.self.now.schedule.round_keys in
     c.into_block.ensures
     ∙ ap last_block (c.enciphered.ensures ∙ ap (after keys) c.of_block.ensures.halves)
     ∙ sym (answer_by-halves keys c.args.block.now)

@@ -1,7 +1,10 @@
-use Rattle.std.proofs.Common.{sym, ◌∙◌}
-use Rattle.des_fast.proofs.KeySlices.{bit-shifted}
+use Rattle.std.proofs.Common.{ℕ, ◌-◌, ◌/◌, ◌%◌, get_or, sym, ◌∙◌, arith}
+use Rattle.des_fast.proofs.WordPlaces.{bit_of_block-at}
+use Rattle.des_fast.proofs.KeySlices.{bit_in-shifted}
 use Rattle.des_fast.proofs.slices.keys.bit_slice.Goals as goal
 
 pub returns : goal.returns
 returns g c b within =
-    c.same.ensures b within ∙ sym (bit-shifted c.args.word c.args.position c.requires.from_one c.requires.to_last)
+    let place : ℕ = c.args.position - 1 in
+    c.same.ensures b within
+    ∙ sym (bit_of_block-at c.args.words.now place ∙ bit_in-shifted (get_or c.args.words.now (place / 64) 0) (place % 64) (omega arith))

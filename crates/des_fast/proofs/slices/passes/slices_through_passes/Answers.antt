@@ -5,6 +5,7 @@ use Rattle.des.specs.Bits.{select}
 use Rattle.des.specs.Rounds.{after_rounds}
 use Rattle.des.specs.Laws.RoundsUndone.{AreHalves, AreHalves-after_rounds}
 use Rattle.des_fast.specs.Passes.{through_passes}
+use Rattle.des_fast.specs.RoundKeySlices.{round_keys_in}
 use Rattle.des_fast.proofs.PassesOnSlices.{through_passes-more, through_passes-joined}
 use Rattle.des_fast.proofs.slices.passes.slices_through_passes.Goals as goal
 
@@ -25,25 +26,27 @@ passes-preserved g c b within =
     let right : List Bool = read c.passes.right in
     let last : List Bool = read c.sixteen_rounds.new.left in
     let next : List Bool = read c.sixteen_rounds.new.right in
-    let passes : List (List (List Bool)) = map (map read) c.args.passes.now in
+    let keys = round_keys_in (g.S.Slice.bit b) in
+    let passes : List (List (List Bool)) = map keys c.args.passes.now in
     let halves : AreHalves (left, right) = (c.passes.invariant b within).0 in
     let rounds : after_rounds (get_or passes n []) left right ≡ (last, next) =
     ap (λ (ks : List (List Bool)). after_rounds ks left right)
-    (get_or-map (map read) c.args.passes.now n c.index-passes-i.result [] inside ∙ ap (map read) (sym c.index-passes-i.is))
+    (get_or-map keys c.args.passes.now n c.index-passes-i.result [] inside ∙ ap keys (sym c.index-passes-i.is))
     ∙ c.sixteen_rounds.ensures b within in
     let made : AreHalves (last, next) = subst AreHalves rounds (AreHalves-after_rounds (get_or passes n []) left right halves) in (
       (made.1, made.0),
       through_passes-more passes n (read c.args.slices.now) left right last next
-          (omega (arith, length-map c.args.passes.now (map read))) halves.0 halves.1 (c.passes.invariant b within).1 rounds,
+          (omega (arith, length-map c.args.passes.now keys)) halves.0 halves.1 (c.passes.invariant b within).1 rounds,
     )
 
 pub returns : goal.returns
 returns g c b within =
     let n : ℕ = c.passes.i in
     let read = map (g.S.Slice.bit b) in
-    let passes : List (List (List Bool)) = map (map read) c.args.passes.now in
+    let keys = round_keys_in (g.S.Slice.bit b) in
+    let passes : List (List (List Bool)) = map keys c.args.passes.now in
     let bits : List Bool = read c.args.slices.now in
-    let all : length passes ≤ n = omega (arith, length-map c.args.passes.now (map read)) in
+    let all : length passes ≤ n = omega (arith, length-map c.args.passes.now keys) in
     c.joined.ensures b within
     ∙ through_passes-joined (take n passes) bits (read c.passes.left) (read c.passes.right)
     (length-map c.args.slices.now (g.S.Slice.bit b) ∙ c.told-slices) (c.passes.invariant b within).1

@@ -4,6 +4,7 @@ use Rattle.std.proofs.lemmas.List.{length-map}
 use Rattle.des.specs.Bits.{select, xor_bits}
 use Rattle.des.specs.Tables.{s1, s2, s3, s4, s5, s6, s7, s8, expansion}
 use Rattle.des.specs.CipherFunction.{cipher_function}
+use Rattle.des_fast.specs.RoundKeySlices.{round_key_of}
 use Rattle.des_fast.proofs.CipherFunctionByGroups.{xor_entries-substitute}
 use Rattle.des_fast.proofs.RoundSteps.{bits-step}
 use Rattle.des_fast.proofs.slices.rounds.round.Goals as goal
@@ -11,7 +12,8 @@ use Rattle.des_fast.proofs.slices.rounds.round.Goals as goal
 pub returns : goal.returns
 unfolding cipher_function
 returns g c b within =
-    let mixed : List Bool = xor_bits (select expansion (map (g.S.Slice.bit b) c.args.right.now)) (map (g.S.Slice.bit b) c.args.round_key.now) in
+    let round_key : List Bool = round_key_of (map (g.S.Slice.bit b) c.args.key.now) c.args.rotation in
+    let mixed : List Bool = xor_bits (select expansion (map (g.S.Slice.bit b) c.args.right.now)) round_key in
     let left_1 =
     bits-step (g.S.Slice.bit b) 0 s1 (8 ∷ 16 ∷ 22 ∷ 30 ∷ []) c.args.left.now c.xor_at.new.half c.group.result c.s1.result _ mixed _ _ _ _ _ _
     refl (omega arith) (c.group.ensures b within) (c.s1.ensures b within) (c.xor_at.ensures b within) in

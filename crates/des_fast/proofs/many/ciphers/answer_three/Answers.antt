@@ -1,0 +1,19 @@
+use Rattle.std.proofs.Common.{◌≡◌, ℕ, List, Bool, [], ◌∷◌, map, subst, arith}
+use Rattle.des_fast.specs.RoundKeySlices.{round_keys_of_pass}
+use Rattle.des_fast.proofs.SliceSizes.{pass_slices-le}
+use Rattle.des_fast.proofs.ThreePasses.{block_through_passes-three}
+use Rattle.des_fast.proofs.many.ciphers.answer_three.Goals as goal
+
+pub returns : goal.returns
+returns g c =
+    let first : List (List Bool) = round_keys_of_pass c.args.three.now.first in
+    let second : List (List Bool) = round_keys_of_pass c.args.three.now.second in
+    let third : List (List Bool) = round_keys_of_pass c.args.three.now.third in
+    subst (λ (f : List ℕ → List ℕ). c.answer.new.blocks ≡ map f c.args.blocks.now) (block_through_passes-three first second third)
+    (c.answer.ensures (first ∷ second ∷ third ∷ []) c.spread.ensures)
+
+pub shared_whole_as_slice-answer : goal.shared_whole_as_slice-answer
+shared_whole_as_slice-answer g c = omega (arith, pass_slices-le _ _ g.met.S.Slice.small_gaps g.met.S.Slice.few_bytes)
+
+pub answer-requires : goal.answer-requires
+answer-requires g c = omega (arith, pass_slices-le _ _ g.met.S.Slice.small_gaps g.met.S.Slice.few_bytes)

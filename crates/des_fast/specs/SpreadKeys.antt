@@ -1,0 +1,23 @@
+-- Keys that are spread over slices once.
+use Rattle.std.specs.Prelude.{◌≡◌, ℕ, List, Bool, true, false, take}
+use Rattle.des_fast.specs.declared.slices.keys.PassSlices.{PassSlices}
+use Rattle.des_fast.specs.declared.many.spread.SpreadKeys.{SpreadKeys}
+use Rattle.des_fast.specs.Passes.{HoldPasses, block_through_passes}
+
+-- of three passes, those that are used: of single DES the first
+abbrev pub used : {A : Type 0} → Bool → List (PassSlices A) → List (PassSlices A)
+used true passes = passes
+used false passes = take 1 passes
+
+-- the slices hold passes that answer so
+pub record AreSlicesFor {A : Type 0} (batch : ℕ) (bit : ℕ → A → Bool) (slices : List (PassSlices A))
+    (answer : List ℕ → List ℕ) : Type 0 where
+  pub keys : List (List (List Bool))
+  pub hold : HoldPasses batch bit slices keys
+  pub answers : block_through_passes keys ≡ answer
+
+-- the keys encrypt and decrypt a block so
+pub record AreSpreadKeys {A : Type 0} (batch : ℕ) (bit : ℕ → A → Bool) (keys : SpreadKeys A)
+    (encrypted decrypted : List ℕ → List ℕ) : Type 0 where
+  pub encryption : AreSlicesFor batch bit (used keys.is_triple keys.encryption) encrypted
+  pub decryption : AreSlicesFor batch bit (used keys.is_triple keys.decryption) decrypted

@@ -1,0 +1,14 @@
+-- Round keys as plain words, which a caller keeps in memory of its own.
+use Rattle.std.specs.Prelude.{◌≡◌, ℕ, List, Bool, map}
+use Rattle.des.specs.Bits.{bits_of_bytes}
+use Rattle.des.specs.Blocks.{IsKey}
+use Rattle.des.specs.KeySchedule.{key_schedule}
+use Rattle.des_fast.specs.Groups.{bits_of_groups}
+
+-- the round keys in the groups of words; what stands beside the groups counts for nothing
+unfoldable pub round_keys_in : List ℕ → List (List Bool)
+round_keys_in words = map bits_of_groups words
+
+-- the words hold the sixteen round keys of the key of eight bytes
+abbrev pub AreRoundKeysOf : List ℕ → List ℕ → Type 0
+AreRoundKeysOf words key = IsKey 8 key × (round_keys_in words ≡ key_schedule (bits_of_bytes key))

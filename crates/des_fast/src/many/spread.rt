@@ -1,0 +1,137 @@
+//! Keys that are spread over slices once, for many lists.
+
+ghost use Rattle.std.specs.Prelude.{◌≡◌, ℕ, List, map};
+ghost use Rattle.std.specs.List.{All};
+ghost use Rattle.des.specs.Blocks.{IsBlock};
+ghost use Rattle.des.specs.Cbc.{Unchains};
+ghost use Rattle.des_fast.specs.SpreadKeys.{AreSpreadKeys, used};
+
+use super::{ManyBlocks, Slice, answer, chains};
+use crate::slices::PassSlices;
+use crate::{Des, TdesEde2, TdesEde3, TdesEee2, TdesEee3};
+use des::cipher::are_blocks;
+use des::tdes::BatchedTriple;
+
+/// The keys of a cipher, spread over slices of a width, for those who have many short lists under
+/// one key: a list then takes the time of its batches alone. They answer as the cipher does, by the
+/// calls of `ListKeys`, and take some 11,000 bytes over vectors of two words, and 22,000 over four.
+#[derive(Drop)]
+pub struct SpreadKeys<S> {
+    encryption: [PassSlices<S>; 3],
+    decryption: [PassSlices<S>; 3],
+    is_triple: bool,
+}
+
+// The passes that are used.
+#[inline(always)]
+fn used<S: Slice>(passes: &[PassSlices<S>; 3], is_triple: bool) -> &[PassSlices<S>]
+    ensures { result.now ≡ used is_triple passes.now }
+{
+    if is_triple { passes } else { &passes[..1] }
+}
+
+/// Keys that answer lists, without the cipher that they were taken from. No call changes them.
+pub trait ListKeys {
+    // Whether a cipher that encrypts and decrypts a block so has these keys.
+    ghost are_keys: { Self → (List ℕ → List ℕ) → (List ℕ → List ℕ) → Type 0 };
+
+    /// Encrypts each block of 8 bytes in place, in order, as `encrypt_many` of a cipher whose keys
+    /// these are. An empty list stays empty.
+    fn encrypt_many(&self, blocks: &mut [[u8; 8]])
+        ensures blocks { All IsBlock blocks.old }
+        ensures encrypted { (encrypted decrypted : List ℕ → List ℕ)
+            → are_keys self.now encrypted decrypted → blocks.new ≡ map encrypted blocks.old };
+
+    /// Decrypts each block of 8 bytes in place, in order, as `decrypt_many` of a cipher whose keys
+    /// these are. An empty list stays empty.
+    fn decrypt_many(&self, blocks: &mut [[u8; 8]])
+        ensures blocks { All IsBlock blocks.old }
+        ensures decrypted { (encrypted decrypted : List ℕ → List ℕ)
+            → are_keys self.now encrypted decrypted → blocks.new ≡ map decrypted blocks.old };
+
+    /// Decrypts in place a list of blocks of 8 bytes that CBC chained from the initialization
+    /// vector, as `decrypt_cbc` of a cipher whose keys these are. An empty list stays empty.
+    fn decrypt_cbc(&self, iv: &[u8; 8], blocks: &mut [[u8; 8]])
+        ensures blocks { All IsBlock blocks.old }
+        ensures unchained { (encrypted decrypted : List ℕ → List ℕ)
+            → are_keys self.now encrypted decrypted
+            → Unchains decrypted iv.now blocks.old blocks.new };
+}
+
+impl<S: Slice> ListKeys for SpreadKeys<S> {
+    ghost are_keys = { AreSpreadKeys S.BATCH S.bit };
+
+    fn encrypt_many(&self, blocks: &mut [[u8; 8]]) {
+        are_blocks(blocks);
+        answer::<S>(blocks, used(&self.encryption, self.is_triple));
+    }
+
+    fn decrypt_many(&self, blocks: &mut [[u8; 8]]) {
+        are_blocks(blocks);
+        answer::<S>(blocks, used(&self.decryption, self.is_triple));
+    }
+
+    fn decrypt_cbc(&self, iv: &[u8; 8], blocks: &mut [[u8; 8]]) {
+        are_blocks(blocks);
+        chains::unchain::<S>(blocks, iv, used(&self.decryption, self.is_triple));
+    }
+}
+
+/// A block cipher whose keys are spread once for many lists.
+pub trait SpreadOnce: ManyBlocks {
+    /// The keys of this cipher, spread over slices of `S::BATCH` blocks.
+    fn spread_keys<S: Slice>(&self) -> SpreadKeys<S>
+        ensures { AreSpreadKeys S.BATCH S.bit result (Self.encrypted self.now)
+            (Self.decrypted self.now) };
+}
+
+// The keys of a triple cipher.
+fn spread_triple<S: Slice, C: BatchedTriple<Des>>(cipher: &C) -> SpreadKeys<S>
+    ensures { AreSpreadKeys S.BATCH S.bit result (C.encrypted cipher.now) (C.decrypted cipher.now) }
+{
+    let mut keys = SpreadKeys {
+        encryption: [PassSlices::unwritten(); 3],
+        decryption: [PassSlices::unwritten(); 3],
+        is_triple: true,
+    };
+    cipher.encryption_passes().spread(&mut keys.encryption);
+    cipher.decryption_passes().spread(&mut keys.decryption);
+    keys
+}
+
+impl SpreadOnce for Des {
+    fn spread_keys<S: Slice>(&self) -> SpreadKeys<S> {
+        let mut keys = SpreadKeys {
+            encryption: [PassSlices::unwritten(); 3],
+            decryption: [PassSlices::unwritten(); 3],
+            is_triple: false,
+        };
+        keys.encryption[0].spread(&self.enciphering());
+        keys.decryption[0].spread(&self.deciphering());
+        keys
+    }
+}
+
+impl SpreadOnce for TdesEde3 {
+    fn spread_keys<S: Slice>(&self) -> SpreadKeys<S> {
+        spread_triple(self)
+    }
+}
+
+impl SpreadOnce for TdesEee3 {
+    fn spread_keys<S: Slice>(&self) -> SpreadKeys<S> {
+        spread_triple(self)
+    }
+}
+
+impl SpreadOnce for TdesEde2 {
+    fn spread_keys<S: Slice>(&self) -> SpreadKeys<S> {
+        spread_triple(self)
+    }
+}
+
+impl SpreadOnce for TdesEee2 {
+    fn spread_keys<S: Slice>(&self) -> SpreadKeys<S> {
+        spread_triple(self)
+    }
+}
