@@ -1,5 +1,6 @@
 //! The table of all figures: a row for each cipher, block by block and by the calls for lists, rows
-//! for lists of some lengths over vectors of two and of four words, and one for the weak key test.
+//! for lists of some lengths over vectors of two and of four words, rows for the message
+//! authentication codes over two ciphers, and one for the weak key test.
 //!
 //! A list shorter than a batch takes the time of a batch, and each call spreads the round keys: what
 //! a list of 128 blocks takes beyond an eighth of one of 1,024 is about what spreading takes.
@@ -13,6 +14,7 @@ use crate::stopwatch::tenths_of_call;
 use des::cipher::{AlgorithmName, BlockCipherEncrypt, KeyInit, KeyedCipher};
 use des::{Des, TdesEde2, TdesEde3, TdesEee2, TdesEee3, weak_key_test};
 use des_fast::many::ManyBlocks;
+use des_mac::{CbcMac, Cmac, Mac, Method2, RetailMac};
 use std::alloc::AllocGlobal;
 use std::io;
 use std::io::Write;
@@ -57,6 +59,9 @@ pub fn write_table<R: AllocGlobal + Clock + CpuClock, W: Write>(
     joined ^= write_lengths::<des_fast::Des>(rt, &keys, out)?;
     write_head(out, "TdesEde3, blocks", &["2 words", "4 words", "cbc"])?;
     joined ^= write_lengths::<des_fast::TdesEde3>(rt, &keys, out)?;
+    write_head(out, "des_fast, MACs", &["CbcMac", "RetailMac", "Cmac"])?;
+    joined ^= write_macs::<des_fast::Des>(rt, &keys, out)?;
+    joined ^= write_macs::<des_fast::TdesEde3>(rt, &keys, out)?;
     write_head(out, "des", &["8 bytes", "16 bytes", "24 bytes"])?;
     joined ^= write_weak_key_test(rt, &keys, out)?;
     writeln!(out, "{joined:016x}")?;
@@ -169,6 +174,37 @@ fn write_length<C: ManyBlocks, const N: usize>(
     write!(out, "{N:<16}")?;
     write_figures(out, &[two, four, cbc])?;
     Ok(joined(&blocks))
+}
+
+// Writes the row of the MACs over a cipher, and joins their tags.
+fn write_macs<C: KeyedCipher + AlgorithmName + Drop>(
+    rt: &(impl Clock + CpuClock),
+    keys: &[[u8; LONGEST_KEY]; KEYS],
+    out: &mut impl Write,
+) -> io::Result<u64>
+    requires { C.KEY_SIZE ≤ LONGEST_KEY }
+{
+    let keys = keys.as_flattened();
+    let (cbc_mac, first) = time_mac::<CbcMac<C, Method2>>(rt, &keys[..C::KEY_SIZE])?;
+    let (retail_mac, second) = time_mac::<RetailMac<C, Method2>>(rt, &keys[..2 * C::KEY_SIZE])?;
+    let (cmac, third) = time_mac::<Cmac<C>>(rt, &keys[..C::KEY_SIZE])?;
+    write_row(out, C::NAME, &[cbc_mac, retail_mac, cmac])?;
+    Ok(first ^ second ^ third)
+}
+
+// The message begins with its tag.
+fn begin_with_tag<M: Mac>(key: &[u8], message: &mut [[u8; 8]; BLOCKS]) {
+    if let Ok(tag) = M::mac(key, message.as_flattened()) {
+        message[0] = tag;
+    }
+}
+
+// The time of a block in a message, and the last tag. A message begins with the tag of the one
+// before it.
+fn time_mac<M: Mac>(rt: &(impl Clock + CpuClock), key: &[u8]) -> io::Result<(u128, u64)> {
+    let mut message = [[0u8; 8]; BLOCKS];
+    let tenths = tenths_of_call(rt, BLOCKS as u32, || begin_with_tag::<M>(key, &mut message))?;
+    Ok((tenths, u64::from_be_bytes(message[0])))
 }
 
 // The cipher of the first bytes of a key, as many as it takes: `new`, which `new_from_slice` calls.

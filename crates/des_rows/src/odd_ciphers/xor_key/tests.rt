@@ -3,6 +3,8 @@
 
 use super::XorKey;
 use des::cipher::{BlockCipherDecrypt, BlockCipherEncrypt, KeyInit};
+use des_mac::{CbcMac, Cmac, Mac, Method1, RetailMac};
+use std::test::Fail;
 
 #[test]
 fn answers_with_the_block_xor_the_key(rt: HostRuntime) {
@@ -14,4 +16,20 @@ fn answers_with_the_block_xor_the_key(rt: HostRuntime) {
         cipher.decrypt_block(&mut bytes);
         assert_eq!(rt; bytes, [block; 8]);
     }
+}
+
+// The block of the bytes 1 to 8 xor the key, xor the second key, and xor the key and the key doubled,
+// which is 19.
+#[test]
+fn goes_through_all_macs(rt: HostRuntime) -> Result<(), Fail> {
+    let keys = [0x80, 0, 0, 0, 0, 0, 0, 0x01, 0x10, 0, 0, 0, 0, 0, 0, 0];
+    let key = &keys[..8];
+    let message = [1, 2, 3, 4, 5, 6, 7, 8];
+    let tag = CbcMac::<XorKey, Method1>::mac(key, &message)?;
+    assert!(rt; tag == [0x81, 2, 3, 4, 5, 6, 7, 9]);
+    let tag = RetailMac::<XorKey, Method1>::mac(&keys, &message)?;
+    assert!(rt; tag == [0x11, 2, 3, 4, 5, 6, 7, 8]);
+    let tag = Cmac::<XorKey>::mac(key, &message)?;
+    assert!(rt; tag == [0x81, 2, 3, 4, 5, 6, 7, 0x10]);
+    Ok(())
 }

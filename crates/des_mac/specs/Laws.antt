@@ -1,0 +1,3 @@
+-- What the laws of the traits rest on.
+pub mod Paddings
+pub mod Unambiguous

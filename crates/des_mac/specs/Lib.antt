@@ -1,0 +1,10 @@
+pub mod Padding
+pub mod CbcMac
+pub mod RetailMac
+pub mod Cmac
+pub mod Tags
+pub mod Absorbed
+pub mod Holds
+pub mod Laws
+pub mod HoldsRetail
+pub mod MacRelations

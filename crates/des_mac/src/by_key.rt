@@ -1,0 +1,36 @@
+//! What ciphers answer, said by the key that they are made from.
+
+ghost use Rattle.std.specs.Prelude.{◌≡◌, ℕ, List, length};
+ghost use Rattle.des.specs.Blocks.{IsKey, AreBytes};
+
+use des::cipher::{KeyBytes, KeyedCipher};
+
+// The numbers of a slice of bytes are bytes.
+pub fn are_bytes(bytes: &[u8])
+    ensures { AreBytes bytes.now }
+{}
+
+// The bytes of a key are one.
+pub fn are_key_bytes<K: KeyBytes>(key: &K)
+    ensures { IsKey K.LEN (K.bytes_of key.now) }
+{
+    key.as_bytes();
+}
+
+// Encrypts a block.
+pub fn encrypt<C: KeyedCipher>(cipher: &C, block: &mut [u8; 8])
+    ensures { (key : List ℕ) → IsKey C.KEY_SIZE key → C.is_made_from cipher.now key
+        → block.new ≡ C.encryption key block.old }
+{
+    are_bytes(block);
+    cipher.encrypt_block(block);
+}
+
+// Decrypts a block.
+pub fn decrypt<C: KeyedCipher>(cipher: &C, block: &mut [u8; 8])
+    ensures { (key : List ℕ) → IsKey C.KEY_SIZE key → C.is_made_from cipher.now key
+        → block.new ≡ C.decryption key block.old }
+{
+    are_bytes(block);
+    cipher.decrypt_block(block);
+}

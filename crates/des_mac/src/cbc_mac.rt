@@ -1,0 +1,60 @@
+//! CBC-MAC, which is MAC algorithm 1 of ISO/IEC 9797-1:2011.
+
+ghost use Rattle.std.specs.Prelude.{[]};
+ghost use Rattle.des_mac.specs.Padding.{padded};
+ghost use Rattle.des_mac.specs.CbcMac.{cbc_mac};
+ghost use Rattle.des_mac.specs.Holds.{Holds};
+
+use crate::chaining::Chaining;
+use crate::mac::Mac;
+use crate::padding::Padding;
+use des::cipher::{InvalidLength, KeyedCipher};
+use std::marker::PhantomData;
+
+/// CBC-MAC over the cipher `C`, with the padding `P`. The tag is the last block of the CBC
+/// encryption of the padded message from a vector of zeros.
+///
+/// It is safe only where every message under a key has the same length, one that both sides know:
+/// from tags of short messages anybody can make that of a longer one.
+#[derive(Drop)]
+pub struct CbcMac<C, P> {
+    chaining: Chaining<C>,
+    padding: PhantomData<P>,
+}
+
+impl<C: KeyedCipher + Drop, P: Padding> CbcMac<C, P> {
+    /// The state of the message of no bytes under the key.
+    pub fn new(key: &C::Key) -> CbcMac<C, P>
+        ensures { ⟦<CbcMac<C, P> as Mac>⟧.holds result (C.Key.bytes_of key.now) [] }
+    {
+        CbcMac {
+            chaining: Chaining::new(key),
+            padding: PhantomData,
+        }
+    }
+}
+
+impl<C: KeyedCipher + Drop, P: Padding> Mac for CbcMac<C, P> {
+    ghost key_size = { C.KEY_SIZE };
+
+    ghost tag_of = { λ key m. cbc_mac (C.encryption key) (padded P.padding_after m) };
+
+    ghost holds = { λ state key m.
+        Holds C.KEY_SIZE C.is_made_from C.encryption state.chaining key m };
+
+    fn new_from_slice(key: &[u8]) -> Result<CbcMac<C, P>, InvalidLength> {
+        Ok(CbcMac {
+            chaining: Chaining::new_from_slice(key)?,
+            padding: PhantomData,
+        })
+    }
+
+    fn update(&mut self, bytes: &[u8]) {
+        self.chaining.update(bytes);
+    }
+
+    fn finalize(mut self) -> [u8; 8] {
+        let padding = P::padding(self.chaining.count);
+        self.chaining.close(padding)
+    }
+}
