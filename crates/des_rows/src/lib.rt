@@ -5,7 +5,6 @@
 pub mod both_libraries;
 pub mod by_relation;
 pub mod chaining;
-pub mod check_value;
 pub mod clones;
 pub mod complements;
 pub mod long_records;

@@ -1,7 +1,7 @@
 use Rattle.std.proofs.Common.{ℕ, ◌<◌, List, replicate, take, refl, ap, ◌∙◌, rules}
 use Rattle.std.proofs.lemmas.List.Elements.{All-from_get_or}
 use Rattle.des.specs.Blocks.{AreBytes, IsBlock}
-use Rattle.des_rows.proofs.check_value.check_value.Goals as goal
+use Rattle.des_payment.proofs.check_values.check_value.Goals as goal
 
 -- the cipher is made from the key, so it answers the zero block as the key does
 pub returns-clause-value : goal.returns-clause-value

@@ -1,5 +1,5 @@
 use Rattle.std.proofs.Common.{take, ap, sym, ◌∙◌}
-use Rattle.des_rows.proofs.check_value.check_value_of_ede3.Goals as goal
+use Rattle.des_payment.proofs.check_values.check_value_of_ede3.Goals as goal
 
 -- the cipher is made from the key, and what it makes of the zero block is the one answer
 pub returns : goal.returns

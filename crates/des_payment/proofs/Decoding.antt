@@ -1,0 +1,106 @@
+-- A block is decoded to a PIN exactly where it was encoded from that PIN.
+use Rattle.std.proofs.Common.{◌≡◌, ◌↔◌, ℕ, ◌≤◌, List, length, replicate, Option, None, Result, Ok, Err, IfOk, refl, sym, ap, ◌∙◌, subst, arith}
+use Rattle.std.specs.Result.{result_err}
+use Rattle.des.specs.Blocks.{IsBlock}
+use Rattle.des.specs.Cbc.{xor_blocks}
+use Rattle.des.specs.Relations.{IsTheOne}
+use Rattle.des.proofs.XoredBlocks.{xor_blocks-undone, length-xor_blocks}
+use Rattle.des_payment.specs.declared.pin_error.PinError.{PinError}
+use Rattle.des_payment.specs.Digits.{digits_of}
+use Rattle.des_payment.specs.Texts.{IsPin, IsAccountNumber, text_of}
+use Rattle.des_payment.specs.PinBlocks.{pin_field, account_field, AreFill, IsFormat0, IsFormat1, IsFormat3, field_fault, pin_digits}
+use Rattle.des_payment.proofs.DigitLists.{digits_of-injective, length-digits_of}
+use Rattle.des_payment.proofs.FieldDigits.{length-account_field}
+use Rattle.des_payment.proofs.PinFields.{IsMade, IsMade-read, all_fifteen, length-pin_field, text_of-made, field_fault-made}
+
+-- one block has these digits
+pub IsTheOne-digits : (F : List ℕ → Type 0) (digits block : List ℕ) → ((other : List ℕ) → F other → digits_of other ≡ digits)
+    → digits_of block ≡ digits → F block → IsTheOne F block
+IsTheOne-digits F digits block by same is = (is, λ other it. digits_of-injective other block (by other it ∙ sym same))
+
+-- a result with this fault, and else with this text, is a text of which F holds, where F holds of the text alone, and of it
+-- exactly where there is no fault
+exactly : (result : Result (List ℕ) PinError) (fault : Option PinError) (text : List ℕ) (F : List ℕ → Type 0) → result_err result ≡ fault
+    → IfOk result (λ pin. pin ≡ text) → (fault ≡ None → F text) → ((pin : List ℕ) → F pin → (fault ≡ None) × (text ≡ pin))
+    → (pin : List ℕ) → (result ≡ Ok pin) ↔ F pin
+exactly (Ok found) fault text F by is sound complete pin = (
+  λ same. let found_is : found ≡ pin = cc in subst F (sym is ∙ found_is) (sound (sym by)),
+  λ holds. ap Ok (is ∙ (complete pin holds).1),
+)
+exactly (Err error) fault text F by is sound complete pin = (λ same. cc, λ holds. let none = (complete pin holds).0 in cc)
+
+-- the PIN field was made from the PIN with some fill digits
+abbrev pub IsFieldOf : ℕ → ℕ → List ℕ → List ℕ → Type 0
+IsFieldOf format least field pin = (fill : List ℕ) × (IsPin pin × AreFill least fill × (field ≡ pin_field format pin fill))
+
+-- what is read of it is that PIN, and what is read was made from it
+pub reads : (result : Result (List ℕ) PinError) (format least : ℕ) (field : List ℕ) → length field ≡ 16 → least ≤ 15
+    → result_err result ≡ field_fault format least field → IfOk result (λ pin. pin ≡ text_of (pin_digits field))
+    → (pin : List ℕ) → (result ≡ Ok pin) ↔ IsFieldOf format least field pin
+reads result format least field count at_most by is =
+    exactly result (field_fault format least field) (text_of (pin_digits field)) (IsFieldOf format least field) by is
+    (λ none. let read : IsMade format least field = IsMade-read format least field count at_most none in
+    (read.fill, (read.is_pin, read.filled, read.made)))
+    (λ pin (fill, made). (
+      ap (field_fault format least) made.2 ∙ field_fault-made format least pin fill made.0 made.1,
+      ap (λ (digits : List ℕ). text_of (pin_digits digits)) made.2 ∙ text_of-made format least pin fill made.0 made.1,
+    ))
+
+-- ---- the formats
+
+pub IsFormat1-field : (block pin : List ℕ) → IsBlock block
+    → IsFieldOf 1 0 (digits_of block) pin ↔ ((transaction : List ℕ) × IsFormat1 pin transaction block)
+IsFormat1-field block pin is_block = (
+  λ (fill, made). (fill, (made.0, made.1, (is_block, made.2))),
+  λ (fill, is). (fill, (is.0, is.1, is.2.1)),
+)
+
+module _ (account block field : List ℕ) (is_account : IsAccountNumber account) (is_block : IsBlock block)
+    (same : field ≡ xor_blocks (digits_of block) (account_field account)) where
+  count : length (digits_of block) ≡ 16
+  count = omega (arith, length-digits_of block, is_block.0)
+
+  pub length-field : length field ≡ 16
+  length-field =
+      ap length same
+      ∙ length-xor_blocks (digits_of block) (account_field account) (omega (arith, count, length-account_field account is_account))
+      ∙ count
+
+  -- the digits of the block are the field xor the account field
+  from_field : (other : List ℕ) → field ≡ other → digits_of block ≡ xor_blocks other (account_field account)
+  from_field other is =
+      sym (xor_blocks-undone (digits_of block) (account_field account) (omega (arith, count, length-account_field account is_account)))
+      ∙ ap (λ (digits : List ℕ). xor_blocks digits (account_field account)) (sym same ∙ is)
+
+  to_field : (other : List ℕ) → length other ≡ 16 → digits_of block ≡ xor_blocks other (account_field account) → field ≡ other
+  to_field other long is =
+      same
+      ∙ ap (λ (digits : List ℕ). xor_blocks digits (account_field account)) is
+      ∙ xor_blocks-undone other (account_field account) (omega (arith, long, length-account_field account is_account))
+
+  pub IsFormat0-field : (pin : List ℕ) → IsFieldOf 0 15 field pin ↔ IsFormat0 pin account block
+  IsFormat0-field pin = (
+    λ (fill, made).
+        let fifteen : fill ≡ replicate 10 15 =
+        all_fifteen fill made.1.1 ∙ ap (λ (n : ℕ). replicate n 15) made.1.0 in (
+          made.0,
+          is_account,
+          (is_block, from_field (pin_field 0 pin (replicate 10 15)) (made.2 ∙ ap (pin_field 0 pin) fifteen)),
+        ),
+    λ is.
+        let filled : AreFill 15 (replicate 10 15) = (refl, refl) in (
+          replicate 10 15,
+          (
+            is.0,
+            filled,
+            to_field (pin_field 0 pin (replicate 10 15))
+                (length-pin_field 0 15 pin (replicate 10 15) is.0 filled) is.2.1,
+          ),
+        ),
+  )
+
+  pub IsFormat3-field : (pin : List ℕ) → IsFieldOf 3 10 field pin ↔ ((fill : List ℕ) × IsFormat3 pin account fill block)
+  IsFormat3-field pin = (
+    λ (fill, made). (fill, (made.0, is_account, made.1, (is_block, from_field (pin_field 3 pin fill) made.2))),
+    λ (fill, is). (fill, (is.0, is.2, to_field (pin_field 3 pin fill) (length-pin_field 3 10 pin fill is.0 is.2) is.3.1)),
+  )

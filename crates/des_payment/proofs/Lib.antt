@@ -1,0 +1,10 @@
+mod KnownAnswers
+pub mod TextDigits
+pub mod DigitLists
+pub mod PinFaults
+pub mod PinFields
+pub mod FieldDigits
+pub mod Decoding
+pub mod Derivations
+pub mod CardTexts
+pub mod FirstThree

@@ -1,0 +1,25 @@
+use Rattle.std.proofs.Common.{◌+◌, ◌*◌, ◌<◌, sym, ap, ◌∙◌, arith}
+use Rattle.std.proofs.lemmas.List.Elements.{All-from_get_or}
+use Rattle.des_payment.specs.Digits.{bytes_of}
+use Rattle.des_payment.proofs.DigitLists.{digits_of-from_places, bytes_of-digits_of}
+use Rattle.des_payment.proofs.digits.block_of.Goals as goal
+
+pub returns-clause-block : goal.returns-clause-block
+returns-clause-block c = (
+  omega arith,
+  All-from_get_or (λ byte. byte < 256) c.loop-i.byte-items 0 (λ k within.
+      let high = c.requires.digits (2 * k) 0 (omega arith) in
+      let low = c.requires.digits (2 * k + 1) 0 (omega arith) in
+      omega (arith, c.loop-i.invariant.written k (omega arith))),
+)
+
+pub returns-clause-digits : goal.returns-clause-digits
+returns-clause-digits c =
+    sym (digits_of-from_places c.args.digits.now c.loop-i.byte-items (omega arith) (λ k within.
+    let low = c.requires.digits (2 * k + 1) 0 (omega arith) in
+    let is = c.loop-i.invariant.written k (omega arith) in
+    (omega arith, omega arith)))
+
+pub returns-clause-bytes : goal.returns-clause-bytes
+returns-clause-bytes c =
+    sym (bytes_of-digits_of c.loop-i.byte-items) ∙ ap bytes_of (returns-clause-digits c)

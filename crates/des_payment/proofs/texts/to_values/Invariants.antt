@@ -1,0 +1,8 @@
+use Rattle.std.proofs.Common.{◌≡◌, ◌++◌, take, drop}
+use Rattle.des_payment.specs.Texts.{values}
+use Rattle.des_payment.proofs.texts.to_values.Given as goal
+
+-- the characters before the index are values, and those from it on are as they were
+abbrev pub invariant-loop-character : goal.invariant-loop-character
+invariant-loop-character l =
+    l.text ≡ values (take l.character-index l.initial.text) ++ drop l.character-index l.initial.text

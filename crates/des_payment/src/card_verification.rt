@@ -1,0 +1,143 @@
+//! Card verification values (CVV): three digits of a card's data under a key.
+
+ghost use Rattle.std.specs.Prelude.{◌≡◌, ◌+◌, ◌<◌, ◌≤◌, ◌∷◌, [], ◌++◌, min, length, take, OnOk, IfOk, IsTrue};
+ghost use Rattle.std.specs.List.{All, list_all};
+ghost use Rattle.std.specs.Result.{result_err};
+ghost use Rattle.des.specs.Blocks.{IsBlock};
+ghost use Rattle.des_payment.specs.Texts.{are_digits as are_digits_of, IsNumber, number_fault};
+ghost use Rattle.des_payment.specs.CardVerification.{card_text as card_text_of, card_block as card_block_of, is_decimal, decimals_first};
+ghost use Rattle.des_payment.specs.CardVerification.{verification_value, card_fault};
+
+use crate::cvv_error::CvvError;
+use crate::digits::{block_of, digits_of};
+use crate::passes::{encrypted_by_des, encrypted_by_ede2};
+use crate::texts::{are_digits, to_text, to_values};
+use crate::xor::xored;
+use des::tdes::key_part;
+
+// Whether a text is a number of so many digits: its fault, if it has one.
+fn check_number(
+    text: &[u8],
+    least: usize,
+    most: usize,
+    length_fault: CvvError,
+    digit_fault: CvvError,
+) -> Result<(), CvvError>
+    ensures fault { result_err result ≡ number_fault least most length_fault digit_fault text.now }
+    ensures number { OnOk result (IsNumber least most text.now) }
+{
+    if text.len() < least || most < text.len() {
+        return Err(length_fault);
+    }
+    if !are_digits(text) {
+        return Err(digit_fault);
+    }
+    Ok(())
+}
+
+// The data of a card, filled with zeros to 32 digits.
+fn card_text(account: &[u8], expiry: &[u8], service: &[u8]) -> [u8; 32]
+    requires account { IsNumber 13 19 account.now }
+    requires expiry { IsNumber 4 4 expiry.now }
+    requires service { IsNumber 3 3 service.now }
+    ensures text { result ≡ card_text_of account.now expiry.now service.now }
+    ensures digits { IsTrue (are_digits_of result) }
+{
+    let mut text = [b'0'; 32];
+    let (front, rest) = text.split_at_mut(account.len());
+    front.copy_from_slice(account);
+    let (front, rest) = rest.split_at_mut(4);
+    front.copy_from_slice(expiry);
+    let (front, _) = rest.split_at_mut(3);
+    front.copy_from_slice(service);
+    text
+}
+
+// The block whose digits the card verification value is taken from.
+fn card_block(key: &[u8; 16], text: &[u8; 32]) -> [u8; 8]
+    requires { IsTrue (are_digits_of text.now) }
+    ensures block { IsBlock result }
+    ensures answer { result ≡ card_block_of key.now text.now }
+{
+    let mut digits = *text;
+    to_values(&mut digits);
+    let first = encrypted_by_des(&key_part(key, 1), &block_of(&digits[..16]));
+    encrypted_by_ede2(key, &xored(&first, &block_of(&digits[16..])))
+}
+
+// Writes a digit after the first `count` of three, where there is room, and gives how many there
+// are then.
+fn push(value: &mut [u8; 3], count: usize, digit: u8) -> usize
+    requires { count ≤ 3 }
+    ensures count { result ≡ min 3 (count + 1) }
+    ensures front { take result value.new ≡ take 3 (take count value.old ++ digit ∷ []) }
+{
+    if count == 3 {
+        return count;
+    }
+    value[count] = digit;
+    count + 1
+}
+
+// The first three digits, where those below ten come first, and then the others, less ten.
+fn first_three(digits: &[u8; 16]) -> [u8; 3]
+    requires { All (λ digit. digit < 16) digits.now }
+    ensures value { result ≡ take 3 (decimals_first digits.now) }
+    ensures decimal { IsTrue (list_all is_decimal result) }
+{
+    let mut value = [0; 3];
+    let mut count = 0;
+    for digit in digits {
+        if *digit < 10 {
+            count = push(&mut value, count, *digit);
+        }
+    }
+    for digit in digits {
+        if *digit >= 10 {
+            count = push(&mut value, count, *digit - 10);
+        }
+    }
+    value
+}
+
+/// The card verification value, three ASCII digits, of an account number of 13 to 19 digits with
+/// the check digit, an expiry date of four and a service code of three, under a key pair of 16
+/// bytes.
+///
+/// The data are joined and filled with zeros to 32 digits, two blocks. The first is enciphered
+/// under the first part of the key and xored with the second, and triple DES in the EDE form
+/// follows, under both parts. Of the answer's sixteen digits those from 0 to 9 are taken in order,
+/// and then the others in order, less ten; the first three are the value.
+pub fn cvv(
+    key: &[u8; 16],
+    account: &[u8],
+    expiry: &[u8],
+    service: &[u8],
+) -> Result<[u8; 3], CvvError>
+    ensures fault { result_err result ≡ card_fault account.now expiry.now service.now }
+    ensures value { IfOk result (λ value.
+        value ≡ verification_value key.now account.now expiry.now service.now) }
+{
+    check_number(
+        account,
+        13,
+        19,
+        CvvError::AccountLength,
+        CvvError::AccountDigit,
+    )?;
+    check_number(expiry, 4, 4, CvvError::ExpiryLength, CvvError::ExpiryDigit)?;
+    check_number(
+        service,
+        3,
+        3,
+        CvvError::ServiceLength,
+        CvvError::ServiceDigit,
+    )?;
+    let text = card_text(account, expiry, service);
+    let mut value = first_three(&digits_of(&card_block(key, &text)));
+    to_text(&mut value);
+    Ok(value)
+}
+
+#[cfg(test)]
+mod tests;

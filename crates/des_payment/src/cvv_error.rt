@@ -1,0 +1,44 @@
+//! Why there is no card verification value.
+
+use std::error::Error;
+use std::fmt;
+
+/// Why there is no card verification value. The first of them is reported, in this order.
+#[derive(Clone, Copy, Debug, PartialEq, Eq)]
+pub enum CvvError {
+    /// The account number does not have 13 to 19 digits.
+    AccountLength,
+    /// A character of the account number is not a digit.
+    AccountDigit,
+    /// The expiry date does not have four digits.
+    ExpiryLength,
+    /// A character of the expiry date is not a digit.
+    ExpiryDigit,
+    /// The service code does not have three digits.
+    ServiceLength,
+    /// A character of the service code is not a digit.
+    ServiceDigit,
+}
+
+/// Writes the error's name, whatever options are set.
+impl fmt::Display for CvvError {
+    ghost use Rattle.std.specs.Prelude.{Some};
+    ghost use Rattle.des_payment.specs.CardVerification.{name_of};
+
+    ghost output = { λ error. Some (name_of error) };
+
+    ghost styled_output = { λ error _. Some (name_of error) };
+
+    fn fmt<W: fmt::Write>(&self, f: &mut fmt::Formatter<W>) -> fmt::Result {
+        match self {
+            CvvError::AccountLength => f.write_str("AccountLength"),
+            CvvError::AccountDigit => f.write_str("AccountDigit"),
+            CvvError::ExpiryLength => f.write_str("ExpiryLength"),
+            CvvError::ExpiryDigit => f.write_str("ExpiryDigit"),
+            CvvError::ServiceLength => f.write_str("ServiceLength"),
+            CvvError::ServiceDigit => f.write_str("ServiceDigit"),
+        }
+    }
+}
+
+impl Error for CvvError {}

@@ -1,0 +1,29 @@
+//! Payment formats above the ciphers of `des` and `des_fast`: check values, keys of components, PIN
+//! blocks (ISO 9564-1), the keys of a transaction (DUKPT, ANSI X9.24-1:2009) and card verification
+//! values.
+//!
+//! Digits that a person reads (PINs, account numbers, dates) are texts, slices of ASCII digits. No
+//! call takes memory or panics, and no `Debug` text or error tells a key, a PIN or an account
+//! number. No claim is made on the time that a call takes.
+#![tactic(auto)]
+
+pub mod card_verification;
+pub mod check_values;
+pub mod components;
+pub mod cvv_error;
+mod digits;
+pub mod dukpt;
+mod fields;
+mod passes;
+pub mod pin;
+pub mod pin_blocks;
+pub mod pin_error;
+mod texts;
+mod xor;
+
+pub use card_verification::cvv;
+pub use check_values::{check_value, check_value_of_ede3};
+pub use components::combine;
+pub use cvv_error::CvvError;
+pub use pin::Pin;
+pub use pin_error::PinError;

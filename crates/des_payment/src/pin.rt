@@ -1,0 +1,95 @@
+//! Personal identification numbers.
+
+ghost use Rattle.std.specs.Prelude.{◌≡◌, ◌≤◌, List, ℕ, length, take, nat_lt, IsTrue};
+ghost use Rattle.std.specs.List.{list_all};
+ghost use Rattle.des_payment.specs.Texts.{IsPin, text_of};
+
+use crate::pin_error::PinError;
+use crate::texts::{are_digits, to_text};
+use std::fmt;
+use std::marker::Model;
+
+/// A personal identification number (PIN): a text of 4 to 12 digits.
+#[derive(Drop)]
+pub struct Pin {
+    text: [u8; 12],
+    length: usize,
+}
+
+impl Model for Pin {
+    ghost Value = { List ℕ };
+
+    ghost view = { λ pin. take pin.length pin.text };
+
+    ghost invariant = { λ pin. (pin.length ≤ 12) × IsPin (take pin.length pin.text) };
+}
+
+impl Pin {
+    ghost use Rattle.std.specs.Prelude.{IfOk};
+    ghost use Rattle.std.specs.Result.{result_err};
+    ghost use Rattle.des_payment.specs.PinBlocks.{pin_fault};
+
+    /// The PIN of these ASCII digits: `PinLength` where there are not 4 to 12 of them, `PinDigit`
+    /// where one is none.
+    pub fn new(text: &[u8]) -> Result<Pin, PinError>
+        ensures fault { result_err result ≡ pin_fault text.now }
+        ensures pin { IfOk result (λ pin. pin ≡ text.now) }
+    {
+        if !(4..=12).contains(&text.len()) {
+            return Err(PinError::PinLength);
+        }
+        if !are_digits(text) {
+            return Err(PinError::PinDigit);
+        }
+        let mut pin = [0; 12];
+        pin[..text.len()].copy_from_slice(text);
+        Ok(Pin {
+            text: pin,
+            length: text.len(),
+        })
+    }
+
+    // The PIN of digits of these values.
+    pub(crate) fn of_digits(digits: &[u8]) -> Pin
+        requires at_least { 4 ≤ length digits.now }
+        requires at_most { length digits.now ≤ 12 }
+        requires digits { IsTrue (list_all (λ digit. nat_lt digit 10) digits.now) }
+        ensures { result ≡ text_of digits.now }
+    {
+        let mut text = [0; 12];
+        text[..digits.len()].copy_from_slice(digits);
+        to_text(&mut text[..digits.len()]);
+        Pin {
+            text,
+            length: digits.len(),
+        }
+    }
+
+    /// Its ASCII digits.
+    pub fn text(&self) -> &[u8]
+        ensures text { result.now ≡ self.now }
+        ensures is_pin { IsPin self.now }
+    {
+        &self.text[..self.length]
+    }
+}
+
+/// Writes the type's name, and no digit, whatever options are set.
+impl fmt::Debug for Pin {
+    ghost use Rattle.std.specs.Prelude.{codes, Some};
+    ghost use Rattle.std.specs.Fmt.{DisplaysOnOk, DisplaysStyledOnOk};
+
+    ghost debug_output = { λ _. Some (codes "Pin { ... }") };
+
+    fn fmt<W: fmt::Write>(&self, f: &mut fmt::Formatter<W>) -> fmt::Result
+        ensures writes { DisplaysOnOk W.write_str_gives f.old result
+            (Some (codes "Pin { ... }")) f.new }
+        ensures styled { DisplaysStyledOnOk W.write_str_gives f.old result
+            (Some (codes "Pin { ... }")) f.new }
+    {
+        f.write_str("Pin { ... }")
+    }
+}
+
+#[cfg(test)]
+mod tests;

@@ -1,0 +1,47 @@
+//! Why a PIN block is not made, or holds no PIN.
+
+use std::error::Error;
+use std::fmt;
+
+/// Why a PIN block is not made, or a block holds no PIN. The first of them is reported: where a
+/// block is made, of the PIN, then of the account number, then of the fill digits; where a block is
+/// read, of the account number, then in the order of the block's digits.
+#[derive(Clone, Copy, Debug, PartialEq, Eq)]
+pub enum PinError {
+    /// The block's first digit is not that of the format.
+    Format,
+    /// The PIN does not have 4 to 12 digits, or the block's second digit is not the length of such
+    /// a PIN.
+    PinLength,
+    /// A character of the PIN is not a digit, or a digit of the block's PIN is above 9.
+    PinDigit,
+    /// The account number does not have 13 to 19 digits.
+    AccountLength,
+    /// A character of the account number is not a digit.
+    AccountDigit,
+    /// A fill digit is none of those of the format.
+    Fill,
+}
+
+/// Writes the error's name, whatever options are set.
+impl fmt::Display for PinError {
+    ghost use Rattle.std.specs.Prelude.{Some};
+    ghost use Rattle.des_payment.specs.PinBlocks.{name_of};
+
+    ghost output = { λ error. Some (name_of error) };
+
+    ghost styled_output = { λ error _. Some (name_of error) };
+
+    fn fmt<W: fmt::Write>(&self, f: &mut fmt::Formatter<W>) -> fmt::Result {
+        match self {
+            PinError::Format => f.write_str("Format"),
+            PinError::PinLength => f.write_str("PinLength"),
+            PinError::PinDigit => f.write_str("PinDigit"),
+            PinError::AccountLength => f.write_str("AccountLength"),
+            PinError::AccountDigit => f.write_str("AccountDigit"),
+            PinError::Fill => f.write_str("Fill"),
+        }
+    }
+}
+
+impl Error for PinError {}
