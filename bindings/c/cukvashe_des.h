@@ -1,0 +1,334 @@
+/*
+ * Cukvashe: DES and triple DES (FIPS 46-3), for C99 and C++.
+ *
+ * Link with -lcukvashe_des. It is built for Linux on x86-64-v2 (SSE4.2). No call takes memory, keeps a pointer after it
+ * returns, has any state but what it is given, or prints. Calls may run at the same time in any threads, as long as none
+ * writes what another reads.
+ *
+ * Names. NAME below is one of
+ *
+ *     des         DES                                               a key of  8 bytes
+ *     tdes_ede3   triple DES: encrypt, decrypt, encrypt              a key of 24 bytes, three parts of 8
+ *     tdes_eee3   triple DES: encrypt, encrypt, encrypt              a key of 24 bytes, three parts of 8
+ *     tdes_ede2   as tdes_ede3, the first part again as the third    a key of 16 bytes, two parts of 8
+ *     tdes_eee2   as tdes_eee3, the first part again as the third    a key of 16 bytes, two parts of 8
+ *
+ * Sizes. A block has 8 bytes, bit 1 of FIPS 46-3 is the most significant bit of the first. A list of blocks is a
+ * pointer to its first byte and a COUNT OF BLOCKS, not of bytes: `count` blocks are 8 * count bytes. Lists, keys and
+ * vectors may stand at any address, contexts where their type may. A list of no blocks and a key of no bytes may have a
+ * null pointer; no other pointer may be null.
+ *
+ * Aliasing. The arguments of a call must not overlap, but for those that are only read. To work in place take the calls
+ * with one list.
+ *
+ * What is not checked. That pointers are good for their counts; that they do not overlap; that a context is one that
+ * `init` wrote: of any other nothing is promised. The bytes of a context may be copied, moved and written over at will.
+ * No key of the right length is refused, weak ones included: cukvashe_weak_key_test is there to be called.
+ *
+ * What is left to the caller. Padding, since lists are of whole blocks; authentication, which no mode here gives; an
+ * initialization vector that is not used twice and can't be foreseen; and wiping contexts and keys from memory.
+ *
+ * Proved, and not. Each call of the library is proved to answer as FIPS 46-3 defines, and to be safe, as long as the
+ * caller keeps what stands here. The inline functions at the end of this file, which choose one of two such calls, are
+ * tested. On time and caches nothing is claimed. The code of `init`, and of the calls with `many` in their name, reads no
+ * table at an index that depends on the key or on a block, and branches on neither (tested under valgrind). The calls named
+ * `_blocks`, `_encrypt_cbc` and `_decrypt_cbc` read tables so, and the weak key test branches on the key.
+ */
+#ifndef CUKVASHE_DES_H
+#define CUKVASHE_DES_H
+
+#include <stdbool.h>
+#include <stddef.h>
+#include <stdint.h>
+
+#ifdef __cplusplus
+extern "C" {
+#endif
+
+/* The statuses of calls that return `int`. Where one is not CUKVASHE_OK, nothing was written. */
+#define CUKVASHE_OK 0           /* it was done */
+#define CUKVASHE_KEY_LENGTH 1   /* the key has a length that no key of the cipher has */
+#define CUKVASHE_LIST_LENGTHS 2 /* the two lists differ in length */
+#define CUKVASHE_WEAK_KEY 3     /* the weak key test refuses the key */
+
+/* In bytes. */
+#define CUKVASHE_BLOCK_SIZE 8
+#define CUKVASHE_DES_KEY_SIZE 8
+#define CUKVASHE_TDES_EDE3_KEY_SIZE 24
+#define CUKVASHE_TDES_EEE3_KEY_SIZE 24
+#define CUKVASHE_TDES_EDE2_KEY_SIZE 16
+#define CUKVASHE_TDES_EEE2_KEY_SIZE 16
+
+/*
+ * The contexts, for the caller's stack or wherever they are wanted: 128, 384, 384, 256 and 256 bytes. They hold the round
+ * keys, so they are as secret as the key. Their members are the library's own.
+ */
+typedef struct {
+  uint64_t words[16];
+} cukvashe_des;
+
+typedef struct {
+  uint64_t words[48];
+} cukvashe_tdes_ede3;
+
+typedef struct {
+  uint64_t words[48];
+} cukvashe_tdes_eee3;
+
+typedef struct {
+  uint64_t words[32];
+} cukvashe_tdes_ede2;
+
+typedef struct {
+  uint64_t words[32];
+} cukvashe_tdes_eee2;
+
+/*
+ * int cukvashe_NAME_init(cukvashe_NAME *context, const uint8_t *key, size_t key_length)
+ *
+ * Makes the context of a key of `key_length` bytes. CUKVASHE_KEY_LENGTH, and the context stays as it was, where that is not
+ * the key size of the cipher. The parity bits of a key, the lowest of each byte, count for nothing.
+ */
+int cukvashe_des_init(cukvashe_des *context, const uint8_t *key, size_t key_length);
+int cukvashe_tdes_ede3_init(cukvashe_tdes_ede3 *context, const uint8_t *key, size_t key_length);
+int cukvashe_tdes_eee3_init(cukvashe_tdes_eee3 *context, const uint8_t *key, size_t key_length);
+int cukvashe_tdes_ede2_init(cukvashe_tdes_ede2 *context, const uint8_t *key, size_t key_length);
+int cukvashe_tdes_eee2_init(cukvashe_tdes_eee2 *context, const uint8_t *key, size_t key_length);
+
+/*
+ * void cukvashe_NAME_encrypt_many(const cukvashe_NAME *context, uint8_t *blocks, size_t count)
+ * void cukvashe_NAME_decrypt_many(const cukvashe_NAME *context, uint8_t *blocks, size_t count)
+ *
+ * Encrypts, or decrypts, each of `count` blocks in place, each by itself (electronic codebook). They take 128 blocks at a
+ * time, and a list or an end of one that is shorter takes the time of 128 blocks, as long as some 27 blocks one by one.
+ * Some 50,000 bytes of the stack are used, for DES 30,000.
+ */
+void cukvashe_des_encrypt_many(const cukvashe_des *context, uint8_t *blocks, size_t count);
+void cukvashe_des_decrypt_many(const cukvashe_des *context, uint8_t *blocks, size_t count);
+void cukvashe_tdes_ede3_encrypt_many(const cukvashe_tdes_ede3 *context, uint8_t *blocks, size_t count);
+void cukvashe_tdes_ede3_decrypt_many(const cukvashe_tdes_ede3 *context, uint8_t *blocks, size_t count);
+void cukvashe_tdes_eee3_encrypt_many(const cukvashe_tdes_eee3 *context, uint8_t *blocks, size_t count);
+void cukvashe_tdes_eee3_decrypt_many(const cukvashe_tdes_eee3 *context, uint8_t *blocks, size_t count);
+void cukvashe_tdes_ede2_encrypt_many(const cukvashe_tdes_ede2 *context, uint8_t *blocks, size_t count);
+void cukvashe_tdes_ede2_decrypt_many(const cukvashe_tdes_ede2 *context, uint8_t *blocks, size_t count);
+void cukvashe_tdes_eee2_encrypt_many(const cukvashe_tdes_eee2 *context, uint8_t *blocks, size_t count);
+void cukvashe_tdes_eee2_decrypt_many(const cukvashe_tdes_eee2 *context, uint8_t *blocks, size_t count);
+
+/*
+ * int cukvashe_NAME_encrypt_many_b2b(const cukvashe_NAME *context, const uint8_t *input, size_t input_count,
+ *                                    uint8_t *output, size_t output_count)
+ * int cukvashe_NAME_decrypt_many_b2b(.. the same ..)
+ *
+ * The same from a list to another, which must not overlap. CUKVASHE_LIST_LENGTHS, and `output` stays as it was, where the
+ * two counts differ.
+ */
+int cukvashe_des_encrypt_many_b2b(const cukvashe_des *context, const uint8_t *input, size_t input_count,
+                                    uint8_t *output, size_t output_count);
+int cukvashe_des_decrypt_many_b2b(const cukvashe_des *context, const uint8_t *input, size_t input_count,
+                                    uint8_t *output, size_t output_count);
+int cukvashe_tdes_ede3_encrypt_many_b2b(const cukvashe_tdes_ede3 *context, const uint8_t *input, size_t input_count,
+                                    uint8_t *output, size_t output_count);
+int cukvashe_tdes_ede3_decrypt_many_b2b(const cukvashe_tdes_ede3 *context, const uint8_t *input, size_t input_count,
+                                    uint8_t *output, size_t output_count);
+int cukvashe_tdes_eee3_encrypt_many_b2b(const cukvashe_tdes_eee3 *context, const uint8_t *input, size_t input_count,
+                                    uint8_t *output, size_t output_count);
+int cukvashe_tdes_eee3_decrypt_many_b2b(const cukvashe_tdes_eee3 *context, const uint8_t *input, size_t input_count,
+                                    uint8_t *output, size_t output_count);
+int cukvashe_tdes_ede2_encrypt_many_b2b(const cukvashe_tdes_ede2 *context, const uint8_t *input, size_t input_count,
+                                    uint8_t *output, size_t output_count);
+int cukvashe_tdes_ede2_decrypt_many_b2b(const cukvashe_tdes_ede2 *context, const uint8_t *input, size_t input_count,
+                                    uint8_t *output, size_t output_count);
+int cukvashe_tdes_eee2_encrypt_many_b2b(const cukvashe_tdes_eee2 *context, const uint8_t *input, size_t input_count,
+                                    uint8_t *output, size_t output_count);
+int cukvashe_tdes_eee2_decrypt_many_b2b(const cukvashe_tdes_eee2 *context, const uint8_t *input, size_t input_count,
+                                    uint8_t *output, size_t output_count);
+
+/*
+ * void cukvashe_NAME_encrypt_blocks(const cukvashe_NAME *context, uint8_t *blocks, size_t count)
+ * void cukvashe_NAME_decrypt_blocks(const cukvashe_NAME *context, uint8_t *blocks, size_t count)
+ *
+ * The same as encrypt_many and decrypt_many, one block at a time: quicker for fewer than some 27 blocks. They read tables
+ * at indexes that depend on the key and the blocks.
+ */
+void cukvashe_des_encrypt_blocks(const cukvashe_des *context, uint8_t *blocks, size_t count);
+void cukvashe_des_decrypt_blocks(const cukvashe_des *context, uint8_t *blocks, size_t count);
+void cukvashe_tdes_ede3_encrypt_blocks(const cukvashe_tdes_ede3 *context, uint8_t *blocks, size_t count);
+void cukvashe_tdes_ede3_decrypt_blocks(const cukvashe_tdes_ede3 *context, uint8_t *blocks, size_t count);
+void cukvashe_tdes_eee3_encrypt_blocks(const cukvashe_tdes_eee3 *context, uint8_t *blocks, size_t count);
+void cukvashe_tdes_eee3_decrypt_blocks(const cukvashe_tdes_eee3 *context, uint8_t *blocks, size_t count);
+void cukvashe_tdes_ede2_encrypt_blocks(const cukvashe_tdes_ede2 *context, uint8_t *blocks, size_t count);
+void cukvashe_tdes_ede2_decrypt_blocks(const cukvashe_tdes_ede2 *context, uint8_t *blocks, size_t count);
+void cukvashe_tdes_eee2_encrypt_blocks(const cukvashe_tdes_eee2 *context, uint8_t *blocks, size_t count);
+void cukvashe_tdes_eee2_decrypt_blocks(const cukvashe_tdes_eee2 *context, uint8_t *blocks, size_t count);
+
+/*
+ * void cukvashe_NAME_encrypt_cbc(const cukvashe_NAME *context, uint8_t vector[8], uint8_t *blocks, size_t count)
+ *
+ * Encrypts `count` blocks in place by cipher block chaining (FIPS 81) from the initialization vector. The vector becomes the
+ * last ciphertext block, so that the next call goes on with the chain; with no blocks it stays. One block at a time, since
+ * each waits for the one before it: it reads tables at indexes that depend on the key and the blocks.
+ */
+void cukvashe_des_encrypt_cbc(const cukvashe_des *context, uint8_t vector[8], uint8_t *blocks, size_t count);
+void cukvashe_tdes_ede3_encrypt_cbc(const cukvashe_tdes_ede3 *context, uint8_t vector[8], uint8_t *blocks, size_t count);
+void cukvashe_tdes_eee3_encrypt_cbc(const cukvashe_tdes_eee3 *context, uint8_t vector[8], uint8_t *blocks, size_t count);
+void cukvashe_tdes_ede2_encrypt_cbc(const cukvashe_tdes_ede2 *context, uint8_t vector[8], uint8_t *blocks, size_t count);
+void cukvashe_tdes_eee2_encrypt_cbc(const cukvashe_tdes_eee2 *context, uint8_t vector[8], uint8_t *blocks, size_t count);
+
+/*
+ * void cukvashe_NAME_decrypt_cbc_many(const cukvashe_NAME *context, uint8_t vector[8], uint8_t *blocks, size_t count)
+ *
+ * Decrypts `count` blocks in place that cipher block chaining chained from the initialization vector. The vector becomes the
+ * last ciphertext block, so that the next call goes on with the chain; with no blocks it stays. 128 blocks at a time, with
+ * the time and stack of decrypt_many.
+ */
+void cukvashe_des_decrypt_cbc_many(const cukvashe_des *context, uint8_t vector[8], uint8_t *blocks, size_t count);
+void cukvashe_tdes_ede3_decrypt_cbc_many(const cukvashe_tdes_ede3 *context, uint8_t vector[8], uint8_t *blocks, size_t count);
+void cukvashe_tdes_eee3_decrypt_cbc_many(const cukvashe_tdes_eee3 *context, uint8_t vector[8], uint8_t *blocks, size_t count);
+void cukvashe_tdes_ede2_decrypt_cbc_many(const cukvashe_tdes_ede2 *context, uint8_t vector[8], uint8_t *blocks, size_t count);
+void cukvashe_tdes_eee2_decrypt_cbc_many(const cukvashe_tdes_eee2 *context, uint8_t vector[8], uint8_t *blocks, size_t count);
+
+/*
+ * void cukvashe_NAME_decrypt_cbc(const cukvashe_NAME *context, uint8_t vector[8], uint8_t *blocks, size_t count)
+ *
+ * The same, one block at a time: quicker for fewer than some 27 blocks. It reads tables at indexes that depend on the key and
+ * the blocks.
+ */
+void cukvashe_des_decrypt_cbc(const cukvashe_des *context, uint8_t vector[8], uint8_t *blocks, size_t count);
+void cukvashe_tdes_ede3_decrypt_cbc(const cukvashe_tdes_ede3 *context, uint8_t vector[8], uint8_t *blocks, size_t count);
+void cukvashe_tdes_eee3_decrypt_cbc(const cukvashe_tdes_eee3 *context, uint8_t vector[8], uint8_t *blocks, size_t count);
+void cukvashe_tdes_ede2_decrypt_cbc(const cukvashe_tdes_ede2 *context, uint8_t vector[8], uint8_t *blocks, size_t count);
+void cukvashe_tdes_eee2_decrypt_cbc(const cukvashe_tdes_eee2 *context, uint8_t vector[8], uint8_t *blocks, size_t count);
+
+/*
+ * CUKVASHE_WEAK_KEY where the weak key test refuses a key of 8, 16 or 24 bytes: a part of it has few different round keys
+ * (the 64 listed keys: 4 weak, 12 semi-weak, 48 more), or two of its parts are one key. Parity bits count for nothing.
+ * CUKVASHE_KEY_LENGTH for a key of another length, and else CUKVASHE_OK.
+ */
+int cukvashe_weak_key_test(const uint8_t *key, size_t key_length);
+
+/* Sets the lowest bit of each byte of a key of 8 bytes such that the number of ones in the byte is odd. */
+void cukvashe_set_odd_parity(uint8_t key[8]);
+
+/* Whether two keys of 8 bytes, which may be the same one, agree in all bits but the lowest of each byte. Such are one. */
+bool cukvashe_equal_but_parity(const uint8_t first[8], const uint8_t second[8]);
+
+/*
+ * The calls for lists once more, 256 blocks at a time, for x86-64 processors with AVX2, BMI, BMI2 and FMA. On any other
+ * they end the program by an illegal instruction: ask cukvashe_has_wide() first, or take the functions below, which ask.
+ * Some 100,000 bytes of the stack are used, for DES 50,000.
+ */
+void cukvashe_wide_des_encrypt_many(const cukvashe_des *context, uint8_t *blocks, size_t count);
+void cukvashe_wide_des_decrypt_many(const cukvashe_des *context, uint8_t *blocks, size_t count);
+int cukvashe_wide_des_encrypt_many_b2b(const cukvashe_des *context, const uint8_t *input, size_t input_count,
+                                         uint8_t *output, size_t output_count);
+int cukvashe_wide_des_decrypt_many_b2b(const cukvashe_des *context, const uint8_t *input, size_t input_count,
+                                         uint8_t *output, size_t output_count);
+void cukvashe_wide_des_decrypt_cbc_many(const cukvashe_des *context, uint8_t vector[8], uint8_t *blocks,
+                                        size_t count);
+void cukvashe_wide_tdes_ede3_encrypt_many(const cukvashe_tdes_ede3 *context, uint8_t *blocks, size_t count);
+void cukvashe_wide_tdes_ede3_decrypt_many(const cukvashe_tdes_ede3 *context, uint8_t *blocks, size_t count);
+int cukvashe_wide_tdes_ede3_encrypt_many_b2b(const cukvashe_tdes_ede3 *context, const uint8_t *input, size_t input_count,
+                                         uint8_t *output, size_t output_count);
+int cukvashe_wide_tdes_ede3_decrypt_many_b2b(const cukvashe_tdes_ede3 *context, const uint8_t *input, size_t input_count,
+                                         uint8_t *output, size_t output_count);
+void cukvashe_wide_tdes_ede3_decrypt_cbc_many(const cukvashe_tdes_ede3 *context, uint8_t vector[8], uint8_t *blocks,
+                                        size_t count);
+void cukvashe_wide_tdes_eee3_encrypt_many(const cukvashe_tdes_eee3 *context, uint8_t *blocks, size_t count);
+void cukvashe_wide_tdes_eee3_decrypt_many(const cukvashe_tdes_eee3 *context, uint8_t *blocks, size_t count);
+int cukvashe_wide_tdes_eee3_encrypt_many_b2b(const cukvashe_tdes_eee3 *context, const uint8_t *input, size_t input_count,
+                                         uint8_t *output, size_t output_count);
+int cukvashe_wide_tdes_eee3_decrypt_many_b2b(const cukvashe_tdes_eee3 *context, const uint8_t *input, size_t input_count,
+                                         uint8_t *output, size_t output_count);
+void cukvashe_wide_tdes_eee3_decrypt_cbc_many(const cukvashe_tdes_eee3 *context, uint8_t vector[8], uint8_t *blocks,
+                                        size_t count);
+void cukvashe_wide_tdes_ede2_encrypt_many(const cukvashe_tdes_ede2 *context, uint8_t *blocks, size_t count);
+void cukvashe_wide_tdes_ede2_decrypt_many(const cukvashe_tdes_ede2 *context, uint8_t *blocks, size_t count);
+int cukvashe_wide_tdes_ede2_encrypt_many_b2b(const cukvashe_tdes_ede2 *context, const uint8_t *input, size_t input_count,
+                                         uint8_t *output, size_t output_count);
+int cukvashe_wide_tdes_ede2_decrypt_many_b2b(const cukvashe_tdes_ede2 *context, const uint8_t *input, size_t input_count,
+                                         uint8_t *output, size_t output_count);
+void cukvashe_wide_tdes_ede2_decrypt_cbc_many(const cukvashe_tdes_ede2 *context, uint8_t vector[8], uint8_t *blocks,
+                                        size_t count);
+void cukvashe_wide_tdes_eee2_encrypt_many(const cukvashe_tdes_eee2 *context, uint8_t *blocks, size_t count);
+void cukvashe_wide_tdes_eee2_decrypt_many(const cukvashe_tdes_eee2 *context, uint8_t *blocks, size_t count);
+int cukvashe_wide_tdes_eee2_encrypt_many_b2b(const cukvashe_tdes_eee2 *context, const uint8_t *input, size_t input_count,
+                                         uint8_t *output, size_t output_count);
+int cukvashe_wide_tdes_eee2_decrypt_many_b2b(const cukvashe_tdes_eee2 *context, const uint8_t *input, size_t input_count,
+                                         uint8_t *output, size_t output_count);
+void cukvashe_wide_tdes_eee2_decrypt_cbc_many(const cukvashe_tdes_eee2 *context, uint8_t vector[8], uint8_t *blocks,
+                                        size_t count);
+
+/*
+ * One choice at run time. CUKVASHE_NARROW, defined before this file is included, leaves the wide calls out, and so does a
+ * compiler that can't ask the processor; everything then works with the calls above. The library defines these functions
+ * too, for languages that load it.
+ */
+#ifndef CUKVASHE_INLINE
+#define CUKVASHE_INLINE static inline
+#endif
+
+#if defined(__x86_64__) && defined(__GNUC__) && !defined(CUKVASHE_NARROW)
+#define CUKVASHE_ASKS 1
+#else
+#define CUKVASHE_ASKS 0
+#endif
+
+/* Whether the wide calls may be called. */
+CUKVASHE_INLINE bool cukvashe_has_wide(void) {
+#if CUKVASHE_ASKS
+  return __builtin_cpu_supports("avx2") && __builtin_cpu_supports("bmi") && __builtin_cpu_supports("bmi2") &&
+         __builtin_cpu_supports("fma");
+#else
+  return false;
+#endif
+}
+
+#if CUKVASHE_ASKS
+#define CUKVASHE_WIDEST(name, call, count, ...)                                                                         \
+  ((count) > 128 && cukvashe_has_wide() ? cukvashe_wide_##name##_##call(__VA_ARGS__)                                    \
+                                        : cukvashe_##name##_##call(__VA_ARGS__))
+#else
+#define CUKVASHE_WIDEST(name, call, count, ...) cukvashe_##name##_##call(__VA_ARGS__)
+#endif
+
+/*
+ * cukvashe_widest_NAME_encrypt_many, cukvashe_widest_NAME_decrypt_many, cukvashe_widest_NAME_encrypt_many_b2b,
+ * cukvashe_widest_NAME_decrypt_many_b2b and cukvashe_widest_NAME_decrypt_cbc_many: the wide call where the processor has it
+ * and the list has more than 128 blocks, and else the other, which is then the quicker one. Arguments, statuses and answers
+ * are those of the call of the same end.
+ */
+#define CUKVASHE_WIDEST_CALLS(name)                                                                                     \
+  CUKVASHE_INLINE void cukvashe_widest_##name##_encrypt_many(const cukvashe_##name *context, uint8_t *blocks,           \
+                                                             size_t count) {                                            \
+    CUKVASHE_WIDEST(name, encrypt_many, count, context, blocks, count);                                                 \
+  }                                                                                                                     \
+  CUKVASHE_INLINE void cukvashe_widest_##name##_decrypt_many(const cukvashe_##name *context, uint8_t *blocks,           \
+                                                             size_t count) {                                            \
+    CUKVASHE_WIDEST(name, decrypt_many, count, context, blocks, count);                                                 \
+  }                                                                                                                     \
+  CUKVASHE_INLINE int cukvashe_widest_##name##_encrypt_many_b2b(const cukvashe_##name *context, const uint8_t *input,   \
+                                                                size_t input_count, uint8_t *output,                    \
+                                                                size_t output_count) {                                  \
+    return CUKVASHE_WIDEST(name, encrypt_many_b2b, input_count, context, input, input_count, output, output_count);     \
+  }                                                                                                                     \
+  CUKVASHE_INLINE int cukvashe_widest_##name##_decrypt_many_b2b(const cukvashe_##name *context, const uint8_t *input,   \
+                                                                size_t input_count, uint8_t *output,                    \
+                                                                size_t output_count) {                                  \
+    return CUKVASHE_WIDEST(name, decrypt_many_b2b, input_count, context, input, input_count, output, output_count);     \
+  }                                                                                                                     \
+  CUKVASHE_INLINE void cukvashe_widest_##name##_decrypt_cbc_many(const cukvashe_##name *context, uint8_t vector[8],     \
+                                                                 uint8_t *blocks, size_t count) {                       \
+    CUKVASHE_WIDEST(name, decrypt_cbc_many, count, context, vector, blocks, count);                                     \
+  }
+
+CUKVASHE_WIDEST_CALLS(des)
+CUKVASHE_WIDEST_CALLS(tdes_ede3)
+CUKVASHE_WIDEST_CALLS(tdes_eee3)
+CUKVASHE_WIDEST_CALLS(tdes_ede2)
+CUKVASHE_WIDEST_CALLS(tdes_eee2)
+
+#ifdef __cplusplus
+}
+#endif
+
+#endif

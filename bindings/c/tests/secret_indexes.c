@@ -1,0 +1,65 @@
+/*
+ * Under valgrind, with keys, vectors and blocks marked undefined: memcheck reports where an index or a branch depends on
+ * them. `secret_indexes calls` runs the calls that must give no report; `secret_indexes blocks` and `secret_indexes
+ * planted` must give one each: by the calls for single blocks, which read tables so, and by a lookup that is planted here.
+ */
+#include "check.h"
+#include <valgrind/memcheck.h>
+
+enum { COUNT = 300 };
+
+static uint8_t key[24], vector[8], blocks[8 * COUNT], others[8 * COUNT];
+
+static void hide(void *bytes, size_t count) {
+  random_bytes((uint8_t *)bytes, count);
+  (void)VALGRIND_MAKE_MEM_UNDEFINED(bytes, count);
+}
+
+static void lists_of(const struct lists *by, const union context *context) {
+  hide(blocks, sizeof blocks);
+  hide(vector, sizeof vector);
+  by->encrypt(context, blocks, COUNT);
+  by->decrypt(context, blocks, COUNT);
+  CHECK(by->encrypt_b2b(context, blocks, COUNT, others, COUNT) == CUKVASHE_OK);
+  CHECK(by->decrypt_b2b(context, others, COUNT, blocks, COUNT) == CUKVASHE_OK);
+  by->decrypt_cbc(context, vector, blocks, COUNT);
+}
+
+static void calls_of(const struct calls *calls) {
+  union context context;
+  hide(key, sizeof key);
+  CHECK(calls->init(&context, key, calls->key_size) == CUKVASHE_OK);
+  lists_of(&calls->lists[0], &context);
+  lists_of(&calls->lists[1], &context);
+}
+
+static void blocks_of(const struct calls *calls) {
+  union context context;
+  hide(key, sizeof key);
+  hide(blocks, 8);
+  CHECK(calls->init(&context, key, calls->key_size) == CUKVASHE_OK);
+  calls->encrypt_blocks(&context, blocks, 1);
+}
+
+/* What is read has to be kept: valgrind leaves out a read that nothing uses. */
+static void planted(void) {
+  static volatile uint8_t table[256];
+  hide(key, 1);
+  blocks[0] = table[key[0]];
+}
+
+int main(int count, char **words) {
+  CHECK(count == 2);
+  if (strcmp(words[1], "calls") == 0) {
+    for (int cipher = 0; cipher < CIPHERS; cipher++) calls_of(&ciphers[cipher]);
+  } else if (strcmp(words[1], "blocks") == 0) {
+    blocks_of(&ciphers[DES]);
+  } else {
+    CHECK(strcmp(words[1], "planted") == 0);
+    planted();
+  }
+  /* What is undefined is in the bytes of lists; the memory itself is there. */
+  printf("secret indexes: %s, run by valgrind: %s, vectors of 256 bits: %s\n", words[1], RUNNING_ON_VALGRIND ? "yes" : "no",
+         cukvashe_has_wide() ? "yes" : "no");
+  return 0;
+}

@@ -1,0 +1,227 @@
+"""DES and triple DES (FIPS 46-3), proved, over the shared library `libcukvashe_des.so`.
+
+    import cukvashe_des
+    cipher = cukvashe_des.TdesEde3(key)            # 24 bytes
+    plaintext = cipher.decrypt_cbc(iv, ciphertext)
+
+The library is the file that the environment variable CUKVASHE_DES_LIBRARY names, else `bindings/out/lib/libcukvashe_des.so`
+of the repository that this file stands in, else the one that the system finds.
+
+Data are whole blocks of 8 bytes, as bytes, bytearray, memoryview or anything else with contiguous bytes. The calls return
+new `bytes`; the calls named `_into` work in place, in anything writable, and copy nothing. Padding and authentication are the
+caller's. What has the wrong length is a ValueError, which is one of `KeyLength`, `BlockLength` and `VectorLength`.
+"""
+
+import ctypes
+import os
+
+__all__ = [
+    "BlockLength", "Des", "KeyLength", "TdesEde2", "TdesEde3", "TdesEee2", "TdesEee3", "VectorLength",
+    "equal_but_parity", "weak_key_test", "with_odd_parity",
+]
+
+BLOCK_SIZE = 8
+_OK, _KEY_LENGTH, _WEAK_KEY = 0, 1, 3
+
+
+class KeyLength(ValueError):
+    """A key has a length that no key of the cipher has."""
+
+
+class BlockLength(ValueError):
+    """Data are not whole blocks of 8 bytes."""
+
+
+class VectorLength(ValueError):
+    """An initialization vector does not have 8 bytes."""
+
+
+def _load():
+    here = os.path.dirname(os.path.abspath(__file__))
+    built = os.path.join(here, os.pardir, "out", "lib", "libcukvashe_des.so")
+    named = os.environ.get("CUKVASHE_DES_LIBRARY")
+    return ctypes.CDLL(named or (built if os.path.exists(built) else "libcukvashe_des.so"))
+
+
+_library = _load()
+
+
+def _function(name, result, *arguments):
+    function = getattr(_library, "cukvashe_" + name)
+    function.restype = result
+    function.argtypes = arguments
+    return function
+
+
+_POINTER, _SIZE, _INT = ctypes.c_void_p, ctypes.c_size_t, ctypes.c_int
+_weak_key_test = _function("weak_key_test", _INT, _POINTER, _SIZE)
+_set_odd_parity = _function("set_odd_parity", None, _POINTER)
+_equal_but_parity = _function("equal_but_parity", ctypes.c_bool, _POINTER, _POINTER)
+
+
+def _bytes_of(data):
+    """The bytes of an object with contiguous ones; of `bytes` the same object."""
+    if isinstance(data, bytes):
+        return data
+    with memoryview(data) as view:
+        return view.tobytes()
+
+
+def _key_of(key, size):
+    """The bytes of a key; a length that is not the size is KeyLength."""
+    key = _bytes_of(key)
+    if len(key) != size:
+        raise KeyLength(f"a key has {size} bytes, not {len(key)}")
+    return key
+
+
+def _vector_of(iv):
+    """A vector that a call may change."""
+    iv = _bytes_of(iv)
+    if len(iv) != BLOCK_SIZE:
+        raise VectorLength(f"an initialization vector has {BLOCK_SIZE} bytes, not {len(iv)}")
+    return (ctypes.c_uint8 * BLOCK_SIZE).from_buffer_copy(iv)
+
+
+def _count_of(length):
+    """The number of blocks in so many bytes."""
+    if length % BLOCK_SIZE:
+        raise BlockLength(f"{length} bytes are not whole blocks of {BLOCK_SIZE}")
+    return length // BLOCK_SIZE
+
+
+class _Cipher:
+    """A cipher under one key. `name`, `key_size` and `words` are the class's."""
+
+    name, key_size, words = "", 0, 0
+
+    def __init_subclass__(cls):
+        cls._init = _function(cls.name + "_init", _INT, _POINTER, _POINTER, _SIZE)
+        lists = {call: _function(f"widest_{cls.name}_{call}_many", None, _POINTER, _POINTER, _SIZE)
+                 for call in ("encrypt", "decrypt")}
+        cls._encrypt_many, cls._decrypt_many = lists["encrypt"], lists["decrypt"]
+        b2b = {call: _function(f"widest_{cls.name}_{call}_many_b2b", _INT, _POINTER, _POINTER, _SIZE, _POINTER, _SIZE)
+               for call in ("encrypt", "decrypt")}
+        cls._encrypt_b2b, cls._decrypt_b2b = b2b["encrypt"], b2b["decrypt"]
+        chained = (_POINTER, _POINTER, _POINTER, _SIZE)
+        cls._encrypt_chain = _function(cls.name + "_encrypt_cbc", None, *chained)
+        cls._decrypt_chain = _function(f"widest_{cls.name}_decrypt_cbc_many", None, *chained)
+
+    def __init__(self, key):
+        key = _key_of(key, self.key_size)
+        self._context = (ctypes.c_uint64 * self.words)()
+        type(self)._init(self._context, key, len(key))
+
+    def __repr__(self):
+        return f"{type(self).__name__} {{ ... }}"
+
+    def encrypt(self, blocks):
+        """The blocks, each encrypted by itself."""
+        return self._answered(type(self)._encrypt_b2b, blocks)
+
+    def decrypt(self, blocks):
+        """The blocks, each decrypted by itself."""
+        return self._answered(type(self)._decrypt_b2b, blocks)
+
+    def encrypt_cbc(self, iv, blocks):
+        """The blocks, encrypted by cipher block chaining from an initialization vector of 8 bytes."""
+        answer = bytearray(_bytes_of(blocks))
+        self.encrypt_cbc_into(iv, answer)
+        return bytes(answer)
+
+    def decrypt_cbc(self, iv, blocks):
+        """The blocks, decrypted, of a chain that began with the initialization vector of 8 bytes."""
+        answer = bytearray(_bytes_of(blocks))
+        self.decrypt_cbc_into(iv, answer)
+        return bytes(answer)
+
+    def encrypt_into(self, blocks):
+        """Encrypts blocks in place, in a bytearray or the like."""
+        self._change(type(self)._encrypt_many, blocks)
+
+    def decrypt_into(self, blocks):
+        """Decrypts blocks in place."""
+        self._change(type(self)._decrypt_many, blocks)
+
+    def encrypt_cbc_into(self, iv, blocks):
+        """Encrypts blocks in place by cipher block chaining; returns the vector that the chain goes on with."""
+        vector = _vector_of(iv)
+        self._change(type(self)._encrypt_chain, blocks, vector)
+        return bytes(vector)
+
+    def decrypt_cbc_into(self, iv, blocks):
+        """Decrypts blocks in place that cipher block chaining made; returns the vector that the chain goes on with."""
+        vector = _vector_of(iv)
+        self._change(type(self)._decrypt_chain, blocks, vector)
+        return bytes(vector)
+
+    def _answered(self, call, blocks):
+        with memoryview(blocks) as view:
+            count = _count_of(view.nbytes)
+            answer = ctypes.create_string_buffer(view.nbytes)
+            if view.readonly or not count:
+                call(self._context, _bytes_of(blocks), count, answer, count)
+            else:
+                with view.cast("B") as data:
+                    call(self._context, (ctypes.c_uint8 * view.nbytes).from_buffer(data), count, answer, count)
+        return answer.raw
+
+    def _change(self, call, blocks, *vector):
+        with memoryview(blocks) as view:
+            if view.readonly:
+                raise TypeError("a call in place wants writable data, such as a bytearray")
+            count = _count_of(view.nbytes)
+            if count:
+                with view.cast("B") as data:
+                    call(self._context, *vector, (ctypes.c_uint8 * view.nbytes).from_buffer(data), count)
+
+
+class Des(_Cipher):
+    """DES, under a key of 8 bytes."""
+
+    name, key_size, words = "des", 8, 16
+
+
+class TdesEde3(_Cipher):
+    """Triple DES: encryption, decryption, encryption, under the three parts of a key of 24 bytes."""
+
+    name, key_size, words = "tdes_ede3", 24, 48
+
+
+class TdesEee3(_Cipher):
+    """Triple DES: three encryptions, under the three parts of a key of 24 bytes."""
+
+    name, key_size, words = "tdes_eee3", 24, 48
+
+
+class TdesEde2(_Cipher):
+    """Triple DES: encryption, decryption, encryption, under the two parts of a key of 16 bytes and the first again."""
+
+    name, key_size, words = "tdes_ede2", 16, 32
+
+
+class TdesEee2(_Cipher):
+    """Triple DES: three encryptions, under the two parts of a key of 16 bytes and the first again."""
+
+    name, key_size, words = "tdes_eee2", 16, 32
+
+
+def weak_key_test(key):
+    """Whether the weak key test passes a key of 8, 16 or 24 bytes: False for a weak one, or one with equal parts."""
+    key = _bytes_of(key)
+    status = _weak_key_test(key, len(key))
+    if status == _KEY_LENGTH:
+        raise KeyLength(f"a key has 8, 16 or 24 bytes, not {len(key)}")
+    return status != _WEAK_KEY
+
+
+def with_odd_parity(key):
+    """The key of 8 bytes with its parity bits, the lowest of each byte, set to odd parity."""
+    changed = (ctypes.c_uint8 * BLOCK_SIZE).from_buffer_copy(_key_of(key, 8))
+    _set_odd_parity(changed)
+    return bytes(changed)
+
+
+def equal_but_parity(first, second):
+    """Whether two keys of 8 bytes agree in all but their parity bits, and so are one key."""
+    return _equal_but_parity(_key_of(first, 8), _key_of(second, 8))

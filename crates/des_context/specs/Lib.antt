@@ -1,0 +1,3 @@
+pub mod Chaining
+pub mod Contexts
+pub mod Keys

@@ -1,0 +1,250 @@
+//! The contexts, one for each cipher: the round keys of its key as words. A context has no pointers
+//! and owns nothing, so a copy of its bytes is as good.
+
+ghost use Rattle.std.specs.Prelude.{◌≤◌, ◌*◌, ℕ, List, length};
+ghost use Rattle.des.specs.Blocks.{part};
+ghost use Rattle.des_fast.specs.Words.{AreRoundKeysOf};
+ghost use Rattle.des_context.specs.Contexts.{IsDesContextOf, IsEde3ContextOf, IsEee3ContextOf, IsEde2ContextOf, IsEee2ContextOf};
+
+use des::cipher::{KeyInit, KeySizeUser, Relating};
+use des::tdes::{joined, key_part};
+use des_fast::many::ManyBlocks;
+use des_fast::words::{from_round_key_words, round_key_words};
+use des_fast::{Des, TdesEde2, TdesEde3, TdesEee2, TdesEee3};
+
+/// What a caller keeps of a cipher between calls.
+pub trait Context: KeyInit {
+    /// The cipher.
+    type Cipher: Relating + ManyBlocks + Drop;
+
+    /// The cipher of the context, which is made from the key that the context is made from.
+    fn to_cipher(&self) -> Self::Cipher
+        requires { (key : List ℕ) × Self.is_made_from self.now key }
+        ensures { (key : List ℕ) → Self.is_made_from self.now key
+            → Self.Cipher.is_made_from result key };
+}
+
+/// The context of `Des`.
+#[repr(C)]
+#[derive(Clone, Copy)]
+pub struct DesContext {
+    round_keys: [u64; 16],
+}
+
+impl KeySizeUser for DesContext {
+    ghost use Rattle.std.specs.Prelude.{refl};
+
+    type Key = [u8; 8];
+
+    const KEY_SIZE: usize = 8;
+
+    ghost KEY_SIZE = { 8 };
+
+    ghost key_size_is_len = { refl };
+}
+
+impl KeyInit for DesContext {
+    ghost is_made_from = { IsDesContextOf };
+
+    /// The context of a key of 8 bytes.
+    fn new(key: &[u8; 8]) -> DesContext {
+        DesContext {
+            round_keys: round_key_words(&Des::new(key)),
+        }
+    }
+}
+
+impl Context for DesContext {
+    type Cipher = Des;
+
+    fn to_cipher(&self) -> Des {
+        from_round_key_words(&self.round_keys)
+    }
+}
+
+// The round keys of a part of a key, numbered from 1.
+fn part_words(key: &[u8], number: usize) -> [u64; 16]
+    requires from { 1 ≤ number }
+    requires to { 8 * number ≤ length key.now }
+    ensures { AreRoundKeysOf result (part number key.now) }
+{
+    round_key_words(&Des::new(&key_part(key, number)))
+}
+
+/// The context of `TdesEde3`.
+#[repr(C)]
+#[derive(Clone, Copy)]
+pub struct TdesEde3Context {
+    first: [u64; 16],
+    second: [u64; 16],
+    third: [u64; 16],
+}
+
+impl KeySizeUser for TdesEde3Context {
+    ghost use Rattle.std.specs.Prelude.{refl};
+
+    type Key = [u8; 24];
+
+    const KEY_SIZE: usize = 24;
+
+    ghost KEY_SIZE = { 24 };
+
+    ghost key_size_is_len = { refl };
+}
+
+impl KeyInit for TdesEde3Context {
+    ghost is_made_from = { IsEde3ContextOf };
+
+    /// The context of a key of 24 bytes.
+    fn new(key: &[u8; 24]) -> TdesEde3Context {
+        TdesEde3Context {
+            first: part_words(key, 1),
+            second: part_words(key, 2),
+            third: part_words(key, 3),
+        }
+    }
+}
+
+impl Context for TdesEde3Context {
+    type Cipher = TdesEde3;
+
+    fn to_cipher(&self) -> TdesEde3 {
+        joined::ede3(
+            from_round_key_words(&self.first),
+            from_round_key_words(&self.second),
+            from_round_key_words(&self.third),
+        )
+    }
+}
+
+/// The context of `TdesEee3`.
+#[repr(C)]
+#[derive(Clone, Copy)]
+pub struct TdesEee3Context {
+    first: [u64; 16],
+    second: [u64; 16],
+    third: [u64; 16],
+}
+
+impl KeySizeUser for TdesEee3Context {
+    ghost use Rattle.std.specs.Prelude.{refl};
+
+    type Key = [u8; 24];
+
+    const KEY_SIZE: usize = 24;
+
+    ghost KEY_SIZE = { 24 };
+
+    ghost key_size_is_len = { refl };
+}
+
+impl KeyInit for TdesEee3Context {
+    ghost is_made_from = { IsEee3ContextOf };
+
+    /// The context of a key of 24 bytes.
+    fn new(key: &[u8; 24]) -> TdesEee3Context {
+        TdesEee3Context {
+            first: part_words(key, 1),
+            second: part_words(key, 2),
+            third: part_words(key, 3),
+        }
+    }
+}
+
+impl Context for TdesEee3Context {
+    type Cipher = TdesEee3;
+
+    fn to_cipher(&self) -> TdesEee3 {
+        joined::eee3(
+            from_round_key_words(&self.first),
+            from_round_key_words(&self.second),
+            from_round_key_words(&self.third),
+        )
+    }
+}
+
+/// The context of `TdesEde2`.
+#[repr(C)]
+#[derive(Clone, Copy)]
+pub struct TdesEde2Context {
+    first: [u64; 16],
+    second: [u64; 16],
+}
+
+impl KeySizeUser for TdesEde2Context {
+    ghost use Rattle.std.specs.Prelude.{refl};
+
+    type Key = [u8; 16];
+
+    const KEY_SIZE: usize = 16;
+
+    ghost KEY_SIZE = { 16 };
+
+    ghost key_size_is_len = { refl };
+}
+
+impl KeyInit for TdesEde2Context {
+    ghost is_made_from = { IsEde2ContextOf };
+
+    /// The context of a key of 16 bytes.
+    fn new(key: &[u8; 16]) -> TdesEde2Context {
+        TdesEde2Context {
+            first: part_words(key, 1),
+            second: part_words(key, 2),
+        }
+    }
+}
+
+impl Context for TdesEde2Context {
+    type Cipher = TdesEde2;
+
+    fn to_cipher(&self) -> TdesEde2 {
+        joined::ede2(
+            from_round_key_words(&self.first),
+            from_round_key_words(&self.second),
+        )
+    }
+}
+
+/// The context of `TdesEee2`.
+#[repr(C)]
+#[derive(Clone, Copy)]
+pub struct TdesEee2Context {
+    first: [u64; 16],
+    second: [u64; 16],
+}
+
+impl KeySizeUser for TdesEee2Context {
+    ghost use Rattle.std.specs.Prelude.{refl};
+
+    type Key = [u8; 16];
+
+    const KEY_SIZE: usize = 16;
+
+    ghost KEY_SIZE = { 16 };
+
+    ghost key_size_is_len = { refl };
+}
+
+impl KeyInit for TdesEee2Context {
+    ghost is_made_from = { IsEee2ContextOf };
+
+    /// The context of a key of 16 bytes.
+    fn new(key: &[u8; 16]) -> TdesEee2Context {
+        TdesEee2Context {
+            first: part_words(key, 1),
+            second: part_words(key, 2),
+        }
+    }
+}
+
+impl Context for TdesEee2Context {
+    type Cipher = TdesEee2;
+
+    fn to_cipher(&self) -> TdesEee2 {
+        joined::eee2(
+            from_round_key_words(&self.first),
+            from_round_key_words(&self.second),
+        )
+    }
+}
