@@ -1,0 +1,5 @@
+pub mod PaddedBytes
+pub mod CipherModes
+pub mod Streams
+pub mod Status
+pub mod KeyText

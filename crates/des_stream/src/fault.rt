@@ -1,0 +1,126 @@
+//! What can fail, in the program's words, and the status that it ends with.
+
+ghost use Rattle.std.specs.Prelude.{◌≡◌};
+ghost use Rattle.des_stream.specs.Status.{status_of};
+
+use std::alloc::{AllocError, AllocFailed};
+use std::{fmt, io};
+
+/// Why a stream ended before its time.
+#[derive(Debug, Drop)]
+pub enum StreamError {
+    /// The reader failed.
+    Read(io::Error),
+    /// The writer failed, or took nothing.
+    Write(io::Error),
+    /// The input is not whole blocks: so many bytes follow the last whole one.
+    Length(usize),
+    /// The input ends before the part begins.
+    Start,
+    /// The padding is wrong.
+    Padding,
+}
+
+/// Why the program failed.
+#[derive(Debug, Drop)]
+pub enum Fault {
+    /// The arguments do not go together.
+    Usage(&'static str),
+    /// The key's file, descriptor or variable cannot be read.
+    KeySource(io::Error),
+    /// The environment has no such variable, or it is no text.
+    KeyVariable,
+    /// The key is not of so many digits.
+    KeyLength(usize),
+    /// The key has a character that is no digit.
+    KeyText,
+    /// The key is one that `--weak-keys` refuses.
+    WeakKey,
+    /// The vector is not 16 digits.
+    Vector,
+    /// A request for memory was refused.
+    Memory,
+    /// The input cannot be read.
+    Read(io::Error),
+    /// The output cannot be written.
+    Write(io::Error),
+    /// The input is not whole blocks: so many bytes follow the last whole one.
+    Length(usize),
+    /// The input ends before the part begins.
+    Start,
+    /// The padding is wrong.
+    Padding,
+}
+
+// The statuses that the program ends with.
+const ARGUMENTS_AT_FAULT: u8 = 2;
+
+const MEMORY_REFUSED: u8 = 3;
+
+const NOT_READ_OR_WRITTEN: u8 = 4;
+
+const INPUT_AT_FAULT: u8 = 5;
+
+impl Fault {
+    /// The status that the program ends with.
+    pub fn status(&self) -> u8
+        ensures { result ≡ status_of self.now }
+    {
+        match self {
+            Fault::Memory => MEMORY_REFUSED,
+            Fault::Read(_) | Fault::Write(_) => NOT_READ_OR_WRITTEN,
+            Fault::Length(_) | Fault::Start | Fault::Padding => INPUT_AT_FAULT,
+            _ => ARGUMENTS_AT_FAULT,
+        }
+    }
+}
+
+/// Writes the fault's name, and what is at fault in plain words. No part of a key is written.
+impl fmt::Display for Fault {
+    fn fmt<W: fmt::Write>(&self, f: &mut fmt::Formatter<W>) -> fmt::Result {
+        match self {
+            Fault::Usage(why) => write!(f, "Usage: {why}"),
+            Fault::KeySource(error) => write!(f, "KeySource: the key cannot be read: {error}"),
+            Fault::KeyVariable => f.write_str("KeySource: --key-env names no variable of text"),
+            Fault::KeyLength(digits) => write!(f, "KeyLength: a key of {digits} digits is wanted"),
+            Fault::KeyText => f.write_str("KeyText: the key has a character that is no digit"),
+            Fault::WeakKey => f.write_str("WeakKey: the key is weak (--weak-keys accept takes it)"),
+            Fault::Vector => f.write_str("Vector: --iv takes 16 hexadecimal digits or first-block"),
+            Fault::Memory => f.write_str("Memory: a request for memory was refused"),
+            Fault::Read(error) => write!(f, "Read: the input cannot be read: {error}"),
+            Fault::Write(error) => write!(f, "Write: the output cannot be written: {error}"),
+            Fault::Length(past) => {
+                write!(
+                    f,
+                    "Length: the input has {past} bytes after its last whole block of 8"
+                )
+            }
+            Fault::Start => f.write_str("Start: the input ends before the block of --from"),
+            Fault::Padding => f.write_str("Padding: the input's padding is not that of --padding"),
+        }
+    }
+}
+
+impl From<StreamError> for Fault {
+    fn from(error: StreamError) -> Fault {
+        match error {
+            StreamError::Read(error) => Fault::Read(error),
+            StreamError::Write(error) => Fault::Write(error),
+            StreamError::Length(past) => Fault::Length(past),
+            StreamError::Start => Fault::Start,
+            StreamError::Padding => Fault::Padding,
+        }
+    }
+}
+
+impl From<AllocError> for Fault {
+    fn from(_error: AllocError) -> Fault {
+        Fault::Memory
+    }
+}
+
+impl<T: Drop> From<AllocFailed<T>> for Fault {
+    fn from(_error: AllocFailed<T>) -> Fault {
+        Fault::Memory
+    }
+}

@@ -1,0 +1,122 @@
+//! The key: where its digits are, and the bytes that they write.
+
+ghost use Rattle.std.specs.Prelude.{◌≡◌, ◌<◌, ◌*◌, ℕ, List, IfOk, Ok, length};
+ghost use Rattle.hex.specs.Hex.{decode_of};
+ghost use Rattle.des_stream.specs.KeyText.{is_space, key_digits};
+
+use crate::fault::{Fault, StreamError};
+use crate::pieces::fill;
+use hex::{FromHex, FromHexError};
+use std::alloc::Global;
+use std::env::{self, VarError};
+use std::fs::File;
+use std::io::Read;
+
+/// Where the digits of the key are.
+#[derive(Clone, Copy)]
+pub enum KeySource<'a> {
+    /// In a file.
+    File(&'a str),
+    /// On a descriptor of the process.
+    Descriptor(u32),
+    /// In a variable of the environment.
+    Variable(&'a str),
+}
+
+// A key has 48 digits at most, and may have white space about them.
+const LONGEST_TEXT: usize = 1024;
+
+// Whether a byte is white space.
+fn is_space(byte: u8) -> bool
+    ensures { result ≡ is_space byte }
+{
+    byte == b' ' || byte == b'\t' || byte == b'\n' || byte == b'\r'
+}
+
+/// The bytes of a key from its digits, of so many bytes. White space is passed over.
+pub fn key_of_text(alloc: Global, text: &[u8], size: usize) -> Result<Vec<u8>, Fault>
+    requires { size < 1000 }
+    ensures key { IfOk result (λ key. decode_of (key_digits text.now) ≡ Ok key.items) }
+    ensures size { IfOk result (λ key. length (key_digits text.now) ≡ 2 * size) }
+{
+    let digits: Vec<u8> = text
+        .iter()
+        .copied()
+        .filter(|byte| !is_space(*byte))
+        .collect(alloc)?;
+    if digits.len() != 2 * size {
+        return Err(Fault::KeyLength(2 * size));
+    }
+    match hex::decode(alloc, digits.as_slice()) {
+        Ok(key) => Ok(key),
+        Err(FromHexError::OutOfMemory) => Err(Fault::Memory),
+        Err(_) => Err(Fault::KeyText),
+    }
+}
+
+// A fault of the reader is one of the key.
+fn key_fault(error: StreamError) -> Fault {
+    match error {
+        StreamError::Read(error) => Fault::KeySource(error),
+        error => Fault::from(error),
+    }
+}
+
+// The key that a reader gives, in a text of fewer bytes than the longest.
+fn key_of_reader<R: Read>(
+    alloc: Global,
+    reader: &mut R,
+    size: usize,
+    longest: usize,
+) -> Result<Vec<u8>, Fault>
+    requires size { size < 1000 }
+    requires longest { longest < 100000 }
+{
+    let mut text = vec![in alloc; 0u8; longest]?;
+    let n = fill(reader, &mut text).map_err(key_fault)?;
+    if n == text.len() {
+        return Err(Fault::KeyLength(2 * size));
+    }
+    key_of_text(alloc, &text[..n], size)
+}
+
+fn key_of_file(rt: &HostRuntime, path: &str, size: usize) -> Result<Vec<u8>, Fault>
+    requires { size < 1000 }
+{
+    let mut file = File::open(rt, path).map_err(Fault::KeySource)?;
+    key_of_reader(rt.alloc(), &mut file, size, LONGEST_TEXT)
+}
+
+fn key_of_variable(rt: &HostRuntime, name: &str, size: usize) -> Result<Vec<u8>, Fault>
+    requires { size < 1000 }
+{
+    match env::var(rt, name) {
+        Ok(text) => key_of_text(rt.alloc(), text.as_bytes(), size),
+        Err(VarError::OutOfMemory) => Err(Fault::Memory),
+        Err(_) => Err(Fault::KeyVariable),
+    }
+}
+
+/// The bytes of the key, of so many bytes, that the source has.
+pub fn read_key(rt: &HostRuntime, source: KeySource, size: usize) -> Result<Vec<u8>, Fault>
+    requires { size < 1000 }
+{
+    match source {
+        KeySource::File(path) => key_of_file(rt, path, size),
+        KeySource::Descriptor(number) => {
+            let path = format!(in rt.alloc(); "/dev/fd/{number}")?;
+            key_of_file(rt, path.as_str(), size)
+        }
+        KeySource::Variable(name) => key_of_variable(rt, name, size),
+    }
+}
+
+/// The initialization vector that 16 digits write.
+pub fn vector_of_text(text: &str) -> Result<[u8; 8], Fault>
+    ensures { IfOk result (λ iv. decode_of text.now ≡ Ok iv) }
+{
+    match <[u8; 8] as FromHex>::from_hex(text) {
+        Ok(iv) => Ok(iv),
+        Err(_) => Err(Fault::Vector),
+    }
+}
