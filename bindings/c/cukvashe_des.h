@@ -41,6 +41,13 @@
 #include <stddef.h>
 #include <stdint.h>
 
+#if defined(__x86_64__) && defined(__GNUC__) && !defined(CUKVASHE_NARROW)
+#define CUKVASHE_ASKS 1
+#include <cpuid.h>
+#else
+#define CUKVASHE_ASKS 0
+#endif
+
 #ifdef __cplusplus
 extern "C" {
 #endif
@@ -100,8 +107,8 @@ int cukvashe_tdes_eee2_init(cukvashe_tdes_eee2 *context, const uint8_t *key, siz
  * void cukvashe_NAME_decrypt_many(const cukvashe_NAME *context, uint8_t *blocks, size_t count)
  *
  * Encrypts, or decrypts, each of `count` blocks in place, each by itself (electronic codebook). They take 128 blocks at a
- * time, and a list or an end of one that is shorter takes the time of 128 blocks, as long as some 27 blocks one by one.
- * Some 50,000 bytes of the stack are used, for DES 30,000.
+ * time, and a list or an end of one that is shorter takes the time of 128 blocks, as long as some 20 blocks one by one.
+ * At most some 20,000 bytes of the stack are used.
  */
 void cukvashe_des_encrypt_many(const cukvashe_des *context, uint8_t *blocks, size_t count);
 void cukvashe_des_decrypt_many(const cukvashe_des *context, uint8_t *blocks, size_t count);
@@ -147,7 +154,7 @@ int cukvashe_tdes_eee2_decrypt_many_b2b(const cukvashe_tdes_eee2 *context, const
  * void cukvashe_NAME_encrypt_blocks(const cukvashe_NAME *context, uint8_t *blocks, size_t count)
  * void cukvashe_NAME_decrypt_blocks(const cukvashe_NAME *context, uint8_t *blocks, size_t count)
  *
- * The same as encrypt_many and decrypt_many, one block at a time: quicker for fewer than some 27 blocks. They read tables
+ * The same as encrypt_many and decrypt_many, one block at a time: quicker for fewer than some 20 blocks. They read tables
  * at indexes that depend on the key and the blocks.
  */
 void cukvashe_des_encrypt_blocks(const cukvashe_des *context, uint8_t *blocks, size_t count);
@@ -190,7 +197,7 @@ void cukvashe_tdes_eee2_decrypt_cbc_many(const cukvashe_tdes_eee2 *context, uint
 /*
  * void cukvashe_NAME_decrypt_cbc(const cukvashe_NAME *context, uint8_t vector[8], uint8_t *blocks, size_t count)
  *
- * The same, one block at a time: quicker for fewer than some 27 blocks. It reads tables at indexes that depend on the key and
+ * The same, one block at a time: quicker for fewer than some 20 blocks. It reads tables at indexes that depend on the key and
  * the blocks.
  */
 void cukvashe_des_decrypt_cbc(const cukvashe_des *context, uint8_t vector[8], uint8_t *blocks, size_t count);
@@ -213,9 +220,10 @@ void cukvashe_set_odd_parity(uint8_t key[8]);
 bool cukvashe_equal_but_parity(const uint8_t first[8], const uint8_t second[8]);
 
 /*
- * The calls for lists once more, 256 blocks at a time, for x86-64 processors with AVX2, BMI, BMI2 and FMA. On any other
- * they end the program by an illegal instruction: ask cukvashe_has_wide() first, or take the functions below, which ask.
- * Some 100,000 bytes of the stack are used, for DES 50,000.
+ * The calls for lists once more, 256 blocks at a time, for processors of x86-64-v3 (AVX2, BMI, BMI2, FMA, F16C, LZCNT and
+ * MOVBE). On any other they may end the program by an illegal instruction: ask cukvashe_has_wide() first, or take the
+ * functions below, which ask.
+ * At most some 40,000 bytes of the stack are used.
  */
 void cukvashe_wide_des_encrypt_many(const cukvashe_des *context, uint8_t *blocks, size_t count);
 void cukvashe_wide_des_decrypt_many(const cukvashe_des *context, uint8_t *blocks, size_t count);
@@ -267,17 +275,28 @@ void cukvashe_wide_tdes_eee2_decrypt_cbc_many(const cukvashe_tdes_eee2 *context,
 #define CUKVASHE_INLINE static inline
 #endif
 
-#if defined(__x86_64__) && defined(__GNUC__) && !defined(CUKVASHE_NARROW)
-#define CUKVASHE_ASKS 1
-#else
-#define CUKVASHE_ASKS 0
+#if CUKVASHE_ASKS
+/* Whether the processor is of x86-64-v3. Not each compiler knows the words for MOVBE, F16C and LZCNT. */
+CUKVASHE_INLINE bool cukvashe_is_x86_64_v3(void) {
+  unsigned a, b, c, d;
+  if (!__builtin_cpu_supports("avx2") || !__builtin_cpu_supports("bmi") || !__builtin_cpu_supports("bmi2") ||
+      !__builtin_cpu_supports("fma"))
+    return false;
+  if (!__get_cpuid(1, &a, &b, &c, &d) || !(c >> 22 & 1) || !(c >> 29 & 1)) return false;
+  return __get_cpuid(0x80000001, &a, &b, &c, &d) && c >> 5 & 1;
+}
 #endif
 
-/* Whether the wide calls may be called. */
+/* Whether the wide calls may be called. The processor is asked once, since a virtual one may take long to answer. */
 CUKVASHE_INLINE bool cukvashe_has_wide(void) {
 #if CUKVASHE_ASKS
-  return __builtin_cpu_supports("avx2") && __builtin_cpu_supports("bmi") && __builtin_cpu_supports("bmi2") &&
-         __builtin_cpu_supports("fma");
+  static int answer; /* 0 where it was not asked, and else 1 or 2 */
+  int known = __atomic_load_n(&answer, __ATOMIC_RELAXED);
+  if (known == 0) {
+    known = cukvashe_is_x86_64_v3() ? 2 : 1;
+    __atomic_store_n(&answer, known, __ATOMIC_RELAXED);
+  }
+  return known == 2;
 #else
   return false;
 #endif

@@ -3,7 +3,7 @@
 //!
 //! A block is `[u8; 8]`, bit 1 of the standard the most significant of the first byte; `as_chunks_mut::<8>` of a slice
 //! gives such blocks. The calls named `_many` take lists of any length, 128 or 256 blocks at a time as the processor can;
-//! those named `_blocks` go one by one, and are quicker for fewer than some 27 blocks. No call takes memory. Padding and
+//! those named `_blocks` go one by one, and are quicker for fewer than some 20 blocks. No call takes memory. Padding and
 //! authentication are the caller's, and so is wiping what is secret from memory.
 #![warn(missing_docs)]
 
@@ -67,7 +67,10 @@ fn has_wide() -> bool {
     return std::is_x86_feature_detected!("avx2")
         && std::is_x86_feature_detected!("bmi1")
         && std::is_x86_feature_detected!("bmi2")
-        && std::is_x86_feature_detected!("fma");
+        && std::is_x86_feature_detected!("fma")
+        && std::is_x86_feature_detected!("f16c")
+        && std::is_x86_feature_detected!("lzcnt")
+        && std::is_x86_feature_detected!("movbe");
     #[cfg(not(target_arch = "x86_64"))]
     return false;
 }

@@ -34,6 +34,7 @@ pub extern "C" fn cukvashe_wide_des_decrypt_many(context: &DesContext, blocks: &
     calls::decrypt_many::<u64x4, _>(context, blocks);
 }
 
+/// Encrypts each block of `input` into the block at its place in `output`, 256 at a time. The status
 /// of two lists that differ in length is 2, and `output` stays.
 #[unsafe(no_mangle)]
 pub extern "C" fn cukvashe_wide_des_encrypt_many_b2b(
@@ -53,6 +54,7 @@ pub extern "C" fn cukvashe_wide_des_encrypt_many_b2b(
     calls::encrypt_many_b2b::<u64x4, _>(context, input, output)
 }
 
+/// Decrypts each block of `input` into the block at its place in `output`, 256 at a time. The status
 /// of two lists that differ in length is 2, and `output` stays.
 #[unsafe(no_mangle)]
 pub extern "C" fn cukvashe_wide_des_decrypt_many_b2b(
@@ -72,6 +74,7 @@ pub extern "C" fn cukvashe_wide_des_decrypt_many_b2b(
     calls::decrypt_many_b2b::<u64x4, _>(context, input, output)
 }
 
+/// Decrypts blocks in place that CBC chained from the vector, 256 at a time; the vector becomes
 /// the one that the chain goes on with.
 #[unsafe(no_mangle)]
 pub extern "C" fn cukvashe_wide_des_decrypt_cbc_many(

@@ -6,7 +6,7 @@
 //! vectors of 256 bits, and slower elsewhere. A list, or what a list has after its last whole
 //! batch, goes through the rounds in a batch that is filled up with zeros: a list takes about as
 //! long as the next longer one of whole batches, and no call reads a table at an index that depends
-//! on the key or on a block.
+//! on the key or on a block. `spread_keys` spreads a key over slices once, for many short lists.
 
 ghost use Rattle.std.specs.Prelude.{◌≡◌, ◌≤◌, List, Bool, length, map, take};
 ghost use Rattle.std.specs.List.{All};

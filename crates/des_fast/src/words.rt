@@ -2,7 +2,8 @@
 //! make the cipher anew for each call.
 //!
 //! A word has 48 bits of a round key in eight groups of six, each in the last six bits of a byte:
-//! the groups 1, 3, 5 and 7 in bytes 1 to 4, the groups 2, 4, 6 and 8 in bytes 5 to 8.
+//! the groups 1, 3, 5 and 7 in bytes 1 to 4, the groups 2, 4, 6 and 8 in bytes 5 to 8, byte 1 the
+//! most significant.
 
 ghost use Rattle.std.specs.Prelude.{◌≡◌, ℕ, List};
 ghost use Rattle.des_fast.specs.Des.{IsDesOf};

@@ -110,7 +110,8 @@ fn next_key(register: u64, key: &[u8; 16]) -> [u8; 16]
 }
 
 /// The key of the transaction of a key serial number, from the initial key. It is not to be used as
-/// it is: the keys for PINs, MACs and data are made from it.
+/// it is: the keys for PINs, MACs and data are made from it. Every counter is taken, those too that
+/// `next_serial` leaves out; of the counter 0 it is the initial key.
 pub fn transaction_key(initial: &[u8; 16], serial: &[u8; 10]) -> [u8; 16]
     ensures { result ≡ transaction_key_of initial.now serial.now }
 {
