@@ -111,3 +111,27 @@ Enciphered-none encryption (InChain iv) = record { count = refl; widths = λ n f
 pub Deciphered-none : (decryption : List ℕ → List ℕ) (mode : Mode) → Deciphered decryption mode [] []
 Deciphered-none decryption Ecb = refl
 Deciphered-none decryption (InChain iv) = record { count = refl; unchained = λ n from to. absurd (omega arith) }
+
+length-map : (f : List ℕ → List ℕ) (blocks : List (List ℕ)) → length (map f blocks) ≡ length blocks
+length-map f [] = refl
+length-map f (block ∷ blocks) = ap suc (length-map f blocks)
+
+-- as many blocks are deciphered as there are
+Deciphered-count : (decryption : List ℕ → List ℕ) (mode : Mode) (q p : List (List ℕ)) → Deciphered decryption mode q p → length p ≡ length q
+Deciphered-count decryption Ecb q p deciphered = ap length deciphered ∙ length-map decryption q
+Deciphered-count decryption (InChain iv) q p deciphered = deciphered.count
+
+no_elements : (blocks : List (List ℕ)) → length blocks ≡ 0 → blocks ≡ []
+no_elements [] none = refl
+no_elements (block ∷ blocks) none = absurd (omega arith)
+
+-- of no blocks no blocks are deciphered, and the other way round
+pub Deciphered-nil : (decryption : List ℕ → List ℕ) (mode : Mode) (q p : List (List ℕ)) → Deciphered decryption mode q p
+    → q ≡ [] → p ≡ []
+Deciphered-nil decryption mode q p deciphered none =
+    no_elements p (Deciphered-count decryption mode q p deciphered ∙ ap length none)
+
+pub Deciphered-only_nil : (decryption : List ℕ → List ℕ) (mode : Mode) (q p : List (List ℕ)) → Deciphered decryption mode q p
+    → p ≡ [] → q ≡ []
+Deciphered-only_nil decryption mode q p deciphered none =
+    no_elements q (sym (Deciphered-count decryption mode q p deciphered) ∙ ap length none)

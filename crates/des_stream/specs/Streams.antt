@@ -248,14 +248,24 @@ abbrev pub IsEndOrMore : Bool → List ℕ → Option (List ℕ) → Type 0
 IsEndOrMore true bytes read_to = (bytes ≡ []) × IsAtEnd read_to
 IsEndOrMore false bytes read_to = length bytes ≡ 1
 
--- a part was decrypted up to the end of the input or to a limit in blocks. Where nothing follows it
--- its padding was taken off, and where more follows it has none; `taken` is what was taken off
-pub record DecryptsPart (decryption : List ℕ → List ℕ) (mode : Mode) (padding : Padding) (limit : ℕ)
+-- a part was decrypted up to the end of the input or to a limit in blocks, where there is one. Where
+-- nothing follows it, it has a block and its padding was taken off, and where more follows it has no
+-- padding; `taken` is what was taken off
+pub record DecryptsPart (decryption : List ℕ → List ℕ) (mode : Mode) (padding : Padding) (limit : Option ℕ)
     (read_from read_to written_from written_to : Option (List ℕ)) : Type 0 where
   pub taken : Padding
   pub middle : Option (List ℕ)
   pub rest : List ℕ
   pub part : Decrypts decryption mode taken read_from middle written_from written_to
-  pub ends : IsAtEnd middle ⊎ (length part.q ≡ limit)
+  pub ends : IsAtEnd middle ⊎ (limit ≡ Some (length part.q))
   pub read : Consumes middle read_to rest
-  pub after : ((rest ≡ []) × IsAtEnd read_to × (taken ≡ padding)) ⊎ ((length rest ≡ 1) × (taken ≡ Unpadded))
+  pub after : ((rest ≡ []) × IsAtEnd read_to × (taken ≡ padding) × (part.q ≢ [])) ⊎ ((length rest ≡ 1) × (taken ≡ Unpadded))
+
+-- what a fault says of a part: the input has no block where it begins, or what a fault says of a
+-- decryption
+abbrev pub FailsInPart : StreamError → (List ℕ → List ℕ) → Mode → Padding
+    → Option (List ℕ) → Option (List ℕ) → Option (List ℕ) → Option (List ℕ) → Type 0
+FailsInPart Start decryption mode padding read_from read_to written_from written_to =
+    Consumes read_from read_to [] × IsAtEnd read_to
+FailsInPart fault decryption mode padding read_from read_to written_from written_to =
+    FailsToDecrypt fault decryption mode padding read_from read_to written_from written_to

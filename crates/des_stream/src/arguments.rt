@@ -1,5 +1,7 @@
 //! The command line.
 
+ghost use Rattle.std.specs.Prelude.{◌≤◌};
+
 use crate::fault::Fault;
 use crate::key::KeySource;
 use crate::padding::Padding;
@@ -17,8 +19,36 @@ static PADDINGS: [&str; 3] = ["pkcs7", "iso7816", "none"];
 
 static CHOICES: [&str; 3] = ["refuse", "warn", "accept"];
 
+/// The ciphers.
+#[derive(Clone, Copy)]
+pub enum Cipher {
+    /// DES.
+    Des,
+    /// Triple DES that encrypts, decrypts and encrypts, by three keys.
+    Ede3,
+    /// Triple DES that encrypts three times, by three keys.
+    Eee3,
+    /// `Ede3` by two keys, the first of them also the third.
+    Ede2,
+    /// `Eee3` by two keys, the first of them also the third.
+    Eee2,
+}
+
+impl Cipher {
+    /// The bytes of a key.
+    pub fn key_size(self) -> usize
+        ensures { result ≤ 24 }
+    {
+        match self {
+            Cipher::Des => 8,
+            Cipher::Ede2 | Cipher::Eee2 => 16,
+            Cipher::Ede3 | Cipher::Eee3 => 24,
+        }
+    }
+}
+
 /// What is done with a weak key.
-#[derive(Clone, Copy, PartialEq, Eq)]
+#[derive(Clone, Copy)]
 pub enum WeakKeys {
     /// The program ends.
     Refuse,
@@ -39,41 +69,72 @@ pub enum Vector<'a> {
     FirstBlock,
 }
 
+/// A part of the ciphertext.
+#[derive(Clone, Copy)]
+pub struct Part {
+    /// The block that it begins with, the first being 0.
+    pub from: u64,
+    /// How many blocks it has; up to the end where that is not said.
+    pub count: Option<u64>,
+}
+
 /// What a command line asks for.
 #[derive(Clone, Copy)]
 pub struct Options<'a> {
     pub encrypts: bool,
-    pub cipher: &'a str,
+    pub cipher: Cipher,
     pub key: KeySource<'a>,
     pub vector: Vector<'a>,
     pub padding: Padding,
     pub weak_keys: WeakKeys,
-    pub from: u64,
-    pub count: Option<u64>,
+    pub part: Option<Part>,
     pub input: Option<&'a str>,
     pub output: Option<&'a str>,
     pub shows_progress: bool,
 }
 
+// One argument more. Each call of `clap` that says how an argument differs stands in a function of
+// its own here, which tells its caller nothing of the many fields that stay.
+fn with_argument<'a>(command: Command<'a>, arg: Arg<'a>) -> Result<Command<'a>, AllocError> {
+    command.arg(arg)
+}
+
+// Takes one of some words.
+fn one_of<'a>(arg: Arg<'a>, words: &'a [&'a str]) -> Arg<'a> {
+    arg.value_parser(words)
+}
+
+// Takes a number.
+fn number<'a>(arg: Arg<'a>) -> Arg<'a> {
+    arg.value_parser(value_parser!(u64))
+}
+
+fn argument<'a>(alloc: Global, name: &'a str, help: &'a str) -> Arg<'a> {
+    Arg::new(alloc, name).help(help)
+}
+
+// A word that has its place.
+fn word<'a>(alloc: Global, name: &'a str, help: &'a str) -> Arg<'a> {
+    argument(alloc, name, help).required(true)
+}
+
 // An option that takes a value.
 fn option<'a>(alloc: Global, name: &'a str, value: &'a str, help: &'a str) -> Arg<'a> {
-    Arg::new(alloc, name)
+    argument(alloc, name, help).long(name).value_name(value)
+}
+
+// An option that takes none.
+fn flag<'a>(alloc: Global, name: &'a str, help: &'a str) -> Arg<'a> {
+    argument(alloc, name, help)
         .long(name)
-        .value_name(value)
-        .help(help)
-        .action(ArgAction::Set)
+        .action(ArgAction::SetTrue)
 }
 
 fn with_words<'a>(alloc: Global, command: Command<'a>) -> Result<Command<'a>, AllocError> {
-    let direction = Arg::new(alloc, "direction")
-        .required(true)
-        .value_parser(DIRECTIONS.as_slice())
-        .help("What to do");
-    let cipher = Arg::new(alloc, "cipher")
-        .required(true)
-        .value_parser(CIPHERS.as_slice())
-        .help("The cipher and its mode");
-    command.arg(direction)?.arg(cipher)
+    let direction = word(alloc, "direction", "What to do");
+    let command = with_argument(command, one_of(direction, DIRECTIONS.as_slice()))?;
+    let cipher = word(alloc, "cipher", "The cipher and its mode");
+    with_argument(command, one_of(cipher, CIPHERS.as_slice()))
 }
 
 fn with_key<'a>(alloc: Global, command: Command<'a>) -> Result<Command<'a>, AllocError> {
@@ -83,16 +144,16 @@ fn with_key<'a>(alloc: Global, command: Command<'a>) -> Result<Command<'a>, Allo
         "FILE",
         "Read the key's hexadecimal digits from a file",
     );
-    let descriptor = option(alloc, "key-fd", "N", "Read them from a descriptor").value_parser(
-        value_parser!(u32),
-    );
+    let command = with_argument(command, file)?;
+    let descriptor = option(alloc, "key-fd", "N", "Read them from a descriptor");
+    let command = with_argument(command, number(descriptor))?;
     let variable = option(
         alloc,
         "key-env",
         "NAME",
         "Take them from an environment variable",
     );
-    command.arg(file)?.arg(descriptor)?.arg(variable)
+    with_argument(command, variable)
 }
 
 fn with_modes<'a>(alloc: Global, command: Command<'a>) -> Result<Command<'a>, AllocError> {
@@ -102,22 +163,21 @@ fn with_modes<'a>(alloc: Global, command: Command<'a>) -> Result<Command<'a>, Al
         "VECTOR",
         "CBC's vector: 16 digits, or first-block where it stands before the input",
     );
+    let command = with_argument(command, iv)?;
     let padding = option(
         alloc,
         "padding",
         "PADDING",
-        "How bytes are made whole blocks",
-    )
-    .value_parser(PADDINGS.as_slice())
-    .default_value("pkcs7");
+        "How bytes are made whole blocks [default: pkcs7]",
+    );
+    let command = with_argument(command, one_of(padding, PADDINGS.as_slice()))?;
     let weak = option(
         alloc,
         "weak-keys",
         "CHOICE",
         "What to do with a weak key [default: refuse to encrypt, warn to decrypt]",
-    )
-    .value_parser(CHOICES.as_slice());
-    command.arg(iv)?.arg(padding)?.arg(weak)
+    );
+    with_argument(command, one_of(weak, CHOICES.as_slice()))
 }
 
 fn with_part<'a>(alloc: Global, command: Command<'a>) -> Result<Command<'a>, AllocError> {
@@ -126,12 +186,10 @@ fn with_part<'a>(alloc: Global, command: Command<'a>) -> Result<Command<'a>, All
         "from",
         "BLOCK",
         "Decrypt from this block on, the first being 0",
-    )
-    .value_parser(value_parser!(u64));
-    let count = option(alloc, "blocks", "COUNT", "Decrypt so many blocks").value_parser(
-        value_parser!(u64),
     );
-    command.arg(from)?.arg(count)
+    let command = with_argument(command, number(from))?;
+    let count = option(alloc, "blocks", "COUNT", "Decrypt so many blocks");
+    with_argument(command, number(count))
 }
 
 fn with_files<'a>(alloc: Global, command: Command<'a>) -> Result<Command<'a>, AllocError> {
@@ -141,17 +199,16 @@ fn with_files<'a>(alloc: Global, command: Command<'a>) -> Result<Command<'a>, Al
         "FILE",
         "Read a file in place of standard input",
     );
+    let command = with_argument(command, input)?;
     let output = option(
         alloc,
         "out",
         "FILE",
         "Write a file, there at success alone, in place of standard output",
     );
-    let progress = Arg::new(alloc, "progress")
-        .long("progress")
-        .help("Say on standard error how far it is")
-        .action(ArgAction::SetTrue);
-    command.arg(input)?.arg(output)?.arg(progress)
+    let command = with_argument(command, output)?;
+    let progress = flag(alloc, "progress", "Say on standard error how far it is");
+    with_argument(command, progress)
 }
 
 // The program's command.
@@ -172,7 +229,7 @@ pub fn parse<'a>(alloc: Global, words: &'a [&'a str]) -> Result<ArgMatches<'a>, 
 // Where the key is: one place.
 fn key_of<'a>(matches: &ArgMatches<'a>) -> Result<KeySource<'a>, Fault> {
     let file = matches.get_str("key-file");
-    let descriptor = matches.get_one::<u32>("key-fd");
+    let descriptor = matches.get_one::<u64>("key-fd");
     let variable = matches.get_str("key-env");
     match (file, descriptor, variable) {
         (Some(path), None, None) => Ok(KeySource::File(path)),
@@ -182,21 +239,51 @@ fn key_of<'a>(matches: &ArgMatches<'a>) -> Result<KeySource<'a>, Fault> {
     }
 }
 
-// The vector: of CBC one, of ECB none; only what is decrypted has it before its blocks.
+// CBC's vector: only what is decrypted has it before its blocks.
+fn chain_vector_of<'a>(text: &'a str, encrypts: bool) -> Result<Vector<'a>, Fault> {
+    if text != "first-block" {
+        return Ok(Vector::Digits(text));
+    }
+    if encrypts {
+        return Err(Fault::Usage("--iv first-block is for decryption"));
+    }
+    Ok(Vector::FirstBlock)
+}
+
+// The vector: of CBC one, of ECB none.
 fn vector_of<'a>(
     iv: Option<&'a str>,
     is_chained: bool,
     encrypts: bool,
 ) -> Result<Vector<'a>, Fault> {
     match iv {
+        Some(text) if is_chained => chain_vector_of(text, encrypts),
+        Some(_) => Err(Fault::Usage("ECB takes no --iv")),
         None if is_chained => Err(Fault::Usage("CBC takes --iv")),
         None => Ok(Vector::Absent),
-        Some(_) if !is_chained => Err(Fault::Usage("ECB takes no --iv")),
-        Some("first-block") if encrypts => {
-            Err(Fault::Usage("--iv first-block is for decryption"))
-        }
-        Some("first-block") => Ok(Vector::FirstBlock),
-        Some(digits) => Ok(Vector::Digits(digits)),
+    }
+}
+
+// The cipher of a name, whichever its mode.
+fn cipher_of(name: &str) -> Cipher {
+    if name.starts_with("des-") {
+        Cipher::Des
+    } else if name.starts_with("ede3-") {
+        Cipher::Ede3
+    } else if name.starts_with("eee3-") {
+        Cipher::Eee3
+    } else if name.starts_with("ede2-") {
+        Cipher::Ede2
+    } else {
+        Cipher::Eee2
+    }
+}
+
+fn part_of(from: Option<u64>, count: Option<u64>) -> Option<Part> {
+    match from {
+        Some(from) => Some(Part { from, count }),
+        None if count.is_some() => Some(Part { from: 0, count }),
+        None => None,
     }
 }
 
@@ -220,22 +307,25 @@ fn weak_keys_of(name: Option<&str>, encrypts: bool) -> WeakKeys {
 
 /// What the command line asks for; a fault where its options do not go together.
 pub fn options_of<'a>(matches: &ArgMatches<'a>) -> Result<Options<'a>, Fault> {
-    let cipher = matches.get_str("cipher").unwrap_or("");
+    let name = matches.get_str("cipher").unwrap_or("");
     let encrypts = matches.get_str("direction") == Some("encrypt");
-    let from = matches.get_one::<u64>("from");
-    let count = matches.get_one::<u64>("blocks");
-    if encrypts && (from.is_some() || count.is_some()) {
+    let part = part_of(
+        matches.get_one::<u64>("from"),
+        matches.get_one::<u64>("blocks"),
+    );
+    if encrypts && part.is_some() {
         return Err(Fault::Usage("--from and --blocks are for decryption"));
     }
+    let key = key_of(matches)?;
+    let vector = vector_of(matches.get_str("iv"), name.ends_with("-cbc"), encrypts)?;
     Ok(Options {
         encrypts,
-        cipher,
-        key: key_of(matches)?,
-        vector: vector_of(matches.get_str("iv"), cipher.ends_with("-cbc"), encrypts)?,
+        cipher: cipher_of(name),
+        key,
+        vector,
         padding: padding_of(matches.get_str("padding")),
         weak_keys: weak_keys_of(matches.get_str("weak-keys"), encrypts),
-        from: from.unwrap_or(0),
-        count,
+        part,
         input: matches.get_str("in"),
         output: matches.get_str("out"),
         shows_progress: matches.get_flag("progress"),

@@ -1,8 +1,11 @@
 //! Bytes that are decrypted from a reader to a writer.
 
-ghost use Rattle.std.specs.Prelude.{◌≡◌, ◌⊎◌, ◌≤◌, ◌<◌, ◌*◌, ℕ, List, Some, length, take, IfSome, IfOk, IfErr, IsOk};
+ghost use Rattle.std.specs.Prelude.{◌≡◌, ◌⊎◌, ◌≤◌, ◌<◌, ◌*◌, ℕ, List, Some, length, take, IfSome};
+ghost use Rattle.std.specs.Prelude.{IfOk, IfErr, IsOk};
 ghost use Rattle.std.specs.Io.KnownBytes.{Appends, IsAtEnd};
-ghost use Rattle.des_stream.specs.Streams.{joined, bytes_of, WritesPiece, DeciphersPiece, IsLeft, HoldsPart, FailsBefore, EndsStream, Decrypts, DecryptsFront, FailsToDecrypt, IsOfWriting};
+ghost use Rattle.des_stream.specs.Streams.{joined, bytes_of, WritesPiece, DeciphersPiece, IsLeft};
+ghost use Rattle.des_stream.specs.Streams.{HoldsPart, FailsBefore, EndsStream, Decrypts};
+ghost use Rattle.des_stream.specs.Streams.{DecryptsFront, FailsToDecrypt, IsOfWriting};
 
 use crate::fault::StreamError;
 use crate::mode::Mode;
@@ -24,7 +27,8 @@ fn write_held<W: Write>(writer: &mut W, held: &Option<[u8; 8]>) -> Result<(), St
     }
 }
 
-// Writes the block that was held back, and the blocks but for the last one, which is then held back.
+// Writes the block that was held back, and the blocks but for the last one, which is then held
+// back.
 fn write_piece<W: Write>(
     writer: &mut W,
     held: &mut Option<[u8; 8]>,
@@ -166,7 +170,8 @@ pub fn decrypt_stream<R: Read, W: Write, C: ManyBlocks>(
     ensures front { DecryptsFront (C.decrypted cipher.now) mode
         (R.remaining reader.old) (R.remaining reader.new)
         (W.contents writer.old) (W.contents writer.new) }
-    ensures fault { IfErr result (λ fault. FailsToDecrypt fault (C.decrypted cipher.now) mode padding
+    ensures fault { IfErr result (λ fault.
+        FailsToDecrypt fault (C.decrypted cipher.now) mode padding
         (R.remaining reader.old) (R.remaining reader.new)
         (W.contents writer.old) (W.contents writer.new)) }
 {

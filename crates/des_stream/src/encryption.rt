@@ -2,7 +2,8 @@
 
 ghost use Rattle.std.specs.Prelude.{◌≡◌, ◌≤◌, ◌<◌, ◌*◌, ℕ, List, length, take, IfOk, IfErr, IsOk};
 ghost use Rattle.std.specs.Io.KnownBytes.{Appends, IsAtEnd};
-ghost use Rattle.des_stream.specs.Streams.{EnciphersPiece, Encrypts, EncryptsFront, FailsToEncrypt, IsOfWriting};
+ghost use Rattle.des_stream.specs.Streams.{EnciphersPiece, Encrypts, EncryptsFront, FailsToEncrypt};
+ghost use Rattle.des_stream.specs.Streams.{IsOfWriting};
 
 use crate::fault::StreamError;
 use crate::mode::Mode;

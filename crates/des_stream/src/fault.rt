@@ -7,7 +7,7 @@ use std::alloc::{AllocError, AllocFailed};
 use std::{fmt, io};
 
 /// Why a stream ended before its time.
-#[derive(Debug, Drop)]
+#[derive(Drop)]
 pub enum StreamError {
     /// The reader failed.
     Read(io::Error),
@@ -15,14 +15,14 @@ pub enum StreamError {
     Write(io::Error),
     /// The input is not whole blocks: so many bytes follow the last whole one.
     Length(usize),
-    /// The input ends before the part begins.
+    /// The input has no block where the part begins, or ends within the vector.
     Start,
     /// The padding is wrong.
     Padding,
 }
 
 /// Why the program failed.
-#[derive(Debug, Drop)]
+#[derive(Drop)]
 pub enum Fault {
     /// The arguments do not go together.
     Usage(&'static str),
@@ -46,7 +46,7 @@ pub enum Fault {
     Write(io::Error),
     /// The input is not whole blocks: so many bytes follow the last whole one.
     Length(usize),
-    /// The input ends before the part begins.
+    /// The input has no block where the part begins, or ends within the vector.
     Start,
     /// The padding is wrong.
     Padding,

@@ -18,7 +18,7 @@ pub enum KeySource<'a> {
     /// In a file.
     File(&'a str),
     /// On a descriptor of the process.
-    Descriptor(u32),
+    Descriptor(u64),
     /// In a variable of the environment.
     Variable(&'a str),
 }

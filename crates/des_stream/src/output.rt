@@ -2,6 +2,7 @@
 
 use crate::fault::Fault;
 use std::fs::{self, File};
+use std::path::Path;
 use std::{io, process};
 
 /// A file beside the one that is to be, with its name and an ending.
@@ -37,7 +38,19 @@ impl<'a> OutputFile<'a> {
     }
 }
 
+// Flushes the file, gives it its name, and flushes that too where the system lets it: the file then
+// stands whole under its name, and a folder that may not be read can't be flushed.
 fn keep(rt: &HostRuntime, file: &File, beside: &str, path: &str) -> io::Result<()> {
     file.sync_all()?;
-    fs::rename(rt, beside, path)
+    fs::rename(rt, beside, path)?;
+    let _ = flush_folder(rt, path);
+    Ok(())
+}
+
+// Flushes the folder of a path to the disk, and with it what stands under which name.
+fn flush_folder(rt: &HostRuntime, path: &str) -> io::Result<()> {
+    match Path::new(path).parent() {
+        Some(folder) if !folder.as_os_str().is_empty() => File::open(rt, folder)?.sync_all(),
+        _ => File::open(rt, ".")?.sync_all(),
+    }
 }

@@ -1,14 +1,15 @@
 //! Padding of bytes to whole blocks, and back.
 
-ghost use Rattle.std.specs.Prelude.{◌≡◌, ◌≢◌, ◌<◌, ◌≤◌, ◌%◌, ℕ, List, length, take, Some, IfSome, IfNone};
+ghost use Rattle.std.specs.Prelude.{◌≡◌, ◌≢◌, ◌<◌, ◌≤◌, ◌%◌, ℕ, List, length, take, Some, IfSome};
+ghost use Rattle.std.specs.Prelude.{IfNone};
 ghost use Rattle.des_stream.specs.PaddedBytes.{padded};
 ghost use Rattle.des_stream.specs.declared.padding.Padding.TheVariants.{Unpadded};
 
 /// How bytes are made whole blocks.
 #[derive(Clone, Copy, Debug, PartialEq, Eq)]
 pub enum Padding {
-    /// PKCS#7 (RFC 5652, section 6.3): as many bytes as are missing from a block, at least one, each
-    /// their number.
+    /// PKCS#7 (RFC 5652, section 6.3): as many bytes as are missing from a block, at least one,
+    /// each their number.
     Pkcs7,
     /// ISO/IEC 7816-4: a byte 80 in hexadecimal digits, and as many zeros as are then missing.
     Iso7816,

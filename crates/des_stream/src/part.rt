@@ -2,7 +2,8 @@
 
 ghost use Rattle.std.specs.Prelude.{◌≡◌, ◌≤◌, ◌<◌, ◌*◌, ℕ, List, length, map, IfOk, IfErr, IsOk};
 ghost use Rattle.std.specs.Io.KnownBytes.{Consumes, IsAtEnd};
-ghost use Rattle.des_stream.specs.Streams.{Skips, FailsToSkip, DecryptsPart, DecryptsFront, FailsToDecrypt, IsOfReading, IsEndOrMore};
+ghost use Rattle.des_stream.specs.Streams.{Skips, FailsToSkip, DecryptsPart, DecryptsFront};
+ghost use Rattle.des_stream.specs.Streams.{FailsInPart, IsOfReading, IsEndOrMore};
 
 use crate::decryption::{decrypt_blocks, finish, next_count};
 use crate::fault::StreamError;
@@ -61,12 +62,12 @@ fn is_at_end<R: Read>(reader: &mut R) -> Result<bool, StreamError>
 }
 
 /// Decrypts a part of so many blocks, or up to the end of the reader, and writes it. Where the
-/// reader is then at its end, the padding is taken off.
+/// reader is then at its end, the padding is taken off, and there must be a block.
 pub fn decrypt_part<R: Read, W: Write, C: ManyBlocks>(
     cipher: &C,
     mode: Mode,
     padding: Padding,
-    limit: u64,
+    limit: Option<u64>,
     reader: &mut R,
     writer: &mut W,
     bytes: &mut [u8],
@@ -80,15 +81,17 @@ pub fn decrypt_part<R: Read, W: Write, C: ManyBlocks>(
     ensures front { DecryptsFront (C.decrypted cipher.now) mode
         (R.remaining reader.old) (R.remaining reader.new)
         (W.contents writer.old) (W.contents writer.new) }
-    ensures fault { IfErr result (λ fault. FailsToDecrypt fault (C.decrypted cipher.now) mode padding
+    ensures fault { IfErr result (λ fault.
+        FailsInPart fault (C.decrypted cipher.now) mode padding
         (R.remaining reader.old) (R.remaining reader.new)
         (W.contents writer.old) (W.contents writer.new)) }
 {
-    let last = decrypt_blocks(cipher, mode, Some(limit), reader, writer, bytes, blocks)?;
-    if is_at_end(reader)? {
-        finish(padding, &last, writer)?;
-    } else {
-        finish(Padding::Unpadded, &last, writer)?;
+    let last = decrypt_blocks(cipher, mode, limit, reader, writer, bytes, blocks)?;
+    if !is_at_end(reader)? {
+        return finish(Padding::Unpadded, &last, writer);
     }
-    Ok(())
+    match last {
+        None => Err(StreamError::Start),
+        Some(_) => finish(padding, &last, writer),
+    }
 }

@@ -2,15 +2,14 @@
 
 ghost use Rattle.std.specs.Prelude.{◌≡◌, ◌<◌, ◌≤◌, ◌*◌, length};
 
-use crate::arguments::{Options, Vector, WeakKeys, options_of, parse};
+use crate::arguments::{Cipher, Options, Vector, WeakKeys, options_of, parse};
 use crate::decryption::decrypt_stream;
 use crate::encryption::encrypt_stream;
-use crate::fault::Fault;
+use crate::fault::{Fault, StreamError};
 use crate::key::{read_key, vector_of_text};
 use crate::mode::Mode;
 use crate::output::OutputFile;
 use crate::part::{decrypt_part, skip_blocks};
-use crate::pieces::fill;
 use crate::watched::Watched;
 use clap::error::ErrorKind;
 use des::cipher::KeyInit;
@@ -31,21 +30,53 @@ const BLOCKS_AT_A_TIME: usize = 8192;
 struct Job<'a> {
     options: &'a Options<'a>,
     key: &'a [u8],
-    // Blocks that are read before the part.
+    // Blocks that are read before those that are decrypted.
     skipped: u64,
 }
 
-// The vector that the blocks begin from.
-fn first_mode<R: Read>(vector: Vector, reader: &mut R) -> Result<Mode, Fault> {
+// The mode that the input begins with. A vector that is the first block comes with the blocks before
+// those that are decrypted.
+fn first_mode(vector: Vector) -> Result<Mode, Fault> {
     match vector {
         Vector::Absent => Ok(Mode::Ecb),
         Vector::Digits(digits) => Ok(Mode::Cbc(vector_of_text(digits)?)),
-        Vector::FirstBlock => {
-            let mut iv = [0; 8];
-            if fill(reader, &mut iv)? < 8 {
-                return Err(Fault::Start);
-            }
-            Ok(Mode::Cbc(iv))
+        Vector::FirstBlock => Ok(Mode::Cbc([0; 8])),
+    }
+}
+
+// How many blocks stand before those that are decrypted: the vector, and those before the part.
+fn blocks_before(options: &Options) -> u64 {
+    let from = match options.part {
+        Some(part) => part.from,
+        None => 0,
+    };
+    match options.vector {
+        Vector::FirstBlock => from.saturating_add(1),
+        _ => from,
+    }
+}
+
+// Decrypts from a reader to a writer, in buffers, the whole or a part.
+fn decrypt_in<C: ManyBlocks, R: Read, W: Write>(
+    cipher: &C,
+    mode: Mode,
+    job: &Job,
+    reader: &mut R,
+    writer: &mut W,
+    bytes: &mut [u8],
+    blocks: &mut [[u8; 8]],
+) -> Result<(), StreamError>
+    requires size { length bytes.old ≡ length blocks.old * 8 }
+    requires room { 0 < length blocks.old }
+{
+    let padding = job.options.padding;
+    let mode = skip_blocks(mode, job.skipped, reader, bytes, blocks)?;
+    match job.options.part {
+        None => decrypt_stream(cipher, mode, padding, reader, writer, bytes, blocks),
+        Some(part) => {
+            decrypt_part(
+                cipher, mode, padding, part.count, reader, writer, bytes, blocks,
+            )
         }
     }
 }
@@ -62,18 +93,14 @@ fn run_in<C: ManyBlocks, R: Read, W: Write>(
     requires size { length bytes.old ≡ length blocks.old * 8 }
     requires room { 0 < length blocks.old }
 {
-    let options = job.options;
-    let mode = first_mode(options.vector, reader)?;
-    let padding = options.padding;
-    if options.encrypts {
-        encrypt_stream(cipher, mode, padding, reader, writer, bytes, blocks)?;
-        return Ok(());
-    }
-    let mode = skip_blocks(mode, job.skipped, reader, bytes, blocks)?;
-    match options.count {
-        Some(count) => decrypt_part(cipher, mode, padding, count, reader, writer, bytes, blocks)?,
-        None => decrypt_stream(cipher, mode, padding, reader, writer, bytes, blocks)?,
-    }
+    let mode = first_mode(job.options.vector)?;
+    let padding = job.options.padding;
+    let outcome = if job.options.encrypts {
+        encrypt_stream(cipher, mode, padding, reader, writer, bytes, blocks)
+    } else {
+        decrypt_in(cipher, mode, job, reader, writer, bytes, blocks)
+    };
+    outcome?;
     Ok(())
 }
 
@@ -96,38 +123,20 @@ fn run_cipher<C: KeyInit + ManyBlocks + Drop, R: Read, W: Write>(
     run_in(&cipher, job, reader, writer, &mut bytes, &mut blocks)
 }
 
-// The same with the cipher of that name.
+// The same with the cipher that the options name.
 fn run_named<R: Read, W: Write>(
     alloc: Global,
     job: &Job,
     reader: &mut R,
     writer: &mut W,
 ) -> Result<(), Fault> {
+    let count = BLOCKS_AT_A_TIME;
     match job.options.cipher {
-        "des-ecb" | "des-cbc" => {
-            run_cipher::<Des, R, W>(alloc, job, reader, writer, BLOCKS_AT_A_TIME)
-        }
-        "ede3-ecb" | "ede3-cbc" => {
-            run_cipher::<TdesEde3, R, W>(alloc, job, reader, writer, BLOCKS_AT_A_TIME)
-        }
-        "eee3-ecb" | "eee3-cbc" => {
-            run_cipher::<TdesEee3, R, W>(alloc, job, reader, writer, BLOCKS_AT_A_TIME)
-        }
-        "ede2-ecb" | "ede2-cbc" => {
-            run_cipher::<TdesEde2, R, W>(alloc, job, reader, writer, BLOCKS_AT_A_TIME)
-        }
-        _ => run_cipher::<TdesEee2, R, W>(alloc, job, reader, writer, BLOCKS_AT_A_TIME),
-    }
-}
-
-// The bytes of a key of the cipher of that name.
-fn key_size(cipher: &str) -> usize
-    ensures { result ≤ 24 }
-{
-    match cipher {
-        "des-ecb" | "des-cbc" => 8,
-        "ede2-ecb" | "ede2-cbc" | "eee2-ecb" | "eee2-cbc" => 16,
-        _ => 24,
+        Cipher::Des => run_cipher::<Des, R, W>(alloc, job, reader, writer, count),
+        Cipher::Ede3 => run_cipher::<TdesEde3, R, W>(alloc, job, reader, writer, count),
+        Cipher::Eee3 => run_cipher::<TdesEee3, R, W>(alloc, job, reader, writer, count),
+        Cipher::Ede2 => run_cipher::<TdesEde2, R, W>(alloc, job, reader, writer, count),
+        Cipher::Eee2 => run_cipher::<TdesEee2, R, W>(alloc, job, reader, writer, count),
     }
 }
 
@@ -141,14 +150,17 @@ fn is_weak(key: &[u8]) -> bool {
 
 // Whether the key is taken: a weak one by what the options say of it.
 fn accept_key(rt: &HostRuntime, options: &Options, key: &[u8]) -> Result<(), Fault> {
-    if options.weak_keys == WeakKeys::Accept || !is_weak(key) {
+    if !is_weak(key) {
         return Ok(());
     }
-    if options.weak_keys == WeakKeys::Refuse {
-        return Err(Fault::WeakKey);
+    match options.weak_keys {
+        WeakKeys::Accept => Ok(()),
+        WeakKeys::Refuse => Err(Fault::WeakKey),
+        WeakKeys::Warn => {
+            let _ = eprintln!(rt; "des_stream: WeakKey: the key is weak, and is taken");
+            Ok(())
+        }
     }
-    let _ = eprintln!(rt; "des_stream: WeakKey: the key is weak, and is taken");
-    Ok(())
 }
 
 // Writes to standard output, or to the file that the options name.
@@ -163,56 +175,52 @@ fn run_to_output<R: Read>(rt: &HostRuntime, job: &Job, reader: &mut R) -> Result
     }
 }
 
-// Goes to the block before the part where the file can, and gives how many blocks before the part
-// are left to be read.
-fn seek_to_part(file: &mut File, options: &Options) -> u64 {
-    let has_vector = matches!(options.vector, Vector::FirstBlock);
-    if options.from == 0 || has_vector {
-        return options.from;
+// Goes to the last of the blocks before those that are decrypted where the file can, and gives how
+// many of them are left to be read.
+fn seek_to_last(file: &mut File, before: u64) -> u64 {
+    if before == 0 {
+        return 0;
     }
-    match (options.from - 1).checked_mul(8) {
-        Some(at) => match file.seek(SeekFrom::Start(at)) {
-            Ok(_) => 1,
-            Err(_) => options.from,
-        },
-        None => options.from,
+    match file.seek(SeekFrom::Start((before - 1).saturating_mul(8))) {
+        Ok(_) => 1,
+        Err(_) => before,
     }
 }
 
-// Reads standard input, or the file that the options name.
-fn run_from_input(rt: &HostRuntime, options: &Options, key: &[u8]) -> Result<(), Fault> {
-    let skipped = options.from;
-    let tells = options.shows_progress;
-    match options.input {
-        None => {
-            let mut reader = Watched::new(rt, rt.stdin(), tells, None);
-            let job = Job {
-                options,
-                key,
-                skipped,
-            };
-            run_to_output(rt, &job, &mut reader)
-        }
-        Some(path) => {
-            let mut file = File::open(rt, path).map_err(Fault::Read)?;
-            let total = file.metadata().map_err(Fault::Read)?.len();
-            let skipped = seek_to_part(&mut file, options);
-            let mut reader = Watched::new(rt, file, tells, Some(total));
-            let job = Job {
-                options,
-                key,
-                skipped,
-            };
-            run_to_output(rt, &job, &mut reader)
-        }
-    }
+// Reads standard input.
+fn run_from_stdin(rt: &HostRuntime, options: &Options, key: &[u8]) -> Result<(), Fault> {
+    let skipped = blocks_before(options);
+    let mut reader = Watched::new(rt, rt.stdin(), options.shows_progress, None);
+    let job = Job {
+        options,
+        key,
+        skipped,
+    };
+    run_to_output(rt, &job, &mut reader)
+}
+
+// Reads a file.
+fn run_from_file(rt: &HostRuntime, options: &Options, key: &[u8], path: &str) -> Result<(), Fault> {
+    let mut file = File::open(rt, path).map_err(Fault::Read)?;
+    let total = file.metadata().map_err(Fault::Read)?.len();
+    let skipped = seek_to_last(&mut file, blocks_before(options));
+    let mut reader = Watched::new(rt, file, options.shows_progress, Some(total));
+    let job = Job {
+        options,
+        key,
+        skipped,
+    };
+    run_to_output(rt, &job, &mut reader)
 }
 
 // Does what the options say.
 fn run_options(rt: &HostRuntime, options: &Options) -> Result<(), Fault> {
-    let key = read_key(rt, options.key, key_size(options.cipher))?;
+    let key = read_key(rt, options.key, options.cipher.key_size())?;
     accept_key(rt, options, key.as_slice())?;
-    run_from_input(rt, options, key.as_slice())
+    match options.input {
+        None => run_from_stdin(rt, options, key.as_slice()),
+        Some(path) => run_from_file(rt, options, key.as_slice(), path),
+    }
 }
 
 // Writes a fault as one line, and gives the status.
