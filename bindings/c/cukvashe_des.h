@@ -28,11 +28,12 @@
  * What is left to the caller. Padding, since lists are of whole blocks; authentication, which no mode here gives; an
  * initialization vector that is not used twice and can't be foreseen; and wiping contexts and keys from memory.
  *
- * Proved, and not. Each call of the library is proved to answer as FIPS 46-3 defines, and to be safe, as long as the
- * caller keeps what stands here. The inline functions at the end of this file, which choose one of two such calls, are
- * tested. On time and caches nothing is claimed. The code of `init`, and of the calls with `many` in their name, reads no
- * table at an index that depends on the key or on a block, and branches on neither (tested under valgrind). The calls named
- * `_blocks`, `_encrypt_cbc` and `_decrypt_cbc` read tables so, and the weak key test branches on the key.
+ * Proved, and not. Each call of the library is proved to answer as FIPS 46-3 and the standards named below define, and to be
+ * safe, as long as the caller keeps what stands here. The inline functions at the end of this file, which choose one of two
+ * such calls, are tested. On time and caches nothing is claimed. The code of `init` of ciphers, and of the calls with `many`
+ * in their name, reads no table at an index that depends on the key or on a block, and branches on neither (tested under
+ * valgrind). The calls named `_blocks`, `_encrypt_cbc` and `_decrypt_cbc`, those of MACs, check values and keys of a
+ * transaction read tables so, and the weak key test, and with it `combine`, branches on the key.
  */
 #ifndef CUKVASHE_DES_H
 #define CUKVASHE_DES_H
@@ -57,6 +58,9 @@ extern "C" {
 #define CUKVASHE_KEY_LENGTH 1   /* the key has a length that no key of the cipher has */
 #define CUKVASHE_LIST_LENGTHS 2 /* the two lists differ in length */
 #define CUKVASHE_WEAK_KEY 3     /* the weak key test refuses the key */
+#define CUKVASHE_PADDING 4      /* there is no padding method of this number */
+#define CUKVASHE_TAG 5          /* the tag is not the message's */
+#define CUKVASHE_NO_SERIAL 6    /* the key serial number has no next one */
 
 /* In bytes. */
 #define CUKVASHE_BLOCK_SIZE 8
@@ -65,6 +69,16 @@ extern "C" {
 #define CUKVASHE_TDES_EEE3_KEY_SIZE 24
 #define CUKVASHE_TDES_EDE2_KEY_SIZE 16
 #define CUKVASHE_TDES_EEE2_KEY_SIZE 16
+#define CUKVASHE_CBC_MAC_DES_KEY_SIZE 8
+#define CUKVASHE_CBC_MAC_TDES_EDE3_KEY_SIZE 24
+#define CUKVASHE_RETAIL_MAC_DES_KEY_SIZE 16
+#define CUKVASHE_CMAC_TDES_EDE2_KEY_SIZE 16
+#define CUKVASHE_CMAC_TDES_EDE3_KEY_SIZE 24
+#define CUKVASHE_TAG_SIZE 8
+
+/* The padding methods of ISO/IEC 9797-1:2011, 6.3: zeros; and a one bit, and then zeros. */
+#define CUKVASHE_PADDING_METHOD_1 1
+#define CUKVASHE_PADDING_METHOD_2 2
 
 /*
  * The contexts, for the caller's stack or wherever they are wanted: 128, 384, 384, 256 and 256 bytes. They hold the round
@@ -218,6 +232,136 @@ void cukvashe_set_odd_parity(uint8_t key[8]);
 
 /* Whether two keys of 8 bytes, which may be the same one, agree in all bits but the lowest of each byte. Such are one. */
 bool cukvashe_equal_but_parity(const uint8_t first[8], const uint8_t second[8]);
+
+/*
+ * Message authentication codes, of a message that comes in pieces. MAC below is one of
+ *
+ *     cbc_mac_des         CBC-MAC (ISO/IEC 9797-1:2011, algorithm 1) over DES                a key of  8 bytes
+ *     cbc_mac_tdes_ede3   CBC-MAC over triple DES, EDE                                       a key of 24 bytes
+ *     retail_mac_des      the retail MAC (algorithm 3) over DES                              a key of 16 bytes, two keys
+ *     cmac_tdes_ede2      CMAC (NIST SP 800-38B) over triple DES, EDE, two parts of a key    a key of 16 bytes
+ *     cmac_tdes_ede3      CMAC over triple DES, EDE                                          a key of 24 bytes
+ *
+ * CBC-MAC is safe only where every message under a key has one length, which both sides know. Padding method 1 can't tell
+ * zeros at the end of a message. Tags and blocks have 64 bits: a key is for far fewer than 2^32 messages, and of a tag that
+ * is cut to 4 bytes one guess in 2^32 is right. All calls read tables at indexes that depend on the key and the message.
+ *
+ * The contexts have 160, 416, 288, 288 and 416 bytes. They hold round keys and bytes of the message. A copy of one goes on
+ * by itself, so that messages that begin alike need the beginning once.
+ */
+typedef struct {
+  uint64_t words[20];
+} cukvashe_cbc_mac_des;
+
+typedef struct {
+  uint64_t words[52];
+} cukvashe_cbc_mac_tdes_ede3;
+
+typedef struct {
+  uint64_t words[36];
+} cukvashe_retail_mac_des;
+
+typedef struct {
+  uint64_t words[36];
+} cukvashe_cmac_tdes_ede2;
+
+typedef struct {
+  uint64_t words[52];
+} cukvashe_cmac_tdes_ede3;
+
+/*
+ * int cukvashe_MAC_init(cukvashe_MAC *context, const uint8_t *key, size_t key_length, uint32_t padding)
+ *
+ * Makes the context of a key and the message of no bytes. CUKVASHE_KEY_LENGTH where the key does not have the key size, and
+ * else CUKVASHE_PADDING where the padding is none of the two; then the context stays as it was. CMAC takes no padding.
+ */
+int cukvashe_cbc_mac_des_init(cukvashe_cbc_mac_des *context, const uint8_t *key, size_t key_length, uint32_t padding);
+int cukvashe_cbc_mac_tdes_ede3_init(cukvashe_cbc_mac_tdes_ede3 *context, const uint8_t *key, size_t key_length,
+                                    uint32_t padding);
+int cukvashe_retail_mac_des_init(cukvashe_retail_mac_des *context, const uint8_t *key, size_t key_length,
+                                 uint32_t padding);
+int cukvashe_cmac_tdes_ede2_init(cukvashe_cmac_tdes_ede2 *context, const uint8_t *key, size_t key_length);
+int cukvashe_cmac_tdes_ede3_init(cukvashe_cmac_tdes_ede3 *context, const uint8_t *key, size_t key_length);
+
+/*
+ * void cukvashe_MAC_update(cukvashe_MAC *context, const uint8_t *bytes, size_t length)
+ *
+ * Adds `length` bytes to the message, any number of them. However a message is cut, its tag is the same.
+ */
+void cukvashe_cbc_mac_des_update(cukvashe_cbc_mac_des *context, const uint8_t *bytes, size_t length);
+void cukvashe_cbc_mac_tdes_ede3_update(cukvashe_cbc_mac_tdes_ede3 *context, const uint8_t *bytes, size_t length);
+void cukvashe_retail_mac_des_update(cukvashe_retail_mac_des *context, const uint8_t *bytes, size_t length);
+void cukvashe_cmac_tdes_ede2_update(cukvashe_cmac_tdes_ede2 *context, const uint8_t *bytes, size_t length);
+void cukvashe_cmac_tdes_ede3_update(cukvashe_cmac_tdes_ede3 *context, const uint8_t *bytes, size_t length);
+
+/*
+ * void cukvashe_MAC_final(const cukvashe_MAC *context, uint8_t tag[8])
+ *
+ * Gives the tag of the message. The context stays, and the message may go on.
+ */
+void cukvashe_cbc_mac_des_final(const cukvashe_cbc_mac_des *context, uint8_t tag[8]);
+void cukvashe_cbc_mac_tdes_ede3_final(const cukvashe_cbc_mac_tdes_ede3 *context, uint8_t tag[8]);
+void cukvashe_retail_mac_des_final(const cukvashe_retail_mac_des *context, uint8_t tag[8]);
+void cukvashe_cmac_tdes_ede2_final(const cukvashe_cmac_tdes_ede2 *context, uint8_t tag[8]);
+void cukvashe_cmac_tdes_ede3_final(const cukvashe_cmac_tdes_ede3 *context, uint8_t tag[8]);
+
+/*
+ * int cukvashe_MAC_verify(const cukvashe_MAC *context, const uint8_t *tag, size_t tag_length)
+ *
+ * CUKVASHE_OK where `tag` is the tag of the message, or its first 4 to 7 bytes, and CUKVASHE_TAG for any other bytes and any
+ * other length. Each byte is looked at, wherever the two differ; nothing is claimed on time. The context stays.
+ */
+int cukvashe_cbc_mac_des_verify(const cukvashe_cbc_mac_des *context, const uint8_t *tag, size_t tag_length);
+int cukvashe_cbc_mac_tdes_ede3_verify(const cukvashe_cbc_mac_tdes_ede3 *context, const uint8_t *tag, size_t tag_length);
+int cukvashe_retail_mac_des_verify(const cukvashe_retail_mac_des *context, const uint8_t *tag, size_t tag_length);
+int cukvashe_cmac_tdes_ede2_verify(const cukvashe_cmac_tdes_ede2 *context, const uint8_t *tag, size_t tag_length);
+int cukvashe_cmac_tdes_ede3_verify(const cukvashe_cmac_tdes_ede3 *context, const uint8_t *tag, size_t tag_length);
+
+/*
+ * int cukvashe_NAME_check_value(const uint8_t *key, size_t key_length, uint8_t value[3])
+ *
+ * The check value of a key: the first three bytes of the block of zeros, encrypted under it. CUKVASHE_KEY_LENGTH, and `value`
+ * stays as it was, where the key does not have the key size of the cipher.
+ */
+int cukvashe_des_check_value(const uint8_t *key, size_t key_length, uint8_t value[3]);
+int cukvashe_tdes_ede3_check_value(const uint8_t *key, size_t key_length, uint8_t value[3]);
+int cukvashe_tdes_eee3_check_value(const uint8_t *key, size_t key_length, uint8_t value[3]);
+int cukvashe_tdes_ede2_check_value(const uint8_t *key, size_t key_length, uint8_t value[3]);
+int cukvashe_tdes_eee2_check_value(const uint8_t *key, size_t key_length, uint8_t value[3]);
+
+/*
+ * int cukvashe_combine_SIZE(const uint8_t first[SIZE], const uint8_t second[SIZE], const uint8_t *others, size_t others_count,
+ *                           uint8_t key[SIZE])
+ *
+ * The key of 8, 16 or 24 bytes that two or more components make: their xor, and then in each byte the lowest bit such that the
+ * number of ones is odd. `others` are `others_count` more components, one after the other. CUKVASHE_WEAK_KEY, and `key` stays
+ * as it was, where the weak key test refuses the key.
+ */
+int cukvashe_combine_8(const uint8_t first[8], const uint8_t second[8], const uint8_t *others, size_t others_count,
+                       uint8_t key[8]);
+int cukvashe_combine_16(const uint8_t first[16], const uint8_t second[16], const uint8_t *others, size_t others_count,
+                        uint8_t key[16]);
+int cukvashe_combine_24(const uint8_t first[24], const uint8_t second[24], const uint8_t *others, size_t others_count,
+                        uint8_t key[24]);
+
+/*
+ * The keys of a transaction (DUKPT with triple DES, ANSI X9.24-1:2009), as the host makes them. Keys have 16 bytes, two halves
+ * of 8, and key serial numbers ten bytes, of which the last 21 bits are the transaction counter.
+ *
+ * initial_key is a terminal's, from the base derivation key and a key serial number of the terminal's, whose counter has no
+ * part in it; transaction_key is the transaction's, from the initial key and the transaction's key serial number; the
+ * others are made of the transaction's key: that which encrypts PIN blocks, and those that authenticate and encrypt the data of
+ * the request, or where `is_response` of the response.
+ *
+ * next_serial gives the next key serial number whose counter has at most ten one bits. CUKVASHE_NO_SERIAL, and `next` stays as
+ * it was, where there is none. Counters with more one bits, which no terminal has, have keys here all the same.
+ */
+void cukvashe_dukpt_initial_key(const uint8_t base[16], const uint8_t serial[10], uint8_t key[16]);
+void cukvashe_dukpt_transaction_key(const uint8_t initial[16], const uint8_t serial[10], uint8_t key[16]);
+void cukvashe_dukpt_pin_key(const uint8_t transaction[16], uint8_t key[16]);
+void cukvashe_dukpt_mac_key(const uint8_t transaction[16], bool is_response, uint8_t key[16]);
+void cukvashe_dukpt_data_key(const uint8_t transaction[16], bool is_response, uint8_t key[16]);
+int cukvashe_dukpt_next_serial(const uint8_t serial[10], uint8_t next[10]);
 
 /*
  * The calls for lists once more, 256 blocks at a time, for processors of x86-64-v3 (AVX2, BMI, BMI2, FMA, F16C, LZCNT and

@@ -8,19 +8,28 @@ The library is the file that the environment variable CUKVASHE_DES_LIBRARY names
 of the repository that this file stands in, else the one that the system finds.
 
 Data are whole blocks of 8 bytes, as bytes, bytearray, memoryview or anything else with contiguous bytes. The calls return
-new `bytes`; the calls named `_into` work in place, in anything writable, and copy nothing. Padding and authentication are the
-caller's. What has the wrong length is a ValueError, which is one of `KeyLength`, `BlockLength` and `VectorLength`.
+new `bytes`; the calls named `_into` work in place, in anything writable, and copy nothing. Padding is the caller's. What has the
+wrong length is a ValueError, which is one of `KeyLength`, `BlockLength` and `VectorLength`.
+
+Messages are authenticated by objects as those of `hmac`, with `update`, `digest`, `hexdigest`, `copy` and `verify`:
+
+    mac = cukvashe_des.CmacTdesEde3(key)
+    mac.update(message)
+    mac.verify(tag)                                # TagMismatch, a ValueError, where it is not the tag
 """
 
 import ctypes
 import os
 
 __all__ = [
-    "BlockLength", "Des", "KeyLength", "TdesEde2", "TdesEde3", "TdesEee2", "TdesEee3", "VectorLength",
-    "equal_but_parity", "weak_key_test", "with_odd_parity",
+    "BlockLength", "CbcMacDes", "CbcMacTdesEde3", "CmacTdesEde2", "CmacTdesEde3", "Des", "KeyLength", "PaddingMethod",
+    "RetailMacDes", "SerialLength", "TagMismatch", "TdesEde2", "TdesEde3", "TdesEee2", "TdesEee3", "VectorLength",
+    "WeakKey", "check_value", "combine", "dukpt_data_key", "dukpt_initial_key", "dukpt_mac_key", "dukpt_next_serial", "dukpt_pin_key",
+    "dukpt_transaction_key", "equal_but_parity", "weak_key_test", "with_odd_parity",
 ]
 
 BLOCK_SIZE = 8
+TAG_SIZE = 8
 _OK, _KEY_LENGTH, _WEAK_KEY = 0, 1, 3
 
 
@@ -34,6 +43,22 @@ class BlockLength(ValueError):
 
 class VectorLength(ValueError):
     """An initialization vector does not have 8 bytes."""
+
+
+class PaddingMethod(ValueError):
+    """There is no padding method of this number."""
+
+
+class SerialLength(ValueError):
+    """A key serial number does not have ten bytes."""
+
+
+class WeakKey(ValueError):
+    """The weak key test refuses a key."""
+
+
+class TagMismatch(ValueError):
+    """A tag is not that of the message, or has fewer than 4 or more than 8 bytes."""
 
 
 def _load():
@@ -56,6 +81,13 @@ def _function(name, result, *arguments):
 _POINTER, _SIZE, _INT = ctypes.c_void_p, ctypes.c_size_t, ctypes.c_int
 _weak_key_test = _function("weak_key_test", _INT, _POINTER, _SIZE)
 _set_odd_parity = _function("set_odd_parity", None, _POINTER)
+_dukpt_initial_key = _function("dukpt_initial_key", None, _POINTER, _POINTER, _POINTER)
+_dukpt_transaction_key = _function("dukpt_transaction_key", None, _POINTER, _POINTER, _POINTER)
+_dukpt_pin_key = _function("dukpt_pin_key", None, _POINTER, _POINTER)
+_dukpt_mac_key = _function("dukpt_mac_key", None, _POINTER, ctypes.c_bool, _POINTER)
+_dukpt_data_key = _function("dukpt_data_key", None, _POINTER, ctypes.c_bool, _POINTER)
+_dukpt_next_serial = _function("dukpt_next_serial", _INT, _POINTER, _POINTER)
+_combine = {size: _function(f"combine_{size}", _INT, _POINTER, _POINTER, _POINTER, _SIZE, _POINTER) for size in (8, 16, 24)}
 _equal_but_parity = _function("equal_but_parity", ctypes.c_bool, _POINTER, _POINTER)
 
 
@@ -97,6 +129,7 @@ class _Cipher:
 
     def __init_subclass__(cls):
         cls._init = _function(cls.name + "_init", _INT, _POINTER, _POINTER, _SIZE)
+        cls._check_value = _function(cls.name + "_check_value", _INT, _POINTER, _SIZE, _POINTER)
         lists = {call: _function(f"widest_{cls.name}_{call}_many", None, _POINTER, _POINTER, _SIZE)
                  for call in ("encrypt", "decrypt")}
         cls._encrypt_many, cls._decrypt_many = lists["encrypt"], lists["decrypt"]
@@ -206,6 +239,113 @@ class TdesEee2(_Cipher):
     name, key_size, words = "tdes_eee2", 16, 32
 
 
+class _Mac:
+    """A message authentication code of a message that comes in pieces. `name`, `key_size` and `words` are the class's."""
+
+    name, key_size, words = "", 0, 0
+    digest_size, block_size = TAG_SIZE, BLOCK_SIZE
+
+    def __init_subclass__(cls):
+        if not cls.name:
+            return
+        cls._init = _function(cls.name + "_init", _INT, _POINTER, _POINTER, _SIZE, *cls._paddings)
+        cls._update = _function(cls.name + "_update", None, _POINTER, _POINTER, _SIZE)
+        cls._final = _function(cls.name + "_final", None, _POINTER, _POINTER)
+        cls._verify = _function(cls.name + "_verify", _INT, _POINTER, _POINTER, _SIZE)
+
+    _paddings = ()
+
+    def _begin(self, key, *padding):
+        key = _key_of(key, self.key_size)
+        self._context = (ctypes.c_uint64 * self.words)()
+        if type(self)._init(self._context, key, len(key), *padding) != _OK:
+            raise PaddingMethod("padding is by method 1 or 2")
+
+    def __repr__(self):
+        return f"{type(self).__name__} {{ ... }}"
+
+    def update(self, data):
+        """Adds bytes to the message."""
+        with memoryview(data) as view:
+            if view.readonly or not view.nbytes:
+                type(self)._update(self._context, _bytes_of(data), view.nbytes)
+            else:
+                with view.cast("B") as bytes_of_it:
+                    type(self)._update(self._context, (ctypes.c_uint8 * view.nbytes).from_buffer(bytes_of_it), view.nbytes)
+
+    def digest(self):
+        """The tag of the message so far, 8 bytes; the message may go on."""
+        tag = (ctypes.c_uint8 * TAG_SIZE)()
+        type(self)._final(self._context, tag)
+        return bytes(tag)
+
+    def hexdigest(self):
+        """The tag in hexadecimal digits."""
+        return self.digest().hex()
+
+    def verify(self, tag):
+        """Accepts the tag of the message so far, or its first 4 to 7 bytes; TagMismatch is raised for anything else."""
+        tag = _bytes_of(tag)
+        if type(self)._verify(self._context, tag, len(tag)) != _OK:
+            raise TagMismatch("the tag is not that of the message")
+
+    def copy(self):
+        """A MAC that goes on from here by itself."""
+        other = object.__new__(type(self))
+        other._context = type(self._context).from_buffer_copy(self._context)
+        return other
+
+
+class _PaddedMac(_Mac):
+    """A MAC with a padding method of ISO/IEC 9797-1: 1, zeros, or 2, a one bit and zeros."""
+
+    _paddings = (ctypes.c_uint32,)
+
+    def __init__(self, key, padding, data=b""):
+        if padding not in (1, 2):
+            raise PaddingMethod(f"padding is by method 1 or 2, not {padding}")
+        self._begin(key, padding)
+        self.update(data)
+
+
+class _Cmac(_Mac):
+    """CMAC, which needs no padding method."""
+
+    def __init__(self, key, data=b""):
+        self._begin(key)
+        self.update(data)
+
+
+class CbcMacDes(_PaddedMac):
+    """CBC-MAC over DES, under a key of 8 bytes. It is safe only where every message has one length."""
+
+    name, key_size, words = "cbc_mac_des", 8, 20
+
+
+class CbcMacTdesEde3(_PaddedMac):
+    """CBC-MAC over triple DES, under a key of 24 bytes. It is safe only where every message has one length."""
+
+    name, key_size, words = "cbc_mac_tdes_ede3", 24, 52
+
+
+class RetailMacDes(_PaddedMac):
+    """The retail MAC over DES, under a key of 16 bytes, two keys."""
+
+    name, key_size, words = "retail_mac_des", 16, 36
+
+
+class CmacTdesEde2(_Cmac):
+    """CMAC over triple DES, under a key of 16 bytes."""
+
+    name, key_size, words = "cmac_tdes_ede2", 16, 36
+
+
+class CmacTdesEde3(_Cmac):
+    """CMAC over triple DES, under a key of 24 bytes."""
+
+    name, key_size, words = "cmac_tdes_ede3", 24, 52
+
+
 def weak_key_test(key):
     """Whether the weak key test passes a key of 8, 16 or 24 bytes: False for a weak one, or one with equal parts."""
     key = _bytes_of(key)
@@ -225,3 +365,69 @@ def with_odd_parity(key):
 def equal_but_parity(first, second):
     """Whether two keys of 8 bytes agree in all but their parity bits, and so are one key."""
     return _equal_but_parity(_key_of(first, 8), _key_of(second, 8))
+
+
+def check_value(cipher, key):
+    """The check value of a key, three bytes: the first of the block of zeros encrypted. `cipher` is a class, as TdesEde2."""
+    key = _key_of(key, cipher.key_size)
+    value = (ctypes.c_uint8 * 3)()
+    cipher._check_value(key, len(key), value)
+    return bytes(value)
+
+
+def combine(first, second, *others):
+    """The key that two or more components of 8, 16 or 24 bytes make: their xor, with odd parity. A weak one is WeakKey."""
+    size = len(_bytes_of(first))
+    if size not in _combine:
+        raise KeyLength(f"a key has 8, 16 or 24 bytes, not {size}")
+    key = (ctypes.c_uint8 * size)()
+    more = b"".join(_key_of(other, size) for other in others)
+    if _combine[size](_bytes_of(first), _key_of(second, size), more, len(others), key) != _OK:
+        raise WeakKey("the weak key test refuses the key that the components make")
+    return bytes(key)
+
+
+def _serial_of(serial):
+    """The bytes of a key serial number."""
+    serial = _bytes_of(serial)
+    if len(serial) != 10:
+        raise SerialLength(f"a key serial number has 10 bytes, not {len(serial)}")
+    return serial
+
+
+def _made(call, key, *others):
+    """A key of 16 bytes that a call makes of another."""
+    answer = (ctypes.c_uint8 * 16)()
+    call(_key_of(key, 16), *others, answer)
+    return bytes(answer)
+
+
+def dukpt_initial_key(base, serial):
+    """The initial key of a terminal, from the base derivation key and a key serial number (ANSI X9.24-1:2009)."""
+    return _made(_dukpt_initial_key, base, _serial_of(serial))
+
+
+def dukpt_transaction_key(initial, serial):
+    """The key of a transaction, from the terminal's initial key and the transaction's key serial number."""
+    return _made(_dukpt_transaction_key, initial, _serial_of(serial))
+
+
+def dukpt_pin_key(transaction):
+    """The key that encrypts PIN blocks, from the transaction's key."""
+    return _made(_dukpt_pin_key, transaction)
+
+
+def dukpt_mac_key(transaction, is_response=False):
+    """The key that authenticates the request, or the response, from the transaction's key."""
+    return _made(_dukpt_mac_key, transaction, bool(is_response))
+
+
+def dukpt_data_key(transaction, is_response=False):
+    """The key that encrypts the data of the request, or of the response, from the transaction's key."""
+    return _made(_dukpt_data_key, transaction, bool(is_response))
+
+
+def dukpt_next_serial(serial):
+    """The next key serial number with at most ten one bits in its counter, or None where there is none."""
+    following = (ctypes.c_uint8 * 10)()
+    return bytes(following) if _dukpt_next_serial(_serial_of(serial), following) == _OK else None

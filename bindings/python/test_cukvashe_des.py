@@ -4,7 +4,8 @@ import array
 import unittest
 
 import cukvashe_des
-from cukvashe_des import BlockLength, Des, KeyLength, TdesEde2, TdesEde3, TdesEee2, TdesEee3, VectorLength
+from cukvashe_des import BlockLength, Des, KeyLength, PaddingMethod, TagMismatch, TdesEde2, TdesEde3, TdesEee2, TdesEee3
+from cukvashe_des import VectorLength
 
 KEY = bytes.fromhex("0123456789abcdef23456789abcdef01456789abcdef0123")
 TEXT = b"The qufck brown fox jump"
@@ -96,6 +97,135 @@ class Refused(unittest.TestCase):
         self.assertEqual(data, bytearray(9))
         for error in (KeyLength, BlockLength, VectorLength):
             self.assertTrue(issubclass(error, ValueError))
+
+
+MAC_KEY = bytes.fromhex("0123456789abcdeffedcba9876543210")
+
+# Padding method, message, tags by CBC-MAC and by the retail MAC over DES.
+PADDED = [
+    (1, b"Now is the time for all ", "70a30640cc76dd8b", "a1c72e74ea3fa9b6"),
+    (2, b"Now is the time for all ", "10e1f0f108341b6d", "e9086230ca3be796"),
+    (1, b"Now is the time for it", "e45b3ad2b7cc0856", "2e2b1428cc78254f"),
+    (2, b"Now is the time for it", "a924c72136149211", "5a692ce64f404145"),
+    (1, b"", "d5d44ff720683d0d", "08d7b4fb629d0885"),
+    (2, b"", "caee534c523e1e79", "f1fbcf2a56d19ba7"),
+]
+
+# The examples of CMAC over triple DES that go with NIST SP 800-38B: the length of the message, the tags under three keys and two.
+THREE = bytes.fromhex("8aa83bf8cbda10620bc1bf19fbb6cd58bc313d4a371ca8b5")
+TWO = bytes.fromhex("4cf15134a2850dd58a3d10ba80570d38")
+MESSAGE = bytes.fromhex("6bc1bee22e409f96e93d7e117393172aae2d8a571e03ac9c9eb76fac45af8e51")
+CMAC = [
+    (0, "b7a688e122ffaf95", "bd2ebf9a3ba00361"),
+    (8, "8e8f293136283797", "4ff2ab813c53ce83"),
+    (20, "743ddbe0ce2dc2ed", "62dd1b471902bd4e"),
+    (32, "33e6b1092400eae5", "31b1e431dabc4eb8"),
+]
+
+
+class Macs(unittest.TestCase):
+    def answers(self, make, message, tag):
+        """The tag, at every cut, by a copy too, and its lengths."""
+        for cut in range(len(message) + 1):
+            mac = make()
+            mac.update(message[:cut])
+            other = mac.copy()
+            for kind in (bytearray, memoryview):
+                again = other.copy()
+                again.update(kind(message[cut:]))
+                self.assertEqual(again.hexdigest(), tag)
+            mac.digest()
+            mac.update(message[cut:])
+            self.assertEqual(mac.digest().hex(), tag)
+        whole = bytes.fromhex(tag)
+        for length in range(10):
+            part = (whole + bytes(2))[:length]
+            if 4 <= length <= 8:
+                mac.verify(part)
+            else:
+                self.assertRaises(TagMismatch, mac.verify, part)
+        for place in range(8):
+            turned = bytearray(whole)
+            turned[place] ^= 1
+            self.assertRaises(TagMismatch, mac.verify, turned)
+
+    def test_padded(self):
+        for padding, message, cbc_mac, retail_mac in PADDED:
+            self.answers(lambda: cukvashe_des.CbcMacDes(MAC_KEY[:8], padding), message, cbc_mac)
+            self.answers(lambda: cukvashe_des.RetailMacDes(MAC_KEY, padding), message, retail_mac)
+
+    def test_cmac(self):
+        for length, three, two in CMAC:
+            self.answers(lambda: cukvashe_des.CmacTdesEde3(THREE), MESSAGE[:length], three)
+            self.answers(lambda: cukvashe_des.CmacTdesEde2(TWO), MESSAGE[:length], two)
+
+    def test_cbc_mac_is_the_end_of_a_chain(self):
+        chain = TdesEde3(KEY).encrypt_cbc(bytes(8), MESSAGE)
+        self.assertEqual(cukvashe_des.CbcMacTdesEde3(KEY, 1, MESSAGE).digest(), chain[-8:])
+
+    def test_refused(self):
+        for kind in (cukvashe_des.CbcMacDes, cukvashe_des.CbcMacTdesEde3, cukvashe_des.RetailMacDes):
+            self.assertRaises(KeyLength, kind, bytes(9), 1)
+            for padding in (0, 3, 257):
+                self.assertRaises(PaddingMethod, kind, bytes(kind.key_size), padding)
+        for kind in (cukvashe_des.CmacTdesEde2, cukvashe_des.CmacTdesEde3):
+            self.assertRaises(KeyLength, kind, bytes(9))
+        self.assertTrue(issubclass(TagMismatch, ValueError) and issubclass(PaddingMethod, ValueError))
+        self.assertEqual(repr(cukvashe_des.CmacTdesEde3(THREE)), "CmacTdesEde3 { ... }")
+
+
+# Serial number, transaction key, PIN key, MAC key of the request.
+TRANSACTIONS = [
+    ("ffff9876543210e00001", "042666b49184cfa368de9628d0397bc9", "042666b49184cf5c68de9628d0397b36",
+     "042666b4918430a368de9628d03984c9"),
+    ("ffff9876543210e00002", "c46551cef9fd24b0aa9ad834130d3bc7", "c46551cef9fd244faa9ad834130d3b38",
+     "c46551cef9fddbb0aa9ad834130dc4c7"),
+    ("ffff9876543210e00003", "0df3d9422aca56e547676d07ad6badfa", "0df3d9422aca561a47676d07ad6bad05",
+     "0df3d9422acaa9e547676d07ad6b52fa"),
+    ("ffff9876543210e00004", "279c0f6aeed0be652b2c733e1383ae91", "279c0f6aeed0be9a2b2c733e1383ae6e",
+     "279c0f6aeed041652b2c733e13835191"),
+    ("ffff9876543210e00010", "59598dcbd9bd94c094165ce453585f57", "59598dcbd9bd943f94165ce453585fa8",
+     "59598dcbd9bd6bc094165ce45358a057"),
+    ("ffff9876543210eff800", "f9cdfebf4f5b1d9eb3ec12454527e176", "f9cdfebf4f5b1d61b3ec12454527e189",
+     "f9cdfebf4f5be29eb3ec124545271e76"),
+]
+
+
+class Payment(unittest.TestCase):
+    def test_check_values(self):
+        self.assertEqual(cukvashe_des.check_value(TdesEde2, MAC_KEY).hex(), "08d7b4")
+        self.assertEqual(cukvashe_des.check_value(Des, MAC_KEY[:8]).hex(), "d5d44f")
+        for kind in ANSWERS:
+            key = KEY[: kind.key_size]
+            self.assertEqual(cukvashe_des.check_value(kind, key), kind(key).encrypt(bytes(8))[:3])
+            self.assertRaises(KeyLength, cukvashe_des.check_value, kind, bytes(9))
+
+    def test_combine(self):
+        parts = [bytes(range(16)), bytes(range(100, 116)), bytes(16)]
+        last = bytes(a ^ b ^ c ^ d for a, b, c, d in zip(MAC_KEY, *parts))
+        self.assertEqual(cukvashe_des.combine(*parts, last), MAC_KEY)
+        self.assertRaises(cukvashe_des.WeakKey, cukvashe_des.combine, MAC_KEY, MAC_KEY)
+        for components in ((bytes(8), bytes(16)), (bytes(9), bytes(9)), (MAC_KEY, bytes(16), bytes(8))):
+            self.assertRaises(KeyLength, cukvashe_des.combine, *components)
+
+    def test_transactions(self):
+        initial = cukvashe_des.dukpt_initial_key(MAC_KEY, bytes.fromhex("ffff9876543210e00000"))
+        self.assertEqual(initial.hex(), "6ac292faa1315b4d858ab3a3d7d5933a")
+        for serial, transaction, pin, mac in TRANSACTIONS:
+            key = cukvashe_des.dukpt_transaction_key(initial, bytes.fromhex(serial))
+            self.assertEqual(key.hex(), transaction)
+            self.assertEqual(cukvashe_des.dukpt_pin_key(key).hex(), pin)
+            self.assertEqual(cukvashe_des.dukpt_mac_key(key).hex(), mac)
+            self.assertNotEqual(cukvashe_des.dukpt_mac_key(key, True).hex(), mac)
+        data = cukvashe_des.dukpt_data_key(bytes.fromhex(TRANSACTIONS[0][1]))
+        self.assertEqual(data.hex(), "448d3f076d8304036a55a3d7e0055a78")
+
+    def test_serials(self):
+        self.assertEqual(cukvashe_des.dukpt_next_serial(bytes.fromhex("ffff9876543210e00000")).hex(), "ffff9876543210e00001")
+        self.assertEqual(cukvashe_des.dukpt_next_serial(bytes.fromhex("ffff9876543210e003ff")).hex(), "ffff9876543210e00400")
+        self.assertIsNone(cukvashe_des.dukpt_next_serial(bytes.fromhex("ffff9876543210fff800")))
+        self.assertRaises(cukvashe_des.SerialLength, cukvashe_des.dukpt_next_serial, bytes(9))
+        self.assertRaises(KeyLength, cukvashe_des.dukpt_pin_key, bytes(8))
 
 
 class Keys(unittest.TestCase):

@@ -44,6 +44,76 @@ pub struct TdesEee2 {
     words: [u64; 32],
 }
 
+pub const CBC_MAC_DES_KEY_SIZE: usize = 8;
+
+#[repr(C)]
+#[derive(Clone)]
+pub struct CbcMacDes {
+    words: [u64; 20],
+}
+
+impl Default for CbcMacDes {
+    fn default() -> Self {
+        CbcMacDes { words: [0; 20] }
+    }
+}
+
+pub const CBC_MAC_TDES_EDE3_KEY_SIZE: usize = 24;
+
+#[repr(C)]
+#[derive(Clone)]
+pub struct CbcMacTdesEde3 {
+    words: [u64; 52],
+}
+
+impl Default for CbcMacTdesEde3 {
+    fn default() -> Self {
+        CbcMacTdesEde3 { words: [0; 52] }
+    }
+}
+
+pub const RETAIL_MAC_DES_KEY_SIZE: usize = 16;
+
+#[repr(C)]
+#[derive(Clone)]
+pub struct RetailMacDes {
+    words: [u64; 36],
+}
+
+impl Default for RetailMacDes {
+    fn default() -> Self {
+        RetailMacDes { words: [0; 36] }
+    }
+}
+
+pub const CMAC_TDES_EDE2_KEY_SIZE: usize = 16;
+
+#[repr(C)]
+#[derive(Clone)]
+pub struct CmacTdesEde2 {
+    words: [u64; 36],
+}
+
+impl Default for CmacTdesEde2 {
+    fn default() -> Self {
+        CmacTdesEde2 { words: [0; 36] }
+    }
+}
+
+pub const CMAC_TDES_EDE3_KEY_SIZE: usize = 24;
+
+#[repr(C)]
+#[derive(Clone)]
+pub struct CmacTdesEde3 {
+    words: [u64; 52],
+}
+
+impl Default for CmacTdesEde3 {
+    fn default() -> Self {
+        CmacTdesEde3 { words: [0; 52] }
+    }
+}
+
 extern "C" {
     pub fn cukvashe_des_init(context: *mut Des, key: *const u8, key_length: usize) -> i32;
     pub fn cukvashe_des_encrypt_blocks(context: *const Des, blocks: *mut Block, count: usize);
@@ -455,4 +525,135 @@ extern "C" {
     pub fn cukvashe_weak_key_test(key: *const u8, key_length: usize) -> i32;
     pub fn cukvashe_set_odd_parity(key: *mut [u8; 8]);
     pub fn cukvashe_equal_but_parity(first: *const [u8; 8], second: *const [u8; 8]) -> bool;
+    pub fn cukvashe_cbc_mac_des_init(
+        context: *mut CbcMacDes,
+        key: *const u8,
+        key_length: usize,
+        padding: u32,
+    ) -> i32;
+    pub fn cukvashe_cbc_mac_des_update(context: *mut CbcMacDes, bytes: *const u8, length: usize);
+    pub fn cukvashe_cbc_mac_des_final(context: *const CbcMacDes, tag: *mut [u8; 8]);
+    pub fn cukvashe_cbc_mac_des_verify(
+        context: *const CbcMacDes,
+        tag: *const u8,
+        tag_length: usize,
+    ) -> i32;
+    pub fn cukvashe_cbc_mac_tdes_ede3_init(
+        context: *mut CbcMacTdesEde3,
+        key: *const u8,
+        key_length: usize,
+        padding: u32,
+    ) -> i32;
+    pub fn cukvashe_cbc_mac_tdes_ede3_update(context: *mut CbcMacTdesEde3, bytes: *const u8, length: usize);
+    pub fn cukvashe_cbc_mac_tdes_ede3_final(context: *const CbcMacTdesEde3, tag: *mut [u8; 8]);
+    pub fn cukvashe_cbc_mac_tdes_ede3_verify(
+        context: *const CbcMacTdesEde3,
+        tag: *const u8,
+        tag_length: usize,
+    ) -> i32;
+    pub fn cukvashe_retail_mac_des_init(
+        context: *mut RetailMacDes,
+        key: *const u8,
+        key_length: usize,
+        padding: u32,
+    ) -> i32;
+    pub fn cukvashe_retail_mac_des_update(context: *mut RetailMacDes, bytes: *const u8, length: usize);
+    pub fn cukvashe_retail_mac_des_final(context: *const RetailMacDes, tag: *mut [u8; 8]);
+    pub fn cukvashe_retail_mac_des_verify(
+        context: *const RetailMacDes,
+        tag: *const u8,
+        tag_length: usize,
+    ) -> i32;
+    pub fn cukvashe_cmac_tdes_ede2_init(
+        context: *mut CmacTdesEde2,
+        key: *const u8,
+        key_length: usize,
+    ) -> i32;
+    pub fn cukvashe_cmac_tdes_ede2_update(context: *mut CmacTdesEde2, bytes: *const u8, length: usize);
+    pub fn cukvashe_cmac_tdes_ede2_final(context: *const CmacTdesEde2, tag: *mut [u8; 8]);
+    pub fn cukvashe_cmac_tdes_ede2_verify(
+        context: *const CmacTdesEde2,
+        tag: *const u8,
+        tag_length: usize,
+    ) -> i32;
+    pub fn cukvashe_cmac_tdes_ede3_init(
+        context: *mut CmacTdesEde3,
+        key: *const u8,
+        key_length: usize,
+    ) -> i32;
+    pub fn cukvashe_cmac_tdes_ede3_update(context: *mut CmacTdesEde3, bytes: *const u8, length: usize);
+    pub fn cukvashe_cmac_tdes_ede3_final(context: *const CmacTdesEde3, tag: *mut [u8; 8]);
+    pub fn cukvashe_cmac_tdes_ede3_verify(
+        context: *const CmacTdesEde3,
+        tag: *const u8,
+        tag_length: usize,
+    ) -> i32;
+    pub fn cukvashe_des_check_value(
+        key: *const u8,
+        key_length: usize,
+        value: *mut [u8; 3],
+    ) -> i32;
+    pub fn cukvashe_tdes_ede3_check_value(
+        key: *const u8,
+        key_length: usize,
+        value: *mut [u8; 3],
+    ) -> i32;
+    pub fn cukvashe_tdes_eee3_check_value(
+        key: *const u8,
+        key_length: usize,
+        value: *mut [u8; 3],
+    ) -> i32;
+    pub fn cukvashe_tdes_ede2_check_value(
+        key: *const u8,
+        key_length: usize,
+        value: *mut [u8; 3],
+    ) -> i32;
+    pub fn cukvashe_tdes_eee2_check_value(
+        key: *const u8,
+        key_length: usize,
+        value: *mut [u8; 3],
+    ) -> i32;
+    pub fn cukvashe_dukpt_initial_key(
+        base: *const [u8; 16],
+        serial: *const [u8; 10],
+        key: *mut [u8; 16],
+    );
+    pub fn cukvashe_dukpt_transaction_key(
+        initial: *const [u8; 16],
+        serial: *const [u8; 10],
+        key: *mut [u8; 16],
+    );
+    pub fn cukvashe_dukpt_pin_key(transaction: *const [u8; 16], key: *mut [u8; 16]);
+    pub fn cukvashe_dukpt_mac_key(
+        transaction: *const [u8; 16],
+        is_response: bool,
+        key: *mut [u8; 16],
+    );
+    pub fn cukvashe_dukpt_data_key(
+        transaction: *const [u8; 16],
+        is_response: bool,
+        key: *mut [u8; 16],
+    );
+    pub fn cukvashe_dukpt_next_serial(serial: *const [u8; 10], next: *mut [u8; 10]) -> i32;
+    pub fn cukvashe_combine_8(
+        first: *const [u8; 8],
+        second: *const [u8; 8],
+        others: *const [u8; 8],
+        others_count: usize,
+        key: *mut [u8; 8],
+    ) -> i32;
+    pub fn cukvashe_combine_16(
+        first: *const [u8; 16],
+        second: *const [u8; 16],
+        others: *const [u8; 16],
+        others_count: usize,
+        key: *mut [u8; 16],
+    ) -> i32;
+    pub fn cukvashe_combine_24(
+        first: *const [u8; 24],
+        second: *const [u8; 24],
+        others: *const [u8; 24],
+        others_count: usize,
+        key: *mut [u8; 24],
+    ) -> i32;
 }

@@ -1,3 +1,4 @@
+pub mod Answering
 pub mod Chaining
 pub mod Contexts
 pub mod Keys

@@ -8,9 +8,10 @@ ghost use Rattle.des.specs.Relations.{IsTheOneList};
 ghost use Rattle.des_context.specs.Chaining.{next_vector};
 
 use crate::contexts::Context;
-use des::cbc;
-use des::cipher::{BlockCipherDecrypt, BlockCipherEncrypt, KeyInit, Relating};
-use des_fast::many::{ManyBlocks, Slice};
+use crate::lists::Work;
+use des::cipher::KeyInit;
+use des_fast::many::Slice;
+use std::simd::prelude::*;
 
 /// The status of a call that did what it is for.
 pub const DONE: i32 = 0;
@@ -45,48 +46,40 @@ pub fn init<K: KeyInit + Drop>(context: &mut K, key: &[u8]) -> i32
 pub fn encrypt_blocks<K: Context>(context: &K, blocks: &mut [[u8; 8]])
     requires { (key : List ℕ) × K.is_made_from context.now key }
     ensures { (key : List ℕ) → K.is_made_from context.now key
-        → IsTheOneList (λ answers. AnswersEach (K.Cipher.relation key) blocks.old answers)
+        → IsTheOneList (λ answers. AnswersEach (K.relation key) blocks.old answers)
         blocks.new }
 {
-    let cipher = context.to_cipher();
-    cipher.relate_lists();
-    cipher.encrypt_blocks(blocks);
+    context.answer::<u64x2>(Work::Encrypt, &mut [0; 8], blocks);
 }
 
 /// Decrypts each block in place, one by one.
 pub fn decrypt_blocks<K: Context>(context: &K, blocks: &mut [[u8; 8]])
     requires { (key : List ℕ) × K.is_made_from context.now key }
     ensures { (key : List ℕ) → K.is_made_from context.now key
-        → IsTheOneList (λ answers. AnswersEach (K.Cipher.relation key) answers blocks.old)
+        → IsTheOneList (λ answers. AnswersEach (K.relation key) answers blocks.old)
         blocks.new }
 {
-    let cipher = context.to_cipher();
-    cipher.relate_lists();
-    cipher.decrypt_blocks(blocks);
+    context.answer::<u64x2>(Work::Decrypt, &mut [0; 8], blocks);
 }
 
 /// Encrypts each block in place, `S::BATCH` at a time.
 pub fn encrypt_many<S: Slice, K: Context>(context: &K, blocks: &mut [[u8; 8]])
     requires { (key : List ℕ) × K.is_made_from context.now key }
     ensures { (key : List ℕ) → K.is_made_from context.now key
-        → IsTheOneList (λ answers. AnswersEach (K.Cipher.relation key) blocks.old answers)
+        → IsTheOneList (λ answers. AnswersEach (K.relation key) blocks.old answers)
         blocks.new }
 {
-    let cipher = context.to_cipher();
-    cipher.relate_lists();
-    cipher.encrypt_many_by::<S>(blocks);
+    context.answer::<S>(Work::EncryptMany, &mut [0; 8], blocks);
 }
 
 /// Decrypts each block in place, `S::BATCH` at a time.
 pub fn decrypt_many<S: Slice, K: Context>(context: &K, blocks: &mut [[u8; 8]])
     requires { (key : List ℕ) × K.is_made_from context.now key }
     ensures { (key : List ℕ) → K.is_made_from context.now key
-        → IsTheOneList (λ answers. AnswersEach (K.Cipher.relation key) answers blocks.old)
+        → IsTheOneList (λ answers. AnswersEach (K.relation key) answers blocks.old)
         blocks.new }
 {
-    let cipher = context.to_cipher();
-    cipher.relate_lists();
-    cipher.decrypt_many_by::<S>(blocks);
+    context.answer::<S>(Work::DecryptMany, &mut [0; 8], blocks);
 }
 
 /// Encrypts each block of `input` into the block at its place in `output`, `S::BATCH` at a time.
@@ -101,7 +94,7 @@ pub fn encrypt_many_b2b<S: Slice, K: Context>(
     ensures refused { (result ≡ pos 2) ↔ (length input.now ≢ length output.old) }
     ensures answered { length input.now ≡ length output.old
         → (key : List ℕ) → K.is_made_from context.now key
-        → IsTheOneList (λ answers. AnswersEach (K.Cipher.relation key) input.now answers)
+        → IsTheOneList (λ answers. AnswersEach (K.relation key) input.now answers)
         output.new }
     ensures kept { length input.now ≢ length output.old → output.new ≡ output.old }
 {
@@ -125,7 +118,7 @@ pub fn decrypt_many_b2b<S: Slice, K: Context>(
     ensures refused { (result ≡ pos 2) ↔ (length input.now ≢ length output.old) }
     ensures answered { length input.now ≡ length output.old
         → (key : List ℕ) → K.is_made_from context.now key
-        → IsTheOneList (λ answers. AnswersEach (K.Cipher.relation key) answers input.now)
+        → IsTheOneList (λ answers. AnswersEach (K.relation key) answers input.now)
         output.new }
     ensures kept { length input.now ≢ length output.old → output.new ≡ output.old }
 {
@@ -142,13 +135,10 @@ pub fn decrypt_many_b2b<S: Slice, K: Context>(
 pub fn encrypt_cbc<K: Context>(context: &K, vector: &mut [u8; 8], blocks: &mut [[u8; 8]])
     requires { (key : List ℕ) × K.is_made_from context.now key }
     ensures chained { (key : List ℕ) → K.is_made_from context.now key
-        → Chains (K.Cipher.relation key) vector.old blocks.old blocks.new }
+        → Chains (K.relation key) vector.old blocks.old blocks.new }
     ensures goes_on { vector.new ≡ next_vector vector.old blocks.new }
 {
-    let cipher = context.to_cipher();
-    cipher.relate_lists();
-    cbc::encrypt(&cipher, vector, blocks);
-    *vector = last_of(blocks, vector);
+    context.answer::<u64x2>(Work::EncryptCbc, vector, blocks);
 }
 
 /// Decrypts a list of blocks in place that CBC chained from the vector, one block at a time; the
@@ -156,14 +146,10 @@ pub fn encrypt_cbc<K: Context>(context: &K, vector: &mut [u8; 8], blocks: &mut [
 pub fn decrypt_cbc<K: Context>(context: &K, vector: &mut [u8; 8], blocks: &mut [[u8; 8]])
     requires { (key : List ℕ) × K.is_made_from context.now key }
     ensures chained { (key : List ℕ) → K.is_made_from context.now key
-        → Chains (K.Cipher.relation key) vector.old blocks.new blocks.old }
+        → Chains (K.relation key) vector.old blocks.new blocks.old }
     ensures goes_on { vector.new ≡ next_vector vector.old blocks.old }
 {
-    let next = last_of(blocks, vector);
-    let cipher = context.to_cipher();
-    cipher.relate_lists();
-    cbc::decrypt(&cipher, vector, blocks);
-    *vector = next;
+    context.answer::<u64x2>(Work::DecryptCbc, vector, blocks);
 }
 
 /// Decrypts a list of blocks in place that CBC chained from the vector, `S::BATCH` at a time; the
@@ -175,22 +161,8 @@ pub fn decrypt_cbc_many<S: Slice, K: Context>(
 )
     requires { (key : List ℕ) × K.is_made_from context.now key }
     ensures chained { (key : List ℕ) → K.is_made_from context.now key
-        → Chains (K.Cipher.relation key) vector.old blocks.new blocks.old }
+        → Chains (K.relation key) vector.old blocks.new blocks.old }
     ensures goes_on { vector.new ≡ next_vector vector.old blocks.old }
 {
-    let next = last_of(blocks, vector);
-    let cipher = context.to_cipher();
-    cipher.relate_lists();
-    cipher.decrypt_cbc_by::<S>(vector, blocks);
-    *vector = next;
-}
-
-// The last block of a list, or where there is none the vector.
-fn last_of(blocks: &[[u8; 8]], vector: &[u8; 8]) -> [u8; 8]
-    ensures { result ≡ next_vector vector.now blocks.now }
-{
-    match blocks.last() {
-        Some(block) => *block,
-        None => *vector,
-    }
+    context.answer::<S>(Work::DecryptCbcMany, vector, blocks);
 }

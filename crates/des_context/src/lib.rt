@@ -5,3 +5,4 @@
 
 pub mod calls;
 pub mod contexts;
+pub mod lists;

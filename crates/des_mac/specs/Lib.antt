@@ -5,6 +5,7 @@ pub mod Cmac
 pub mod Tags
 pub mod Absorbed
 pub mod Holds
+pub mod IsProgress
 pub mod Laws
 pub mod HoldsRetail
 pub mod MacRelations

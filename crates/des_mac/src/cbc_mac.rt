@@ -1,13 +1,16 @@
 //! CBC-MAC, which is MAC algorithm 1 of ISO/IEC 9797-1:2011.
 
-ghost use Rattle.std.specs.Prelude.{[]};
+ghost use Rattle.std.specs.Prelude.{ℕ, List, []};
+ghost use Rattle.des.specs.Blocks.{IsKey};
 ghost use Rattle.des_mac.specs.Padding.{padded};
 ghost use Rattle.des_mac.specs.CbcMac.{cbc_mac};
 ghost use Rattle.des_mac.specs.Holds.{Holds};
+ghost use Rattle.des_mac.specs.IsProgress.{HoldsOneBlock, IsProgressOf};
 
 use crate::chaining::Chaining;
 use crate::mac::Mac;
 use crate::padding::Padding;
+use crate::progress::Progress;
 use des::cipher::{InvalidLength, KeyedCipher};
 use std::marker::PhantomData;
 
@@ -31,6 +34,27 @@ impl<C: KeyedCipher + Drop, P: Padding> CbcMac<C, P> {
             chaining: Chaining::new(key),
             padding: PhantomData,
         }
+    }
+
+    /// The state that has come so far, over the cipher of its key.
+    pub fn resume(cipher: C, progress: &Progress) -> CbcMac<C, P>
+        requires { HoldsOneBlock progress.now }
+        ensures { (key m : List ℕ) → IsKey C.KEY_SIZE key → C.is_made_from cipher key
+            → IsProgressOf (C.encryption key) progress.now m
+            → ⟦<CbcMac<C, P> as Mac>⟧.holds result key m }
+    {
+        CbcMac {
+            chaining: Chaining::resume(cipher, progress),
+            padding: PhantomData,
+        }
+    }
+
+    /// How far the state has come.
+    pub fn progress(&self) -> Progress
+        ensures { (key m : List ℕ) → ⟦<CbcMac<C, P> as Mac>⟧.holds self.now key m
+            → IsProgressOf (C.encryption key) result m }
+    {
+        self.chaining.progress()
     }
 }
 

@@ -8,6 +8,7 @@ ghost use Rattle.des_mac.specs.CbcMac.{block_after, chain_after, cbc_mac};
 ghost use Rattle.des_mac.specs.Cmac.{masked};
 
 use crate::by_key::{are_bytes, are_key_bytes, encrypt};
+use crate::progress::Progress;
 use des::cbc::xor;
 use des::cipher::{InvalidLength, KeyedCipher};
 
@@ -49,6 +50,7 @@ pub struct Chaining<C> {
 
 impl<C: KeyedCipher + Drop> Chaining<C> {
     ghost use Rattle.des_mac.specs.Holds.{Holds};
+    ghost use Rattle.des_mac.specs.IsProgress.{HoldsOneBlock, IsProgressOf};
 
     // The message of no bytes under a cipher.
     fn of_cipher(cipher: C) -> Chaining<C>
@@ -79,6 +81,33 @@ impl<C: KeyedCipher + Drop> Chaining<C> {
     {
         are_bytes(key);
         Ok(Chaining::of_cipher(C::new_from_slice(key)?))
+    }
+
+    // The message that has come so far, under a cipher.
+    pub(crate) fn resume(cipher: C, progress: &Progress) -> Chaining<C>
+        requires { HoldsOneBlock progress.now }
+        ensures { (key m : List ℕ) → IsKey C.KEY_SIZE key → C.is_made_from cipher key
+            → IsProgressOf (C.encryption key) progress.now m
+            → Holds C.KEY_SIZE C.is_made_from C.encryption result key m }
+    {
+        Chaining {
+            cipher,
+            chain: progress.chain,
+            held: progress.held,
+            count: progress.count,
+        }
+    }
+
+    // How far the message has come.
+    pub(crate) fn progress(&self) -> Progress
+        ensures { (key m : List ℕ) → Holds C.KEY_SIZE C.is_made_from C.encryption self.now key m
+            → IsProgressOf (C.encryption key) result m }
+    {
+        Progress {
+            chain: self.chain,
+            held: self.held,
+            count: self.count,
+        }
     }
 
     // Holds bytes for which there is room after those that are held.

@@ -5,11 +5,13 @@ ghost use Rattle.des.specs.Blocks.{IsKey};
 ghost use Rattle.des_mac.specs.CbcMac.{zero_block};
 ghost use Rattle.des_mac.specs.Cmac.{doubled as doubled_block, subkey_1, cmac};
 ghost use Rattle.des_mac.specs.Holds.{Holds};
+ghost use Rattle.des_mac.specs.IsProgress.{HoldsOneBlock, IsProgressOf};
 
 use crate::by_key::encrypt;
 use crate::chaining::Chaining;
 use crate::mac::Mac;
 use crate::padding::{Method2, Padding};
+use crate::progress::Progress;
 use des::cipher::{InvalidLength, KeyedCipher};
 
 /// CMAC over the cipher `C`: CBC-MAC with the last block xored with one of two subkeys, the first
@@ -52,6 +54,18 @@ impl<C: KeyedCipher + Drop> Cmac<C> {
     {
         Cmac {
             chaining: Chaining::new(key),
+        }
+    }
+
+    /// The state that has come so far, over the cipher of its key.
+    pub fn resume(cipher: C, progress: &Progress) -> Cmac<C>
+        requires { HoldsOneBlock progress.now }
+        ensures { (key m : List ℕ) → IsKey C.KEY_SIZE key → C.is_made_from cipher key
+            → IsProgressOf (C.encryption key) progress.now m
+            → ⟦<Cmac<C> as Mac>⟧.holds result key m }
+    {
+        Cmac {
+            chaining: Chaining::resume(cipher, progress),
         }
     }
 }

@@ -17,10 +17,12 @@ mod chaining;
 pub mod cmac;
 pub mod mac;
 pub mod padding;
+pub mod progress;
 pub mod retail_mac;
 
 pub use cbc_mac::CbcMac;
 pub use cmac::Cmac;
 pub use mac::{Mac, MacError};
 pub use padding::{Method1, Method2, Padding, UnambiguousPadding};
+pub use progress::Progress;
 pub use retail_mac::RetailMac;

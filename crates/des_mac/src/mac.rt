@@ -36,6 +36,21 @@ fn are_equal(bytes: &[u8], others: &[u8]) -> bool
     differences == 0
 }
 
+/// Accepts the first 4 to 8 bytes of a tag and nothing else: `MacError` where they are others, and
+/// where there are fewer or more of them. Every byte is looked at, wherever the two differ.
+pub fn verify_truncated_left(tag: &[u8], whole: &[u8; 8]) -> Result<(), MacError>
+    ensures { IsOk result ↔ IsTruncated tag.now whole.now }
+{
+    if tag.len() < 4 || tag.len() > 8 {
+        return Err(MacError);
+    }
+    if are_equal(tag, &whole[..tag.len()]) {
+        Ok(())
+    } else {
+        Err(MacError)
+    }
+}
+
 /// A message authentication code with tags of 8 bytes, of a message that comes in pieces:
 /// `new_from_slice`, an `update` for each piece, and then `finalize` or one of the calls that
 /// verify a tag. No call takes memory or panics, and each byte of the message is read once.
@@ -84,15 +99,7 @@ pub trait Mac: Sized {
         ensures { (key m : List ℕ) → holds self key m
             → IsOk result ↔ IsTruncated tag.now (Self.tag_of key m) }
     {
-        let whole = self.finalize();
-        if tag.len() < 4 || tag.len() > 8 {
-            return Err(MacError);
-        }
-        if are_equal(tag, &whole[..tag.len()]) {
-            Ok(())
-        } else {
-            Err(MacError)
-        }
+        verify_truncated_left(tag, &self.finalize())
     }
 
     /// The tag of a whole message under the key, or `InvalidLength` where the key does not have as

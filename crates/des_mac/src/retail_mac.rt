@@ -1,14 +1,17 @@
 //! The retail MAC, which is MAC algorithm 3 of ISO/IEC 9797-1:2011.
 
-ghost use Rattle.std.specs.Prelude.{◌*◌, ◌++◌, [], take, drop};
+ghost use Rattle.std.specs.Prelude.{◌*◌, ◌++◌, ℕ, List, [], take, drop};
+ghost use Rattle.des.specs.Blocks.{IsKey};
 ghost use Rattle.des_mac.specs.Padding.{padded};
 ghost use Rattle.des_mac.specs.RetailMac.{retail_mac_of};
 ghost use Rattle.des_mac.specs.HoldsRetail.{HoldsRetail};
+ghost use Rattle.des_mac.specs.IsProgress.{HoldsOneBlock, IsProgressOf};
 
 use crate::by_key::{are_bytes, are_key_bytes, decrypt, encrypt};
 use crate::chaining::Chaining;
 use crate::mac::Mac;
 use crate::padding::Padding;
+use crate::progress::Progress;
 use des::cipher::{InvalidLength, KeyedCipher};
 use std::marker::PhantomData;
 
@@ -33,6 +36,22 @@ impl<C: KeyedCipher + Drop, P: Padding> RetailMac<C, P> {
         RetailMac {
             chaining: Chaining::new(first),
             second: C::new(second),
+            padding: PhantomData,
+        }
+    }
+
+    /// The state that has come so far, over the ciphers of the two keys, one after the other.
+    pub fn resume(first: C, second: C, progress: &Progress) -> RetailMac<C, P>
+        requires { HoldsOneBlock progress.now }
+        ensures { (key m : List ℕ)
+            → IsKey C.KEY_SIZE (take C.KEY_SIZE key) → C.is_made_from first (take C.KEY_SIZE key)
+            → IsKey C.KEY_SIZE (drop C.KEY_SIZE key) → C.is_made_from second (drop C.KEY_SIZE key)
+            → IsProgressOf (C.encryption (take C.KEY_SIZE key)) progress.now m
+            → ⟦<RetailMac<C, P> as Mac>⟧.holds result key m }
+    {
+        RetailMac {
+            chaining: Chaining::resume(first, progress),
+            second,
             padding: PhantomData,
         }
     }

@@ -1,0 +1,112 @@
+//! Check values, keys of components, and the keys of a transaction (DUKPT with triple DES, ANSI X9.24-1:2009) as the host makes them.
+//!
+//! A key of a transaction has 16 bytes, two halves of 8, and a key serial number ten, of which the last 21 bits are the
+//! transaction counter. All calls but `next_serial` read tables at indexes that depend on keys.
+
+use crate::{ffi, Des, InvalidLength, KeyTestError, TdesEde2, TdesEde3, TdesEee2, TdesEee3, OK};
+
+/// The message of a transaction that a key is for.
+#[derive(Clone, Copy, Debug, PartialEq, Eq)]
+pub enum Message {
+    /// The request, which the terminal sends.
+    Request,
+    /// The response, which the host sends.
+    Response,
+}
+
+/// A cipher whose keys have check values.
+pub trait CheckValue {
+    /// The check value of a key: the first three bytes of the block of zeros, encrypted under it.
+    fn check_value(key: &[u8]) -> Result<[u8; 3], InvalidLength>;
+}
+
+macro_rules! check_value {
+    ($($cipher:ident: $call:ident),*) => {
+        $(impl CheckValue for $cipher {
+            fn check_value(key: &[u8]) -> Result<[u8; 3], InvalidLength> {
+                let mut value = [0; 3];
+                // SAFETY: the pointers are of references, good for their lengths, and don't overlap.
+                match unsafe { ffi::$call(key.as_ptr(), key.len(), &mut value) } {
+                    OK => Ok(value),
+                    _ => Err(InvalidLength),
+                }
+            }
+        })*
+    };
+}
+
+check_value!(
+    Des: cukvashe_des_check_value,
+    TdesEde3: cukvashe_tdes_ede3_check_value,
+    TdesEee3: cukvashe_tdes_eee3_check_value,
+    TdesEde2: cukvashe_tdes_ede2_check_value,
+    TdesEee2: cukvashe_tdes_eee2_check_value
+);
+
+macro_rules! combine {
+    ($($name:ident: $size:literal, $call:ident);*) => {
+        $(/// The key that two or more components make: their xor, with odd parity; `WeakKey` where the test refuses it.
+        pub fn $name(
+            first: &[u8; $size],
+            second: &[u8; $size],
+            others: &[[u8; $size]],
+        ) -> Result<[u8; $size], KeyTestError> {
+            let mut key = [0; $size];
+            // SAFETY: the pointers are of references, `others` good for its count, and don't overlap what is written.
+            match unsafe { ffi::$call(first, second, others.as_ptr(), others.len(), &mut key) } {
+                OK => Ok(key),
+                _ => Err(KeyTestError::WeakKey),
+            }
+        })*
+    };
+}
+
+combine!(
+    combine_8: 8, cukvashe_combine_8;
+    combine_16: 16, cukvashe_combine_16;
+    combine_24: 24, cukvashe_combine_24
+);
+
+// SAFETY of each call below: the pointers are of references to arrays of the lengths that it takes, and don't overlap.
+
+/// The initial key of a terminal, from the base derivation key and a key serial number.
+pub fn initial_key(base: &[u8; 16], serial: &[u8; 10]) -> [u8; 16] {
+    let mut key = [0; 16];
+    unsafe { ffi::cukvashe_dukpt_initial_key(base, serial, &mut key) };
+    key
+}
+
+/// The key of a transaction, from the terminal's initial key and the transaction's key serial number.
+pub fn transaction_key(initial: &[u8; 16], serial: &[u8; 10]) -> [u8; 16] {
+    let mut key = [0; 16];
+    unsafe { ffi::cukvashe_dukpt_transaction_key(initial, serial, &mut key) };
+    key
+}
+
+/// The key that encrypts PIN blocks, from the transaction's key.
+pub fn pin_key(transaction: &[u8; 16]) -> [u8; 16] {
+    let mut key = [0; 16];
+    unsafe { ffi::cukvashe_dukpt_pin_key(transaction, &mut key) };
+    key
+}
+
+/// The key that authenticates a message, from the transaction's key.
+pub fn mac_key(transaction: &[u8; 16], message: Message) -> [u8; 16] {
+    let mut key = [0; 16];
+    unsafe { ffi::cukvashe_dukpt_mac_key(transaction, message == Message::Response, &mut key) };
+    key
+}
+
+/// The key that encrypts the data of a message, from the transaction's key.
+pub fn data_key(transaction: &[u8; 16], message: Message) -> [u8; 16] {
+    let mut key = [0; 16];
+    unsafe { ffi::cukvashe_dukpt_data_key(transaction, message == Message::Response, &mut key) };
+    key
+}
+
+/// The next key serial number with at most ten one bits in its counter, if there is one.
+pub fn next_serial(serial: &[u8; 10]) -> Option<[u8; 10]> {
+    let mut next = [0; 10];
+    let status = unsafe { ffi::cukvashe_dukpt_next_serial(serial, &mut next) };
+    (status == OK).then_some(next)
+}

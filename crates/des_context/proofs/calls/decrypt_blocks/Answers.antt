@@ -1,6 +1,0 @@
-use Rattle.des_context.proofs.calls.decrypt_blocks.Goals as goal
-
-pub returns : goal.returns
-returns g c key made =
-    rw c.decrypt_blocks.ensures.decrypted
-    (c.relate_lists.ensures.decrypted key (c.to_cipher-cipher.ensures key made) c.args.blocks.now c.decrypt_blocks.ensures.blocks)
