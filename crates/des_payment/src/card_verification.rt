@@ -138,6 +138,3 @@ pub fn cvv(
     to_text(&mut value);
     Ok(value)
 }
-
-#[cfg(test)]
-mod tests;

@@ -38,6 +38,3 @@ pub fn check_value_of_ede3(key: &[u8; 24]) -> [u8; 3]
     TdesEde3::new(key).encrypt_block(&mut block);
     first_bytes(&block)
 }
-
-#[cfg(test)]
-mod tests;

@@ -55,6 +55,3 @@ pub fn combine<const N: usize>(
     weak_key_test(&key)?;
     Ok(key)
 }
-
-#[cfg(test)]
-mod tests;

@@ -179,6 +179,3 @@ pub fn next_serial(serial: &[u8; 10]) -> Option<[u8; 10]>
     }
     None
 }
-
-#[cfg(test)]
-mod tests;

