@@ -4,7 +4,7 @@ ghost use Rattle.std.specs.Prelude.{◌≤◌};
 
 use des::cipher::{AlgorithmName, Complementing, ParBlocksSizeUser};
 use std::fmt::Debug;
-use std::test::Fail;
+use std::process::Abort;
 
 // The five ciphers, as each library has them.
 #[derive(Clone, Copy, PartialEq, Eq)]
@@ -25,6 +25,17 @@ impl Form {
             Form::Eee3 => "TdesEee3",
             Form::Ede2 => "TdesEde2",
             Form::Eee2 => "TdesEee2",
+        }
+    }
+
+    // The debug text of the cipher.
+    pub fn text(self) -> &'static str {
+        match self {
+            Form::Des => "Des { ... }",
+            Form::Ede3 => "TdesEde3 { ... }",
+            Form::Eee3 => "TdesEee3 { ... }",
+            Form::Ede2 => "TdesEde2 { ... }",
+            Form::Eee2 => "TdesEee2 { ... }",
         }
     }
 
@@ -79,34 +90,44 @@ impl<C: Complementing + ParBlocksSizeUser + AlgorithmName + Clone + Debug + Drop
 // A test of one cipher.
 pub trait Test {
     // Whether the cipher passes, which is of this form.
-    fn passes<C: Cipher>(&self, form: Form) -> Result<bool, Fail>;
+    fn passes<C: Cipher>(&self, form: Form) -> bool;
+}
+
+// The cipher of the publication's key.
+pub fn made<C: Cipher>(form: Form) -> Option<C> {
+    C::new_from_slice(form.key(&PARTS)).ok()
 }
 
 // The first cipher that does not pass.
-pub fn first_failing<T: Test>(test: &T) -> Result<Option<&'static str>, Fail> {
-    Ok(if !test.passes::<des::Des>(Form::Des)? {
+fn first_failing<T: Test>(test: &T) -> Option<&'static str> {
+    if !test.passes::<des::Des>(Form::Des) {
         Some("des::Des")
-    } else if !test.passes::<des::TdesEde3>(Form::Ede3)? {
+    } else if !test.passes::<des::TdesEde3>(Form::Ede3) {
         Some("des::TdesEde3")
-    } else if !test.passes::<des::TdesEee3>(Form::Eee3)? {
+    } else if !test.passes::<des::TdesEee3>(Form::Eee3) {
         Some("des::TdesEee3")
-    } else if !test.passes::<des::TdesEde2>(Form::Ede2)? {
+    } else if !test.passes::<des::TdesEde2>(Form::Ede2) {
         Some("des::TdesEde2")
-    } else if !test.passes::<des::TdesEee2>(Form::Eee2)? {
+    } else if !test.passes::<des::TdesEee2>(Form::Eee2) {
         Some("des::TdesEee2")
-    } else if !test.passes::<des_fast::Des>(Form::Des)? {
+    } else if !test.passes::<des_fast::Des>(Form::Des) {
         Some("des_fast::Des")
-    } else if !test.passes::<des_fast::TdesEde3>(Form::Ede3)? {
+    } else if !test.passes::<des_fast::TdesEde3>(Form::Ede3) {
         Some("des_fast::TdesEde3")
-    } else if !test.passes::<des_fast::TdesEee3>(Form::Eee3)? {
+    } else if !test.passes::<des_fast::TdesEee3>(Form::Eee3) {
         Some("des_fast::TdesEee3")
-    } else if !test.passes::<des_fast::TdesEde2>(Form::Ede2)? {
+    } else if !test.passes::<des_fast::TdesEde2>(Form::Ede2) {
         Some("des_fast::TdesEde2")
-    } else if !test.passes::<des_fast::TdesEee2>(Form::Eee2)? {
+    } else if !test.passes::<des_fast::TdesEee2>(Form::Eee2) {
         Some("des_fast::TdesEee2")
     } else {
         None
-    })
+    }
+}
+
+// Asserts that each cipher passes.
+pub fn all_pass<T: Test>(rt: &impl Abort, test: &T) {
+    assert_eq!(rt; first_failing(test), None);
 }
 
 // NIST Special Publication 800-67, appendix B: the parts of a key, and "The qufck brown fox jump".
@@ -121,10 +142,10 @@ pub const PLAINTEXT: [[u8; 8]; 3] = [*b"The qufc", *b"k brown ", *b"fox jump"];
 // What each cipher makes of the plaintext. The answers of `TdesEde3` stand in the publication; the
 // others are OpenSSL's, of `des-ecb`, of `des-ede` for `TdesEde2`, and of three runs of `des-ecb` for
 // the EEE forms.
-pub const CIPHERTEXT: OfEach<[u64; 3]> = OfEach {
-    des: [0xa28e91724c4bba31, 0x167e47ec24f71d63, 0x2c1a917234425365],
-    ede3: [0xa826fd8ce53b855f, 0xcce21c8112256fe6, 0x68d5c05dd9b6b900],
-    eee3: [0xce2719ff408a7afa, 0xc3f4683ad32c6b5b, 0xec6ad3d6da9dc9b3],
-    ede2: [0xc44862f70cf2fbdc, 0x9077d0909fa91b88, 0x4cabd61fc58e0cbb],
-    eee2: [0x500013533151e90c, 0x7314612fb856088e, 0x28b61bd250fe2d39],
+pub const CIPHERTEXT: OfEach<&str> = OfEach {
+    des: "a28e91724c4bba31 167e47ec24f71d63 2c1a917234425365",
+    ede3: "a826fd8ce53b855f cce21c8112256fe6 68d5c05dd9b6b900",
+    eee3: "ce2719ff408a7afa c3f4683ad32c6b5b ec6ad3d6da9dc9b3",
+    ede2: "c44862f70cf2fbdc 9077d0909fa91b88 4cabd61fc58e0cbb",
+    eee2: "500013533151e90c 7314612fb856088e 28b61bd250fe2d39",
 };

@@ -1,10 +1,8 @@
 //! Sizes, and keys and lists of lengths that do not fit.
 
-use crate::ciphers::{Cipher, Form, OfEach, PARTS, Test, first_failing};
-use des::cipher::{
-    BlockCipher, BlockCipherDecrypt, BlockCipherEncrypt, InvalidLength, KeyBytes, NotEqualError,
-};
-use std::test::Fail;
+use crate::ciphers::{Cipher, Form, OfEach, Test, all_pass, made};
+use crate::digits::blocks;
+use des::cipher::{BlockCipher, BlockCipherDecrypt, BlockCipherEncrypt, KeyBytes, NotEqualError};
 
 // The size of a key of each cipher.
 const KEY_SIZES: OfEach<usize> = OfEach {
@@ -18,16 +16,15 @@ const KEY_SIZES: OfEach<usize> = OfEach {
 struct Constants;
 
 impl Test for Constants {
-    fn passes<C: Cipher>(&self, form: Form) -> Result<bool, Fail> {
+    fn passes<C: Cipher>(&self, form: Form) -> bool {
         let sizes = (C::KEY_SIZE, C::BLOCK_SIZE, C::PAR_BLOCKS);
-        Ok(sizes == (KEY_SIZES.of(form), 8, 1) && C::NAME == form.name())
+        sizes == (KEY_SIZES.of(form), 8, 1) && C::NAME == form.name()
     }
 }
 
 #[test]
-fn types_have_their_sizes_and_names(rt: HostRuntime) -> Result<(), Fail> {
-    assert_eq!(rt; first_failing(&Constants)?, None);
-    Ok(())
+fn types_have_their_sizes_and_names(rt: HostRuntime) {
+    all_pass(&rt, &Constants);
 }
 
 const BYTES: [u8; 25] = *b"0123456789abcdefghijklmno";
@@ -36,19 +33,15 @@ const BYTES: [u8; 25] = *b"0123456789abcdefghijklmno";
 struct KeyLengths;
 
 impl Test for KeyLengths {
-    fn passes<C: Cipher>(&self, form: Form) -> Result<bool, Fail> {
+    fn passes<C: Cipher>(&self, form: Form) -> bool {
         let size = KEY_SIZES.of(form);
-        Ok((0..26usize).all(|length| match C::new_from_slice(&BYTES[..length]) {
-            Ok(_) => length == size,
-            Err(InvalidLength) => length != size,
-        }))
+        (0..26usize).all(|length| C::new_from_slice(&BYTES[..length]).is_ok() == (length == size))
     }
 }
 
 #[test]
-fn ciphers_take_slices_of_their_key_size_alone(rt: HostRuntime) -> Result<(), Fail> {
-    assert_eq!(rt; first_failing(&KeyLengths)?, None);
-    Ok(())
+fn ciphers_take_slices_of_their_key_size_alone(rt: HostRuntime) {
+    all_pass(&rt, &KeyLengths);
 }
 
 // The first length at which `from_bytes` does something else than to take `size` bytes alone, as
@@ -83,41 +76,40 @@ fn are_refused<C: BlockCipher>(cipher: &C, input: &[[u8; 8]], output: &mut [[u8;
 struct TwoLengths;
 
 impl Test for TwoLengths {
-    fn passes<C: Cipher>(&self, form: Form) -> Result<bool, Fail> {
-        let cipher = C::new_from_slice(form.key(&PARTS))?;
-        Ok(
-            are_refused(&cipher, &[], &mut [FILLED; 1])
-                && are_refused(&cipher, &[BLOCK; 1], &mut [])
-                && are_refused(&cipher, &[BLOCK; 2], &mut [FILLED; 3])
-                && are_refused(&cipher, &[BLOCK; 3], &mut [FILLED; 2]),
-        )
+    fn passes<C: Cipher>(&self, form: Form) -> bool {
+        let Some(cipher) = made::<C>(form) else {
+            return false;
+        };
+        are_refused(&cipher, &[], &mut [FILLED; 1])
+            && are_refused(&cipher, &[BLOCK; 1], &mut [])
+            && are_refused(&cipher, &[BLOCK; 2], &mut [FILLED; 3])
+            && are_refused(&cipher, &[BLOCK; 3], &mut [FILLED; 2])
     }
 }
 
 #[test]
-fn lists_of_two_lengths_are_refused(rt: HostRuntime) -> Result<(), Fail> {
-    assert_eq!(rt; first_failing(&TwoLengths)?, None);
-    Ok(())
+fn lists_of_two_lengths_are_refused(rt: HostRuntime) {
+    all_pass(&rt, &TwoLengths);
 }
 
 // An empty list is answered in place and from list to list.
 struct NoBlock;
 
 impl Test for NoBlock {
-    fn passes<C: Cipher>(&self, form: Form) -> Result<bool, Fail> {
-        let cipher = C::new_from_slice(form.key(&PARTS))?;
+    fn passes<C: Cipher>(&self, form: Form) -> bool {
+        let Some(cipher) = made::<C>(form) else {
+            return false;
+        };
         cipher.encrypt_blocks(&mut []);
         cipher.decrypt_blocks(&mut []);
-        cipher.encrypt_blocks_b2b(&[], &mut [])?;
-        cipher.decrypt_blocks_b2b(&[], &mut [])?;
-        Ok(true)
+        cipher.encrypt_blocks_b2b(&[], &mut []).is_ok()
+            && cipher.decrypt_blocks_b2b(&[], &mut []).is_ok()
     }
 }
 
 #[test]
-fn empty_lists_are_answered(rt: HostRuntime) -> Result<(), Fail> {
-    assert_eq!(rt; first_failing(&NoBlock)?, None);
-    Ok(())
+fn empty_lists_are_answered(rt: HostRuntime) {
+    all_pass(&rt, &NoBlock);
 }
 
 // A thousand blocks: the numbers from 0 on.
@@ -131,43 +123,39 @@ fn counted_blocks() -> [[u8; 8]; 1000] {
 
 // What each cipher makes of the last block by encryption and by decryption: OpenSSL's answers, of
 // `des-ecb`, `des-ede3` and `des-ede`, and of three runs of `des-ecb` for the EEE forms.
-const LAST_ANSWERS: OfEach<[u64; 2]> = OfEach {
-    des: [0xe3513719361d7e8a, 0x6ae0813d92200f3c],
-    ede3: [0xe0ea3ee320590e25, 0x011be083f678d6f0],
-    eee3: [0x0f3f0b714c03857a, 0xf274c9275819f1fd],
-    ede2: [0x38b4a5f41160eed5, 0x57b741e38aa59562],
-    eee2: [0x7f0a8b3d964e69ec, 0x0709ac5aa8d59609],
+const LAST_ANSWERS: OfEach<&str> = OfEach {
+    des: "e3513719361d7e8a 6ae0813d92200f3c",
+    ede3: "e0ea3ee320590e25 011be083f678d6f0",
+    eee3: "0f3f0b714c03857a f274c9275819f1fd",
+    ede2: "38b4a5f41160eed5 57b741e38aa59562",
+    eee2: "7f0a8b3d964e69ec 0709ac5aa8d59609",
 };
 
 // Whether the calls for lists, in place and from list to list, answer a thousand blocks as the call
 // for one block does.
-fn encrypts_each<C: BlockCipherEncrypt>(
-    cipher: &C,
-    answers: &[[u8; 8]; 1000],
-) -> Result<bool, Fail> {
+fn encrypts_each<C: BlockCipherEncrypt>(cipher: &C, answers: &[[u8; 8]; 1000]) -> bool {
     let mut list = counted_blocks();
     let mut output = [FILLED; 1000];
-    cipher.encrypt_blocks_b2b(&list, &mut output)?;
+    let is_written = cipher.encrypt_blocks_b2b(&list, &mut output).is_ok();
     cipher.encrypt_blocks(&mut list);
-    Ok(list == *answers && output == *answers)
+    is_written && list == *answers && output == *answers
 }
 
-fn decrypts_each<C: BlockCipherDecrypt>(
-    cipher: &C,
-    answers: &[[u8; 8]; 1000],
-) -> Result<bool, Fail> {
+fn decrypts_each<C: BlockCipherDecrypt>(cipher: &C, answers: &[[u8; 8]; 1000]) -> bool {
     let mut list = counted_blocks();
     let mut output = [FILLED; 1000];
-    cipher.decrypt_blocks_b2b(&list, &mut output)?;
+    let is_written = cipher.decrypt_blocks_b2b(&list, &mut output).is_ok();
     cipher.decrypt_blocks(&mut list);
-    Ok(list == *answers && output == *answers)
+    is_written && list == *answers && output == *answers
 }
 
 struct LongLists;
 
 impl Test for LongLists {
-    fn passes<C: Cipher>(&self, form: Form) -> Result<bool, Fail> {
-        let cipher = C::new_from_slice(form.key(&PARTS))?;
+    fn passes<C: Cipher>(&self, form: Form) -> bool {
+        let Some(cipher) = made::<C>(form) else {
+            return false;
+        };
         let mut encrypted = counted_blocks();
         for block in encrypted.iter_mut() {
             cipher.encrypt_block(block);
@@ -176,17 +164,13 @@ impl Test for LongLists {
         for block in decrypted.iter_mut() {
             cipher.decrypt_block(block);
         }
-        let last = [encrypted[999], decrypted[999]].map(u64::from_be_bytes);
-        Ok(
-            last == LAST_ANSWERS.of(form)
-                && encrypts_each(&cipher, &encrypted)?
-                && decrypts_each(&cipher, &decrypted)?,
-        )
+        [encrypted[999], decrypted[999]] == blocks(LAST_ANSWERS.of(form))
+            && encrypts_each(&cipher, &encrypted)
+            && decrypts_each(&cipher, &decrypted)
     }
 }
 
 #[test]
-fn long_lists_are_answered_block_by_block(rt: HostRuntime) -> Result<(), Fail> {
-    assert_eq!(rt; first_failing(&LongLists)?, None);
-    Ok(())
+fn long_lists_are_answered_block_by_block(rt: HostRuntime) {
+    all_pass(&rt, &LongLists);
 }

@@ -3,17 +3,13 @@
 #![tactic(auto)]
 
 #[cfg(test)]
-mod callers;
-#[cfg(test)]
-mod chained;
-#[cfg(test)]
 mod ciphers;
+#[cfg(test)]
+mod digits;
 #[cfg(test)]
 mod lengths;
 #[cfg(test)]
 mod listed_keys;
-#[cfg(test)]
-mod lists;
 #[cfg(test)]
 mod single;
 #[cfg(test)]

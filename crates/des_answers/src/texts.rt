@@ -2,80 +2,79 @@
 
 ghost use Rattle.std.specs.Prelude.{◌≤◌};
 
-use crate::ciphers::{Cipher, Form, PARTS, Test, first_failing};
+use crate::ciphers::{Cipher, Form, Test, all_pass, made};
 use des::cipher::{InvalidLength, NotEqualError};
 use des::weak_key::WeakKeyError;
-use std::alloc::Global;
 use std::fmt;
 use std::fmt::Write;
-use std::test::Fail;
 
-// Whether the value displays the text, whatever options are set.
-fn is_displayed_as<D: fmt::Display>(alloc: Global, value: &D, text: &str) -> Result<bool, Fail> {
-    Ok(
-        format!(in alloc; "{value}")?.as_str() == text
-            && format!(in alloc; "{value:#}")?.as_str() == text
-            && format!(in alloc; "{value:+}")?.as_str() == text
-            && format!(in alloc; "{value:.3}")?.as_str() == text
-            && format!(in alloc; "{value:>30}")?.as_str() == text
-            && format!(in alloc; "{value:*<30}")?.as_str() == text
-            && format!(in alloc; "{value:*^#30.3}")?.as_str() == text
-            && format!(in alloc; "{value:030}")?.as_str() == text,
-    )
+// Writes the value's text under the options of this number, of which there are eight.
+fn write_display<D: fmt::Display>(page: &mut Page, value: &D, options: usize) -> fmt::Result {
+    match options {
+        0 => write!(page, "{value}"),
+        1 => write!(page, "{value:#}"),
+        2 => write!(page, "{value:+}"),
+        3 => write!(page, "{value:.3}"),
+        4 => write!(page, "{value:>30}"),
+        5 => write!(page, "{value:*<30}"),
+        6 => write!(page, "{value:*^#30.3}"),
+        _ => write!(page, "{value:030}"),
+    }
 }
 
-// Whether the value has the debug text, whatever options are set.
-fn is_debugged_as<D: fmt::Debug>(alloc: Global, value: &D, text: &str) -> Result<bool, Fail> {
-    Ok(
-        format!(in alloc; "{value:?}")?.as_str() == text
-            && format!(in alloc; "{value:#?}")?.as_str() == text
-            && format!(in alloc; "{value:+?}")?.as_str() == text
-            && format!(in alloc; "{value:.3?}")?.as_str() == text
-            && format!(in alloc; "{value:>30?}")?.as_str() == text
-            && format!(in alloc; "{value:*<30?}")?.as_str() == text
-            && format!(in alloc; "{value:*^#30.3?}")?.as_str() == text
-            && format!(in alloc; "{value:030?}")?.as_str() == text,
-    )
+// Writes the value's debug text, likewise.
+fn write_debug<D: fmt::Debug>(page: &mut Page, value: &D, options: usize) -> fmt::Result {
+    match options {
+        0 => write!(page, "{value:?}"),
+        1 => write!(page, "{value:#?}"),
+        2 => write!(page, "{value:+?}"),
+        3 => write!(page, "{value:.3?}"),
+        4 => write!(page, "{value:>30?}"),
+        5 => write!(page, "{value:*<30?}"),
+        6 => write!(page, "{value:*^+#30.3?}"),
+        _ => write!(page, "{value:030?}"),
+    }
+}
+
+// Whether the value displays the text, whatever options are set.
+fn is_displayed_as<D: fmt::Display>(value: &D, text: &str) -> bool {
+    (0..8usize).all(|options| {
+        let mut page = Page::new(ENOUGH, false);
+        write_display(&mut page, value, options).is_ok() && page.has(text)
+    })
+}
+
+// Whether the value has the debug text under the options of this number.
+fn is_debugged_as<D: fmt::Debug>(value: &D, text: &str, options: usize) -> bool {
+    let mut page = Page::new(ENOUGH, false);
+    write_debug(&mut page, value, options).is_ok() && page.has(text)
 }
 
 #[test]
-fn errors_write_their_texts(rt: HostRuntime) -> Result<(), Fail> {
-    let alloc = rt.alloc();
-    assert!(rt; is_displayed_as(alloc, &InvalidLength, "InvalidLength")?);
-    assert!(rt; is_displayed_as(alloc, &NotEqualError, "NotEqualError")?);
-    assert!(rt; is_displayed_as(alloc, &WeakKeyError, "WeakKey")?);
-    let (length, lists) = (&InvalidLength, &NotEqualError);
-    assert_eq!(rt; format!(in alloc; "{length:?}")?.as_str(), "InvalidLength");
-    assert_eq!(rt; format!(in alloc; "{lists:?}")?.as_str(), "NotEqualError");
-    assert_eq!(rt;
-        format!(in alloc; "{WeakKeyError:?}")?.as_str(),
-        "WeakKeyError"
-    );
-    Ok(())
-}
-
-// The debug text of a cipher of this name.
-fn text_of(alloc: Global, name: &str) -> Result<String, Fail> {
-    Ok(format!(in alloc; "{name} {{ ... }}")?)
+fn errors_write_their_texts(rt: HostRuntime) {
+    assert!(rt; is_displayed_as(&InvalidLength, "InvalidLength"));
+    assert!(rt; is_displayed_as(&NotEqualError, "NotEqualError"));
+    assert!(rt; is_displayed_as(&WeakKeyError, "WeakKey"));
+    assert!(rt; is_debugged_as(&InvalidLength, "InvalidLength", 0));
+    assert!(rt; is_debugged_as(&NotEqualError, "NotEqualError", 0));
+    assert!(rt; is_debugged_as(&WeakKeyError, "WeakKeyError", 0));
 }
 
 // Each cipher writes its name, whatever options are set.
-#[derive(Drop)]
-struct Names {
-    alloc: Global,
-}
+struct Names;
 
 impl Test for Names {
-    fn passes<C: Cipher>(&self, form: Form) -> Result<bool, Fail> {
-        let cipher = C::new_from_slice(form.key(&PARTS))?;
-        is_debugged_as(self.alloc, &cipher, &text_of(self.alloc, form.name())?)
+    fn passes<C: Cipher>(&self, form: Form) -> bool {
+        let Some(cipher) = made::<C>(form) else {
+            return false;
+        };
+        (0..8usize).all(|options| is_debugged_as(&cipher, form.text(), options))
     }
 }
 
 #[test]
-fn ciphers_write_their_names(rt: HostRuntime) -> Result<(), Fail> {
-    assert_eq!(rt; first_failing(&Names { alloc: rt.alloc() })?, None);
-    Ok(())
+fn ciphers_write_their_names(rt: HostRuntime) {
+    all_pass(&rt, &Names);
 }
 
 // More writes than a text takes, so that none is refused.
@@ -102,10 +101,14 @@ impl Page {
         }
     }
 
-    // Whether what came is the front of a text, and all of it where no write was refused.
-    fn has_front(&self, text: &str, written: fmt::Result) -> bool {
-        let came = &self.bytes[..self.taken];
-        text.as_bytes().starts_with(came) && (written.is_err() || came == text.as_bytes())
+    // Whether the text came.
+    fn has(&self, text: &str) -> bool {
+        &self.bytes[..self.taken] == text.as_bytes()
+    }
+
+    // Whether what came is the front of a text.
+    fn has_front(&self, text: &str) -> bool {
+        text.as_bytes().starts_with(&self.bytes[..self.taken])
     }
 
     fn push(&mut self, text: &str) {
@@ -129,50 +132,35 @@ impl Write for Page {
     }
 }
 
-// Whether a page gets a front of the text alone, whatever options are set.
-fn gets_a_front<D: fmt::Debug>(value: &D, text: &str, takes: usize, keeps: bool) -> bool {
-    let new = || Page::new(takes, keeps);
-    let (mut plain, mut pretty, mut signed, mut short) = (new(), new(), new(), new());
-    let (mut wide, mut filled, mut zeros, mut all) = (new(), new(), new(), new());
-    let plainly = write!(plain, "{value:?}");
-    let prettily = write!(pretty, "{value:#?}");
-    let with_sign = write!(signed, "{value:+?}");
-    let shortly = write!(short, "{value:.3?}");
-    let widely = write!(wide, "{value:>30?}");
-    let with_fill = write!(filled, "{value:*<30?}");
-    let with_zeros = write!(zeros, "{value:030?}");
-    let with_all = write!(all, "{value:*^+#30.3?}");
-    plain.has_front(text, plainly)
-        && pretty.has_front(text, prettily)
-        && signed.has_front(text, with_sign)
-        && short.has_front(text, shortly)
-        && wide.has_front(text, widely)
-        && filled.has_front(text, with_fill)
-        && zeros.has_front(text, with_zeros)
-        && all.has_front(text, with_all)
+// Whether a page gets a front of the text alone, and all of it where no write was refused, under the
+// options of this number.
+fn gets_a_front<D: fmt::Debug>(value: &D, text: &str, options: usize, mut page: Page) -> bool {
+    match write_debug(&mut page, value, options) {
+        Ok(()) => page.has(text),
+        Err(_) => page.has_front(text),
+    }
 }
 
 // Whether it does so, after whatever number of writes the page refuses one: at most one for each byte.
-fn shows_text_alone<D: fmt::Debug>(value: &D, text: &str) -> bool {
+fn shows_text_alone<D: fmt::Debug>(value: &D, text: &str, options: usize) -> bool {
     (0..text.len() + 1).all(|takes| {
-        gets_a_front(value, text, takes, true) && gets_a_front(value, text, takes, false)
+        gets_a_front(value, text, options, Page::new(takes, true))
+            && gets_a_front(value, text, options, Page::new(takes, false))
     })
 }
 
-#[derive(Drop)]
-struct RefusedWrites {
-    alloc: Global,
-}
+struct RefusedWrites;
 
 impl Test for RefusedWrites {
-    fn passes<C: Cipher>(&self, form: Form) -> Result<bool, Fail> {
-        let cipher = C::new_from_slice(form.key(&PARTS))?;
-        Ok(shows_text_alone(&cipher, &text_of(self.alloc, form.name())?))
+    fn passes<C: Cipher>(&self, form: Form) -> bool {
+        let Some(cipher) = made::<C>(form) else {
+            return false;
+        };
+        (0..8usize).all(|options| shows_text_alone(&cipher, form.text(), options))
     }
 }
 
 #[test]
-fn ciphers_show_no_key_to_a_writer_that_refuses(rt: HostRuntime) -> Result<(), Fail> {
-    assert_eq!(rt; first_failing(&RefusedWrites { alloc: rt.alloc() })?, None);
-    Ok(())
+fn ciphers_show_no_key_to_a_writer_that_refuses(rt: HostRuntime) {
+    all_pass(&rt, &RefusedWrites);
 }

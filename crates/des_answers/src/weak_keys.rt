@@ -1,69 +1,80 @@
 //! The weak key test, parity bits, partners, and how many round keys a key has.
 
-ghost use Rattle.std.specs.Prelude.{◌≡◌, ◌⊎◌, length};
+ghost use Rattle.std.specs.Prelude.{◌<◌};
 
 use des::cipher::KeyInit;
-use des::weak_key::{
-    WEAK_KEYS, WeakKeyError, equal_but_parity, is_partner, weak_key_test, with_odd_parity,
-};
+use des::weak_key::{WEAK_KEYS, equal_but_parity, is_partner, weak_key_test, with_odd_parity};
 use des::{Des, utils};
 
-// Whether the key of these parts is refused.
-fn refuses(parts: &[u64]) -> bool
-    requires { (length parts.now ≡ 1) ⊎ (length parts.now ≡ 2) ⊎ (length parts.now ≡ 3) }
-{
-    let mut key = [[0; 8]; 3];
-    for (bytes, part) in key.iter_mut().zip(parts) {
-        *bytes = part.to_be_bytes();
-    }
-    weak_key_test(&key.as_flattened()[..8 * parts.len()]) == Err(WeakKeyError)
+// Whether the key of one, two or three parts is refused.
+fn refuses_one(part: u64) -> bool {
+    weak_key_test(&part.to_be_bytes()).is_err()
+}
+
+fn refuses_two(parts: &[u64; 2]) -> bool {
+    weak_key_test(parts.map(u64::to_be_bytes).as_flattened()).is_err()
+}
+
+fn refuses_three(parts: &[u64; 3]) -> bool {
+    weak_key_test(parts.map(u64::to_be_bytes).as_flattened()).is_err()
 }
 
 const NO_BIT: u64 = 0x0000000000000000;
 
-const PLAIN: [u64; 3] = [0x0102030405060708, 0x1112131415161718, 0x2122232425262728];
+// Parts that are not listed, and listed ones.
+const A: u64 = 0x0102030405060708;
+
+const B: u64 = 0x1112131415161718;
+
+const C: u64 = 0x2122232425262728;
 
 const LISTED: [u64; 3] = [0x0101010101010101, 0xfefefefefefefefe, 0xe0e0e0e0f1f1f1f1];
 
 // Keys with a listed part in each place, and with equal parts in each pair of places.
+const OF_TWO_PARTS: [[u64; 2]; 3] = [[LISTED[0], A], [A, LISTED[1]], [A, A]];
+
+const OF_THREE_PARTS: [[u64; 3]; 6] = [
+    [LISTED[0], A, B],
+    [A, LISTED[1], B],
+    [A, B, LISTED[2]],
+    [A, A, B],
+    [A, B, A],
+    [B, A, A],
+];
+
 #[test]
 fn refuses_listed_and_equal_parts(rt: HostRuntime) {
-    let [a, b, _] = PLAIN;
-    for key in LISTED {
-        assert!(rt; refuses(&[key]), "{key:016x}");
-    }
-    assert!(rt; refuses(&[LISTED[0], a]));
-    assert!(rt; refuses(&[a, LISTED[1]]));
-    assert!(rt; refuses(&[LISTED[0], a, b]));
-    assert!(rt; refuses(&[a, LISTED[1], b]));
-    assert!(rt; refuses(&[a, b, LISTED[2]]));
-    assert!(rt; refuses(&[a, a]));
-    assert!(rt; refuses(&[a, a, b]));
-    assert!(rt; refuses(&[a, b, a]));
-    assert!(rt; refuses(&[b, a, a]));
+    assert!(rt; LISTED.iter().all(|part| refuses_one(*part)));
+    assert!(rt; OF_TWO_PARTS.iter().all(refuses_two));
+    assert!(rt; OF_THREE_PARTS.iter().all(refuses_three));
 }
 
 // Parity bits do not count: the key of no bit is a listed key but for them, and the two parts of
-// the last key are one.
+// the last key of two parts are one.
+const OF_TWO_WITH_NO_BIT: [[u64; 2]; 4] = [
+    [LISTED[0], NO_BIT],
+    [NO_BIT, LISTED[1]],
+    [NO_BIT, LISTED[2]],
+    [0x0202020202020202, 0x0303030303030303],
+];
+
+const OF_THREE_WITH_NO_BIT: [[u64; 3]; 3] = [
+    [LISTED[0], NO_BIT, NO_BIT],
+    [NO_BIT, LISTED[1], NO_BIT],
+    [NO_BIT, NO_BIT, LISTED[2]],
+];
+
 #[test]
 fn refuses_whatever_the_parity(rt: HostRuntime) {
-    let [first, second, third] = LISTED;
-    assert!(rt; refuses(&[NO_BIT]));
-    assert!(rt; refuses(&[first, NO_BIT, NO_BIT]));
-    assert!(rt; refuses(&[NO_BIT, second, NO_BIT]));
-    assert!(rt; refuses(&[NO_BIT, NO_BIT, third]));
-    assert!(rt; refuses(&[first, NO_BIT]));
-    assert!(rt; refuses(&[NO_BIT, second]));
-    assert!(rt; refuses(&[NO_BIT, third]));
-    assert!(rt; refuses(&[0x0202020202020202, 0x0303030303030303]));
+    assert!(rt; refuses_one(NO_BIT));
+    assert!(rt; OF_TWO_WITH_NO_BIT.iter().all(refuses_two));
+    assert!(rt; OF_THREE_WITH_NO_BIT.iter().all(refuses_three));
 }
 
 #[test]
 fn passes_other_keys(rt: HostRuntime) {
-    assert!(rt; !refuses(&[0x0101011f0101010e]));
-    assert!(rt; !refuses(&[0x133457799bbcdff1]));
-    assert!(rt; !refuses(&PLAIN[..2]));
-    assert!(rt; !refuses(&PLAIN));
+    assert!(rt; !refuses_one(0x0101011f0101010e) && !refuses_one(0x133457799bbcdff1));
+    assert!(rt; !refuses_two(&[A, B]) && !refuses_three(&[A, B, C]));
 }
 
 // The value of `with_odd_parity`, as words.
@@ -78,21 +89,18 @@ fn words_equal_but_parity(first: u64, second: u64) -> bool {
 
 // The key of the worked example of J. Orlin Grabbe, "The DES Algorithm Illustrated", whose bytes
 // have odd parity, the same with each lowest bit turned, and keys of no bit and of every bit.
+const OF_ODD_PARITY: [(u64, u64); 4] = [
+    (NO_BIT, 0x0101010101010101),
+    (0xffffffffffffffff, 0xfefefefefefefefe),
+    (0x133457799bbcdff1, 0x133457799bbcdff1),
+    (0x123556789abddef0, 0x133457799bbcdff1),
+];
+
 #[test]
 fn gives_odd_parity(rt: HostRuntime) {
-    assert_eq!(rt; word_with_odd_parity(NO_BIT), 0x0101010101010101);
-    assert_eq!(rt;
-        word_with_odd_parity(0xffffffffffffffff),
-        0xfefefefefefefefe
-    );
-    assert_eq!(rt;
-        word_with_odd_parity(0x133457799bbcdff1),
-        0x133457799bbcdff1
-    );
-    assert_eq!(rt;
-        word_with_odd_parity(0x123556789abddef0),
-        0x133457799bbcdff1
-    );
+    for (key, odd) in OF_ODD_PARITY {
+        assert_eq!(rt; word_with_odd_parity(key), odd);
+    }
 }
 
 #[test]
@@ -117,16 +125,25 @@ fn words_are_partners(first: u64, second: u64) -> bool {
     is_partner(&first.to_be_bytes(), &second.to_be_bytes())
 }
 
-// The pairs of semi-weak keys and the weak keys are those of NBS Special Publication 500-20; parity
-// bits do not count; the last key is none of them.
+// Keys that are partners: pairs of semi-weak keys and a weak key, as NBS Special Publication 500-20
+// has them, and the weak one but for its parity bits.
+const PARTNERS: [(u64, u64); 5] = [
+    (0x01fe01fe01fe01fe, 0xfe01fe01fe01fe01),
+    (0x011f011f010e010e, 0x1f011f010e010e01),
+    (0x1f011f010e010e01, 0x011f011f010e010e),
+    (0x0101010101010101, 0x0101010101010101),
+    (NO_BIT, 0x0101010101010101),
+];
+
+// The last key has no partner among the listed ones.
 #[test]
 fn tells_partners(rt: HostRuntime) {
-    assert!(rt; words_are_partners(0x01fe01fe01fe01fe, 0xfe01fe01fe01fe01));
-    assert!(rt; words_are_partners(0x011f011f010e010e, 0x1f011f010e010e01));
-    assert!(rt; words_are_partners(0x1f011f010e010e01, 0x011f011f010e010e));
+    assert!(rt;
+        PARTNERS
+            .iter()
+            .all(|&(first, second)| words_are_partners(first, second))
+    );
     assert!(rt; !words_are_partners(0x01fe01fe01fe01fe, 0x01fe01fe01fe01fe));
-    assert!(rt; words_are_partners(0x0101010101010101, 0x0101010101010101));
-    assert!(rt; words_are_partners(NO_BIT, 0x0101010101010101));
     let key = 0x01011f1f01010e0eu64.to_be_bytes();
     assert!(rt; !WEAK_KEYS.iter().any(|other| is_partner(&key, other)));
 }
@@ -135,14 +152,20 @@ fn tells_partners(rt: HostRuntime) {
 // and the last key are those of no bit and of the worked example of J. Orlin Grabbe, "The DES
 // Algorithm Illustrated", which prints its sixteen round keys; the others are by the halves of the
 // key.
+const ROUND_KEYS: [(u64, u8); 6] = [
+    (NO_BIT, 1),
+    (0x0101010101010101, 1),
+    (0x01fe01fe01fe01fe, 2),
+    (0x01011f1f01010e0e, 4),
+    (0x0101011f0101010e, 4),
+    (0x133457799bbcdff1, 16),
+];
+
 #[test]
 fn counts_round_keys(rt: HostRuntime) {
-    assert_eq!(rt; round_keys_of(&NO_BIT.to_be_bytes()), 1);
-    assert_eq!(rt; round_keys_of(&0x0101010101010101u64.to_be_bytes()), 1);
-    assert_eq!(rt; round_keys_of(&0x01fe01fe01fe01feu64.to_be_bytes()), 2);
-    assert_eq!(rt; round_keys_of(&0x01011f1f01010e0eu64.to_be_bytes()), 4);
-    assert_eq!(rt; round_keys_of(&0x0101011f0101010eu64.to_be_bytes()), 4);
-    assert_eq!(rt; round_keys_of(&0x133457799bbcdff1u64.to_be_bytes()), 16);
+    for (key, count) in ROUND_KEYS {
+        assert_eq!(rt; round_keys_of(&key.to_be_bytes()), count);
+    }
 }
 
 // The halves C and D of a key, 28 bits each.
@@ -160,39 +183,53 @@ fn distinct(items: &[u64]) -> usize {
 
 #[test]
 fn lists_keys_of_odd_parity(rt: HostRuntime) {
-    for byte in WEAK_KEYS.as_flattened() {
-        assert_eq!(rt; byte.count_ones() % 2, 1, "{byte:02x}");
-    }
+    assert!(rt;
+        WEAK_KEYS
+            .as_flattened()
+            .iter()
+            .all(|byte| byte.count_ones() % 2 == 1)
+    );
 }
 
 // By place: the first of the 4 weak keys of NBS Special Publication 500-20, the first of the 12
 // semi-weak ones, and the keys after them that the list of the Rust crate `des` begins and ends
 // with.
+const AT_PLACES: [(usize, u64); 4] = [
+    (0, 0x0101010101010101),
+    (4, 0x011f011f010e010e),
+    (16, 0x01011f1f01010e0e),
+    (63, 0xfefee0e0fefef1f1),
+];
+
 #[test]
 fn lists_keys_in_their_places(rt: HostRuntime) {
-    let at_places = [WEAK_KEYS[0], WEAK_KEYS[4], WEAK_KEYS[16], WEAK_KEYS[63]];
-    assert_eq!(rt;
-        at_places.map(u64::from_be_bytes),
-        [
-            0x0101010101010101,
-            0x011f011f010e010e,
-            0x01011f1f01010e0e,
-            0xfefee0e0fefef1f1
-        ]
-    );
+    for (place, key) in AT_PLACES {
+        assert_eq!(rt; WEAK_KEYS.get(place), Some(&u64::to_be_bytes(key)));
+    }
 }
 
 // The numbers of the listed keys: 4 weak, 12 semi-weak and 48 more keys, and eight halves.
 #[test]
 fn lists_sixty_four_keys(rt: HostRuntime) {
-    assert_eq!(rt; distinct(&WEAK_KEYS.map(u64::from_be_bytes)), 64);
     assert_eq!(rt; des::WEAK_KEYS, WEAK_KEYS);
-    for (count, keys) in [(1, 4), (2, 12), (4, 48)] {
-        let with_count = WEAK_KEYS.iter().filter(|key| round_keys_of(key) == count);
-        assert_eq!(rt; with_count.count(), keys, "{count} round keys");
-    }
+    assert_eq!(rt; distinct(&WEAK_KEYS.map(u64::from_be_bytes)), 64);
     assert_eq!(rt; distinct(&WEAK_KEYS.map(|key| halves(&key).0)), 8);
     assert_eq!(rt; distinct(&WEAK_KEYS.map(|key| halves(&key).1)), 8);
+}
+
+// How many listed keys have so many round keys.
+fn listed_with(count: u8) -> usize {
+    WEAK_KEYS
+        .iter()
+        .filter(|key| round_keys_of(key) == count)
+        .count()
+}
+
+#[test]
+fn lists_keys_by_their_round_keys(rt: HostRuntime) {
+    for (count, keys) in [(1, 4), (2, 12), (4, 48)] {
+        assert_eq!(rt; listed_with(count), keys, "{count} round keys");
+    }
 }
 
 // The key of odd parity whose halves C and D repeat these four bits each, by permuted choice 1: the
@@ -209,15 +246,19 @@ fn repeating_key(c: u64, d: u64) -> u64 {
     word_with_odd_parity(key)
 }
 
+// Whether the key repeats these bits in its halves, and has at most four round keys.
+fn repeats(c: u64, d: u64) -> bool
+    requires { (c < 16) × (d < 16) }
+{
+    let key = repeating_key(c, d).to_be_bytes();
+    halves(&key) == (c * 0x1111111, d * 0x1111111) && round_keys_of(&key) <= 4
+}
+
 // Of the 256 keys of odd parity whose halves repeat every four bits, all but the 64 listed ones
 // pass.
 #[test]
 fn passes_other_repeating_keys(rt: HostRuntime) {
-    for i in 0..256u64 {
-        let key = repeating_key(i / 16, i % 16).to_be_bytes();
-        assert_eq!(rt; halves(&key), (i / 16 * 0x1111111, i % 16 * 0x1111111));
-        assert!(rt; round_keys_of(&key) <= 4);
-    }
-    let passing = (0..256u64).filter(|&i| !refuses(&[repeating_key(i / 16, i % 16)]));
+    assert!(rt; (0..256u64).all(|i| repeats(i / 16, i % 16)));
+    let passing = (0..256u64).filter(|&i| !refuses_one(repeating_key(i / 16, i % 16)));
     assert_eq!(rt; passing.count(), 192);
 }

@@ -8,7 +8,7 @@ use std::time::{Clock, CpuClock, Duration, Instant};
 // The most runs of which a figure is the least.
 const MOST_RUNS: u32 = 1000;
 
-// The time by the clock after which no further run begins: the 102 figures of the table then take
+// The time by the clock after which no further run begins: the 108 figures of the table then take
 // some ten seconds at most, with fewer runs on a machine that is slow or busy.
 const SHARE_MILLIS: u64 = 100;
 

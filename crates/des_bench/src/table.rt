@@ -1,9 +1,10 @@
 //! The table of all figures: a row for each cipher, block by block and by the calls for lists, rows
 //! for lists of some lengths over vectors of two and of four words, rows for the message
-//! authentication codes over two ciphers, and one for the weak key test.
+//! authentication codes over two ciphers, and one for the weak key test. Beside the lists of some
+//! lengths stand the round keys: how long spreading them takes, and a batch under spread keys.
 //!
-//! A list shorter than a batch takes the time of a batch, and each call spreads the round keys: what
-//! a list of 128 blocks takes beyond an eighth of one of 1,024 is about what spreading takes.
+//! A list shorter than a batch takes the time of a batch, and each call of a cipher spreads the round
+//! keys.
 //!
 //! What the timed calls answer is joined in the number below the table, so that no compiler can
 //! leave a call out. A run of blocks begins with what the run before it made of them.
@@ -13,7 +14,7 @@ ghost use Rattle.std.specs.Prelude.{◌≡◌, ◌≤◌, ◌⊎◌, length};
 use crate::stopwatch::tenths_of_call;
 use des::cipher::{AlgorithmName, BlockCipherEncrypt, KeyInit, KeyedCipher};
 use des::{Des, TdesEde2, TdesEde3, TdesEee2, TdesEee3, weak_key_test};
-use des_fast::many::ManyBlocks;
+use des_fast::many::{ListKeys, ManyBlocks, Slice, SpreadKeys, SpreadOnce};
 use des_mac::{CbcMac, Cmac, Mac, Method2, RetailMac};
 use std::alloc::AllocGlobal;
 use std::io;
@@ -29,6 +30,12 @@ const KEYS: usize = 256;
 
 // How many blocks a run goes through.
 const BLOCKS: usize = 1024;
+
+// How many blocks a batch has over vectors of two words.
+const BATCH: usize = 128;
+
+// How often a run spreads the round keys.
+const SPREADINGS: u32 = 16;
 
 /// Times every cipher and the weak key test, and writes the figures to `out`, in nanoseconds.
 pub fn write_table<R: AllocGlobal + Clock + CpuClock, W: Write>(
@@ -59,6 +66,9 @@ pub fn write_table<R: AllocGlobal + Clock + CpuClock, W: Write>(
     joined ^= write_lengths::<des_fast::Des>(rt, &keys, out)?;
     write_head(out, "TdesEde3, blocks", &["2 words", "4 words", "cbc"])?;
     joined ^= write_lengths::<des_fast::TdesEde3>(rt, &keys, out)?;
+    write_head(out, "des_fast, spread", &["2 words", "4 words", "batch"])?;
+    joined ^= write_spreading::<des_fast::Des>(rt, &keys, out)?;
+    joined ^= write_spreading::<des_fast::TdesEde3>(rt, &keys, out)?;
     write_head(out, "des_fast, MACs", &["CbcMac", "RetailMac", "Cmac"])?;
     joined ^= write_macs::<des_fast::Des>(rt, &keys, out)?;
     joined ^= write_macs::<des_fast::TdesEde3>(rt, &keys, out)?;
@@ -174,6 +184,34 @@ fn write_length<C: ManyBlocks, const N: usize>(
     write!(out, "{N:<16}")?;
     write_figures(out, &[two, four, cbc])?;
     Ok(joined(&blocks))
+}
+
+// Writes the row of a cipher whose round keys are spread once: the time of a spreading over vectors
+// of two and of four words, and that of a block in one batch under the spread keys. Joins the blocks
+// that its calls ended with.
+fn write_spreading<C: KeyedCipher + AlgorithmName + SpreadOnce + Drop>(
+    rt: &(impl Clock + CpuClock),
+    keys: &[[u8; LONGEST_KEY]; KEYS],
+    out: &mut impl Write,
+) -> io::Result<u64>
+    requires { C.KEY_SIZE ≤ LONGEST_KEY }
+{
+    let cipher: C = cipher_of_key(&keys[0]);
+    let mut blocks = [[0u8; 8]; BATCH];
+    let mut two = cipher.spread_keys::<u64x2>();
+    let mut four = cipher.spread_keys::<u64x4>();
+    let over_two = tenths_of_call(rt, SPREADINGS, || spread_again(&cipher, &mut two))?;
+    let over_four = tenths_of_call(rt, SPREADINGS, || spread_again(&cipher, &mut four))?;
+    four.encrypt_many(&mut blocks);
+    let batch = tenths_of_call(rt, BATCH as u32, || two.encrypt_many(&mut blocks))?;
+    write_row(out, C::NAME, &[over_two, over_four, batch])?;
+    Ok(joined(&blocks))
+}
+
+fn spread_again<S: Slice, C: SpreadOnce>(cipher: &C, keys: &mut SpreadKeys<S>) {
+    for _ in 0..SPREADINGS {
+        *keys = cipher.spread_keys::<S>();
+    }
 }
 
 // Writes the row of the MACs over a cipher, and joins their tags.

@@ -12,6 +12,3 @@ pub use ede3::{decrypted_by_ede3, encrypted_by_ede3};
 pub use eee2::{decrypted_by_eee2, encrypted_by_eee2};
 pub use eee3::{decrypted_by_eee3, encrypted_by_eee3};
 pub use single::{decrypted_by_des, encrypted_by_des};
-
-#[cfg(test)]
-mod tests;

@@ -39,6 +39,3 @@ fn is_same(block: &[u8; 8], other: &[u8; 8]) -> bool
 {
     block == other
 }
-
-#[cfg(test)]
-mod tests;

@@ -20,6 +20,3 @@ pub fn unchain<C: BlockCipher>(cipher: &C, iv: &[u8; 8], blocks: &mut [[u8; 8]])
 {
     cbc::decrypt(cipher, iv, blocks);
 }
-
-#[cfg(test)]
-mod tests;

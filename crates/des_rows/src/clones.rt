@@ -79,6 +79,3 @@ pub fn clone_of_fast_eee2(cipher: &des_fast::TdesEee2) -> des_fast::TdesEee2
 {
     clone_of(cipher)
 }
-
-#[cfg(test)]
-mod tests;

@@ -47,6 +47,3 @@ pub fn decrypt_complements<C: Complementing + Drop>(
     C::new_from_slice(key)?.decrypt_block(block);
     Ok(())
 }
-
-#[cfg(test)]
-mod tests;

@@ -1,5 +1,6 @@
-//! What stands above the ciphers of `des` and `des_fast`: callers that rest on their contracts and
-//! laws alone, and two ciphers that hide nothing. Nothing here is part of the product.
+//! What stands above the ciphers of `des` and `des_fast` and above the MACs: callers that rest on
+//! their contracts and laws alone, and two ciphers that hide nothing. Nothing here is part of the
+//! product.
 #![tactic(auto)]
 
 pub mod both_libraries;
@@ -8,6 +9,7 @@ pub mod chaining;
 pub mod clones;
 pub mod complements;
 pub mod long_records;
+pub mod macs_by_relation;
 pub mod odd_ciphers;
 pub mod records;
 pub mod related_lists;

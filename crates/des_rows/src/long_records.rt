@@ -55,6 +55,3 @@ pub fn decrypt_list<C: KeyedCipher + ManyBlocks + Drop>(
     cipher.decrypt_many(blocks);
     Ok(())
 }
-
-#[cfg(test)]
-mod tests;

@@ -38,6 +38,3 @@ pub fn read_record(key: &[u8], iv: &[u8; 8], blocks: &mut [[u8; 8]]) -> Result<(
 {
     read_chain::<TdesEde3>(key, iv, blocks)
 }
-
-#[cfg(test)]
-mod tests;

@@ -42,6 +42,3 @@ pub fn encrypt_list_by_ede3(key: &[u8], blocks: &mut [[u8; 8]]) -> Result<(), In
     cipher.encrypt_blocks(blocks);
     Ok(())
 }
-
-#[cfg(test)]
-mod tests;

@@ -51,6 +51,3 @@ pub fn decrypt_into<C: BlockCipherDecrypt>(
 {
     cipher.decrypt_blocks_b2b(blocks, output).is_ok()
 }
-
-#[cfg(test)]
-mod tests;

@@ -24,6 +24,3 @@ pub fn verdicts(key: &[u8; 8]) -> (bool, bool)
         contains_agreeing(&WEAK_KEYS, key),
     )
 }
-
-#[cfg(test)]
-mod tests;

@@ -44,6 +44,3 @@ impl BlockCipher for Reverse {
 
     ghost encrypts_decrypted = { λ _ block _. reverse-reverse block };
 }
-
-#[cfg(test)]
-mod tests;

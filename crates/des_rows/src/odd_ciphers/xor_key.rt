@@ -89,6 +89,3 @@ impl KeyedCipher for XorKey {
 
     ghost decrypts_by_key = { λ cipher key block _ made _. ap (λ bytes. xored bytes block) made };
 }
-
-#[cfg(test)]
-mod tests;

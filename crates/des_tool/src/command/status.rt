@@ -11,6 +11,9 @@ use std::io;
 use std::io::Write;
 use std::process::ExitCode;
 
+#[cfg(test)]
+mod tests;
+
 // The statuses that the program ends with.
 const ANSWER_WRITTEN: u8 = 0;
 
@@ -63,7 +66,7 @@ fn write_whole<W: Write>(out: &mut W, text: &[u8]) -> io::Result<()>
     out.flush()
 }
 
-pub(super) fn report<E: Write>(fault: Fault, err: &mut E) -> io::Result<()>
+fn report<E: Write>(fault: Fault, err: &mut E) -> io::Result<()>
     ensures { OnOk result
         (Appends (E.contents err.old) (E.contents err.new) (name_of fault ++ codes "\n")) }
 {
