@@ -33,7 +33,7 @@
  * such calls, are tested. On time and caches nothing is claimed. The code of `init` of ciphers, and of the calls with `many`
  * in their name, reads no table at an index that depends on the key or on a block, and branches on neither (tested under
  * valgrind). The calls named `_blocks`, `_encrypt_cbc` and `_decrypt_cbc`, those of MACs, check values and keys of a
- * transaction read tables so, and the weak key test, and with it `combine`, branches on the key.
+ * transaction read tables so. The weak key test and `set_odd_parity`, and with them `combine`, branch on the key.
  */
 #ifndef CUKVASHE_DES_H
 #define CUKVASHE_DES_H

@@ -140,8 +140,8 @@ pub const PARTS: [[u8; 8]; 3] = [
 pub const PLAINTEXT: [[u8; 8]; 3] = [*b"The qufc", *b"k brown ", *b"fox jump"];
 
 // What each cipher makes of the plaintext. The answers of `TdesEde3` stand in the publication; the
-// others are OpenSSL's, of `des-ecb`, of `des-ede` for `TdesEde2`, and of three runs of `des-ecb` for
-// the EEE forms.
+// others are OpenSSL's, of `des-ecb`, of `des-ede` for `TdesEde2`, and of three runs of `des-ecb`
+// for the EEE forms.
 pub const CIPHERTEXT: OfEach<&str> = OfEach {
     des: "a28e91724c4bba31 167e47ec24f71d63 2c1a917234425365",
     ede3: "a826fd8ce53b855f cce21c8112256fe6 68d5c05dd9b6b900",

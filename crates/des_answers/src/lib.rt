@@ -1,5 +1,5 @@
-//! Known answers of the ciphers of `des` and `des_fast`, and what they do with input that does not fit.
-//! The answers stand in publications or were made by OpenSSL. There is nothing here but tests.
+//! Known answers of the ciphers of `des` and `des_fast`, and what they do with input that does not
+//! fit. The answers stand in publications or were made by OpenSSL. There is nothing here but tests.
 #![tactic(auto)]
 
 #[cfg(test)]

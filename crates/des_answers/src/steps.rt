@@ -56,8 +56,8 @@ fn key_has_its_round_keys(rt: HostRuntime) {
     assert_eq!(rt; *cipher.round_keys(), keys);
 }
 
-// Permuted choice 2 where copies of bits fall on one place, and where a bit is dropped, by hand from
-// the table of FIPS 46-3.
+// Permuted choice 2 where copies of bits fall on one place, and where a bit is dropped, by hand
+// from the table of FIPS 46-3.
 #[test]
 fn pc2_where_copies_meet(rt: HostRuntime) {
     assert_eq!(rt; pc2(0xffffffffffffff00), 0xffffffffffff0000);

@@ -132,8 +132,8 @@ impl Write for Page {
     }
 }
 
-// Whether a page gets a front of the text alone, and all of it where no write was refused, under the
-// options of this number.
+// Whether a page gets a front of the text alone, and all of it where no write was refused, under
+// the options of this number.
 fn gets_a_front<D: fmt::Debug>(value: &D, text: &str, options: usize, mut page: Page) -> bool {
     match write_debug(&mut page, value, options) {
         Ok(()) => page.has(text),
@@ -141,7 +141,8 @@ fn gets_a_front<D: fmt::Debug>(value: &D, text: &str, options: usize, mut page: 
     }
 }
 
-// Whether it does so, after whatever number of writes the page refuses one: at most one for each byte.
+// Whether it does so, after whatever number of writes the page refuses one: at most one for each
+// byte.
 fn shows_text_alone<D: fmt::Debug>(value: &D, text: &str, options: usize) -> bool {
     (0..text.len() + 1).all(|takes| {
         gets_a_front(value, text, options, Page::new(takes, true))

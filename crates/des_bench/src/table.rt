@@ -3,8 +3,8 @@
 //! authentication codes over two ciphers, and one for the weak key test. Beside the lists of some
 //! lengths stand the round keys: how long spreading them takes, and a batch under spread keys.
 //!
-//! A list shorter than a batch takes the time of a batch, and each call of a cipher spreads the round
-//! keys.
+//! A list shorter than a batch takes the time of a batch, and each call of a cipher spreads the
+//! round keys.
 //!
 //! What the timed calls answer is joined in the number below the table, so that no compiler can
 //! leave a call out. A run of blocks begins with what the run before it made of them.
@@ -187,8 +187,8 @@ fn write_length<C: ManyBlocks, const N: usize>(
 }
 
 // Writes the row of a cipher whose round keys are spread once: the time of a spreading over vectors
-// of two and of four words, and that of a block in one batch under the spread keys. Joins the blocks
-// that its calls ended with.
+// of two and of four words, and that of a block in one batch under the spread keys. Joins the
+// blocks that its calls ended with.
 fn write_spreading<C: KeyedCipher + AlgorithmName + SpreadOnce + Drop>(
     rt: &(impl Clock + CpuClock),
     keys: &[[u8; LONGEST_KEY]; KEYS],

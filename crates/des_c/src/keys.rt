@@ -12,8 +12,8 @@ ghost use Rattle.des_context.specs.Keys.{IsKeyLength};
 use des::weak_key;
 use des_context::calls::{DONE, KEY_LENGTH, WEAK_KEY};
 
-/// Tests a key of 8, 16 or 24 bytes. The status of a key that the weak key test refuses is 3, that of
-/// a key of another length 1.
+/// Tests a key of 8, 16 or 24 bytes. The status of a key that the weak key test refuses is 3, that
+/// of a key of another length 1.
 #[unsafe(no_mangle)]
 pub extern "C" fn cukvashe_weak_key_test(key: &[u8]) -> i32
     ensures passed { (result ≡ pos 0)

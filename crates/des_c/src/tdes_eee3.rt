@@ -74,8 +74,8 @@ pub extern "C" fn cukvashe_tdes_eee3_decrypt_many(context: &TdesEee3Context, blo
     calls::decrypt_many::<u64x2, _>(context, blocks);
 }
 
-/// Encrypts each block of `input` into the block at its place in `output`, 128 at a time. The status
-/// of two lists that differ in length is 2, and `output` stays.
+/// Encrypts each block of `input` into the block at its place in `output`, 128 at a time. The
+/// status of two lists that differ in length is 2, and `output` stays.
 #[unsafe(no_mangle)]
 pub extern "C" fn cukvashe_tdes_eee3_encrypt_many_b2b(
     context: &TdesEee3Context,
@@ -94,8 +94,8 @@ pub extern "C" fn cukvashe_tdes_eee3_encrypt_many_b2b(
     calls::encrypt_many_b2b::<u64x2, _>(context, input, output)
 }
 
-/// Decrypts each block of `input` into the block at its place in `output`, 128 at a time. The status
-/// of two lists that differ in length is 2, and `output` stays.
+/// Decrypts each block of `input` into the block at its place in `output`, 128 at a time. The
+/// status of two lists that differ in length is 2, and `output` stays.
 #[unsafe(no_mangle)]
 pub extern "C" fn cukvashe_tdes_eee3_decrypt_many_b2b(
     context: &TdesEee3Context,

@@ -1,6 +1,6 @@
-//! The payment calls of the library for C: check values, and the keys of a transaction as the host
-//! makes them. Each export states what the call of `des_payment` promises that it makes.
-//! `bindings/c/cukvashe_des.h` declares them, and says what a caller has to uphold.
+//! The payment calls of the library for C: check values, keys of components, and the keys of a
+//! transaction as the host makes them. Each export states what the call of `des_payment` promises
+//! that it makes. `bindings/c/cukvashe_des.h` declares them, and says what a caller has to uphold.
 #![tactic(auto)]
 
 mod check_values;

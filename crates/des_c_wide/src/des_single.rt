@@ -34,8 +34,8 @@ pub extern "C" fn cukvashe_wide_des_decrypt_many(context: &DesContext, blocks: &
     calls::decrypt_many::<u64x4, _>(context, blocks);
 }
 
-/// Encrypts each block of `input` into the block at its place in `output`, 256 at a time. The status
-/// of two lists that differ in length is 2, and `output` stays.
+/// Encrypts each block of `input` into the block at its place in `output`, 256 at a time. The
+/// status of two lists that differ in length is 2, and `output` stays.
 #[unsafe(no_mangle)]
 pub extern "C" fn cukvashe_wide_des_encrypt_many_b2b(
     context: &DesContext,
@@ -54,8 +54,8 @@ pub extern "C" fn cukvashe_wide_des_encrypt_many_b2b(
     calls::encrypt_many_b2b::<u64x4, _>(context, input, output)
 }
 
-/// Decrypts each block of `input` into the block at its place in `output`, 256 at a time. The status
-/// of two lists that differ in length is 2, and `output` stays.
+/// Decrypts each block of `input` into the block at its place in `output`, 256 at a time. The
+/// status of two lists that differ in length is 2, and `output` stays.
 #[unsafe(no_mangle)]
 pub extern "C" fn cukvashe_wide_des_decrypt_many_b2b(
     context: &DesContext,

@@ -1,6 +1,7 @@
-//! The calls for lists of the library for C, over slices of four words, under names of their own: for
-//! processors with vectors of 256 bits, where they are the quicker ones. `rt lib --cpu=x86-64-v3`
-//! builds them for such a processor, and a caller asks the processor before it calls them.
+//! The calls for lists of the library for C, over slices of four words, under names of their own:
+//! for processors with vectors of 256 bits, where they are the quicker ones.
+//! `rt lib --cpu=x86-64-v3` builds them for such a processor, and a caller asks the processor
+//! before it calls them.
 #![tactic(auto)]
 
 mod des_single;

@@ -40,8 +40,8 @@ pub extern "C" fn cukvashe_wide_tdes_eee2_decrypt_many(
     calls::decrypt_many::<u64x4, _>(context, blocks);
 }
 
-/// Encrypts each block of `input` into the block at its place in `output`, 256 at a time. The status
-/// of two lists that differ in length is 2, and `output` stays.
+/// Encrypts each block of `input` into the block at its place in `output`, 256 at a time. The
+/// status of two lists that differ in length is 2, and `output` stays.
 #[unsafe(no_mangle)]
 pub extern "C" fn cukvashe_wide_tdes_eee2_encrypt_many_b2b(
     context: &TdesEee2Context,
@@ -60,8 +60,8 @@ pub extern "C" fn cukvashe_wide_tdes_eee2_encrypt_many_b2b(
     calls::encrypt_many_b2b::<u64x4, _>(context, input, output)
 }
 
-/// Decrypts each block of `input` into the block at its place in `output`, 256 at a time. The status
-/// of two lists that differ in length is 2, and `output` stays.
+/// Decrypts each block of `input` into the block at its place in `output`, 256 at a time. The
+/// status of two lists that differ in length is 2, and `output` stays.
 #[unsafe(no_mangle)]
 pub extern "C" fn cukvashe_wide_tdes_eee2_decrypt_many_b2b(
     context: &TdesEee2Context,

@@ -5,8 +5,8 @@ use des::cipher::{BlockCipherEncrypt, KeyInit};
 use des_rows::clones::*;
 
 // What the first block of the publication is under three times, twice or once the first part of its
-// key: OpenSSL's answers, of `des-ecb`, which the EDE forms give too, and of three runs of it for the
-// EEE forms.
+// key: OpenSSL's answers, of `des-ecb`, which the EDE forms give too, and of three runs of it for
+// the EEE forms.
 const EEE: [u8; 8] = *b"\x58\x7a\xbf\xcc\x0b\xd0\x6c\x36";
 
 // The part, once, twice and three times.

@@ -15,8 +15,8 @@ pub const PARTS: [[u8; 8]; 3] = [
 pub const PLAINTEXT: [[u8; 8]; 3] = [*b"The qufc", *b"k brown ", *b"fox jump"];
 
 // The same keys of one, two and three parts, and the first block. Its answer by the EDE form under
-// three parts stands in the publication; the others are OpenSSL's, of `des-ecb`, of `des-ede` for the
-// EDE form under two parts, and of three runs of `des-ecb` for the EEE forms.
+// three parts stands in the publication; the others are OpenSSL's, of `des-ecb`, of `des-ede` for
+// the EDE form under two parts, and of three runs of `des-ecb` for the EEE forms.
 pub const ONE: [u8; 8] = *b"\x01\x23\x45\x67\x89\xab\xcd\xef";
 
 pub const TWO: [u8; 16] = *b"\x01\x23\x45\x67\x89\xab\xcd\xef\x23\x45\x67\x89\xab\xcd\xef\x01";
@@ -105,8 +105,8 @@ pub fn all_pass<T: Test>(rt: &impl Abort, test: &T) {
     assert_eq!(rt; first_failing(test), None);
 }
 
-// The chained blocks are OpenSSL's answers, of `des-cbc`, `des-ede3-cbc` and `des-ede-cbc`, and for the
-// EEE forms of three runs of `des-ecb` for each block xor the answer before it.
+// The chained blocks are OpenSSL's answers, of `des-cbc`, `des-ede3-cbc` and `des-ede-cbc`, and for
+// the EEE forms of three runs of `des-ecb` for each block xor the answer before it.
 const OF_DES: Known = Known {
     parts: 1,
     ciphertext: [0xa28e91724c4bba31, 0x167e47ec24f71d63, 0x2c1a917234425365],

@@ -1,6 +1,6 @@
 //! Known answers of the MACs of `des_mac`, and of the callers of `des_rows`, at the ciphers of both
-//! libraries and at those that hide nothing. The answers stand in publications, were made by OpenSSL
-//! or by hand. There is nothing here but tests.
+//! libraries and at those that hide nothing. The answers stand in publications, were made by
+//! OpenSSL or by hand. There is nothing here but tests.
 #![tactic(auto)]
 
 #[cfg(test)]

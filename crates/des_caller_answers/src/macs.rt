@@ -69,7 +69,8 @@ fn cbc_macs_of_des(rt: HostRuntime) {
     assert!(rt; has_cbc_macs::<des::Des>() && has_cbc_macs::<des_fast::Des>());
 }
 
-// The same block through openssl enc -d -des-ede3 -nopad -K L and openssl enc -des-ede3 -nopad -K K,
+// The same block through openssl enc -d -des-ede3 -nopad -K L and then
+// openssl enc -des-ede3 -nopad -K K,
 // with L the digits of the last eight bytes of KEY three times.
 fn has_retail_macs<C: KeyedCipher + Drop>() -> bool {
     let zeros = "a1c72e74ea3fa9b6 2e2b1428cc78254f 08d7b4fb629d0885";
@@ -86,9 +87,9 @@ fn retail_macs_of_des(rt: HostRuntime) {
 // Messages of NIST's examples of CMAC with triple DES: the first 0, 8, 20 and 32 of these bytes.
 const BYTES: &str = "6bc1bee22e409f96 e93d7e117393172a ae2d8a571e03ac9c 9eb76fac45af8e51";
 
-// And two whose tags are OpenSSL's, as are those of the others. With K the digits of the key, those of
-// a key of two parts with the first part after them again:
-// printf '%s' MESSAGE | openssl mac -cipher DES-EDE3-CBC -macopt hexkey:K CMAC
+// And two whose tags are OpenSSL's, as are those of the others. With K the digits of the key, those
+// of a key of two parts with the first part after them again: printf '%s' MESSAGE | openssl mac
+// -cipher DES-EDE3-CBC -macopt hexkey:K CMAC
 const RECORD: &[u8] = b"Record 1: 100.00 EUR to account 4711....";
 
 const SENTENCE: &[u8] = b"Now is the time for all good men to come to the aid of their country.";

@@ -21,7 +21,7 @@ pub trait Context: KeyInit {
     // The relation of a key: it takes a block to its encryption.
     ghost relation: { List ℕ → List ℕ → List ℕ → Type 0 };
 
-    /// Does it with a list in place, as `lists::answer` does over the cipher of the context. The
+    /// Does the work with a list in place, as `lists::answer` does over the context's cipher. The
     /// calls of `calls` stand on it alone, so that what they need of a context is short.
     fn answer<S: Slice>(&self, work: Work, vector: &mut [u8; 8], blocks: &mut [[u8; 8]])
         requires { (key : List ℕ) × Self.is_made_from self.now key }

@@ -1,6 +1,6 @@
-//! Contexts for callers in other languages: the ciphers of `des_fast` as plain words, of a size that
-//! is known, in memory of the caller's own; and the calls that the libraries for C export, once for
-//! every cipher and every width.
+//! Contexts for callers in other languages: the ciphers of `des_fast` as plain words, of a size
+//! that is known, in memory of the caller's own; and the calls that the libraries for C export,
+//! once for every cipher and every width.
 #![tactic(auto)]
 
 pub mod calls;

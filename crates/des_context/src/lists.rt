@@ -114,8 +114,8 @@ fn last_of(blocks: &[[u8; 8]], vector: &[u8; 8]) -> [u8; 8]
     }
 }
 
-/// Does it with a list in place. Where it is CBC, the vector becomes the one that the chain goes on
-/// with, and else the vector counts for nothing.
+/// Does the work with a list in place. Where it is CBC, the vector becomes the one that the chain
+/// goes on with, and else the vector counts for nothing.
 pub fn answer<S: Slice, C: Relating + ManyBlocks>(
     cipher: &C,
     work: Work,

@@ -1,11 +1,12 @@
 //! The key schedule, all rounds at once (FIPS 46-3, key schedule): no table is read and nothing
 //! branches at a place that depends on the key.
 //!
-//! A bit of a round key is a bit of the half C or D, rotated. The rotations are by 1, 2, 4, .., 14 and
-//! by 15, 17, .., 27 and 28 places: by an even number from 0 to 14, as 28 is 0, or by one from 15 to
-//! 29, as 29 is 1. So where each second bit of a half has been exchanged for that 14 places on, what
-//! a place of a round key is in all sixteen rounds stands in a row: its bit n is of the rotation by n
-//! where n is even, and of that by n + 14 where n is odd. These rows, transposed, are the round keys.
+//! A bit of a round key is a bit of the half C or D, rotated. The rotations are by 1, 2, 4, .., 14
+//! and by 15, 17, .., 27 and 28 places: by an even number from 0 to 14, as 28 is 0, or by one from
+//! 15 to 29, as 29 is 1. So where each second bit of a half has been exchanged for that 14 places
+//! on, what a place of a round key is in all sixteen rounds stands in a row: its bit n is of the
+//! rotation by n where n is even, and of that by n + 14 where n is odd. These rows, transposed, are
+//! the round keys.
 
 ghost use Rattle.std.specs.Prelude.{◌≡◌, ◌≤◌, ◌<◌, [], ◌∷◌};
 ghost use Rattle.des.specs.Bits.{bits_of_word};
@@ -20,8 +21,8 @@ use des::utils;
 // Sixteen words of four lanes of sixteen bits each.
 type Rows = [u64; 16];
 
-// Which of the transposed rows is the round key of each round: the first bit of a row, which becomes
-// the last row, is of the rotation by 28, and so of the last round.
+// Which of the transposed rows is the round key of each round: the first bit of a row, which
+// becomes the last row, is of the rotation by 28, and so of the last round.
 const ROWS_OF_ROUNDS: [u8; 16] = [0, 13, 11, 9, 7, 5, 3, 1, 14, 12, 10, 8, 6, 4, 2, 15];
 
 /// The sixteen round keys of a key.
@@ -57,9 +58,10 @@ fn round_keys(key: u64) -> [RoundKey; 16]
     round_keys
 }
 
-// The rows of the halves C and D in the first 56 bits of a word. A row has a window for each of four
-// groups that stand in one word, eight bits apart in pairs: first the groups 3, 7, 4 and 8, from the
-// last bit of a group to its first, then the groups 1, 5, 2 and 6; two rows of each eight stay zero.
+// The rows of the halves C and D in the first 56 bits of a word. A row has a window for each of
+// four groups that stand in one word, eight bits apart in pairs: first the groups 3, 7, 4 and 8,
+// from the last bit of a group to its first, then the groups 1, 5, 2 and 6; two rows of each eight
+// stay zero.
 #[rattlefmt::skip]
 #[inline(always)]
 fn key_rows(halves: u64) -> Rows
@@ -98,8 +100,8 @@ fn alternating(half: u64) -> u64
     (mixed << 16) ^ (mixed >> 12)
 }
 
-// Four windows of sixteen bits, in the order of the lanes: of C, which stands 16 bits higher than D,
-// of D, of C and of D, each from a place on that counts from 0.
+// Four windows of sixteen bits, in the order of the lanes: of C, which stands 16 bits higher than
+// D, of D, of C and of D, each from a place on that counts from 0.
 #[inline(always)]
 fn windows(c: u64, d: u64, first: u32, second: u32, third: u32, fourth: u32) -> u64
     requires places { (first < 28) × (second < 28) × (third ≤ 28) × (fourth ≤ 28) }
@@ -111,8 +113,8 @@ fn windows(c: u64, d: u64, first: u32, second: u32, third: u32, fourth: u32) -> 
         ^ ((d >> (28 - fourth)) & 0x000000000000ffff)
 }
 
-// The rows transposed, lane by lane: bit n of a lane, from the last, in row m becomes bit m of it in
-// row n.
+// The rows transposed, lane by lane: bit n of a lane, from the last, in row m becomes bit m of it
+// in row n.
 #[inline(always)]
 fn transposed(rows: Rows) -> Rows
     ensures { result ≡ transposed rows }
@@ -123,8 +125,8 @@ fn transposed(rows: Rows) -> Rows
     exchange_pairs(rows, 1, 0x5555555555555555)
 }
 
-// Rows 0 and 8, 1 and 9, .., 7 and 15 exchange bits, and come out side by side. Four such exchanges,
-// one after another, leave each row in its place.
+// Rows 0 and 8, 1 and 9, .., 7 and 15 exchange bits, and come out side by side. Four such
+// exchanges, one after another, leave each row in its place.
 #[inline(always)]
 fn exchange_pairs(rows: Rows, distance: u32, mask: u64) -> Rows
     requires { distance < 64 }
@@ -141,8 +143,8 @@ fn exchange_pairs(rows: Rows, distance: u32, mask: u64) -> Rows
     [a, b, c, d, e, f, g, h, i, j, k, l, m, n, o, p]
 }
 
-// Exchanges the bits of the first row at this distance above the mask with those of the second under
-// it.
+// Exchanges the bits of the first row at this distance above the mask with those of the second
+// under it.
 #[inline(always)]
 fn exchange(first: u64, second: u64, distance: u32, mask: u64) -> [u64; 2]
     requires { distance < 64 }

@@ -182,8 +182,9 @@ pub(crate) fn substitute(word: u64) -> u64
     ensures substituted { half_of result ≡ select permutation (substitute (bits_of_groups word)) }
 {
     let group = groups_of(word);
-    // Entries of different boxes share no bit, so `|` joins them as `^` does. Of one operation alone
-    // the compiler makes a row, where each waits for the one before it; of both it keeps the tree.
+    // Entries of different boxes share no bit, so `|` joins them as `^` does. Of one operation
+    // alone the compiler makes a row, where each waits for the one before it; of both it keeps the
+    // tree.
     let first = (TABLES[0][group[0]] ^ TABLES[1][group[1]])
         | (TABLES[2][group[2]] ^ TABLES[3][group[3]]);
     let last = (TABLES[4][group[4]] ^ TABLES[5][group[5]])

@@ -45,8 +45,8 @@ fn chains_blocks_of_des(rt: HostRuntime) {
     assert!(rt; chains_text::<des::Des>() && chains_text::<des_fast::Des>());
 }
 
-// The command prints the ciphertext, with the digits of the plaintext, of the key and of the vector:
-// echo TEXT | xxd -r -p | openssl enc -des-ede3-cbc -nopad -K KEY -iv VECTOR | xxd -p
+// The command prints the ciphertext, with the digits of the plaintext, of the key and of the
+// vector: echo TEXT | xxd -r -p | openssl enc -des-ede3-cbc -nopad -K KEY -iv VECTOR | xxd -p
 fn chains_blocks<C: Cipher>() -> bool {
     let plaintext = "426c6f636b206369 7068657273206368 61696e65642c2066 6976652074696d65 \
         7320656967687420";

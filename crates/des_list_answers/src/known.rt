@@ -112,9 +112,9 @@ pub fn all_pass<T: Test>(rt: &impl Abort, test: &T) {
 
 // The blocks are OpenSSL's: `openssl enc -provider legacy -provider default -des-ecb -nopad -K
 // 133457799bbcdff1`, with `-d` for decryption and `-des-cbc -iv 1234567890abcdef` for CBC, and
-// `-des-ede3-ecb`, `-des-ede-ecb` and their `-cbc` with the parts one after another. Those of the EEE
-// forms are three runs of des-ecb, and for CBC the xor with the block before. The sums are those of
-// the words of what the same commands answer.
+// `-des-ede3-ecb`, `-des-ede-ecb` and their `-cbc` with the parts one after another. Those of the
+// EEE forms are three runs of des-ecb, and for CBC the xor with the block before. The sums are
+// those of the words of what the same commands answer.
 const DES: Known = Known {
     parts: 1,
     encrypted: "948a43f98a834f7e 282005ed0125af6a 80afa7fbeaf039a6 2bee05279ea43813",

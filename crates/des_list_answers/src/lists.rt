@@ -9,8 +9,8 @@ use des_fast::many::{ListKeys, Slice};
 use std::marker::PhantomData;
 use std::simd::prelude::*;
 
-// A list of 130 blocks, a whole batch and two blocks after it, encrypted, decrypted, and decrypted by
-// CBC.
+// A list of 130 blocks, a whole batch and two blocks after it, encrypted, decrypted, and decrypted
+// by CBC.
 #[derive(Drop)]
 struct Answered {
     encrypted: [[u8; 8]; 130],

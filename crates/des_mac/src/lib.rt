@@ -6,9 +6,9 @@
 //! `CbcMac` is safe only where every message under a key has the same length. Padding method 1
 //! cannot tell zeros at the end of a message. Blocks and tags have 64 bits: a key is for far fewer
 //! than 2^32 messages, and of a tag that is cut to 4 bytes one guess in 2^32 is right. The retail
-//! MAC over `Des` is DES with two keys. A tag says nothing of when a message was made, or how often.
-//! No claim is made on the time that a call takes, and nothing here is a statement on cryptographic
-//! strength.
+//! MAC over `Des` is DES with two keys. A tag says nothing of when a message was made, or how
+//! often. No claim is made on the time that a call takes, and nothing here is a statement on
+//! cryptographic strength.
 #![tactic(auto)]
 
 mod by_key;

@@ -5,8 +5,8 @@ use des_payment::card_verification::cvv;
 use des_payment::cvv_error::CvvError;
 use std::test::Fail;
 
-// A card's data, and its value or fault: a published value, and texts that are one digit too short or
-// too long, or have the character before 0 or after 9.
+// A card's data, and its value or fault: a published value, and texts that are one digit too short
+// or too long, or have the character before 0 or after 9.
 #[rattlefmt::skip]
 const CARDS: [(&[u8], &[u8], &[u8], Result<&[u8; 3], CvvError>); 12] = [
     (b"4123456789012345", b"8701", b"101", Ok(b"561")),
@@ -38,8 +38,8 @@ fn verifies_cards(rt: HostRuntime) {
     assert!(rt; CARDS.iter().all(is_verified));
 }
 
-// OpenSSL makes dedcacbefc1acfc6 of this card's blocks, in which two digits are below ten: so the third
-// of the value is the first letter, d, less ten.
+// OpenSSL makes dedcacbefc1acfc6 of this card's blocks, in which two digits are below ten: so the
+// third of the value is the first letter, d, less ten.
 #[test]
 fn takes_letters_last(rt: HostRuntime) {
     assert!(rt; is_verified(&(b"4123456789025343", b"8701", b"101", Ok(b"163"))));

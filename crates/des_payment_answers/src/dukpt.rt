@@ -95,9 +95,9 @@ fn makes_keys_of_transactions(rt: HostRuntime) {
     assert!(rt; TRANSACTIONS.lines().all(is_transaction));
 }
 
-// Of the first transaction: the data key of the request is a published value; that of the response is
-// what `openssl enc -des-ede -nopad` makes of the halves of the masked key under it; the MAC key of
-// the response has bytes 5 and 13 complemented.
+// Of the first transaction: the data key of the request is a published value; that of the response
+// is what `openssl enc -des-ede -nopad` makes of the halves of the masked key under it; the MAC key
+// of the response has bytes 5 and 13 complemented.
 #[test]
 fn makes_keys_of_both_messages(rt: HostRuntime) {
     let transaction = key("042666b49184cfa3 68de9628d0397bc9");

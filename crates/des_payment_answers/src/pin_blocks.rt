@@ -93,7 +93,8 @@ fn tests_fill_digits(rt: HostRuntime) -> Result<(), Fail> {
     Ok(())
 }
 
-// Blocks of format 0 of an account number of zeros, each with one digit that is wrong, and its fault.
+// Blocks of format 0 of an account number of zeros, each with one digit that is wrong, and its
+// fault.
 const BLOCKS: [(&str, PinError); 7] = [
     ("141234ffffffffff", PinError::Format),
     ("031234ffffffffff", PinError::PinLength),
@@ -123,8 +124,8 @@ fn finds_wrong_digits(rt: HostRuntime) {
     assert!(rt; decode_format_3(&least_fill, ZEROS).err() == Some(PinError::Fill));
 }
 
-// The fault of a block of these first two digits, with twelve decimal digits and two digits 15 after
-// them, in the format of this number, of which format 1 alone is filled with any digit.
+// The fault of a block of these first two digits, with twelve decimal digits and two digits 15
+// after them, in the format of this number, of which format 1 alone is filled with any digit.
 fn fault_of(first: u8, format: u8) -> Option<PinError> {
     if first / 16 != format {
         return Some(PinError::Format);

@@ -34,8 +34,8 @@ struct Job<'a> {
     skipped: u64,
 }
 
-// The mode that the input begins with. A vector that is the first block comes with the blocks before
-// those that are decrypted.
+// The mode that the input begins with. A vector that is the first block comes with the blocks
+// before those that are decrypted.
 fn first_mode(vector: Vector) -> Result<Mode, Fault> {
     match vector {
         Vector::Absent => Ok(Mode::Ecb),
