@@ -8,8 +8,8 @@ The library is the file that the environment variable CUKVASHE_DES_LIBRARY names
 of the repository that this file stands in, else the one that the system finds.
 
 Data are whole blocks of 8 bytes, as bytes, bytearray, memoryview or anything else with contiguous bytes. The calls return
-new `bytes`; the calls named `_into` work in place, in anything writable, and copy nothing. Padding is the caller's. What has the
-wrong length is a ValueError, which is one of `KeyLength`, `BlockLength`, `VectorLength` and `SerialLength`.
+new `bytes`; the calls named `_into` work in place, in anything writable, and copy nothing. Padding is the caller's. What
+has the wrong length is a ValueError, which is one of `KeyLength`, `BlockLength`, `VectorLength` and `SerialLength`.
 
 Messages are authenticated by objects as those of `hmac`, with `update`, `digest`, `hexdigest`, `copy` and `verify`:
 
@@ -17,7 +17,8 @@ Messages are authenticated by objects as those of `hmac`, with `update`, `digest
     mac.update(message)
     mac.verify(tag)                                # TagMismatch, a ValueError, where it is not the tag
 
-`check_value` and `combine` make check values and keys of components, and the calls named `dukpt_` the keys of a transaction.
+`check_value` and `combine` make check values and keys of components, and the calls named `dukpt_` the keys of a
+transaction.
 """
 
 import ctypes

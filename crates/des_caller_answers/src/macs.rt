@@ -70,8 +70,7 @@ fn cbc_macs_of_des(rt: HostRuntime) {
 }
 
 // The same block through openssl enc -d -des-ede3 -nopad -K L and then
-// openssl enc -des-ede3 -nopad -K K,
-// with L the digits of the last eight bytes of KEY three times.
+// openssl enc -des-ede3 -nopad -K K, with L the digits of the last eight bytes of KEY three times.
 fn has_retail_macs<C: KeyedCipher + Drop>() -> bool {
     let zeros = "a1c72e74ea3fa9b6 2e2b1428cc78254f 08d7b4fb629d0885";
     let one_bit = "e9086230ca3be796 5a692ce64f404145 f1fbcf2a56d19ba7";

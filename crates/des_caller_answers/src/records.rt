@@ -4,9 +4,9 @@ use des::Des;
 use des::cipher::InvalidLength;
 use des_rows::records::{read_chain, read_record};
 
-// The ciphertext is OpenSSL's, of a text of 40 bytes: printf '%s' 'Record 1: 100.00 EUR to account
-// 4711....' | openssl enc -des-ede3-cbc -nopad -K 0123456789abcdef23456789abcdef01456789abcdef0123
-// -iv fedcba9876543210 | xxd -p
+// The ciphertext is OpenSSL's, of a text of 40 bytes:
+// printf '%s' 'Record 1: 100.00 EUR to account 4711....' | openssl enc -des-ede3-cbc -nopad
+// -K 0123456789abcdef23456789abcdef01456789abcdef0123 -iv fedcba9876543210 | xxd -p
 #[test]
 fn reads_a_record(rt: HostRuntime) {
     let parts: [u64; 3] = [0x0123456789abcdef, 0x23456789abcdef01, 0x456789abcdef0123];
