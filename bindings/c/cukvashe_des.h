@@ -15,8 +15,8 @@
  *
  * Sizes. A block has 8 bytes, bit 1 of FIPS 46-3 is the most significant bit of the first. A list of blocks is a
  * pointer to its first byte and a COUNT OF BLOCKS, not of bytes: `count` blocks are 8 * count bytes. Lists, keys and
- * vectors may stand at any address, contexts where their type may. A list of no blocks and a key of no bytes may have a
- * null pointer; no other pointer may be null.
+ * vectors may stand at any address, contexts where their type may. A list of no blocks and a key or a text of no bytes may
+ * have a null pointer; no other pointer may be null.
  *
  * Aliasing. The arguments of a call must not overlap, but for those that are only read. To work in place take the calls
  * with one list.
@@ -26,14 +26,15 @@
  * No key of the right length is refused, weak ones included: cukvashe_weak_key_test is there to be called.
  *
  * What is left to the caller. Padding, since lists are of whole blocks; authentication, which no mode here gives; an
- * initialization vector that is not used twice and can't be foreseen; and wiping contexts and keys from memory.
+ * initialization vector that is not used twice and can't be foreseen; and wiping contexts, keys and PINs from memory.
  *
  * Proved, and not. Each call of the library is proved to answer as FIPS 46-3 and the standards named below define, and to be
  * safe, as long as the caller keeps what stands here. The inline functions at the end of this file, which choose one of two
  * such calls, are tested. On time and caches nothing is claimed. The code of `init` of ciphers, and of the calls with `many`
  * in their name, reads no table at an index that depends on the key or on a block, and branches on neither (tested under
- * valgrind). The calls named `_blocks`, `_encrypt_cbc` and `_decrypt_cbc`, those of MACs, check values and keys of a
- * transaction read tables so. The weak key test and `set_odd_parity`, and with them `combine`, branch on the key.
+ * valgrind). The calls named `_blocks`, `_encrypt_cbc` and `_decrypt_cbc`, those of MACs, check values, keys of a transaction
+ * and card verification values read tables so. The weak key test and `set_odd_parity`, and with them `combine`, branch on the
+ * key, the call of card verification values on what the key makes, and those of PIN blocks on the PIN.
  */
 #ifndef CUKVASHE_DES_H
 #define CUKVASHE_DES_H
@@ -54,13 +55,23 @@ extern "C" {
 #endif
 
 /* The statuses of calls that return `int`. Where one is not CUKVASHE_OK, nothing was written. */
-#define CUKVASHE_OK 0           /* it was done */
-#define CUKVASHE_KEY_LENGTH 1   /* the key has a length that no key of the cipher has */
-#define CUKVASHE_LIST_LENGTHS 2 /* the two lists differ in length */
-#define CUKVASHE_WEAK_KEY 3     /* the weak key test refuses the key */
-#define CUKVASHE_PADDING 4      /* there is no padding method of this number */
-#define CUKVASHE_TAG 5          /* the tag is not the message's */
-#define CUKVASHE_NO_SERIAL 6    /* the key serial number has no next one */
+#define CUKVASHE_OK 0              /* it was done */
+#define CUKVASHE_KEY_LENGTH 1      /* the key has a length that no key of the cipher has */
+#define CUKVASHE_LIST_LENGTHS 2    /* the two lists differ in length */
+#define CUKVASHE_WEAK_KEY 3        /* the weak key test refuses the key */
+#define CUKVASHE_PADDING 4         /* there is no padding method of this number */
+#define CUKVASHE_TAG 5             /* the tag is not the message's */
+#define CUKVASHE_NO_SERIAL 6       /* the key serial number has no next one */
+#define CUKVASHE_FORMAT 7          /* the block's first digit is not that of the format */
+#define CUKVASHE_PIN_LENGTH 8      /* the PIN does not have 4 to 12 digits, or the block's second digit is not such a length */
+#define CUKVASHE_PIN_DIGIT 9       /* a character of the PIN is not a digit, or a digit of the block's PIN is above 9 */
+#define CUKVASHE_ACCOUNT_LENGTH 10 /* the account number does not have 13 to 19 digits */
+#define CUKVASHE_ACCOUNT_DIGIT 11  /* a character of the account number is not a digit */
+#define CUKVASHE_FILL 12           /* a fill digit is none of those of the format */
+#define CUKVASHE_EXPIRY_LENGTH 13  /* the expiry date does not have four digits */
+#define CUKVASHE_EXPIRY_DIGIT 14   /* a character of the expiry date is not a digit */
+#define CUKVASHE_SERVICE_LENGTH 15 /* the service code does not have three digits */
+#define CUKVASHE_SERVICE_DIGIT 16  /* a character of the service code is not a digit */
 
 /* In bytes. */
 #define CUKVASHE_BLOCK_SIZE 8
@@ -362,6 +373,42 @@ void cukvashe_dukpt_pin_key(const uint8_t transaction[16], uint8_t key[16]);
 void cukvashe_dukpt_mac_key(const uint8_t transaction[16], bool is_response, uint8_t key[16]);
 void cukvashe_dukpt_data_key(const uint8_t transaction[16], bool is_response, uint8_t key[16]);
 int cukvashe_dukpt_next_serial(const uint8_t serial[10], uint8_t next[10]);
+
+/*
+ * PIN blocks (ISO 9564-1, formats 0, 1 and 3), which are not encrypted here: that is one call of a cipher. PINs have 4 to 12
+ * digits and account numbers 13 to 19, of which the last is the check digit. Both are texts: ASCII digits, so many as the
+ * length says, with no zero at the end.
+ *
+ * `transaction` and `fill` are ten digits of four bits, one in a byte: from 0 to 15, and from 10 to 15. All ten are looked at,
+ * and the block takes the first so many that it has sixteen digits.
+ *
+ * encode gives the block. Its status is that of the first fault: CUKVASHE_PIN_LENGTH, CUKVASHE_PIN_DIGIT,
+ * CUKVASHE_ACCOUNT_LENGTH, CUKVASHE_ACCOUNT_DIGIT, CUKVASHE_FILL, in this order; then `block` stays as it was.
+ *
+ * decode writes the digits of the PIN and after them bytes of 0, twelve bytes in all, and to `pin_length` how many digits there
+ * are. It gives a PIN exactly where encode makes the block of it. Its status is that of the first fault:
+ * CUKVASHE_ACCOUNT_LENGTH, CUKVASHE_ACCOUNT_DIGIT, CUKVASHE_FORMAT, CUKVASHE_PIN_LENGTH, CUKVASHE_PIN_DIGIT, CUKVASHE_FILL, in
+ * this order; then `pin` and `pin_length` stay as they were. Statuses of decode tell of the PIN: show no one which it was.
+ */
+int cukvashe_pin_encode_0(const uint8_t *pin, size_t pin_length, const uint8_t *account, size_t account_length,
+                          uint8_t block[8]);
+int cukvashe_pin_encode_1(const uint8_t *pin, size_t pin_length, const uint8_t transaction[10], uint8_t block[8]);
+int cukvashe_pin_encode_3(const uint8_t *pin, size_t pin_length, const uint8_t *account, size_t account_length,
+                          const uint8_t fill[10], uint8_t block[8]);
+int cukvashe_pin_decode_0(const uint8_t block[8], const uint8_t *account, size_t account_length, uint8_t pin[12],
+                          size_t *pin_length);
+int cukvashe_pin_decode_1(const uint8_t block[8], uint8_t pin[12], size_t *pin_length);
+int cukvashe_pin_decode_3(const uint8_t block[8], const uint8_t *account, size_t account_length, uint8_t pin[12],
+                          size_t *pin_length);
+
+/*
+ * The card verification value, three ASCII digits, under a key pair, of an account number of 13 to 19 digits, an expiry date of
+ * four, in the order that the issuer takes, and a service code of three, texts as above. The status is that of the first
+ * fault: CUKVASHE_ACCOUNT_LENGTH, CUKVASHE_ACCOUNT_DIGIT, CUKVASHE_EXPIRY_LENGTH, CUKVASHE_EXPIRY_DIGIT,
+ * CUKVASHE_SERVICE_LENGTH, CUKVASHE_SERVICE_DIGIT, in this order; then `value` stays as it was.
+ */
+int cukvashe_cvv(const uint8_t key[16], const uint8_t *account, size_t account_length, const uint8_t *expiry,
+                 size_t expiry_length, const uint8_t *service, size_t service_length, uint8_t value[3]);
 
 /*
  * The calls for lists once more, 256 blocks at a time, for processors of x86-64-v3 (AVX2, BMI, BMI2, FMA, F16C, LZCNT and

@@ -17,18 +17,21 @@ Messages are authenticated by objects as those of `hmac`, with `update`, `digest
     mac.update(message)
     mac.verify(tag)                                # TagMismatch, a ValueError, where it is not the tag
 
-`check_value` and `combine` make check values and keys of components, and the calls named `dukpt_` the keys of a
-transaction.
+`check_value` and `combine` make check values and keys of components, the calls named `dukpt_` the keys of a transaction,
+those named `pin_` PIN blocks, which are not encrypted, and `cvv` card verification values. Each fault has a ValueError of its
+name, and no text of one tells a number that was given.
 """
 
 import ctypes
 import os
 
 __all__ = [
-    "BlockLength", "CbcMacDes", "CbcMacTdesEde3", "CmacTdesEde2", "CmacTdesEde3", "Des", "KeyLength", "PaddingMethod",
-    "RetailMacDes", "SerialLength", "TagMismatch", "TdesEde2", "TdesEde3", "TdesEee2", "TdesEee3", "VectorLength",
-    "WeakKey", "check_value", "combine", "dukpt_data_key", "dukpt_initial_key", "dukpt_mac_key", "dukpt_next_serial", "dukpt_pin_key",
-    "dukpt_transaction_key", "equal_but_parity", "weak_key_test", "with_odd_parity",
+    "AccountDigit", "AccountLength", "BlockLength", "CbcMacDes", "CbcMacTdesEde3", "CmacTdesEde2", "CmacTdesEde3", "Des",
+    "ExpiryDigit", "ExpiryLength", "Fill", "FillLength", "Format", "KeyLength", "PaddingMethod", "PinDigit", "PinLength",
+    "RetailMacDes", "SerialLength", "ServiceDigit", "ServiceLength", "TagMismatch", "TdesEde2", "TdesEde3", "TdesEee2",
+    "TdesEee3", "VectorLength", "WeakKey", "check_value", "combine", "cvv", "dukpt_data_key", "dukpt_initial_key",
+    "dukpt_mac_key", "dukpt_next_serial", "dukpt_pin_key", "dukpt_transaction_key", "equal_but_parity", "pin_decode_0",
+    "pin_decode_1", "pin_decode_3", "pin_encode_0", "pin_encode_1", "pin_encode_3", "weak_key_test", "with_odd_parity",
 ]
 
 BLOCK_SIZE = 8
@@ -64,6 +67,65 @@ class TagMismatch(ValueError):
     """A tag is not that of the message, or has fewer than 4 or more than 8 bytes."""
 
 
+class Format(ValueError):
+    """The first digit of a PIN block is not that of the format."""
+
+
+class PinLength(ValueError):
+    """A PIN does not have 4 to 12 digits, or the second digit of a PIN block is not the length of such a PIN."""
+
+
+class PinDigit(ValueError):
+    """A character of a PIN is not a digit, or a digit of the PIN of a PIN block is above 9."""
+
+
+class AccountLength(ValueError):
+    """An account number does not have 13 to 19 digits."""
+
+
+class AccountDigit(ValueError):
+    """A character of an account number is not a digit."""
+
+
+class Fill(ValueError):
+    """A fill digit of a PIN block is none of those of the format."""
+
+
+class FillLength(ValueError):
+    """There are not ten fill digits."""
+
+
+class ExpiryLength(ValueError):
+    """An expiry date does not have four digits."""
+
+
+class ExpiryDigit(ValueError):
+    """A character of an expiry date is not a digit."""
+
+
+class ServiceLength(ValueError):
+    """A service code does not have three digits."""
+
+
+class ServiceDigit(ValueError):
+    """A character of a service code is not a digit."""
+
+
+# By the status. No text tells a digit of what was given.
+_FAULTS = {
+    7: (Format, "the PIN block is of another format"),
+    8: (PinLength, "a PIN has 4 to 12 digits"),
+    9: (PinDigit, "a PIN has digits alone"),
+    10: (AccountLength, "an account number has 13 to 19 digits"),
+    11: (AccountDigit, "an account number has digits alone"),
+    12: (Fill, "a fill digit is none of those of the format"),
+    13: (ExpiryLength, "an expiry date has four digits"),
+    14: (ExpiryDigit, "an expiry date has digits alone"),
+    15: (ServiceLength, "a service code has three digits"),
+    16: (ServiceDigit, "a service code has digits alone"),
+}
+
+
 def _load():
     here = os.path.dirname(os.path.abspath(__file__))
     built = os.path.join(here, os.pardir, "out", "lib", "libcukvashe_des.so")
@@ -90,6 +152,13 @@ _dukpt_pin_key = _function("dukpt_pin_key", None, _POINTER, _POINTER)
 _dukpt_mac_key = _function("dukpt_mac_key", None, _POINTER, ctypes.c_bool, _POINTER)
 _dukpt_data_key = _function("dukpt_data_key", None, _POINTER, ctypes.c_bool, _POINTER)
 _dukpt_next_serial = _function("dukpt_next_serial", _INT, _POINTER, _POINTER)
+_pin_encode_0 = _function("pin_encode_0", _INT, _POINTER, _SIZE, _POINTER, _SIZE, _POINTER)
+_pin_encode_1 = _function("pin_encode_1", _INT, _POINTER, _SIZE, _POINTER, _POINTER)
+_pin_encode_3 = _function("pin_encode_3", _INT, _POINTER, _SIZE, _POINTER, _SIZE, _POINTER, _POINTER)
+_pin_decode_0 = _function("pin_decode_0", _INT, _POINTER, _POINTER, _SIZE, _POINTER, _POINTER)
+_pin_decode_1 = _function("pin_decode_1", _INT, _POINTER, _POINTER, _POINTER)
+_pin_decode_3 = _function("pin_decode_3", _INT, _POINTER, _POINTER, _SIZE, _POINTER, _POINTER)
+_cvv = _function("cvv", _INT, _POINTER, _POINTER, _SIZE, _POINTER, _SIZE, _POINTER, _SIZE, _POINTER)
 _combine = {size: _function(f"combine_{size}", _INT, _POINTER, _POINTER, _POINTER, _SIZE, _POINTER) for size in (8, 16, 24)}
 _equal_but_parity = _function("equal_but_parity", ctypes.c_bool, _POINTER, _POINTER)
 
@@ -434,3 +503,82 @@ def dukpt_next_serial(serial):
     """The next key serial number with at most ten one bits in its counter, or None where there is none."""
     following = (ctypes.c_uint8 * 10)()
     return bytes(following) if _dukpt_next_serial(_serial_of(serial), following) == _OK else None
+
+
+def _text_of(digits):
+    """A text, of str or of bytes, and its length. A character beyond ASCII becomes one that is no digit either."""
+    text = digits.encode("ascii", "replace") if isinstance(digits, str) else _bytes_of(digits)
+    return text, len(text)
+
+
+def _fill_of(digits):
+    """Ten digits of four bits, one in a byte."""
+    digits = _bytes_of(digits)
+    if len(digits) != 10:
+        raise FillLength(f"there are ten fill digits, not {len(digits)}")
+    return digits
+
+
+def _check(status):
+    """Raises the fault of a status."""
+    if status != _OK:
+        fault, words = _FAULTS[status]
+        raise fault(words)
+
+
+def _encoded(call, *arguments):
+    """The PIN block that a call makes."""
+    block = (ctypes.c_uint8 * BLOCK_SIZE)()
+    _check(call(*arguments, block))
+    return bytes(block)
+
+
+def _decoded(call, block, *account):
+    """The PIN that a call reads from a block."""
+    block = _bytes_of(block)
+    if len(block) != BLOCK_SIZE:
+        raise BlockLength(f"a PIN block has {BLOCK_SIZE} bytes, not {len(block)}")
+    pin, length = (ctypes.c_uint8 * 12)(), _SIZE()
+    _check(call(block, *account, pin, ctypes.byref(length)))
+    return bytes(pin[: length.value]).decode("ascii")
+
+
+def pin_encode_0(pin, account):
+    """The PIN block (ISO 9564-1) of format 0, 8 bytes, of a PIN of 4 to 12 digits and an account number of 13 to 19 with the
+    check digit, as str or bytes of digits. It is not encrypted."""
+    return _encoded(_pin_encode_0, *_text_of(pin), *_text_of(account))
+
+
+def pin_encode_1(pin, transaction):
+    """The PIN block of format 1 of a PIN and ten transaction digits, bytes from 0 to 15, of which it takes the first so many
+    that there is room for."""
+    return _encoded(_pin_encode_1, *_text_of(pin), _fill_of(transaction))
+
+
+def pin_encode_3(pin, account, fill):
+    """The PIN block of format 3 of a PIN, an account number, and ten fill digits, random bytes from 10 to 15, of which it takes
+    the first so many that there is room for."""
+    return _encoded(_pin_encode_3, *_text_of(pin), *_text_of(account), _fill_of(fill))
+
+
+def pin_decode_0(block, account):
+    """The PIN, a str, of a block of format 0 and an account number. Which error is raised tells of the PIN: show no one."""
+    return _decoded(_pin_decode_0, block, *_text_of(account))
+
+
+def pin_decode_1(block):
+    """The PIN of a block of format 1."""
+    return _decoded(_pin_decode_1, block)
+
+
+def pin_decode_3(block, account):
+    """The PIN of a block of format 3 and an account number."""
+    return _decoded(_pin_decode_3, block, *_text_of(account))
+
+
+def cvv(key, account, expiry, service):
+    """The card verification value, a str of three digits, under a key pair of 16 bytes, of an account number of 13 to 19 digits,
+    an expiry date of four and a service code of three, as str or bytes of digits."""
+    value = (ctypes.c_uint8 * 3)()
+    _check(_cvv(_key_of(key, 16), *_text_of(account), *_text_of(expiry), *_text_of(service), value))
+    return bytes(value).decode("ascii")

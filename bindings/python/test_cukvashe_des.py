@@ -228,6 +228,104 @@ class Payment(unittest.TestCase):
         self.assertRaises(KeyLength, cukvashe_des.dukpt_pin_key, bytes(8))
 
 
+ACCOUNT = "4012345678909"
+DIGITS = bytes([15, 14, 0, 9, 10, 5, 1, 2, 3, 4])
+FILL = bytes([10, 11, 12, 13, 14, 15, 10, 11, 12, 13])
+
+
+class PinBlocks(unittest.TestCase):
+    def refused(self, fault, call, *arguments):
+        """The error by its name, a ValueError whose text tells no digit of what was given."""
+        with self.assertRaises(fault) as caught:
+            call(*arguments)
+        self.assertIsInstance(caught.exception, ValueError)
+        for given in arguments:
+            if isinstance(given, str) and given:
+                self.assertNotIn(given, str(caught.exception))
+
+    def test_format_0(self):
+        """The block that ISO 9564-1 gives; and of a longer account number with the same twelve digits before its last."""
+        for account in (ACCOUNT, ACCOUNT.encode(), bytearray(ACCOUNT.encode()), "9999994012345678900"):
+            for pin in ("1234", b"1234", memoryview(b"1234")):
+                self.assertEqual(cukvashe_des.pin_encode_0(pin, account).hex(), "041274edcba9876f")
+            self.assertEqual(cukvashe_des.pin_decode_0(bytearray.fromhex("041274edcba9876f"), account), "1234")
+
+    def test_format_1(self):
+        """By hand: the digits 1 and 4, the PIN, and ten digits of the transaction; and, for a PIN of twelve, two."""
+        for pin, block in (("1234", "141234fe09a51234"), ("123456789012", "1c123456789012fe")):
+            self.assertEqual(cukvashe_des.pin_encode_1(pin, DIGITS).hex(), block)
+            self.assertEqual(cukvashe_des.pin_decode_1(bytes.fromhex(block)), pin)
+
+    def test_format_3(self):
+        """By hand: 341234abcdefabcd, xored with 0000401234567890."""
+        self.assertEqual(cukvashe_des.pin_encode_3("1234", ACCOUNT, FILL).hex(), "341274b9f9b9d35d")
+        self.assertEqual(cukvashe_des.pin_decode_3(bytes.fromhex("341274b9f9b9d35d"), ACCOUNT), "1234")
+
+    def test_first_bytes(self):
+        """Of blocks of PINs of 4 to 12 digits with each of the 256 first bytes the right one alone is accepted."""
+        for right in range(4, 13):
+            pin = "123456789012"[:right]
+            block = bytearray(cukvashe_des.pin_encode_0(pin, ACCOUNT))
+            accepted = []
+            for block[0] in range(256):
+                try:
+                    accepted.append((block[0], cukvashe_des.pin_decode_0(block, ACCOUNT)))
+                except (cukvashe_des.Format, cukvashe_des.PinLength, cukvashe_des.PinDigit, cukvashe_des.Fill):
+                    pass
+            self.assertEqual(accepted, [(right, pin)])
+
+    def test_encoding_refused(self):
+        for pin, fault in (("123", "PinLength"), ("1234567890123", "PinLength"), ("", "PinLength"), ("123:", "PinDigit"),
+                           ("/234", "PinDigit"), ("123\uff14", "PinDigit")):
+            fault = getattr(cukvashe_des, fault)
+            self.refused(fault, cukvashe_des.pin_encode_0, pin, "")
+            self.refused(fault, cukvashe_des.pin_encode_1, pin, DIGITS)
+            self.refused(fault, cukvashe_des.pin_encode_3, pin, "", FILL)
+        for account, fault in ((ACCOUNT[1:], "AccountLength"), ("9" * 20, "AccountLength"), (ACCOUNT[1:] + ":", "AccountDigit")):
+            fault = getattr(cukvashe_des, fault)
+            self.refused(fault, cukvashe_des.pin_encode_0, "1234", account)
+            self.refused(fault, cukvashe_des.pin_encode_3, "1234", account, bytes(10))
+            self.refused(fault, cukvashe_des.pin_decode_0, bytes(8), account)
+            self.refused(fault, cukvashe_des.pin_decode_3, bytes(8), account)
+        self.refused(cukvashe_des.Fill, cukvashe_des.pin_encode_1, "1234", DIGITS[:9] + bytes([16]))
+        for digit in (9, 16):
+            self.refused(cukvashe_des.Fill, cukvashe_des.pin_encode_3, "1234", ACCOUNT, FILL[:9] + bytes([digit]))
+        for length in (9, 11):
+            self.refused(cukvashe_des.FillLength, cukvashe_des.pin_encode_1, "1234", bytes(length))
+            self.refused(cukvashe_des.FillLength, cukvashe_des.pin_encode_3, "1234", ACCOUNT, bytes(length))
+
+    def test_decoding_refused(self):
+        for block, fault in (("141274edcba9876f", "Format"), ("031274edcba9876f", "PinLength"), ("0d1274edcba9876f", "PinLength"),
+                             ("04a274edcba9876f", "PinDigit"), ("041274edcba9876e", "Fill")):
+            self.refused(getattr(cukvashe_des, fault), cukvashe_des.pin_decode_0, bytes.fromhex(block), ACCOUNT)
+        for block, fault in (("041234fe09a51234", "Format"), ("131234fe09a51234", "PinLength"), ("14123afe09a51234", "PinDigit")):
+            self.refused(getattr(cukvashe_des, fault), cukvashe_des.pin_decode_1, bytes.fromhex(block))
+        for block, fault in (("041274b9f9b9d35d", "Format"), ("341274b9f9b9d359", "Fill")):
+            self.refused(getattr(cukvashe_des, fault), cukvashe_des.pin_decode_3, bytes.fromhex(block), ACCOUNT)
+        self.refused(BlockLength, cukvashe_des.pin_decode_1, bytes(9))
+        self.refused(BlockLength, cukvashe_des.pin_decode_0, bytes(7), ACCOUNT)
+
+
+class CardVerification(unittest.TestCase):
+    CARD = ("4123456789012345", "8701", "101")
+
+    def test_value(self):
+        self.assertEqual(cukvashe_des.cvv(MAC_KEY, *self.CARD), "561")
+        self.assertEqual(cukvashe_des.cvv(bytearray(MAC_KEY), *(text.encode() for text in self.CARD)), "561")
+
+    def test_refused(self):
+        account, expiry, _ = self.CARD
+        for card, fault in (((account[4:], "", ""), "AccountLength"), (("4" * 20, "", ""), "AccountLength"),
+                            ((account[1:] + ":", "", ""), "AccountDigit"), ((account, "870", ""), "ExpiryLength"),
+                            ((account, "87010", ""), "ExpiryLength"), ((account, "870/", ""), "ExpiryDigit"),
+                            ((account, expiry, "10"), "ServiceLength"), ((account, expiry, "1011"), "ServiceLength"),
+                            ((account, expiry, "10:"), "ServiceDigit")):
+            with self.assertRaises(getattr(cukvashe_des, fault)) as caught:
+                cukvashe_des.cvv(MAC_KEY, *card)
+            self.assertIsInstance(caught.exception, ValueError)
+        self.assertRaises(KeyLength, cukvashe_des.cvv, bytes(24), *self.CARD)
+
+
 class Keys(unittest.TestCase):
     def test_weak_keys(self):
         self.assertFalse(cukvashe_des.weak_key_test(bytes.fromhex("0101010101010101")))

@@ -1,4 +1,4 @@
-/* Check values, keys of components, and the keys of a transaction, at published values. */
+/* Check values, keys of components, the keys of a transaction, PIN blocks and card verification values, at published values. */
 #include "check.h"
 
 /* The bytes of digits. */
@@ -109,11 +109,184 @@ static void counts(void) {
   CHECK(are(serial, 10, "ffff9876543210fff800"));
 }
 
+static const char account[] = "4012345678909"; /* its twelve digits before the last: 401234567890 */
+
+/* A text of so many bytes as it has, and the call's length. */
+#define TEXT(text) (const uint8_t *)(text), strlen(text)
+
+/* What decode gave: the digits, and zeros after them. */
+static int is_pin(const uint8_t pin[12], size_t length, const char *digits) {
+  uint8_t wanted[12] = {0};
+  memcpy(wanted, digits, strlen(digits));
+  return length == strlen(digits) && memcmp(pin, wanted, sizeof wanted) == 0;
+}
+
+/* The published block of format 0, and blocks by hand: the digits 1 and 4, the PIN and ten transaction digits; and the xor of
+ * 341234abcdefabcd and 0000401234567890. */
+static void answers_pin_blocks(void) {
+  static const uint8_t transaction[10] = {15, 14, 0, 9, 10, 5, 1, 2, 3, 4};
+  static const uint8_t fill[10] = {10, 11, 12, 13, 14, 15, 10, 11, 12, 13};
+  uint8_t block[8], pin[12];
+  size_t length = 77;
+  CHECK(cukvashe_pin_encode_0(TEXT("1234"), TEXT(account), block) == CUKVASHE_OK);
+  CHECK(are(block, 8, "041274edcba9876f"));
+  memset(pin, 0x77, sizeof pin);
+  CHECK(cukvashe_pin_decode_0(block, TEXT(account), pin, &length) == CUKVASHE_OK && is_pin(pin, length, "1234"));
+  CHECK(cukvashe_pin_decode_0(block, TEXT("9999994012345678900"), pin, &length) == CUKVASHE_OK);
+  CHECK(is_pin(pin, length, "1234"));
+
+  CHECK(cukvashe_pin_encode_1(TEXT("1234"), transaction, block) == CUKVASHE_OK);
+  CHECK(are(block, 8, "141234fe09a51234"));
+  memset(pin, 0x77, sizeof pin);
+  CHECK(cukvashe_pin_decode_1(block, pin, &length) == CUKVASHE_OK && is_pin(pin, length, "1234"));
+  CHECK(cukvashe_pin_encode_1(TEXT("123456789012"), transaction, block) == CUKVASHE_OK);
+  CHECK(are(block, 8, "1c123456789012fe"));
+  CHECK(cukvashe_pin_decode_1(block, pin, &length) == CUKVASHE_OK && is_pin(pin, length, "123456789012"));
+
+  CHECK(cukvashe_pin_encode_3(TEXT("1234"), TEXT(account), fill, block) == CUKVASHE_OK);
+  CHECK(are(block, 8, "341274b9f9b9d35d"));
+  memset(pin, 0x77, sizeof pin);
+  CHECK(cukvashe_pin_decode_3(block, TEXT(account), pin, &length) == CUKVASHE_OK && is_pin(pin, length, "1234"));
+}
+
+/* A PIN, an account number, and the last of ten fill digits, whose others are 10; and the fault in formats 0, 1 and 3. */
+static const struct {
+  const char *pin, *account;
+  uint8_t fill;
+  int status[3];
+} made_of[] = {
+    {"123", "401234567890", 16, {CUKVASHE_PIN_LENGTH, CUKVASHE_PIN_LENGTH, CUKVASHE_PIN_LENGTH}},
+    {"1234567890123", account, 10, {CUKVASHE_PIN_LENGTH, CUKVASHE_PIN_LENGTH, CUKVASHE_PIN_LENGTH}},
+    {"123:", "401234567890", 16, {CUKVASHE_PIN_DIGIT, CUKVASHE_PIN_DIGIT, CUKVASHE_PIN_DIGIT}},
+    {"/23456789012", account, 10, {CUKVASHE_PIN_DIGIT, CUKVASHE_PIN_DIGIT, CUKVASHE_PIN_DIGIT}},
+    {"1234", "401234567890", 16, {CUKVASHE_ACCOUNT_LENGTH, CUKVASHE_FILL, CUKVASHE_ACCOUNT_LENGTH}},
+    {"1234", "99999994012345678900", 10, {CUKVASHE_ACCOUNT_LENGTH, CUKVASHE_OK, CUKVASHE_ACCOUNT_LENGTH}},
+    {"1234", "401234567890:", 16, {CUKVASHE_ACCOUNT_DIGIT, CUKVASHE_FILL, CUKVASHE_ACCOUNT_DIGIT}},
+    {"1234", "/999994012345678900", 10, {CUKVASHE_ACCOUNT_DIGIT, CUKVASHE_OK, CUKVASHE_ACCOUNT_DIGIT}},
+    {"1234", account, 9, {CUKVASHE_OK, CUKVASHE_OK, CUKVASHE_FILL}},
+    {"1234", account, 16, {CUKVASHE_OK, CUKVASHE_FILL, CUKVASHE_FILL}},
+    {"1234", account, 15, {CUKVASHE_OK, CUKVASHE_OK, CUKVASHE_OK}},
+};
+
+/* At a fault the block stays. */
+static void check_block(int status, int wanted, const uint8_t block[8]) {
+  CHECK(status == wanted && are(block, 8, "7777777777777777") == (wanted != CUKVASHE_OK));
+}
+
+static void refuses_to_encode(void) {
+  uint8_t fill[10], blocks[3][8];
+  for (size_t i = 0; i < sizeof made_of / sizeof *made_of; i++) {
+    memset(fill, 10, sizeof fill);
+    fill[9] = made_of[i].fill;
+    memset(blocks, 0x77, sizeof blocks);
+    check_block(cukvashe_pin_encode_0(TEXT(made_of[i].pin), TEXT(made_of[i].account), blocks[0]), made_of[i].status[0],
+                blocks[0]);
+    check_block(cukvashe_pin_encode_1(TEXT(made_of[i].pin), fill, blocks[1]), made_of[i].status[1], blocks[1]);
+    check_block(cukvashe_pin_encode_3(TEXT(made_of[i].pin), TEXT(made_of[i].account), fill, blocks[2]), made_of[i].status[2],
+                blocks[2]);
+  }
+  CHECK(cukvashe_pin_encode_0(NULL, 0, NULL, 0, blocks[0]) == CUKVASHE_PIN_LENGTH);
+  CHECK(cukvashe_pin_encode_0(TEXT("1234"), NULL, 0, blocks[0]) == CUKVASHE_ACCOUNT_LENGTH);
+}
+
+/* A format, a block, an account number, and the fault. */
+static const struct {
+  int format;
+  const char *block, *account;
+  int status;
+} read_of[] = {
+    {0, "141274edcba9876f", "401234567890", CUKVASHE_ACCOUNT_LENGTH},
+    {0, "141274edcba9876f", "99999994012345678900", CUKVASHE_ACCOUNT_LENGTH},
+    {0, "141274edcba9876f", "401234567890:", CUKVASHE_ACCOUNT_DIGIT},
+    {0, "13a274edcba9876e", account, CUKVASHE_FORMAT},
+    {0, "03a274edcba9876e", account, CUKVASHE_PIN_LENGTH},
+    {0, "0da274edcba9876e", account, CUKVASHE_PIN_LENGTH},
+    {0, "04a274edcba9876e", account, CUKVASHE_PIN_DIGIT},
+    {0, "041274edcba9876e", account, CUKVASHE_FILL},
+    {1, "041234fe09a51234", account, CUKVASHE_FORMAT},
+    {1, "131234fe09a51234", account, CUKVASHE_PIN_LENGTH},
+    {1, "14123afe09a51234", account, CUKVASHE_PIN_DIGIT},
+    {3, "041274b9f9b9d35d", "401234567890", CUKVASHE_ACCOUNT_LENGTH},
+    {3, "041274b9f9b9d35d", "/012345678909", CUKVASHE_ACCOUNT_DIGIT},
+    {3, "041274b9f9b9d35d", account, CUKVASHE_FORMAT},
+    {3, "331274b9f9b9d35d", account, CUKVASHE_PIN_LENGTH},
+    {3, "34a274b9f9b9d359", account, CUKVASHE_PIN_DIGIT},
+    {3, "341274b9f9b9d359", account, CUKVASHE_FILL},
+};
+
+static int decoded(int format, const uint8_t block[8], const char *of, uint8_t pin[12], size_t *length) {
+  if (format == 1) return cukvashe_pin_decode_1(block, pin, length);
+  return (format == 0 ? cukvashe_pin_decode_0 : cukvashe_pin_decode_3)(block, TEXT(of), pin, length);
+}
+
+static void refuses_to_decode(void) {
+  uint8_t block[8], pin[12];
+  size_t length = 77;
+  memset(pin, 0x77, sizeof pin);
+  for (size_t i = 0; i < sizeof read_of / sizeof *read_of; i++) {
+    put(block, read_of[i].block);
+    CHECK(decoded(read_of[i].format, block, read_of[i].account, pin, &length) == read_of[i].status);
+    CHECK(length == 77 && are(pin, 12, "777777777777777777777777"));
+  }
+}
+
+/* Blocks of format 0 of PINs of 4 to 12 digits, with each of the 256 first bytes: the right one alone is accepted. With a longer
+ * length fill is read as a digit, and with a shorter one a digit as fill. */
+static void reads_first_bytes(void) {
+  static const char digits[] = "123456789012";
+  uint8_t block[8], pin[12];
+  for (size_t right = 4; right <= 12; right++)
+    for (unsigned first = 0; first < 256; first++) {
+      size_t said = first % 16, length = 77;
+      int wanted = first / 16 != 0         ? CUKVASHE_FORMAT
+                   : said < 4 || said > 12 ? CUKVASHE_PIN_LENGTH
+                   : said > right          ? CUKVASHE_PIN_DIGIT
+                   : said < right          ? CUKVASHE_FILL
+                                           : CUKVASHE_OK;
+      CHECK(cukvashe_pin_encode_0((const uint8_t *)digits, right, TEXT(account), block) == CUKVASHE_OK && block[0] == right);
+      block[0] = (uint8_t)first;
+      CHECK(cukvashe_pin_decode_0(block, TEXT(account), pin, &length) == wanted);
+      CHECK(wanted == CUKVASHE_OK ? length == right && memcmp(pin, digits, right) == 0 : length == 77);
+    }
+}
+
+/* An account number, an expiry date, a service code, and the fault. */
+static const struct {
+  const char *account, *expiry, *service;
+  int status;
+} cards[] = {
+    {"412345678901", "870", "10", CUKVASHE_ACCOUNT_LENGTH},
+    {"41234567890123456789", "870", "10", CUKVASHE_ACCOUNT_LENGTH},
+    {"412345678901234:", "870", "10", CUKVASHE_ACCOUNT_DIGIT},
+    {"4123456789012345", "870", "10", CUKVASHE_EXPIRY_LENGTH},
+    {"4123456789012345", "87010", "10", CUKVASHE_EXPIRY_LENGTH},
+    {"4123456789012345", "870/", "10", CUKVASHE_EXPIRY_DIGIT},
+    {"4123456789012345", "8701", "10", CUKVASHE_SERVICE_LENGTH},
+    {"4123456789012345", "8701", "1011", CUKVASHE_SERVICE_LENGTH},
+    {"4123456789012345", "8701", "10:", CUKVASHE_SERVICE_DIGIT},
+};
+
+static void answers_card_verification_values(void) {
+  uint8_t key[16], value[3];
+  put(key, base_key);
+  CHECK(cukvashe_cvv(key, TEXT("4123456789012345"), TEXT("8701"), TEXT("101"), value) == CUKVASHE_OK);
+  CHECK(memcmp(value, "561", 3) == 0);
+  for (size_t i = 0; i < sizeof cards / sizeof *cards; i++) {
+    int status = cukvashe_cvv(key, TEXT(cards[i].account), TEXT(cards[i].expiry), TEXT(cards[i].service), value);
+    CHECK(status == cards[i].status && memcmp(value, "561", 3) == 0);
+  }
+}
+
 int main(void) {
   answers_check_values();
   combines();
   answers_transactions();
   counts();
-  printf("payment: check values, components, keys of transactions and their counters\n");
+  answers_pin_blocks();
+  refuses_to_encode();
+  refuses_to_decode();
+  reads_first_bytes();
+  answers_card_verification_values();
+  printf("payment: check values, components, keys of transactions and their counters, PIN blocks, card verification values\n");
   return 0;
 }

@@ -2,6 +2,17 @@
 
 use crate::Block;
 
+pub const OK: i32 = 0;
+pub const KEY_LENGTH: i32 = 1;
+pub const FORMAT: i32 = 7;
+pub const PIN_LENGTH: i32 = 8;
+pub const PIN_DIGIT: i32 = 9;
+pub const ACCOUNT_LENGTH: i32 = 10;
+pub const ACCOUNT_DIGIT: i32 = 11;
+pub const EXPIRY_LENGTH: i32 = 13;
+pub const EXPIRY_DIGIT: i32 = 14;
+pub const SERVICE_LENGTH: i32 = 15;
+
 #[repr(C)]
 #[derive(Clone, Default)]
 pub struct Des {
@@ -635,6 +646,56 @@ extern "C" {
         key: *mut [u8; 16],
     );
     pub fn cukvashe_dukpt_next_serial(serial: *const [u8; 10], next: *mut [u8; 10]) -> i32;
+    pub fn cukvashe_pin_encode_0(
+        pin: *const u8,
+        pin_length: usize,
+        account: *const u8,
+        account_length: usize,
+        block: *mut Block,
+    ) -> i32;
+    pub fn cukvashe_pin_encode_1(
+        pin: *const u8,
+        pin_length: usize,
+        transaction: *const [u8; 10],
+        block: *mut Block,
+    ) -> i32;
+    pub fn cukvashe_pin_encode_3(
+        pin: *const u8,
+        pin_length: usize,
+        account: *const u8,
+        account_length: usize,
+        fill: *const [u8; 10],
+        block: *mut Block,
+    ) -> i32;
+    pub fn cukvashe_pin_decode_0(
+        block: *const Block,
+        account: *const u8,
+        account_length: usize,
+        pin: *mut [u8; 12],
+        pin_length: *mut usize,
+    ) -> i32;
+    pub fn cukvashe_pin_decode_1(
+        block: *const Block,
+        pin: *mut [u8; 12],
+        pin_length: *mut usize,
+    ) -> i32;
+    pub fn cukvashe_pin_decode_3(
+        block: *const Block,
+        account: *const u8,
+        account_length: usize,
+        pin: *mut [u8; 12],
+        pin_length: *mut usize,
+    ) -> i32;
+    pub fn cukvashe_cvv(
+        key: *const [u8; 16],
+        account: *const u8,
+        account_length: usize,
+        expiry: *const u8,
+        expiry_length: usize,
+        service: *const u8,
+        service_length: usize,
+        value: *mut [u8; 3],
+    ) -> i32;
     pub fn cukvashe_combine_8(
         first: *const [u8; 8],
         second: *const [u8; 8],

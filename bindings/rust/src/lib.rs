@@ -5,13 +5,14 @@
 //! gives such blocks. The calls named `_many` take lists of any length, 128 or 256 blocks at a time as the processor can;
 //! those named `_blocks` go one by one, and are quicker for fewer than some 20 blocks. No call takes memory. Padding is
 //! the caller's, and so is wiping what is secret from memory. `mac` has message authentication codes, and
-//! `payment` check values, keys of components and of transactions.
+//! `payment` check values, keys of components and of transactions, PIN blocks and card verification values.
 #![warn(missing_docs)]
 
 mod ffi;
 pub mod mac;
 pub mod payment;
 
+use ffi::{KEY_LENGTH, OK};
 use std::fmt;
 
 /// A block of 64 bits.
@@ -60,9 +61,6 @@ impl fmt::Display for KeyTestError {
 }
 
 impl std::error::Error for KeyTestError {}
-
-const OK: i32 = 0;
-const KEY_LENGTH: i32 = 1;
 
 /// Whether the processor has what the calls for 256 blocks at a time are built for.
 fn has_wide() -> bool {

@@ -1,9 +1,16 @@
-//! Check values, keys of components, and the keys of a transaction (DUKPT with triple DES, ANSI X9.24-1:2009) as the
-//! host makes them.
+//! Check values, keys of components, PIN blocks, card verification values, and the keys of a transaction (DUKPT with triple
+//! DES, ANSI X9.24-1:2009) as the host makes them.
 //!
 //! A key of a transaction has 16 bytes, two halves of 8, and a key serial number ten, of which the last 21 bits are the
-//! transaction counter. Check values, `initial_key`, `transaction_key` and `data_key` read tables at indexes that depend on
-//! keys, and the calls that make a key of components branch on it.
+//! transaction counter. PINs, account numbers, dates and codes are texts, slices of ASCII digits. Check values, `initial_key`,
+//! `transaction_key`, `data_key` and `cvv` read tables at indexes that depend on keys, the calls that make a key of components
+//! branch on it, and those of PIN blocks on the PIN.
+
+mod card_verification;
+pub mod pin_blocks;
+
+pub use card_verification::{cvv, CvvError};
+pub use pin_blocks::{Pin, PinError};
 
 use crate::{ffi, Des, InvalidLength, KeyTestError, TdesEde2, TdesEde3, TdesEee2, TdesEee3, OK};
 

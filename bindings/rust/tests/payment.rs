@@ -1,5 +1,6 @@
-//! Check values and the keys of a transaction at published values.
+//! Check values, the keys of a transaction, PIN blocks and card verification values at published values, and what is refused.
 
+use cukvashe_des::payment::pin_blocks::*;
 use cukvashe_des::payment::*;
 use cukvashe_des::{Des, InvalidLength, KeyTestError, TdesEde2};
 
@@ -50,4 +51,101 @@ fn serials_count() {
     let first = serial(0x9876543210e00000);
     assert_eq!(next_serial(&first), Some(serial(0x9876543210e00001)));
     assert_eq!(next_serial(&serial(0x9876543210fff800)), None);
+}
+
+const ACCOUNT: &[u8] = b"4012345678909";
+
+fn pin() -> Pin {
+    Pin::new(b"1234").unwrap()
+}
+
+/// The block that ISO 9564-1 gives of format 0, and of a longer account number with the same twelve digits before its last.
+#[test]
+fn pin_blocks_of_format_0() {
+    let block = 0x041274edcba9876f_u64.to_be_bytes();
+    for account in [ACCOUNT, b"9999994012345678900"] {
+        assert_eq!(encode_format_0(&pin(), account), Ok(block));
+        assert_eq!(decode_format_0(&block, account).unwrap().text(), b"1234");
+    }
+}
+
+/// By hand: the digits 1 and 4, the PIN, and the first ten digits of the transaction; and, for a PIN of twelve, two.
+#[test]
+fn pin_blocks_of_format_1() {
+    let transaction = [15, 14, 0, 9, 10, 5, 1, 2, 3, 4];
+    let block = 0x141234fe09a51234_u64.to_be_bytes();
+    assert_eq!(encode_format_1(&pin(), &transaction), Ok(block));
+    assert_eq!(decode_format_1(&block).unwrap().text(), b"1234");
+    let long = Pin::new(b"123456789012").unwrap();
+    let block = 0x1c123456789012fe_u64.to_be_bytes();
+    assert_eq!(encode_format_1(&long, &transaction), Ok(block));
+    assert_eq!(decode_format_1(&block).unwrap().text(), b"123456789012");
+}
+
+/// By hand: 341234abcdefabcd, xored with 0000401234567890.
+#[test]
+fn pin_blocks_of_format_3() {
+    let fill = [10, 11, 12, 13, 14, 15, 10, 11, 12, 13];
+    let block = 0x341274b9f9b9d35d_u64.to_be_bytes();
+    assert_eq!(encode_format_3(&pin(), ACCOUNT, &fill), Ok(block));
+    assert_eq!(decode_format_3(&block, ACCOUNT).unwrap().text(), b"1234");
+}
+
+#[test]
+fn pin_blocks_are_refused() {
+    for (text, fault) in [
+        (&b"123"[..], PinError::PinLength),
+        (b"1234567890123", PinError::PinLength),
+        (b"", PinError::PinLength),
+        (b"123:", PinError::PinDigit),
+        (b"/234", PinError::PinDigit),
+    ] {
+        assert_eq!(Pin::new(text).err(), Some(fault));
+    }
+    for (account, fault) in [
+        (&ACCOUNT[1..], PinError::AccountLength),
+        (b"99999994012345678900", PinError::AccountLength),
+        (b"401234567890:", PinError::AccountDigit),
+    ] {
+        assert_eq!(encode_format_0(&pin(), account), Err(fault));
+        assert_eq!(encode_format_3(&pin(), account, &[0; 10]), Err(fault));
+        assert_eq!(decode_format_0(&[0xff; 8], account).err(), Some(fault));
+        assert_eq!(decode_format_3(&[0xff; 8], account).err(), Some(fault));
+    }
+    assert_eq!(encode_format_1(&pin(), &[0, 0, 0, 0, 0, 0, 0, 0, 0, 16]), Err(PinError::Fill));
+    for fill in [9, 16] {
+        let fill = [10, 10, 10, 10, 10, 10, 10, 10, 10, fill];
+        assert_eq!(encode_format_3(&pin(), ACCOUNT, &fill), Err(PinError::Fill));
+    }
+    for (block, fault) in [
+        (0x141274edcba9876f_u64, PinError::Format),
+        (0x031274edcba9876f, PinError::PinLength),
+        (0x0d1274edcba9876f, PinError::PinLength),
+        (0x04a274edcba9876f, PinError::PinDigit),
+        (0x041274edcba9876e, PinError::Fill),
+    ] {
+        assert_eq!(decode_format_0(&block.to_be_bytes(), ACCOUNT).err(), Some(fault));
+    }
+    assert_eq!(decode_format_1(&[0x04; 8]).err(), Some(PinError::Format));
+    assert_eq!(decode_format_3(&0x341274b9f9b9d359_u64.to_be_bytes(), ACCOUNT).err(), Some(PinError::Fill));
+    assert_eq!(format!("{:?} {}", pin(), PinError::PinDigit), "Pin { ... } PinDigit");
+}
+
+#[test]
+fn card_verification_values_answer() {
+    let (key, account) = (BASE.to_be_bytes(), b"4123456789012345");
+    assert_eq!(cvv(&key, account, b"8701", b"101"), Ok(*b"561"));
+    for (account, expiry, service, fault) in [
+        (&account[4..], &b""[..], &b""[..], CvvError::AccountLength),
+        (b"412345678901234:", b"", b"", CvvError::AccountDigit),
+        (account, b"870", b"", CvvError::ExpiryLength),
+        (account, b"87010", b"", CvvError::ExpiryLength),
+        (account, b"870/", b"", CvvError::ExpiryDigit),
+        (account, b"8701", b"10", CvvError::ServiceLength),
+        (account, b"8701", b"1011", CvvError::ServiceLength),
+        (account, b"8701", b"10:", CvvError::ServiceDigit),
+    ] {
+        assert_eq!(cvv(&key, account, expiry, service), Err(fault));
+    }
+    assert_eq!(CvvError::ExpiryDigit.to_string(), "ExpiryDigit");
 }

@@ -38,8 +38,8 @@ pub extern "C" fn cukvashe_des_check_value(key: &[u8], value: &mut [u8; 3]) -> i
     check_value::<Des>(key, value)
 }
 
-/// The check value of a key of 24 bytes under `TdesEde3`. The status of a key of another length is
-/// 1, and then `value` stays.
+/// The check value of a key of 24 bytes under `TdesEde3`. The status of a key of another length is 1,
+/// and then `value` stays.
 #[unsafe(no_mangle)]
 pub extern "C" fn cukvashe_tdes_ede3_check_value(key: &[u8], value: &mut [u8; 3]) -> i32
     ensures accepted { (result ≡ pos 0) ↔ (length key.now ≡ 24) }
@@ -51,8 +51,8 @@ pub extern "C" fn cukvashe_tdes_ede3_check_value(key: &[u8], value: &mut [u8; 3]
     check_value::<TdesEde3>(key, value)
 }
 
-/// The check value of a key of 24 bytes under `TdesEee3`. The status of a key of another length is
-/// 1, and then `value` stays.
+/// The check value of a key of 24 bytes under `TdesEee3`. The status of a key of another length is 1,
+/// and then `value` stays.
 #[unsafe(no_mangle)]
 pub extern "C" fn cukvashe_tdes_eee3_check_value(key: &[u8], value: &mut [u8; 3]) -> i32
     ensures accepted { (result ≡ pos 0) ↔ (length key.now ≡ 24) }
@@ -64,8 +64,8 @@ pub extern "C" fn cukvashe_tdes_eee3_check_value(key: &[u8], value: &mut [u8; 3]
     check_value::<TdesEee3>(key, value)
 }
 
-/// The check value of a key of 16 bytes under `TdesEde2`. The status of a key of another length is
-/// 1, and then `value` stays.
+/// The check value of a key of 16 bytes under `TdesEde2`. The status of a key of another length is 1,
+/// and then `value` stays.
 #[unsafe(no_mangle)]
 pub extern "C" fn cukvashe_tdes_ede2_check_value(key: &[u8], value: &mut [u8; 3]) -> i32
     ensures accepted { (result ≡ pos 0) ↔ (length key.now ≡ 16) }
@@ -77,8 +77,8 @@ pub extern "C" fn cukvashe_tdes_ede2_check_value(key: &[u8], value: &mut [u8; 3]
     check_value::<TdesEde2>(key, value)
 }
 
-/// The check value of a key of 16 bytes under `TdesEee2`. The status of a key of another length is
-/// 1, and then `value` stays.
+/// The check value of a key of 16 bytes under `TdesEee2`. The status of a key of another length is 1,
+/// and then `value` stays.
 #[unsafe(no_mangle)]
 pub extern "C" fn cukvashe_tdes_eee2_check_value(key: &[u8], value: &mut [u8; 3]) -> i32
     ensures accepted { (result ≡ pos 0) ↔ (length key.now ≡ 16) }

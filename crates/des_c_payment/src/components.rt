@@ -49,8 +49,8 @@ pub extern "C" fn cukvashe_combine_8(
     combine(first, second, others, key)
 }
 
-/// The key of 16 bytes that two or more components make: their xor, with odd parity. The status of
-/// a key that the weak key test refuses is 3, and then `key` stays.
+/// The key of 16 bytes that two or more components make: their xor, with odd parity. The status of a
+/// key that the weak key test refuses is 3, and then `key` stays.
 #[unsafe(no_mangle)]
 pub extern "C" fn cukvashe_combine_16(
     first: &[u8; 16],
@@ -68,8 +68,8 @@ pub extern "C" fn cukvashe_combine_16(
     combine(first, second, others, key)
 }
 
-/// The key of 24 bytes that two or more components make: their xor, with odd parity. The status of
-/// a key that the weak key test refuses is 3, and then `key` stays.
+/// The key of 24 bytes that two or more components make: their xor, with odd parity. The status of a
+/// key that the weak key test refuses is 3, and then `key` stays.
 #[unsafe(no_mangle)]
 pub extern "C" fn cukvashe_combine_24(
     first: &[u8; 24],

@@ -1,0 +1,57 @@
+//! Card verification values (CVV): three digits of a card's data under a key.
+
+use crate::ffi::{self, ACCOUNT_DIGIT, ACCOUNT_LENGTH, EXPIRY_DIGIT, EXPIRY_LENGTH, OK, SERVICE_LENGTH};
+use std::fmt;
+
+/// Why there is no card verification value. The first of them is reported, in this order.
+#[derive(Clone, Copy, Debug, PartialEq, Eq)]
+pub enum CvvError {
+    /// The account number does not have 13 to 19 digits.
+    AccountLength,
+    /// A character of the account number is not a digit.
+    AccountDigit,
+    /// The expiry date does not have four digits.
+    ExpiryLength,
+    /// A character of the expiry date is not a digit.
+    ExpiryDigit,
+    /// The service code does not have three digits.
+    ServiceLength,
+    /// A character of the service code is not a digit.
+    ServiceDigit,
+}
+
+impl fmt::Display for CvvError {
+    fn fmt(&self, f: &mut fmt::Formatter<'_>) -> fmt::Result {
+        fmt::Debug::fmt(self, f)
+    }
+}
+
+impl std::error::Error for CvvError {}
+
+/// The card verification value, three ASCII digits, of an account number of 13 to 19 digits with the check digit, an expiry
+/// date of four and a service code of three, under a key pair of 16 bytes.
+pub fn cvv(key: &[u8; 16], account: &[u8], expiry: &[u8], service: &[u8]) -> Result<[u8; 3], CvvError> {
+    let mut value = [0; 3];
+    // SAFETY: the pointers are of references, those of texts good for their lengths, and don't overlap what is written.
+    let status = unsafe {
+        ffi::cukvashe_cvv(
+            key,
+            account.as_ptr(),
+            account.len(),
+            expiry.as_ptr(),
+            expiry.len(),
+            service.as_ptr(),
+            service.len(),
+            &mut value,
+        )
+    };
+    match status {
+        OK => Ok(value),
+        ACCOUNT_LENGTH => Err(CvvError::AccountLength),
+        ACCOUNT_DIGIT => Err(CvvError::AccountDigit),
+        EXPIRY_LENGTH => Err(CvvError::ExpiryLength),
+        EXPIRY_DIGIT => Err(CvvError::ExpiryDigit),
+        SERVICE_LENGTH => Err(CvvError::ServiceLength),
+        _ => Err(CvvError::ServiceDigit),
+    }
+}

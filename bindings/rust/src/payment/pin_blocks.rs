@@ -1,0 +1,136 @@
+//! PIN blocks (ISO 9564-1): a PIN in eight bytes, in formats 0, 1 and 3. A block is not encrypted here: that is one call of
+//! a cipher.
+
+use crate::ffi::{self, ACCOUNT_DIGIT, ACCOUNT_LENGTH, FORMAT, OK, PIN_DIGIT, PIN_LENGTH};
+use crate::Block;
+use std::fmt;
+
+/// Why a PIN block is not made, or a block holds no PIN. The first of them is reported: where a block is made, of the PIN,
+/// then of the account number, then of the fill digits; where one is read, of the account number, then in the order of the
+/// block's digits. The faults of a block that is read tell of its PIN: show no one which it was.
+#[derive(Clone, Copy, Debug, PartialEq, Eq)]
+pub enum PinError {
+    /// The block's first digit is not that of the format.
+    Format,
+    /// The PIN does not have 4 to 12 digits, or the block's second digit is not the length of such a PIN.
+    PinLength,
+    /// A character of the PIN is not a digit, or a digit of the block's PIN is above 9.
+    PinDigit,
+    /// The account number does not have 13 to 19 digits.
+    AccountLength,
+    /// A character of the account number is not a digit.
+    AccountDigit,
+    /// A fill digit is none of those of the format.
+    Fill,
+}
+
+impl fmt::Display for PinError {
+    fn fmt(&self, f: &mut fmt::Formatter<'_>) -> fmt::Result {
+        fmt::Debug::fmt(self, f)
+    }
+}
+
+impl std::error::Error for PinError {}
+
+/// What a call made, or the fault that its status says.
+fn checked<T>(status: i32, made: T) -> Result<T, PinError> {
+    match status {
+        OK => Ok(made),
+        FORMAT => Err(PinError::Format),
+        PIN_LENGTH => Err(PinError::PinLength),
+        PIN_DIGIT => Err(PinError::PinDigit),
+        ACCOUNT_LENGTH => Err(PinError::AccountLength),
+        ACCOUNT_DIGIT => Err(PinError::AccountDigit),
+        _ => Err(PinError::Fill),
+    }
+}
+
+/// A personal identification number (PIN): a text of 4 to 12 digits. It has no equality: whoever compares PINs chooses how,
+/// by their texts.
+#[derive(Clone)]
+pub struct Pin {
+    text: [u8; 12],
+    length: usize,
+}
+
+impl Pin {
+    /// The PIN of these ASCII digits: `PinLength` where there are not 4 to 12 of them, `PinDigit` where one is none.
+    pub fn new(text: &[u8]) -> Result<Pin, PinError> {
+        // The library tests a PIN where it makes a block of it, and every PIN has one of format 1.
+        encode_1(text, &[0; 10])?;
+        let mut pin = Pin { text: [0; 12], length: text.len() };
+        pin.text[..text.len()].copy_from_slice(text);
+        Ok(pin)
+    }
+
+    /// Its ASCII digits.
+    pub fn text(&self) -> &[u8] {
+        &self.text[..self.length]
+    }
+}
+
+/// Writes the type's name, and no digit.
+impl fmt::Debug for Pin {
+    fn fmt(&self, f: &mut fmt::Formatter<'_>) -> fmt::Result {
+        f.write_str("Pin { ... }")
+    }
+}
+
+// SAFETY of each call below: the pointers are of references, those of texts good for their lengths, and don't overlap what is
+// written.
+
+fn encode_1(pin: &[u8], transaction: &[u8; 10]) -> Result<Block, PinError> {
+    let mut block = [0; 8];
+    let status = unsafe { ffi::cukvashe_pin_encode_1(pin.as_ptr(), pin.len(), transaction, &mut block) };
+    checked(status, block)
+}
+
+/// The block of format 0 of a PIN and an account number, a text of 13 to 19 digits with the check digit.
+pub fn encode_format_0(pin: &Pin, account: &[u8]) -> Result<Block, PinError> {
+    let (pin, mut block) = (pin.text(), [0; 8]);
+    let status = unsafe {
+        ffi::cukvashe_pin_encode_0(pin.as_ptr(), pin.len(), account.as_ptr(), account.len(), &mut block)
+    };
+    checked(status, block)
+}
+
+/// The block of format 1 of a PIN and ten transaction digits from 0 to 15, of which it takes the first so many that there are
+/// sixteen digits; `Fill` where one of the ten is above 15.
+pub fn encode_format_1(pin: &Pin, transaction: &[u8; 10]) -> Result<Block, PinError> {
+    encode_1(pin.text(), transaction)
+}
+
+/// The block of format 3 of a PIN, an account number as in format 0, and ten fill digits from 10 to 15, of which it takes the
+/// first so many that there are sixteen digits; `Fill` where one of the ten is none of them.
+pub fn encode_format_3(pin: &Pin, account: &[u8], fill: &[u8; 10]) -> Result<Block, PinError> {
+    let (pin, mut block) = (pin.text(), [0; 8]);
+    let status = unsafe {
+        ffi::cukvashe_pin_encode_3(pin.as_ptr(), pin.len(), account.as_ptr(), account.len(), fill, &mut block)
+    };
+    checked(status, block)
+}
+
+/// The PIN of a block of format 0 and an account number.
+pub fn decode_format_0(block: &Block, account: &[u8]) -> Result<Pin, PinError> {
+    let mut pin = Pin { text: [0; 12], length: 0 };
+    let status = unsafe {
+        ffi::cukvashe_pin_decode_0(block, account.as_ptr(), account.len(), &mut pin.text, &mut pin.length)
+    };
+    checked(status, pin)
+}
+
+/// The PIN of a block of format 1.
+pub fn decode_format_1(block: &Block) -> Result<Pin, PinError> {
+    let mut pin = Pin { text: [0; 12], length: 0 };
+    let status = unsafe { ffi::cukvashe_pin_decode_1(block, &mut pin.text, &mut pin.length) };
+    checked(status, pin)
+}
+
+/// The PIN of a block of format 3 and an account number.
+pub fn decode_format_3(block: &Block, account: &[u8]) -> Result<Pin, PinError> {
+    let mut pin = Pin { text: [0; 12], length: 0 };
+    let status = unsafe {
+        ffi::cukvashe_pin_decode_3(block, account.as_ptr(), account.len(), &mut pin.text, &mut pin.length)
+    };
+    checked(status, pin)
+}
