@@ -2,7 +2,7 @@
 
 use cukvashe_des::payment::pin_blocks::*;
 use cukvashe_des::payment::*;
-use cukvashe_des::{Des, InvalidLength, KeyTestError, TdesEde2};
+use cukvashe_des::{BlockCipher, Des, InvalidLength, KeyTestError, TdesEde2};
 
 const BASE: u128 = 0x0123456789abcdeffedcba9876543210;
 
@@ -30,17 +30,67 @@ fn components_combine() {
     assert_eq!(combine_16(&key, &key, &[]), Err(KeyTestError::WeakKey));
 }
 
+/// The last eight bytes of a key serial number, and the keys of the transaction: its own, that for the PIN block and that for the
+/// MAC of the request; and the block of PIN 1234 in format 0, encrypted under the second.
+const TRANSACTIONS: [(u64, u128, u128, u128, u64); 6] = [
+    (
+        0x9876543210e00001,
+        0x042666b49184cfa368de9628d0397bc9,
+        0x042666b49184cf5c68de9628d0397b36,
+        0x042666b4918430a368de9628d03984c9,
+        0x1b9c1845eb993a7a,
+    ),
+    (
+        0x9876543210e00002,
+        0xc46551cef9fd24b0aa9ad834130d3bc7,
+        0xc46551cef9fd244faa9ad834130d3b38,
+        0xc46551cef9fddbb0aa9ad834130dc4c7,
+        0x10a01c8d02c69107,
+    ),
+    (
+        0x9876543210e00003,
+        0x0df3d9422aca56e547676d07ad6badfa,
+        0x0df3d9422aca561a47676d07ad6bad05,
+        0x0df3d9422acaa9e547676d07ad6b52fa,
+        0x18dc07b94797b466,
+    ),
+    (
+        0x9876543210e00004,
+        0x279c0f6aeed0be652b2c733e1383ae91,
+        0x279c0f6aeed0be9a2b2c733e1383ae6e,
+        0x279c0f6aeed041652b2c733e13835191,
+        0x0bc79509d5645df7,
+    ),
+    (
+        0x9876543210e00010,
+        0x59598dcbd9bd94c094165ce453585f57,
+        0x59598dcbd9bd943f94165ce453585fa8,
+        0x59598dcbd9bd6bc094165ce45358a057,
+        0xd5d9638559ef53d6,
+    ),
+    (
+        0x9876543210eff800,
+        0xf9cdfebf4f5b1d9eb3ec12454527e176,
+        0xf9cdfebf4f5b1d61b3ec12454527e189,
+        0xf9cdfebf4f5be29eb3ec124545271e76,
+        0x33365f5cc6f23c35,
+    ),
+];
+
 #[test]
 fn transactions_answer() {
     let initial = initial_key(&BASE.to_be_bytes(), &serial(0x9876543210e00000));
     assert_eq!(u128::from_be_bytes(initial), 0x6ac292faa1315b4d858ab3a3d7d5933a);
-    let key = transaction_key(&initial, &serial(0x9876543210eff800));
-    assert_eq!(u128::from_be_bytes(key), 0xf9cdfebf4f5b1d9eb3ec12454527e176);
-    assert_eq!(u128::from_be_bytes(pin_key(&key)), 0xf9cdfebf4f5b1d61b3ec12454527e189);
-    let mac = mac_key(&key, Message::Request);
-    assert_eq!(u128::from_be_bytes(mac), 0xf9cdfebf4f5be29eb3ec124545271e76);
+    for (last, transaction, pin, mac, encrypted) in TRANSACTIONS {
+        let key = transaction_key(&initial, &serial(last));
+        assert_eq!(u128::from_be_bytes(key), transaction);
+        assert_eq!(u128::from_be_bytes(pin_key(&key)), pin);
+        assert_eq!(u128::from_be_bytes(mac_key(&key, Message::Request)), mac);
+        let mut blocks = [0x041274edcba9876f_u64.to_be_bytes()];
+        TdesEde2::new_from_slice(&pin.to_be_bytes()).unwrap().encrypt_blocks(&mut blocks);
+        assert_eq!(u64::from_be_bytes(blocks[0]), encrypted);
+    }
     let first = transaction_key(&initial, &serial(0x9876543210e00001));
-    assert_eq!(u128::from_be_bytes(first), 0x042666b49184cfa368de9628d0397bc9);
     let data = data_key(&first, Message::Request);
     assert_eq!(u128::from_be_bytes(data), 0x448d3f076d8304036a55a3d7e0055a78);
     assert_ne!(data_key(&first, Message::Response), data);
