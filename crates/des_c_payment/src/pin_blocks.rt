@@ -1,6 +1,6 @@
 //! The exports of PIN blocks (ISO 9564-1).
 
-ghost use Rattle.std.specs.Prelude.{◌≡◌, ◌≢◌, ◌≤◌, ℕ, List, length, take, pos, Ok, Err};
+ghost use Rattle.std.specs.Prelude.{◌≡◌, ◌≢◌, ◌≤◌, ◌-◌, ℕ, List, take, drop, replicate, pos, Ok};
 ghost use Rattle.std.specs.Option.{option_or};
 ghost use Rattle.std.specs.Result.{result_err};
 ghost use Rattle.des.specs.Cbc.{xor_blocks};
@@ -54,6 +54,7 @@ fn write_pin(read: Result<Pin, PinError>, pin: &mut [u8; 12], digits: &mut usize
         → (digits.new ≤ 12) × (read ≡ Ok (take digits.new pin.new)) }
     ensures complete { (text : List ℕ) → read ≡ Ok text
         → (result ≡ pos 0) × (take digits.new pin.new ≡ text) }
+    ensures zeros { result ≡ pos 0 → drop digits.new pin.new ≡ replicate (12 - digits.new) 0 }
     ensures kept { result ≢ pos 0 → (pin.new ≡ pin.old) × (digits.new ≡ digits.old) }
 {
     match read {
@@ -146,6 +147,7 @@ pub extern "C" fn cukvashe_pin_decode_0(
         → (digits.new ≤ 12) × IsFormat0 (take digits.new pin.new) account.now block.now }
     ensures complete { (text : List ℕ) → IsFormat0 text account.now block.now
         → (result ≡ pos 0) × (take digits.new pin.new ≡ text) }
+    ensures zeros { result ≡ pos 0 → drop digits.new pin.new ≡ replicate (12 - digits.new) 0 }
     ensures kept { result ≢ pos 0 → (pin.new ≡ pin.old) × (digits.new ≡ digits.old) }
 {
     write_pin(decode_format_0(block, account), pin, digits)
@@ -164,6 +166,7 @@ pub extern "C" fn cukvashe_pin_decode_1(
         × ((transaction : List ℕ) × IsFormat1 (take digits.new pin.new) transaction block.now) }
     ensures complete { (text transaction : List ℕ) → IsFormat1 text transaction block.now
         → (result ≡ pos 0) × (take digits.new pin.new ≡ text) }
+    ensures zeros { result ≡ pos 0 → drop digits.new pin.new ≡ replicate (12 - digits.new) 0 }
     ensures kept { result ≢ pos 0 → (pin.new ≡ pin.old) × (digits.new ≡ digits.old) }
 {
     write_pin(decode_format_1(block), pin, digits)
@@ -185,6 +188,7 @@ pub extern "C" fn cukvashe_pin_decode_3(
         × IsFormat3 (take digits.new pin.new) account.now fill block.now) }
     ensures complete { (text fill : List ℕ) → IsFormat3 text account.now fill block.now
         → (result ≡ pos 0) × (take digits.new pin.new ≡ text) }
+    ensures zeros { result ≡ pos 0 → drop digits.new pin.new ≡ replicate (12 - digits.new) 0 }
     ensures kept { result ≢ pos 0 → (pin.new ≡ pin.old) × (digits.new ≡ digits.old) }
 {
     write_pin(decode_format_3(block, account), pin, digits)
