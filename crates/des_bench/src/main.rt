@@ -5,8 +5,11 @@
 //! with vectors of 256 bits, where the calls over vectors of four words are the quicker ones.
 #![tactic(auto)]
 
+mod rows;
+mod runs;
 mod stopwatch;
 mod table;
+mod text;
 
 use std::io;
 

@@ -1,7 +1,5 @@
 //! The time that a call takes of the processor.
 
-ghost use Rattle.std.specs.Prelude.{◌≤◌};
-
 use std::io;
 use std::time::{Clock, CpuClock, Duration, Instant};
 
@@ -12,26 +10,30 @@ const MOST_RUNS: u32 = 1000;
 // some ten seconds at most, with fewer runs on a machine that is slow or busy.
 const SHARE_MILLIS: u64 = 100;
 
+/// Calls of one kind that write to an `A`.
+pub trait Run<A> {
+    /// Makes the calls of a run.
+    fn run(&self, answers: &mut A);
+}
+
 /// The tenths of a nanosecond of processor time that each of the `calls` of a run takes, in the
 /// quickest of some runs. What other processes take meanwhile does not count.
-pub fn tenths_of_call<K: Clock + CpuClock, F: FnMut()>(
+pub fn tenths_of_call<A, K: Clock + CpuClock>(
     clock: &K,
-    calls: u32,
-    mut run: F,
-) -> io::Result<u128>
-    requires calls { 1 ≤ calls }
-    requires run { F.IsAlwaysCallable run }
-{
+    calls: usize,
+    timed: &impl Run<A>,
+    answers: &mut A,
+) -> io::Result<u128> {
     let share = Duration::from_millis(SHARE_MILLIS);
     let begun = Instant::now(clock)?;
     let mut least = Duration::MAX;
     for _ in 0..MOST_RUNS {
         let start = clock.thread_cpu_time()?;
-        run();
+        timed.run(answers);
         least = least.min(clock.thread_cpu_time()?.saturating_sub(start));
         if begun.elapsed(clock)? > share {
             break;
         }
     }
-    Ok((least.saturating_mul(10) / calls).as_nanos())
+    Ok(least.as_nanos().saturating_mul(10) / calls.max(1) as u128)
 }

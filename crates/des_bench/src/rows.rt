@@ -1,0 +1,196 @@
+//! The rows of the table: each times the calls of one cipher, and joins what they answered in a
+//! number, so that no compiler can leave a call out.
+
+use crate::runs::{
+    Blocks, Decrypt, DecryptCbc, DecryptMany, Encrypt, EncryptBySpread, EncryptMany,
+    EncryptManyByFour, KEYS, Key, Keys, MakeCiphers, SPREADINGS, Spread, Tag, TestOnePart,
+    TestThreeParts, TestTwoParts, cipher_of_key,
+};
+use crate::stopwatch::{Run, tenths_of_call};
+use crate::text::{write_length_row, write_row};
+use des::cipher::{AlgorithmName, BlockCipherEncrypt, KeyInit, KeyedCipher};
+use des_fast::many::{ListKeys, ManyBlocks, SpreadOnce};
+use des_mac::{CbcMac, Cmac, Mac, Method2, RetailMac};
+use std::alloc::AllocGlobal;
+use std::io;
+use std::io::{ErrorKind, Write};
+use std::marker::PhantomData;
+use std::simd::prelude::*;
+use std::time::{Clock, CpuClock};
+
+// How many blocks a run goes through.
+const BLOCKS: usize = 1024;
+
+// How many blocks a batch has over vectors of two words.
+const BATCH: usize = 128;
+
+// The lengths of lists that have a row.
+const LENGTHS: [usize; 8] = [1, 16, 64, 127, 128, 255, 1024, 65536];
+
+/// The row of a cipher, one block at a time.
+pub fn write_cipher<C: KeyedCipher + AlgorithmName + Drop>(
+    rt: &(impl AllocGlobal + Clock + CpuClock),
+    keys: &Keys,
+    out: &mut impl Write,
+) -> io::Result<u64> {
+    let cipher: C = cipher_of(&keys[0])?;
+    let mut blocks = zero_blocks(rt, BLOCKS)?;
+    let encrypt = tenths_of_call(rt, BLOCKS, &Encrypt(&cipher), &mut blocks)?;
+    let decrypt = tenths_of_call(rt, BLOCKS, &Decrypt(&cipher), &mut blocks)?;
+    let (new, answer) = time_new::<C>(rt, keys)?;
+    write_row(out, C::NAME, &[encrypt, decrypt, new])?;
+    Ok(answer ^ joined(&blocks))
+}
+
+/// The row of a cipher whose calls take many blocks at a time.
+pub fn write_lists<C: KeyInit + AlgorithmName + ManyBlocks + Drop>(
+    rt: &(impl AllocGlobal + Clock + CpuClock),
+    keys: &Keys,
+    out: &mut impl Write,
+) -> io::Result<u64> {
+    let cipher: C = cipher_of(&keys[0])?;
+    let mut blocks = zero_blocks(rt, BLOCKS)?;
+    let encrypt = tenths_of_call(rt, BLOCKS, &EncryptMany(&cipher), &mut blocks)?;
+    let decrypt = tenths_of_call(rt, BLOCKS, &DecryptMany(&cipher), &mut blocks)?;
+    let cbc = tenths_of_call(rt, BLOCKS, &DecryptCbc(&cipher), &mut blocks)?;
+    write_row(out, C::NAME, &[encrypt, decrypt, cbc])?;
+    Ok(joined(&blocks))
+}
+
+/// The rows of a cipher for lists of some lengths.
+pub fn write_lengths<C: KeyInit + ManyBlocks + Drop>(
+    rt: &(impl AllocGlobal + Clock + CpuClock),
+    keys: &Keys,
+    out: &mut impl Write,
+) -> io::Result<u64> {
+    let cipher: C = cipher_of(&keys[0])?;
+    let mut sum = 0;
+    for length in LENGTHS {
+        sum ^= write_length(rt, &cipher, length, out)?;
+    }
+    Ok(sum)
+}
+
+// The row of lists of one length: the time of a block, encrypted over vectors of two and of four
+// words, and decrypted by CBC over two.
+fn write_length<C: ManyBlocks>(
+    rt: &(impl AllocGlobal + Clock + CpuClock),
+    cipher: &C,
+    length: usize,
+    out: &mut impl Write,
+) -> io::Result<u64> {
+    let mut blocks = zero_blocks(rt, length)?;
+    let two = tenths_of_call(rt, length, &EncryptMany(cipher), &mut blocks)?;
+    let four = tenths_of_call(rt, length, &EncryptManyByFour(cipher), &mut blocks)?;
+    let cbc = tenths_of_call(rt, length, &DecryptCbc(cipher), &mut blocks)?;
+    write_length_row(out, length as u128, &[two, four, cbc])?;
+    Ok(joined(&blocks))
+}
+
+/// The row of a cipher whose round keys are spread once: the time of a spreading over vectors of
+/// two and of four words, and that of a block in one batch under the spread keys.
+pub fn write_spreading<C: KeyInit + AlgorithmName + SpreadOnce + Drop>(
+    rt: &(impl AllocGlobal + Clock + CpuClock),
+    keys: &Keys,
+    out: &mut impl Write,
+) -> io::Result<u64> {
+    let cipher: C = cipher_of(&keys[0])?;
+    let mut blocks = zero_blocks(rt, BATCH)?;
+    let mut two = cipher.spread_keys::<u64x2>();
+    let mut four = cipher.spread_keys::<u64x4>();
+    let over_two = tenths_of_call(rt, SPREADINGS, &Spread(&cipher), &mut two)?;
+    let over_four = tenths_of_call(rt, SPREADINGS, &Spread(&cipher), &mut four)?;
+    four.encrypt_many(blocks.as_mut_slice());
+    let batch = tenths_of_call(rt, BATCH, &EncryptBySpread(&two), &mut blocks)?;
+    write_row(out, C::NAME, &[over_two, over_four, batch])?;
+    Ok(joined(&blocks))
+}
+
+/// The row of the MACs over a cipher.
+pub fn write_macs<C: KeyedCipher + AlgorithmName + Drop>(
+    rt: &(impl AllocGlobal + Clock + CpuClock),
+    keys: &Keys,
+    out: &mut impl Write,
+) -> io::Result<u64> {
+    let bytes = keys[..2].as_flattened();
+    let size = C::KEY_SIZE;
+    let (cbc_mac, first) = time_mac::<CbcMac<C, Method2>>(rt, bytes, size)?;
+    let (retail_mac, second) = time_mac::<RetailMac<C, Method2>>(
+        rt,
+        bytes,
+        size.saturating_mul(2),
+    )?;
+    let (cmac, third) = time_mac::<Cmac<C>>(rt, bytes, size)?;
+    write_row(out, C::NAME, &[cbc_mac, retail_mac, cmac])?;
+    Ok(first ^ second ^ third)
+}
+
+/// The row of the weak key test.
+pub fn write_weak_key_test(
+    rt: &(impl Clock + CpuClock),
+    keys: &Keys,
+    out: &mut impl Write,
+) -> io::Result<u64> {
+    let mut passed = 0;
+    let one = tenths_of_call(rt, KEYS, &TestOnePart(keys), &mut passed)?;
+    let two = tenths_of_call(rt, KEYS, &TestTwoParts(keys), &mut passed)?;
+    let three = tenths_of_call(rt, KEYS, &TestThreeParts(keys), &mut passed)?;
+    write_row(out, "weak_key_test", &[one, two, three])?;
+    Ok(passed)
+}
+
+// The time of `new`, and the block that the ciphers made, each of what the one before it made.
+fn time_new<C: KeyInit + BlockCipherEncrypt + Drop>(
+    rt: &(impl AllocGlobal + Clock + CpuClock),
+    keys: &Keys,
+) -> io::Result<(u128, u64)> {
+    let mut ciphers: Vec<C> = Vec::with_capacity(rt.alloc(), KEYS)?;
+    for key in keys {
+        ciphers.push(cipher_of(key)?)?;
+    }
+    let new = tenths_of_call(rt, KEYS, &MakeCiphers(keys), &mut ciphers)?;
+    let mut block = [0u8; 8];
+    for cipher in ciphers.iter() {
+        cipher.encrypt_block(&mut block);
+    }
+    Ok((new, u64::from_be_bytes(block)))
+}
+
+// The time of a block in a message under the key of the first bytes, and the last tag.
+fn time_mac<M: Mac>(
+    rt: &(impl AllocGlobal + Clock + CpuClock),
+    bytes: &[u8],
+    size: usize,
+) -> io::Result<(u128, u64)> {
+    let key = bytes.get(..size).ok_or(too_long())?;
+    let by = PhantomData;
+    let mut message = zero_blocks(rt, BLOCKS)?;
+    let tenths = tenths_of_call(rt, BLOCKS, &Tag::<M> { key, by }, &mut message)?;
+    Ok((tenths, joined(&message)))
+}
+
+// The cipher of a key.
+fn cipher_of<C: KeyInit + Drop>(key: &Key) -> io::Result<C> {
+    cipher_of_key(key).ok_or(too_long())
+}
+
+// A key is longer than those of the table.
+fn too_long() -> io::Error {
+    io::Error::from(ErrorKind::InvalidInput)
+}
+
+// As many blocks of zeros.
+fn zero_blocks(rt: &impl AllocGlobal, count: usize) -> io::Result<Blocks> {
+    let mut blocks = Vec::with_capacity(rt.alloc(), count)?;
+    blocks.resize(count, [0; 8])?;
+    Ok(blocks)
+}
+
+// The sum of the blocks, bit by bit modulo 2.
+fn joined(blocks: &Blocks) -> u64 {
+    let mut sum = 0;
+    for block in blocks.iter() {
+        sum ^= u64::from_be_bytes(*block);
+    }
+    sum
+}
