@@ -11,8 +11,9 @@ use crate::rows::{
 };
 use crate::runs::{KEYS, Keys};
 use crate::text::write_head;
-use des::cipher::KeyInit;
-use des::{Des, TdesEde2, TdesEde3, TdesEee2, TdesEee3, cbc};
+use des::cipher::{AlgorithmName, KeyInit};
+use des::tdes::{Ede2, Ede3, Eee2, Eee3, SingleDes};
+use des::{Des, cbc};
 use std::alloc::AllocGlobal;
 use std::io;
 use std::io::Write;
@@ -24,8 +25,8 @@ pub fn write_table<R: AllocGlobal + Clock + CpuClock, W: Write>(
     out: &mut W,
 ) -> io::Result<()> {
     let keys = mixed_keys();
-    let joined = write_ciphers(rt, &keys, out)?
-        ^ write_fast_ciphers(rt, &keys, out)?
+    let joined = write_ciphers::<Des>(rt, "des", &keys, out)?
+        ^ write_ciphers::<des_fast::Des>(rt, "des_fast", &keys, out)?
         ^ write_many(rt, &keys, out)?
         ^ write_round_keys(rt, &keys, out)?
         ^ write_others(rt, &keys, out)?;
@@ -42,33 +43,20 @@ fn mixed_keys() -> Keys {
     keys
 }
 
-fn write_ciphers(
+// The rows of the ciphers of a library, which has this body of single DES.
+fn write_ciphers<D: SingleDes + AlgorithmName>(
     rt: &(impl AllocGlobal + Clock + CpuClock),
+    library: &str,
     keys: &Keys,
     out: &mut impl Write,
 ) -> io::Result<u64> {
-    write_head(out, "des", &["encrypt", "decrypt", "new"])?;
+    write_head(out, library, &["encrypt", "decrypt", "new"])?;
     Ok(
-        write_cipher::<Des>(rt, keys, out)?
-            ^ write_cipher::<TdesEde3>(rt, keys, out)?
-            ^ write_cipher::<TdesEee3>(rt, keys, out)?
-            ^ write_cipher::<TdesEde2>(rt, keys, out)?
-            ^ write_cipher::<TdesEee2>(rt, keys, out)?,
-    )
-}
-
-fn write_fast_ciphers(
-    rt: &(impl AllocGlobal + Clock + CpuClock),
-    keys: &Keys,
-    out: &mut impl Write,
-) -> io::Result<u64> {
-    write_head(out, "des_fast", &["encrypt", "decrypt", "new"])?;
-    Ok(
-        write_cipher::<des_fast::Des>(rt, keys, out)?
-            ^ write_cipher::<des_fast::TdesEde3>(rt, keys, out)?
-            ^ write_cipher::<des_fast::TdesEee3>(rt, keys, out)?
-            ^ write_cipher::<des_fast::TdesEde2>(rt, keys, out)?
-            ^ write_cipher::<des_fast::TdesEee2>(rt, keys, out)?,
+        write_cipher::<D>(rt, keys, out)?
+            ^ write_cipher::<Ede3<D>>(rt, keys, out)?
+            ^ write_cipher::<Eee3<D>>(rt, keys, out)?
+            ^ write_cipher::<Ede2<D>>(rt, keys, out)?
+            ^ write_cipher::<Eee2<D>>(rt, keys, out)?,
     )
 }
 
