@@ -2,13 +2,13 @@
 //! number, so that no compiler can leave a call out.
 
 use crate::runs::{
-    Blocks, Decrypt, DecryptCbc, DecryptMany, Encrypt, EncryptBySpread, EncryptMany,
+    BLOCKS, Blocks, Decrypt, DecryptCbc, DecryptMany, Encrypt, EncryptBySpread, EncryptMany,
     EncryptManyByFour, KEYS, Key, Keys, MakeCiphers, SPREADINGS, Spread, Tag, TestOnePart,
     TestThreeParts, TestTwoParts, cipher_of_key,
 };
 use crate::stopwatch::{Run, tenths_of_call};
 use crate::text::{write_length_row, write_row};
-use des::cipher::{AlgorithmName, BlockCipherEncrypt, KeyInit, KeyedCipher};
+use des::cipher::{AlgorithmName, BlockCipherDecrypt, BlockCipherEncrypt, KeyInit, KeyedCipher};
 use des_fast::many::{ListKeys, ManyBlocks, SpreadOnce};
 use des_mac::{CbcMac, Cmac, Mac, Method2, RetailMac};
 use std::alloc::AllocGlobal;
@@ -18,9 +18,6 @@ use std::marker::PhantomData;
 use std::simd::prelude::*;
 use std::time::{Clock, CpuClock};
 
-// How many blocks a run goes through.
-const BLOCKS: usize = 1024;
-
 // How many blocks a batch has over vectors of two words.
 const BATCH: usize = 128;
 
@@ -28,7 +25,7 @@ const BATCH: usize = 128;
 const LENGTHS: [usize; 8] = [1, 16, 64, 127, 128, 255, 1024, 65536];
 
 /// The row of a cipher, one block at a time.
-pub fn write_cipher<C: KeyedCipher + AlgorithmName + Drop>(
+pub fn write_cipher<C: KeyInit + BlockCipherEncrypt + BlockCipherDecrypt + AlgorithmName + Drop>(
     rt: &(impl AllocGlobal + Clock + CpuClock),
     keys: &Keys,
     out: &mut impl Write,
@@ -83,7 +80,7 @@ fn write_length<C: ManyBlocks>(
     let two = tenths_of_call(rt, length, &EncryptMany(cipher), &mut blocks)?;
     let four = tenths_of_call(rt, length, &EncryptManyByFour(cipher), &mut blocks)?;
     let cbc = tenths_of_call(rt, length, &DecryptCbc(cipher), &mut blocks)?;
-    write_length_row(out, length as u128, &[two, four, cbc])?;
+    write_length_row(out, length, &[two, four, cbc])?;
     Ok(joined(&blocks))
 }
 
@@ -108,7 +105,7 @@ pub fn write_spreading<C: KeyInit + AlgorithmName + SpreadOnce + Drop>(
 
 /// The row of the MACs over a cipher.
 pub fn write_macs<C: KeyedCipher + AlgorithmName + Drop>(
-    rt: &(impl AllocGlobal + Clock + CpuClock),
+    rt: &(impl Clock + CpuClock),
     keys: &Keys,
     out: &mut impl Write,
 ) -> io::Result<u64> {
@@ -158,15 +155,15 @@ fn time_new<C: KeyInit + BlockCipherEncrypt + Drop>(
 
 // The time of a block in a message under the key of the first bytes, and the last tag.
 fn time_mac<M: Mac>(
-    rt: &(impl AllocGlobal + Clock + CpuClock),
+    rt: &(impl Clock + CpuClock),
     bytes: &[u8],
     size: usize,
 ) -> io::Result<(u128, u64)> {
     let key = bytes.get(..size).ok_or(too_long())?;
     let by = PhantomData;
-    let mut message = zero_blocks(rt, BLOCKS)?;
+    let mut message = [[0u8; 8]; BLOCKS];
     let tenths = tenths_of_call(rt, BLOCKS, &Tag::<M> { key, by }, &mut message)?;
-    Ok((tenths, joined(&message)))
+    Ok((tenths, u64::from_be_bytes(message[0])))
 }
 
 // The cipher of a key.

@@ -16,6 +16,9 @@ use std::simd::prelude::*;
 /// A key of which each cipher takes the first bytes, as many as it has.
 pub type Key = [u8; 24];
 
+/// How many blocks a run goes through.
+pub const BLOCKS: usize = 1024;
+
 /// How many keys a run goes through.
 pub const KEYS: usize = 256;
 
@@ -27,6 +30,9 @@ pub const SPREADINGS: usize = 16;
 
 /// The blocks that a run answers in place.
 pub type Blocks = Vec<[u8; 8]>;
+
+/// A message that a run authenticates.
+pub type Message = [[u8; 8]; BLOCKS];
 
 /// The cipher of the first bytes of a key: `new`, which `new_from_slice` calls. `None` where the
 /// cipher takes a longer one.
@@ -137,11 +143,10 @@ pub struct Tag<'a, M> {
     pub by: PhantomData<M>,
 }
 
-impl<M: Mac> Run<Blocks> for Tag<'_, M> {
-    fn run(&self, message: &mut Blocks) {
-        let tag = M::mac(self.key, message.as_slice().as_flattened());
-        if let (Ok(tag), Some(first)) = (tag, message.first_mut()) {
-            *first = tag;
+impl<M: Mac> Run<Message> for Tag<'_, M> {
+    fn run(&self, message: &mut Message) {
+        if let Ok(tag) = M::mac(self.key, message.as_flattened()) {
+            message[0] = tag;
         }
     }
 }

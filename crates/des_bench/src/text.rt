@@ -16,7 +16,11 @@ pub fn write_row(out: &mut impl Write, name: &str, figures: &[u128; 3]) -> io::R
 }
 
 /// Writes the row of lists of `length` blocks.
-pub fn write_length_row(out: &mut impl Write, length: u128, figures: &[u128; 3]) -> io::Result<()> {
+pub fn write_length_row(
+    out: &mut impl Write,
+    length: usize,
+    figures: &[u128; 3],
+) -> io::Result<()> {
     write!(out, "{length:<16}")?;
     write_figures(out, figures)
 }
