@@ -1,5 +1,5 @@
-//! The rows of the table: each times the calls of one cipher, and joins what they answered in a
-//! number, so that no compiler can leave a call out.
+//! The rows of the table. Each call times what a row tells, writes the row, and gives a number in
+//! which all that was answered is joined, so that no compiler can leave a timed call out.
 
 use crate::runs::{
     BLOCKS, Blocks, Decrypt, DecryptCbc, DecryptMany, Encrypt, EncryptBySpread, EncryptMany,
@@ -24,7 +24,7 @@ const BATCH: usize = 128;
 // The lengths of lists that have a row.
 const LENGTHS: [usize; 8] = [1, 16, 64, 127, 128, 255, 1024, 65536];
 
-/// The row of a cipher, one block at a time.
+/// Writes the row of a cipher, one block at a time.
 pub fn write_cipher<C: KeyInit + BlockCipherEncrypt + BlockCipherDecrypt + AlgorithmName + Drop>(
     rt: &(impl AllocGlobal + Clock + CpuClock),
     keys: &Keys,
@@ -39,7 +39,7 @@ pub fn write_cipher<C: KeyInit + BlockCipherEncrypt + BlockCipherDecrypt + Algor
     Ok(answer ^ joined(&blocks))
 }
 
-/// The row of a cipher whose calls take many blocks at a time.
+/// Writes the row of a cipher whose calls take many blocks at a time.
 pub fn write_lists<C: KeyInit + AlgorithmName + ManyBlocks + Drop>(
     rt: &(impl AllocGlobal + Clock + CpuClock),
     keys: &Keys,
@@ -54,7 +54,7 @@ pub fn write_lists<C: KeyInit + AlgorithmName + ManyBlocks + Drop>(
     Ok(joined(&blocks))
 }
 
-/// The rows of a cipher for lists of some lengths.
+/// Writes the rows of a cipher for lists of some lengths.
 pub fn write_lengths<C: KeyInit + ManyBlocks + Drop>(
     rt: &(impl AllocGlobal + Clock + CpuClock),
     keys: &Keys,
@@ -68,8 +68,8 @@ pub fn write_lengths<C: KeyInit + ManyBlocks + Drop>(
     Ok(sum)
 }
 
-// The row of lists of one length: the time of a block, encrypted over vectors of two and of four
-// words, and decrypted by CBC over two.
+// Writes the row of lists of one length: the time of a block, encrypted over vectors of two and of
+// four words, and decrypted by CBC over two.
 fn write_length<C: ManyBlocks>(
     rt: &(impl AllocGlobal + Clock + CpuClock),
     cipher: &C,
@@ -84,8 +84,8 @@ fn write_length<C: ManyBlocks>(
     Ok(joined(&blocks))
 }
 
-/// The row of a cipher whose round keys are spread once: the time of a spreading over vectors of
-/// two and of four words, and that of a block in one batch under the spread keys.
+/// Writes the row of a cipher whose round keys are spread once: the time of a spreading over
+/// vectors of two and of four words, and that of a block in one batch under the spread keys.
 pub fn write_spreading<C: KeyInit + AlgorithmName + SpreadOnce + Drop>(
     rt: &(impl AllocGlobal + Clock + CpuClock),
     keys: &Keys,
@@ -103,7 +103,7 @@ pub fn write_spreading<C: KeyInit + AlgorithmName + SpreadOnce + Drop>(
     Ok(joined(&blocks))
 }
 
-/// The row of the MACs over a cipher.
+/// Writes the row of the MACs over a cipher.
 pub fn write_macs<C: KeyedCipher + AlgorithmName + Drop>(
     rt: &(impl Clock + CpuClock),
     keys: &Keys,
@@ -122,7 +122,7 @@ pub fn write_macs<C: KeyedCipher + AlgorithmName + Drop>(
     Ok(first ^ second ^ third)
 }
 
-/// The row of the weak key test.
+/// Writes the row of the weak key test.
 pub fn write_weak_key_test(
     rt: &(impl Clock + CpuClock),
     keys: &Keys,

@@ -43,7 +43,7 @@ fn mixed_keys() -> Keys {
     keys
 }
 
-// The rows of the ciphers of a library, which has this body of single DES.
+// Writes the rows of the ciphers of a library, which has this body of single DES.
 fn write_ciphers<D: SingleDes + AlgorithmName>(
     rt: &(impl AllocGlobal + Clock + CpuClock),
     library: &str,
@@ -60,6 +60,7 @@ fn write_ciphers<D: SingleDes + AlgorithmName>(
     )
 }
 
+// Writes the rows of the calls for lists.
 fn write_many(
     rt: &(impl AllocGlobal + Clock + CpuClock),
     keys: &Keys,
@@ -75,7 +76,8 @@ fn write_many(
     )
 }
 
-// The rows where the round keys count: lists of some lengths, and keys that were spread before.
+// Writes the rows where the round keys count: lists of some lengths, and keys that were spread
+// before.
 fn write_round_keys(
     rt: &(impl AllocGlobal + Clock + CpuClock),
     keys: &Keys,
@@ -93,6 +95,7 @@ fn write_round_keys(
     )
 }
 
+// Writes the rows of the MACs and of the weak key test.
 fn write_others(
     rt: &(impl AllocGlobal + Clock + CpuClock),
     keys: &Keys,
