@@ -4,8 +4,8 @@ ghost use Rattle.std.specs.Prelude.{◌≤◌};
 
 use crate::fault::Fault;
 use crate::key::KeySource;
-use crate::padding::Padding;
 use clap::{Arg, ArgAction, ArgMatches, Command, Error, value_parser};
+use des_io::Padding;
 use std::alloc::{AllocError, Global};
 
 static DIRECTIONS: [&str; 2] = ["encrypt", "decrypt"];

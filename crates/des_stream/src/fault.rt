@@ -3,23 +3,9 @@
 ghost use Rattle.std.specs.Prelude.{◌≡◌};
 ghost use Rattle.des_stream.specs.Status.{status_of};
 
+use des_io::StreamError;
 use std::alloc::{AllocError, AllocFailed};
 use std::{fmt, io};
-
-/// Why a stream ended before its time.
-#[derive(Drop)]
-pub enum StreamError {
-    /// The reader failed.
-    Read(io::Error),
-    /// The writer failed, or took nothing.
-    Write(io::Error),
-    /// The input is not whole blocks: so many bytes follow the last whole one.
-    Length(usize),
-    /// The input has no block where the part begins, or ends within the vector.
-    Start,
-    /// The padding is wrong.
-    Padding,
-}
 
 /// Why the program failed.
 #[derive(Drop)]

@@ -4,8 +4,9 @@ ghost use Rattle.std.specs.Prelude.{◌≡◌, ◌<◌, ◌*◌, ℕ, List, IfOk
 ghost use Rattle.hex.specs.Hex.{decode_of};
 ghost use Rattle.des_stream.specs.KeyText.{is_space, key_digits};
 
-use crate::fault::{Fault, StreamError};
-use crate::pieces::fill;
+use crate::fault::Fault;
+use des_io::StreamError;
+use des_io::pieces::fill;
 use hex::{FromHex, FromHexError};
 use std::alloc::Global;
 use std::env::{self, VarError};

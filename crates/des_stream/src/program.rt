@@ -3,19 +3,16 @@
 ghost use Rattle.std.specs.Prelude.{◌≡◌, ◌<◌, ◌≤◌, ◌*◌, length};
 
 use crate::arguments::{Cipher, Options, Vector, WeakKeys, options_of, parse};
-use crate::decryption::decrypt_stream;
-use crate::encryption::encrypt_stream;
-use crate::fault::{Fault, StreamError};
+use crate::fault::Fault;
 use crate::key::{read_key, vector_of_text};
-use crate::mode::Mode;
 use crate::output::OutputFile;
-use crate::part::{decrypt_part, skip_blocks};
 use crate::watched::Watched;
 use clap::error::ErrorKind;
 use des::cipher::KeyInit;
 use des::weak_key::weak_key_test;
 use des_fast::many::ManyBlocks;
 use des_fast::{Des, TdesEde2, TdesEde3, TdesEee2, TdesEee3};
+use des_io::{Mode, StreamError, decrypt_part, decrypt_stream, encrypt_stream, skip_blocks};
 use std::alloc::Global;
 use std::env;
 use std::fs::File;

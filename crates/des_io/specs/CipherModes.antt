@@ -1,0 +1,26 @@
+-- The modes of operation that lists of blocks are enciphered in: each block by itself (ECB), or
+-- chained (CBC), both FIPS 81.
+use Rattle.std.specs.Prelude.{◌≡◌, ℕ, List, [], ◌∷◌, map}
+use Rattle.des.specs.Cbc.{Cbc, Unchains}
+use Rattle.des_io.specs.declared.mode.Mode.{Mode}
+use Rattle.des_io.specs.declared.mode.Mode.TheVariants.{Ecb, Cbc as InChain}
+
+-- the block that a chain of ciphertext blocks goes on from
+abbrev pub last_of : List ℕ → List (List ℕ) → List ℕ
+last_of iv [] = iv
+last_of iv (block ∷ blocks) = last_of block blocks
+
+-- q is p enciphered
+abbrev pub Enciphered : (List ℕ → List ℕ) → Mode → List (List ℕ) → List (List ℕ) → Type 0
+Enciphered encryption Ecb p q = q ≡ map encryption p
+Enciphered encryption (InChain iv) p q = Cbc encryption iv p q
+
+-- p is q deciphered
+abbrev pub Deciphered : (List ℕ → List ℕ) → Mode → List (List ℕ) → List (List ℕ) → Type 0
+Deciphered decryption Ecb q p = p ≡ map decryption q
+Deciphered decryption (InChain iv) q p = Unchains decryption iv q p
+
+-- how blocks go on after ciphertext blocks q
+abbrev pub mode_after : Mode → List (List ℕ) → Mode
+mode_after Ecb q = Ecb
+mode_after (InChain iv) q = InChain (last_of iv q)

@@ -1,0 +1,3 @@
+pub mod PaddedBytes
+pub mod CipherModes
+pub mod Streams

@@ -1,0 +1,181 @@
+//! Bytes that are decrypted from a reader to a writer.
+
+ghost use Rattle.std.specs.Prelude.{◌≡◌, ◌⊎◌, ◌≤◌, ◌<◌, ◌*◌, ℕ, List, Some, length, take, IfSome};
+ghost use Rattle.std.specs.Prelude.{IfOk, IfErr, IsOk};
+ghost use Rattle.std.specs.Io.KnownBytes.{Appends, IsAtEnd};
+ghost use Rattle.des_io.specs.Streams.{joined, bytes_of, WritesPiece, DeciphersPiece, IsLeft};
+ghost use Rattle.des_io.specs.Streams.{HoldsPart, FailsBefore, EndsStream, Decrypts};
+ghost use Rattle.des_io.specs.Streams.{DecryptsFront, FailsToDecrypt, IsOfWriting};
+
+use crate::error::StreamError;
+use crate::mode::Mode;
+use crate::padding::{Padding, count_before};
+use crate::pieces::{blocks_of, fill_front, write_whole};
+use des_fast::many::ManyBlocks;
+use std::io::{Error, ErrorKind, Read, Write};
+
+// Writes a block that may be there.
+fn write_held<W: Write>(writer: &mut W, held: &Option<[u8; 8]>) -> Result<(), StreamError>
+    ensures written { (k : ℕ) × (k ≤ length (bytes_of held.now))
+        × Appends (W.contents writer.old) (W.contents writer.new) (take k (bytes_of held.now))
+        × (IsOk result → k ≡ length (bytes_of held.now)) }
+    ensures fault { IfErr result IsOfWriting }
+{
+    match held {
+        Some(block) => write_whole(writer, block),
+        None => Ok(()),
+    }
+}
+
+// Writes the block that was held back, and the blocks but for the last one, which is then held
+// back.
+fn write_piece<W: Write>(
+    writer: &mut W,
+    held: &mut Option<[u8; 8]>,
+    blocks: &[[u8; 8]],
+) -> Result<(), StreamError>
+    ensures written { WritesPiece held.old held.new blocks.now
+        (W.contents writer.old) (W.contents writer.new) (IsOk result) }
+    ensures fault { IfErr result IsOfWriting }
+{
+    if let Some((last, front)) = blocks.split_last() {
+        write_held(writer, held)?;
+        write_whole(writer, front.as_flattened())?;
+        *held = Some(*last);
+    }
+    Ok(())
+}
+
+// Decrypts bytes that are whole blocks, and writes the block that was held back and what they
+// are deciphered, but for the last block, which is then held back.
+fn decrypt_piece<W: Write, C: ManyBlocks>(
+    cipher: &C,
+    mode: &mut Mode,
+    held: &mut Option<[u8; 8]>,
+    writer: &mut W,
+    bytes: &[u8],
+    blocks: &mut [[u8; 8]],
+) -> Result<(), StreamError>
+    requires { length bytes.now ≡ length blocks.old * 8 }
+    ensures deciphered { DeciphersPiece (C.decrypted cipher.now) mode.old mode.new bytes.now
+        held.old held.new (W.contents writer.old) (W.contents writer.new) (IsOk result) }
+    ensures fault { IfErr result IsOfWriting }
+{
+    blocks_of(bytes, blocks);
+    mode.decrypt(cipher, blocks);
+    write_piece(writer, held, blocks)
+}
+
+/// How many blocks go into the next piece: as many as there is room for, or fewer where fewer are
+/// left.
+pub fn next_count(room: usize, left: Option<u64>) -> usize
+    ensures within { result ≤ room }
+    ensures full { result ≡ room ⊎ left ≡ Some result }
+    ensures left { IfSome left (λ left. result ≤ left) }
+{
+    match left {
+        Some(left) if left < room as u64 => left as usize,
+        _ => room,
+    }
+}
+
+// What is left after so many blocks.
+fn left_after(left: Option<u64>, count: usize) -> Option<u64>
+    requires { IfSome left (λ left. count ≤ left) }
+    ensures { IsLeft left count result }
+{
+    match left {
+        Some(left) => Some(left - count as u64),
+        None => None,
+    }
+}
+
+/// Decrypts what the reader gives, up to its end or to a limit in blocks, and writes it but for the
+/// last block, which it gives. The buffers are of as many bytes as the blocks have.
+pub fn decrypt_blocks<R: Read, W: Write, C: ManyBlocks>(
+    cipher: &C,
+    mode: Mode,
+    limit: Option<u64>,
+    reader: &mut R,
+    writer: &mut W,
+    bytes: &mut [u8],
+    blocks: &mut [[u8; 8]],
+) -> Result<Option<[u8; 8]>, StreamError>
+    requires size { length bytes.old ≡ length blocks.old * 8 }
+    requires room { 0 < length blocks.old }
+    ensures done { IfOk result (λ last. HoldsPart (C.decrypted cipher.now) mode limit
+        (R.remaining reader.old) (R.remaining reader.new)
+        (W.contents writer.old) (W.contents writer.new) last) }
+    ensures front { DecryptsFront (C.decrypted cipher.now) mode
+        (R.remaining reader.old) (R.remaining reader.new)
+        (W.contents writer.old) (W.contents writer.new) }
+    ensures fault { IfErr result (λ fault.
+        FailsBefore fault (R.remaining reader.old) (R.remaining reader.new)) }
+{
+    let mut mode = mode;
+    let mut left = limit;
+    let mut held = None;
+    for _ in 0..u64::MAX {
+        let count = next_count(blocks.len(), left);
+        let n = fill_front(reader, bytes, 8 * count)?;
+        if n % 8 != 0 {
+            return Err(StreamError::Length(n % 8));
+        }
+        let piece = &mut blocks[..n / 8];
+        decrypt_piece(cipher, &mut mode, &mut held, writer, &bytes[..n], piece)?;
+        left = left_after(left, n / 8);
+        if n < bytes.len() {
+            return Ok(held);
+        }
+    }
+    Err(StreamError::Read(Error::from(ErrorKind::TimedOut)))
+}
+
+/// Writes the last block of a list of blocks without its padding.
+pub fn finish<W: Write>(
+    padding: Padding,
+    last: &Option<[u8; 8]>,
+    writer: &mut W,
+) -> Result<(), StreamError>
+    ensures ended { EndsStream padding (bytes_of last.now) (W.contents writer.old)
+        (W.contents writer.new) result }
+{
+    match last {
+        Some(block) => match count_before(padding, block) {
+            Some(count) => write_whole(writer, &block[..count]),
+            None => Err(StreamError::Padding),
+        },
+        None if padding == Padding::Unpadded => Ok(()),
+        None => Err(StreamError::Padding),
+    }
+}
+
+/// Decrypts what the reader gives, up to its end, and writes it without its padding, a buffer at a
+/// time. The buffers are of as many bytes as the blocks have.
+pub fn decrypt_stream<R: Read, W: Write, C: ManyBlocks>(
+    cipher: &C,
+    mode: Mode,
+    padding: Padding,
+    reader: &mut R,
+    writer: &mut W,
+    bytes: &mut [u8],
+    blocks: &mut [[u8; 8]],
+) -> Result<(), StreamError>
+    requires size { length bytes.old ≡ length blocks.old * 8 }
+    requires room { 0 < length blocks.old }
+    ensures done { IfOk result (λ _. Decrypts (C.decrypted cipher.now) mode padding
+        (R.remaining reader.old) (R.remaining reader.new)
+        (W.contents writer.old) (W.contents writer.new)) }
+    ensures end { IfOk result (λ _. IsAtEnd (R.remaining reader.new)) }
+    ensures front { DecryptsFront (C.decrypted cipher.now) mode
+        (R.remaining reader.old) (R.remaining reader.new)
+        (W.contents writer.old) (W.contents writer.new) }
+    ensures fault { IfErr result (λ fault.
+        FailsToDecrypt fault (C.decrypted cipher.now) mode padding
+        (R.remaining reader.old) (R.remaining reader.new)
+        (W.contents writer.old) (W.contents writer.new)) }
+{
+    let last = decrypt_blocks(cipher, mode, None, reader, writer, bytes, blocks)?;
+    finish(padding, &last, writer)?;
+    Ok(())
+}

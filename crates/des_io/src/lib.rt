@@ -1,0 +1,23 @@
+//! Bytes that go from a reader to a writer through a cipher: in a mode of operation (ECB or CBC)
+//! and with a padding (PKCS#7, ISO/IEC 7816-4 or none), a buffer at a time, over any cipher with
+//! the trait `ManyBlocks` of `des_fast`. The reader, the writer and the buffers are the caller's, so
+//! memory does not grow with what goes through, and no call takes any.
+//!
+//! What is written is the answer to what was read; after an error it is a front of the answer.
+//! Nothing is authenticated: a changed ciphertext decrypts to something, mostly with no error.
+#![tactic(auto)]
+
+pub mod decryption;
+pub mod encryption;
+pub mod error;
+pub mod mode;
+pub mod padding;
+pub mod part;
+pub mod pieces;
+
+pub use decryption::decrypt_stream;
+pub use encryption::encrypt_stream;
+pub use error::StreamError;
+pub use mode::Mode;
+pub use padding::Padding;
+pub use part::{decrypt_part, skip_blocks};

@@ -1,0 +1,75 @@
+//! Modes of operation, over any cipher: lists of blocks in pieces.
+
+ghost use Rattle.std.specs.Prelude.{◌≡◌};
+ghost use Rattle.std.specs.List.{All};
+ghost use Rattle.des.specs.Blocks.{IsBlock};
+ghost use Rattle.des_io.specs.CipherModes.{last_of, Enciphered, Deciphered, mode_after};
+
+use des::cbc;
+use des::cipher::are_blocks;
+use des_fast::many::ManyBlocks;
+
+/// How blocks follow each other (FIPS 81).
+#[derive(Clone, Copy)]
+pub enum Mode {
+    /// Electronic codebook: each block by itself.
+    Ecb,
+    /// Cipher block chaining, with the block before the first: the initialization vector, or the
+    /// last ciphertext block of what went before.
+    Cbc([u8; 8]),
+}
+
+// The block that a chain goes on from.
+fn last_block(iv: &[u8; 8], blocks: &[[u8; 8]]) -> [u8; 8]
+    ensures { result ≡ last_of iv.now blocks.now }
+{
+    match blocks.last() {
+        Some(block) => *block,
+        None => *iv,
+    }
+}
+
+impl Mode {
+    /// Goes on to what follows ciphertext blocks.
+    pub fn pass(&mut self, blocks: &[[u8; 8]])
+        ensures blocks { All IsBlock blocks.now }
+        ensures after { self.new ≡ mode_after self.old blocks.now }
+    {
+        are_blocks(blocks);
+        match self {
+            Mode::Ecb => {}
+            Mode::Cbc(iv) => *iv = last_block(iv, blocks),
+        }
+    }
+
+    /// Encrypts blocks of 8 bytes in place, and goes on to those after them.
+    pub fn encrypt<C: ManyBlocks>(&mut self, cipher: &C, blocks: &mut [[u8; 8]])
+        ensures blocks { All IsBlock blocks.old }
+        ensures enciphered { Enciphered (C.encrypted cipher.now) self.old blocks.old blocks.new }
+        ensures after { self.new ≡ mode_after self.old blocks.new }
+    {
+        match self {
+            Mode::Ecb => cipher.encrypt_many(blocks),
+            Mode::Cbc(iv) => {
+                cbc::encrypt(cipher, iv, blocks);
+                *iv = last_block(iv, blocks);
+            }
+        }
+    }
+
+    /// Decrypts blocks of 8 bytes in place, and goes on to those after them.
+    pub fn decrypt<C: ManyBlocks>(&mut self, cipher: &C, blocks: &mut [[u8; 8]])
+        ensures blocks { All IsBlock blocks.old }
+        ensures deciphered { Deciphered (C.decrypted cipher.now) self.old blocks.old blocks.new }
+        ensures after { self.new ≡ mode_after self.old blocks.old }
+    {
+        match self {
+            Mode::Ecb => cipher.decrypt_many(blocks),
+            Mode::Cbc(iv) => {
+                let next = last_block(iv, blocks);
+                cipher.decrypt_cbc(iv, blocks);
+                *iv = next;
+            }
+        }
+    }
+}

@@ -1,0 +1,97 @@
+//! A part of a stream of ciphertext blocks, decrypted by itself.
+
+ghost use Rattle.std.specs.Prelude.{◌≡◌, ◌≤◌, ◌<◌, ◌*◌, ℕ, List, length, map, IfOk, IfErr, IsOk};
+ghost use Rattle.std.specs.Io.KnownBytes.{Consumes, IsAtEnd};
+ghost use Rattle.des_io.specs.Streams.{Skips, FailsToSkip, DecryptsPart, DecryptsFront};
+ghost use Rattle.des_io.specs.Streams.{FailsInPart, IsOfReading, IsEndOrMore};
+
+use crate::decryption::{decrypt_blocks, finish, next_count};
+use crate::error::StreamError;
+use crate::mode::Mode;
+use crate::padding::Padding;
+use crate::pieces::{blocks_of, fill, fill_front};
+use des_fast::many::ManyBlocks;
+use std::io::{Error, ErrorKind, Read, Write};
+
+/// Reads the blocks before a part, so many, and gives how the blocks of the part go on from them.
+/// The buffers are of as many bytes as the blocks have.
+pub fn skip_blocks<R: Read>(
+    mode: Mode,
+    count: u64,
+    reader: &mut R,
+    bytes: &mut [u8],
+    blocks: &mut [[u8; 8]],
+) -> Result<Mode, StreamError>
+    requires size { length bytes.old ≡ length blocks.old * 8 }
+    requires room { 0 < length blocks.old }
+    ensures skips { IfOk result (λ next. Skips mode next count
+        (R.remaining reader.old) (R.remaining reader.new)) }
+    ensures fault { IfErr result (λ fault. FailsToSkip fault count
+        (R.remaining reader.old) (R.remaining reader.new)) }
+{
+    let mut mode = mode;
+    let mut left = count;
+    for _ in 0..u64::MAX {
+        if left == 0 {
+            return Ok(mode);
+        }
+        let count = next_count(blocks.len(), Some(left));
+        let n = fill_front(reader, bytes, 8 * count)?;
+        if n < 8 * count {
+            return Err(StreamError::Start);
+        }
+        let piece = &mut blocks[..count];
+        blocks_of(&bytes[..n], piece);
+        mode.pass(piece);
+        left -= count as u64;
+    }
+    Err(StreamError::Read(Error::from(ErrorKind::TimedOut)))
+}
+
+// Whether the reader has nothing left; where it has, a byte is read.
+fn is_at_end<R: Read>(reader: &mut R) -> Result<bool, StreamError>
+    ensures read { IfOk result (λ end. (bytes : List ℕ)
+        × Consumes (R.remaining reader.old) (R.remaining reader.new) bytes
+        × IsEndOrMore end bytes (R.remaining reader.new)) }
+    ensures consumed { (bytes : List ℕ)
+        × Consumes (R.remaining reader.old) (R.remaining reader.new) bytes }
+    ensures fault { IfErr result IsOfReading }
+{
+    let n = fill(reader, &mut [0])?;
+    Ok(n == 0)
+}
+
+/// Decrypts a part of so many blocks, or up to the end of the reader, and writes it. Where the
+/// reader is then at its end, the padding is taken off, and there must be a block.
+pub fn decrypt_part<R: Read, W: Write, C: ManyBlocks>(
+    cipher: &C,
+    mode: Mode,
+    padding: Padding,
+    limit: Option<u64>,
+    reader: &mut R,
+    writer: &mut W,
+    bytes: &mut [u8],
+    blocks: &mut [[u8; 8]],
+) -> Result<(), StreamError>
+    requires size { length bytes.old ≡ length blocks.old * 8 }
+    requires room { 0 < length blocks.old }
+    ensures done { IfOk result (λ _. DecryptsPart (C.decrypted cipher.now) mode padding limit
+        (R.remaining reader.old) (R.remaining reader.new)
+        (W.contents writer.old) (W.contents writer.new)) }
+    ensures front { DecryptsFront (C.decrypted cipher.now) mode
+        (R.remaining reader.old) (R.remaining reader.new)
+        (W.contents writer.old) (W.contents writer.new) }
+    ensures fault { IfErr result (λ fault.
+        FailsInPart fault (C.decrypted cipher.now) mode padding
+        (R.remaining reader.old) (R.remaining reader.new)
+        (W.contents writer.old) (W.contents writer.new)) }
+{
+    let last = decrypt_blocks(cipher, mode, limit, reader, writer, bytes, blocks)?;
+    if !is_at_end(reader)? {
+        return finish(Padding::Unpadded, &last, writer);
+    }
+    match last {
+        None => Err(StreamError::Start),
+        Some(_) => finish(padding, &last, writer),
+    }
+}

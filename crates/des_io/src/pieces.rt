@@ -1,0 +1,92 @@
+//! Bytes from a reader and to a writer, a buffer at a time.
+
+ghost use Rattle.std.specs.Prelude.{◌≡◌, ◌≤◌, ◌<◌, ◌*◌, ℕ, List, length, take, IfOk, IfErr, IsOk};
+ghost use Rattle.std.specs.Io.KnownBytes.{Consumes, Appends, IsAtEnd};
+ghost use Rattle.des_io.specs.Streams.{joined, IsOfReading, IsOfWriting};
+
+use crate::error::StreamError;
+use std::io::{Error, ErrorKind, Read, Write};
+
+/// Reads until the buffer is full or the reader is at its end, and gives the number of bytes. A
+/// read that was interrupted is tried again.
+pub fn fill<R: Read>(reader: &mut R, buffer: &mut [u8]) -> Result<usize, StreamError>
+    ensures consumed { (bytes : List ℕ)
+        × Consumes (R.remaining reader.old) (R.remaining reader.new) bytes }
+    ensures within { IfOk result (λ n. n ≤ length buffer.new) }
+    ensures read { IfOk result (λ n.
+        Consumes (R.remaining reader.old) (R.remaining reader.new) (take n buffer.new)) }
+    ensures end { IfOk result (λ n. n < length buffer.new → IsAtEnd (R.remaining reader.new)) }
+    ensures fault { IfErr result IsOfReading }
+{
+    let mut at = 0;
+    for _ in 0..u64::MAX {
+        if at >= buffer.len() {
+            return Ok(at);
+        }
+        match reader.read(&mut buffer[at..]) {
+            Ok(0) => return Ok(at),
+            Ok(n) => at += n,
+            Err(e) => {
+                if e.kind() != ErrorKind::Interrupted {
+                    return Err(StreamError::Read(e));
+                }
+            }
+        }
+    }
+    Err(StreamError::Read(Error::from(ErrorKind::TimedOut)))
+}
+
+/// Reads as `fill` does, into the first bytes of a buffer.
+pub fn fill_front<R: Read>(
+    reader: &mut R,
+    buffer: &mut [u8],
+    count: usize,
+) -> Result<usize, StreamError>
+    requires { count ≤ length buffer.old }
+    ensures consumed { (bytes : List ℕ)
+        × Consumes (R.remaining reader.old) (R.remaining reader.new) bytes }
+    ensures within { IfOk result (λ n. n ≤ count) }
+    ensures room { length buffer.new ≡ length buffer.old }
+    ensures read { IfOk result (λ n.
+        Consumes (R.remaining reader.old) (R.remaining reader.new) (take n buffer.new)) }
+    ensures end { IfOk result (λ n. n < count → IsAtEnd (R.remaining reader.new)) }
+    ensures fault { IfErr result IsOfReading }
+{
+    fill(reader, &mut buffer[..count])
+}
+
+/// Writes the bytes; where that fails, some of the first of them are written. A write that was
+/// interrupted is tried again.
+pub fn write_whole<W: Write>(writer: &mut W, bytes: &[u8]) -> Result<(), StreamError>
+    ensures written { (k : ℕ) × (k ≤ length bytes.now)
+        × Appends (W.contents writer.old) (W.contents writer.new) (take k bytes.now)
+        × (IsOk result → k ≡ length bytes.now) }
+    ensures fault { IfErr result IsOfWriting }
+{
+    let mut at = 0;
+    for _ in 0..u64::MAX {
+        if at >= bytes.len() {
+            return Ok(());
+        }
+        match writer.write(&bytes[at..]) {
+            Ok(0) => return Err(StreamError::Write(Error::from(ErrorKind::WriteZero))),
+            Ok(n) => at += n,
+            Err(e) => {
+                if e.kind() != ErrorKind::Interrupted {
+                    return Err(StreamError::Write(e));
+                }
+            }
+        }
+    }
+    Err(StreamError::Write(Error::from(ErrorKind::TimedOut)))
+}
+
+/// Writes the blocks of 8 bytes that the bytes are.
+pub fn blocks_of(bytes: &[u8], blocks: &mut [[u8; 8]])
+    requires { length bytes.now ≡ length blocks.old * 8 }
+    ensures { joined blocks.new ≡ bytes.now }
+{
+    for (i, block) in blocks.iter_mut().enumerate() {
+        block.copy_from_slice(&bytes[8 * i..8 * i + 8]);
+    }
+}
