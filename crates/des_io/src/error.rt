@@ -1,9 +1,9 @@
 //! What can fail between a reader and a writer.
 
-use std::io;
+use std::{fmt, io};
 
 /// Why a stream ended before its time.
-#[derive(Drop)]
+#[derive(Debug, Drop)]
 pub enum StreamError {
     /// The reader failed.
     Read(io::Error),
@@ -15,4 +15,22 @@ pub enum StreamError {
     Start,
     /// The padding is wrong.
     Padding,
+}
+
+/// Writes what failed, in plain words.
+impl fmt::Display for StreamError {
+    fn fmt<W: fmt::Write>(&self, f: &mut fmt::Formatter<W>) -> fmt::Result {
+        match self {
+            StreamError::Read(error) => write!(f, "the input cannot be read: {error}"),
+            StreamError::Write(error) => write!(f, "the output cannot be written: {error}"),
+            StreamError::Length(past) => {
+                write!(
+                    f,
+                    "the input has {past} bytes after its last whole block of 8"
+                )
+            }
+            StreamError::Start => f.write_str("the input ends before the part"),
+            StreamError::Padding => f.write_str("the padding is wrong"),
+        }
+    }
 }
