@@ -8,17 +8,6 @@ use clap::{Arg, ArgAction, ArgMatches, Command, Error, value_parser};
 use des_io::Padding;
 use std::alloc::{AllocError, Global};
 
-static DIRECTIONS: [&str; 2] = ["encrypt", "decrypt"];
-
-static CIPHERS: [&str; 10] = [
-    "des-ecb", "des-cbc", "ede3-ecb", "ede3-cbc", "eee3-ecb", "eee3-cbc", "ede2-ecb", "ede2-cbc",
-    "eee2-ecb", "eee2-cbc",
-];
-
-static PADDINGS: [&str; 3] = ["pkcs7", "iso7816", "none"];
-
-static CHOICES: [&str; 3] = ["refuse", "warn", "accept"];
-
 /// The ciphers.
 #[derive(Clone, Copy)]
 pub enum Cipher {
@@ -93,122 +82,136 @@ pub struct Options<'a> {
     pub shows_progress: bool,
 }
 
-// One argument more. Each call of `clap` that says how an argument differs stands in a function of
-// its own here, which tells its caller nothing of the many fields that stay.
-fn with_argument<'a>(command: Command<'a>, arg: Arg<'a>) -> Result<Command<'a>, AllocError> {
-    command.arg(arg)
+// What an argument takes, and options under which name in the help.
+#[derive(Clone, Copy)]
+enum Takes<'a> {
+    // One of some words, in its place.
+    Place(&'a [&'a str]),
+    // One of some words.
+    Word(&'a str, &'a [&'a str]),
+    // A number.
+    Number(&'a str),
+    // A text.
+    Text(&'a str),
+    // Nothing.
+    Nothing,
 }
 
-// Takes one of some words.
+// A line of the help: an argument's name, what it takes and what it says.
+#[derive(Clone, Copy)]
+struct Line<'a>(&'a str, Takes<'a>, &'a str);
+
+static LINES: [Line<'static>; 13] = [
+    Line(
+        "direction",
+        Takes::Place(&["encrypt", "decrypt"]),
+        "What to do",
+    ),
+    Line(
+        "cipher",
+        Takes::Place(&[
+            "des-ecb", "des-cbc", "ede3-ecb", "ede3-cbc", "eee3-ecb", "eee3-cbc", "ede2-ecb",
+            "ede2-cbc", "eee2-ecb", "eee2-cbc",
+        ]),
+        "The cipher and its mode",
+    ),
+    Line(
+        "key-file",
+        Takes::Text("FILE"),
+        "Read the key's hexadecimal digits from a file",
+    ),
+    Line("key-fd", Takes::Number("N"), "Read them from a descriptor"),
+    Line(
+        "key-env",
+        Takes::Text("NAME"),
+        "Take them from an environment variable",
+    ),
+    Line(
+        "iv",
+        Takes::Text("VECTOR"),
+        "CBC's vector: 16 digits, or first-block where it stands before the input",
+    ),
+    Line(
+        "padding",
+        Takes::Word("PADDING", &["pkcs7", "iso7816", "none"]),
+        "How bytes are made whole blocks [default: pkcs7]",
+    ),
+    Line(
+        "weak-keys",
+        Takes::Word("CHOICE", &["refuse", "warn", "accept"]),
+        "What to do with a weak key [default: refuse to encrypt, warn to decrypt]",
+    ),
+    Line(
+        "from",
+        Takes::Number("BLOCK"),
+        "Decrypt from this block on, the first being 0",
+    ),
+    Line("blocks", Takes::Number("COUNT"), "Decrypt so many blocks"),
+    Line(
+        "in",
+        Takes::Text("FILE"),
+        "Read a file in place of standard input",
+    ),
+    Line(
+        "out",
+        Takes::Text("FILE"),
+        "Write a file, there at success alone, in place of standard output",
+    ),
+    Line(
+        "progress",
+        Takes::Nothing,
+        "Say on standard error how far it is",
+    ),
+];
+
+// Each call of `clap` that says how an argument differs stands in a function of its own here, which
+// tells its caller nothing of the many fields that stay.
+fn place<'a>(arg: Arg<'a>) -> Arg<'a> {
+    arg.required(true)
+}
+
+fn option<'a>(arg: Arg<'a>, name: &'a str, value: &'a str) -> Arg<'a> {
+    arg.long(name).value_name(value)
+}
+
 fn one_of<'a>(arg: Arg<'a>, words: &'a [&'a str]) -> Arg<'a> {
     arg.value_parser(words)
 }
 
-// Takes a number.
 fn number<'a>(arg: Arg<'a>) -> Arg<'a> {
     arg.value_parser(value_parser!(u64))
 }
 
-fn argument<'a>(alloc: Global, name: &'a str, help: &'a str) -> Arg<'a> {
-    Arg::new(alloc, name).help(help)
+fn flag<'a>(arg: Arg<'a>, name: &'a str) -> Arg<'a> {
+    arg.long(name).action(ArgAction::SetTrue)
 }
 
-// A word that has its place.
-fn word<'a>(alloc: Global, name: &'a str, help: &'a str) -> Arg<'a> {
-    argument(alloc, name, help).required(true)
+fn argument<'a>(alloc: Global, line: Line<'a>) -> Arg<'a> {
+    let Line(name, takes, help) = line;
+    let arg = Arg::new(alloc, name).help(help);
+    match takes {
+        Takes::Place(words) => one_of(place(arg), words),
+        Takes::Word(value, words) => one_of(option(arg, name, value), words),
+        Takes::Number(value) => number(option(arg, name, value)),
+        Takes::Text(value) => option(arg, name, value),
+        Takes::Nothing => flag(arg, name),
+    }
 }
 
-// An option that takes a value.
-fn option<'a>(alloc: Global, name: &'a str, value: &'a str, help: &'a str) -> Arg<'a> {
-    argument(alloc, name, help).long(name).value_name(value)
+fn with_argument<'a>(command: Command<'a>, arg: Arg<'a>) -> Result<Command<'a>, AllocError> {
+    command.arg(arg)
 }
 
-// An option that takes none.
-fn flag<'a>(alloc: Global, name: &'a str, help: &'a str) -> Arg<'a> {
-    argument(alloc, name, help)
-        .long(name)
-        .action(ArgAction::SetTrue)
-}
-
-fn with_words<'a>(alloc: Global, command: Command<'a>) -> Result<Command<'a>, AllocError> {
-    let direction = word(alloc, "direction", "What to do");
-    let command = with_argument(command, one_of(direction, DIRECTIONS.as_slice()))?;
-    let cipher = word(alloc, "cipher", "The cipher and its mode");
-    with_argument(command, one_of(cipher, CIPHERS.as_slice()))
-}
-
-fn with_key<'a>(alloc: Global, command: Command<'a>) -> Result<Command<'a>, AllocError> {
-    let file = option(
-        alloc,
-        "key-file",
-        "FILE",
-        "Read the key's hexadecimal digits from a file",
-    );
-    let command = with_argument(command, file)?;
-    let descriptor = option(alloc, "key-fd", "N", "Read them from a descriptor");
-    let command = with_argument(command, number(descriptor))?;
-    let variable = option(
-        alloc,
-        "key-env",
-        "NAME",
-        "Take them from an environment variable",
-    );
-    with_argument(command, variable)
-}
-
-fn with_modes<'a>(alloc: Global, command: Command<'a>) -> Result<Command<'a>, AllocError> {
-    let iv = option(
-        alloc,
-        "iv",
-        "VECTOR",
-        "CBC's vector: 16 digits, or first-block where it stands before the input",
-    );
-    let command = with_argument(command, iv)?;
-    let padding = option(
-        alloc,
-        "padding",
-        "PADDING",
-        "How bytes are made whole blocks [default: pkcs7]",
-    );
-    let command = with_argument(command, one_of(padding, PADDINGS.as_slice()))?;
-    let weak = option(
-        alloc,
-        "weak-keys",
-        "CHOICE",
-        "What to do with a weak key [default: refuse to encrypt, warn to decrypt]",
-    );
-    with_argument(command, one_of(weak, CHOICES.as_slice()))
-}
-
-fn with_part<'a>(alloc: Global, command: Command<'a>) -> Result<Command<'a>, AllocError> {
-    let from = option(
-        alloc,
-        "from",
-        "BLOCK",
-        "Decrypt from this block on, the first being 0",
-    );
-    let command = with_argument(command, number(from))?;
-    let count = option(alloc, "blocks", "COUNT", "Decrypt so many blocks");
-    with_argument(command, number(count))
-}
-
-fn with_files<'a>(alloc: Global, command: Command<'a>) -> Result<Command<'a>, AllocError> {
-    let input = option(
-        alloc,
-        "in",
-        "FILE",
-        "Read a file in place of standard input",
-    );
-    let command = with_argument(command, input)?;
-    let output = option(
-        alloc,
-        "out",
-        "FILE",
-        "Write a file, there at success alone, in place of standard output",
-    );
-    let command = with_argument(command, output)?;
-    let progress = flag(alloc, "progress", "Say on standard error how far it is");
-    with_argument(command, progress)
+fn with_lines<'a>(
+    alloc: Global,
+    command: Command<'a>,
+    lines: &'a [Line<'a>],
+) -> Result<Command<'a>, AllocError> {
+    let mut command = command;
+    for line in lines {
+        command = with_argument(command, argument(alloc, *line))?;
+    }
+    Ok(command)
 }
 
 // The program's command.
@@ -216,9 +219,7 @@ fn command<'a>(alloc: Global) -> Result<Command<'a>, AllocError> {
     let command = Command::new(alloc, "des_stream").version("0.1.0").about(
         "Encrypts and decrypts a file or a pipe by DES or triple DES.",
     );
-    let command = with_key(alloc, with_words(alloc, command)?)?;
-    let command = with_part(alloc, with_modes(alloc, command)?)?;
-    with_files(alloc, command)
+    with_lines(alloc, command, LINES.as_slice())
 }
 
 /// Parses the words of a command line, the program's name first.
