@@ -281,10 +281,10 @@ fn cipher_of(name: &str) -> Cipher {
 }
 
 fn part_of(from: Option<u64>, count: Option<u64>) -> Option<Part> {
-    match from {
-        Some(from) => Some(Part { from, count }),
-        None if count.is_some() => Some(Part { from: 0, count }),
-        None => None,
+    match (from, count) {
+        (None, None) => None,
+        (Some(from), count) => Some(Part { from, count }),
+        (None, count) => Some(Part { from: 0, count }),
     }
 }
 

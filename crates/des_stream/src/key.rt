@@ -8,7 +8,7 @@ use crate::fault::Fault;
 use des_io::StreamError;
 use des_io::pieces::fill;
 use hex::{FromHex, FromHexError};
-use std::alloc::Global;
+use std::alloc::{AllocError, Global};
 use std::env::{self, VarError};
 use std::fs::File;
 use std::io::Read;
@@ -34,17 +34,23 @@ fn is_space(byte: u8) -> bool
     byte == b' ' || byte == b'\t' || byte == b'\n' || byte == b'\r'
 }
 
+// The text without its white space.
+fn digits_of(alloc: Global, text: &[u8]) -> Result<Vec<u8>, AllocError>
+    ensures { IfOk result (λ digits. digits.items ≡ key_digits text.now) }
+{
+    text.iter()
+        .copied()
+        .filter(|byte| !is_space(*byte))
+        .collect(alloc)
+}
+
 /// The bytes of a key from its digits, of so many bytes. White space is passed over.
 pub fn key_of_text(alloc: Global, text: &[u8], size: usize) -> Result<Vec<u8>, Fault>
     requires { size < 1000 }
     ensures key { IfOk result (λ key. decode_of (key_digits text.now) ≡ Ok key.items) }
     ensures size { IfOk result (λ key. length (key_digits text.now) ≡ 2 * size) }
 {
-    let digits: Vec<u8> = text
-        .iter()
-        .copied()
-        .filter(|byte| !is_space(*byte))
-        .collect(alloc)?;
+    let digits = digits_of(alloc, text)?;
     if digits.len() != 2 * size {
         return Err(Fault::KeyLength(2 * size));
     }
