@@ -82,7 +82,7 @@ pub struct Options<'a> {
     pub shows_progress: bool,
 }
 
-// What an argument takes, and options under which name in the help.
+// What an argument takes; where it is an option, first what the help calls its value.
 #[derive(Clone, Copy)]
 enum Takes<'a> {
     // One of some words, in its place.
@@ -97,10 +97,11 @@ enum Takes<'a> {
     Nothing,
 }
 
-// A line of the help: an argument's name, what it takes and what it says.
+// An argument: its name, what it takes, and what the help says of it.
 #[derive(Clone, Copy)]
 struct Line<'a>(&'a str, Takes<'a>, &'a str);
 
+// All of them, in the help's order.
 static LINES: [Line<'static>; 13] = [
     Line(
         "direction",
