@@ -26,16 +26,8 @@ pub enum Fault {
     Vector,
     /// A request for memory was refused.
     Memory,
-    /// The input cannot be read.
-    Read(io::Error),
-    /// The output cannot be written.
-    Write(io::Error),
-    /// The input is not whole blocks: so many bytes follow the last whole one.
-    Length(usize),
-    /// The input has no block where the part begins, or ends within the vector.
-    Start,
-    /// The padding is wrong.
-    Padding,
+    /// The input or the output failed, or the input is not what the options say.
+    Stream(StreamError),
 }
 
 // The statuses that the program ends with.
@@ -48,14 +40,24 @@ const NOT_READ_OR_WRITTEN: u8 = 4;
 const INPUT_AT_FAULT: u8 = 5;
 
 impl Fault {
+    /// The input cannot be read.
+    pub fn of_reader(error: io::Error) -> Fault {
+        Fault::Stream(StreamError::Read(error))
+    }
+
+    /// The output cannot be written.
+    pub fn of_writer(error: io::Error) -> Fault {
+        Fault::Stream(StreamError::Write(error))
+    }
+
     /// The status that the program ends with.
     pub fn status(&self) -> u8
         ensures { result ≡ status_of self.now }
     {
         match self {
             Fault::Memory => MEMORY_REFUSED,
-            Fault::Read(_) | Fault::Write(_) => NOT_READ_OR_WRITTEN,
-            Fault::Length(_) | Fault::Start | Fault::Padding => INPUT_AT_FAULT,
+            Fault::Stream(StreamError::Read(_) | StreamError::Write(_)) => NOT_READ_OR_WRITTEN,
+            Fault::Stream(_) => INPUT_AT_FAULT,
             _ => ARGUMENTS_AT_FAULT,
         }
     }
@@ -73,29 +75,28 @@ impl fmt::Display for Fault {
             Fault::WeakKey => f.write_str("WeakKey: the key is weak (--weak-keys accept takes it)"),
             Fault::Vector => f.write_str("Vector: --iv takes 16 hexadecimal digits or first-block"),
             Fault::Memory => f.write_str("Memory: a request for memory was refused"),
-            Fault::Read(error) => write!(f, "Read: the input cannot be read: {error}"),
-            Fault::Write(error) => write!(f, "Write: the output cannot be written: {error}"),
-            Fault::Length(past) => {
-                write!(
-                    f,
-                    "Length: the input has {past} bytes after its last whole block of 8"
-                )
-            }
-            Fault::Start => f.write_str("Start: the input ends before the block of --from"),
-            Fault::Padding => f.write_str("Padding: the input's padding is not that of --padding"),
+            Fault::Stream(error) => write_stream_error(error, f),
         }
+    }
+}
+
+// Writes the name of what failed, and the error's own words with the option that they are about.
+fn write_stream_error<W: fmt::Write>(
+    error: &StreamError,
+    f: &mut fmt::Formatter<W>,
+) -> fmt::Result {
+    match error {
+        StreamError::Read(_) => write!(f, "Read: {error}"),
+        StreamError::Write(_) => write!(f, "Write: {error}"),
+        StreamError::Length(_) => write!(f, "Length: {error}"),
+        StreamError::Start => write!(f, "Start: {error} that --from names"),
+        StreamError::Padding => write!(f, "Padding: {error}, which is not that of --padding"),
     }
 }
 
 impl From<StreamError> for Fault {
     fn from(error: StreamError) -> Fault {
-        match error {
-            StreamError::Read(error) => Fault::Read(error),
-            StreamError::Write(error) => Fault::Write(error),
-            StreamError::Length(past) => Fault::Length(past),
-            StreamError::Start => Fault::Start,
-            StreamError::Padding => Fault::Padding,
-        }
+        Fault::Stream(error)
     }
 }
 

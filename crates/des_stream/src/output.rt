@@ -19,7 +19,7 @@ impl<'a> OutputFile<'a> {
     pub fn create(rt: &HostRuntime, path: &'a str) -> Result<OutputFile<'a>, Fault> {
         let id = process::id(rt.process());
         let beside = format!(in rt.alloc(); "{path}.{id}.part")?;
-        let file = File::create_new(rt, beside.as_str()).map_err(Fault::Write)?;
+        let file = File::create_new(rt, beside.as_str()).map_err(Fault::of_writer)?;
         Ok(OutputFile { path, beside, file })
     }
 
@@ -28,7 +28,7 @@ impl<'a> OutputFile<'a> {
     pub fn end(self, rt: &HostRuntime, outcome: Result<(), Fault>) -> Result<(), Fault> {
         let OutputFile { path, beside, file } = self;
         let outcome = match outcome {
-            Ok(()) => keep(rt, &file, beside.as_str(), path).map_err(Fault::Write),
+            Ok(()) => keep(rt, &file, beside.as_str(), path).map_err(Fault::of_writer),
             Err(fault) => Err(fault),
         };
         if outcome.is_err() {

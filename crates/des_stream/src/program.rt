@@ -198,8 +198,8 @@ fn run_from_stdin(rt: &HostRuntime, options: &Options, key: &[u8]) -> Result<(),
 
 // Reads a file.
 fn run_from_file(rt: &HostRuntime, options: &Options, key: &[u8], path: &str) -> Result<(), Fault> {
-    let mut file = File::open(rt, path).map_err(Fault::Read)?;
-    let total = file.metadata().map_err(Fault::Read)?.len();
+    let mut file = File::open(rt, path).map_err(Fault::of_reader)?;
+    let total = file.metadata().map_err(Fault::of_reader)?.len();
     let skipped = seek_to_last(&mut file, blocks_before(options));
     let mut reader = Watched::new(rt, file, options.shows_progress, Some(total));
     let job = Job {
@@ -234,7 +234,7 @@ fn show(rt: &HostRuntime, error: &clap::Error) -> ExitCode {
     if !error.use_stderr() {
         return match error.print(rt) {
             Ok(()) => ExitCode::SUCCESS,
-            Err(error) => report(rt, &Fault::Write(error)),
+            Err(error) => report(rt, &Fault::of_writer(error)),
         };
     }
     match format!(in rt.alloc(); "{error}") {
