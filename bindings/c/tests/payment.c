@@ -14,14 +14,24 @@ static int are(const uint8_t *bytes, size_t count, const char *digits) {
 
 static const char base_key[] = "0123456789abcdeffedcba9876543210";
 
+/* The first and the last are OpenSSL's: `des-ede3` answers the zero block so, under three times the first key, and under the parts
+ * of the last. */
+static void answers_known_check_values(void) {
+  uint8_t key[24], value[3];
+  put(key, "133457799bbcdff1");
+  CHECK(cukvashe_des_check_value(key, 8, value) == CUKVASHE_OK && are(value, 3, "948a43"));
+  put(key, base_key);
+  CHECK(cukvashe_tdes_ede2_check_value(key, 16, value) == CUKVASHE_OK && are(value, 3, "08d7b4"));
+  CHECK(cukvashe_des_check_value(key, 8, value) == CUKVASHE_OK && are(value, 3, "d5d44f"));
+  put(key, "0123456789abcdef23456789abcdef01456789abcdef0123");
+  CHECK(cukvashe_tdes_ede3_check_value(key, 24, value) == CUKVASHE_OK && are(value, 3, "4eba73"));
+}
+
 static void answers_check_values(void) {
   static int (*const calls[])(const uint8_t *, size_t, uint8_t *) = {
       cukvashe_des_check_value, cukvashe_tdes_ede3_check_value, cukvashe_tdes_eee3_check_value,
       cukvashe_tdes_ede2_check_value, cukvashe_tdes_eee2_check_value};
-  uint8_t key[24] = {0}, value[3], block[8];
-  put(key, base_key);
-  CHECK(cukvashe_tdes_ede2_check_value(key, 16, value) == CUKVASHE_OK && are(value, 3, "08d7b4"));
-  CHECK(cukvashe_des_check_value(key, 8, value) == CUKVASHE_OK && are(value, 3, "d5d44f"));
+  uint8_t key[24], value[3], block[8];
   random_bytes(key, sizeof key);
   for (int cipher = 0; cipher < CIPHERS; cipher++) {
     union context context;
@@ -53,6 +63,17 @@ static void combines(void) {
   CHECK(cukvashe_combine_8(key, components[0], NULL, 0, same + 8) == CUKVASHE_OK && memcmp(same + 8, key, 8) == 0);
 }
 
+/* By hand: the xor of the first two is 11 33 .. ff, of which each byte has an even number of ones, so that its lowest bit turns. */
+static void sets_parity(void) {
+  uint8_t components[3][8], key[8];
+  put(components[0], "1010101010101010");
+  put(components[1], "0123456789abcdef");
+  put(components[2], "8000000000000000");
+  CHECK(cukvashe_combine_8(components[0], components[1], NULL, 0, key) == CUKVASHE_OK && are(key, 8, "1032547698badcfe"));
+  CHECK(cukvashe_combine_8(components[0], components[1], components[2], 1, key) == CUKVASHE_OK);
+  CHECK(are(key, 8, "9132547698badcfe"));
+}
+
 /* Serial number, transaction key, PIN key, MAC key of the request. */
 static const char *const transactions[6][4] = {
     {"ffff9876543210e00001", "042666b49184cfa368de9628d0397bc9", "042666b49184cf5c68de9628d0397b36",
@@ -75,6 +96,9 @@ static void answers_transactions(void) {
   put(serial, "ffff9876543210e00000");
   cukvashe_dukpt_initial_key(base, serial, initial);
   CHECK(are(initial, 16, "6ac292faa1315b4d858ab3a3d7d5933a"));
+  put(serial, "ffff9876543210ffffff");
+  cukvashe_dukpt_initial_key(base, serial, key);
+  CHECK(memcmp(key, initial, sizeof key) == 0);
   for (int i = 0; i < 6; i++) {
     put(serial, transactions[i][0]);
     cukvashe_dukpt_initial_key(base, serial, key);
@@ -93,8 +117,9 @@ static void answers_transactions(void) {
   cukvashe_dukpt_transaction_key(initial, serial, transaction);
   cukvashe_dukpt_data_key(transaction, false, key);
   CHECK(are(key, 16, "448d3f076d8304036a55a3d7e0055a78"));
+  /* What `openssl enc -des-ede -nopad` makes of the halves of the masked key under it. */
   cukvashe_dukpt_data_key(transaction, true, key);
-  CHECK(!are(key, 16, "448d3f076d8304036a55a3d7e0055a78"));
+  CHECK(are(key, 16, "ad7bfc8b06ad3a08a560b4105cf8d9e5"));
 }
 
 static void counts(void) {
@@ -125,6 +150,7 @@ static int is_pin(const uint8_t pin[12], size_t length, const char *digits) {
  * 341234abcdefabcd and 0000401234567890. */
 static void answers_pin_blocks(void) {
   static const uint8_t transaction[10] = {15, 14, 0, 9, 10, 5, 1, 2, 3, 4};
+  static const uint8_t other[10] = {0, 1, 2, 3, 4, 5, 6, 7, 8, 15};
   static const uint8_t fill[10] = {10, 11, 12, 13, 14, 15, 10, 11, 12, 13};
   uint8_t block[8], pin[12];
   size_t length = 77;
@@ -138,6 +164,8 @@ static void answers_pin_blocks(void) {
   CHECK(cukvashe_pin_encode_1(TEXT("1234"), transaction, block) == CUKVASHE_OK);
   CHECK(are(block, 8, "141234fe09a51234"));
   memset(pin, 0x77, sizeof pin);
+  CHECK(cukvashe_pin_decode_1(block, pin, &length) == CUKVASHE_OK && is_pin(pin, length, "1234"));
+  CHECK(cukvashe_pin_encode_1(TEXT("1234"), other, block) == CUKVASHE_OK && are(block, 8, "141234012345678f"));
   CHECK(cukvashe_pin_decode_1(block, pin, &length) == CUKVASHE_OK && is_pin(pin, length, "1234"));
   CHECK(cukvashe_pin_encode_1(TEXT("123456789012"), transaction, block) == CUKVASHE_OK);
   CHECK(are(block, 8, "1c123456789012fe"));
@@ -159,10 +187,17 @@ static const struct {
     {"1234567890123", account, 10, {CUKVASHE_PIN_LENGTH, CUKVASHE_PIN_LENGTH, CUKVASHE_PIN_LENGTH}},
     {"123:", "401234567890", 16, {CUKVASHE_PIN_DIGIT, CUKVASHE_PIN_DIGIT, CUKVASHE_PIN_DIGIT}},
     {"/23456789012", account, 10, {CUKVASHE_PIN_DIGIT, CUKVASHE_PIN_DIGIT, CUKVASHE_PIN_DIGIT}},
+    {"/23", account, 10, {CUKVASHE_PIN_LENGTH, CUKVASHE_PIN_LENGTH, CUKVASHE_PIN_LENGTH}},
+    {"/234", account, 10, {CUKVASHE_PIN_DIGIT, CUKVASHE_PIN_DIGIT, CUKVASHE_PIN_DIGIT}},
     {"1234", "401234567890", 16, {CUKVASHE_ACCOUNT_LENGTH, CUKVASHE_FILL, CUKVASHE_ACCOUNT_LENGTH}},
     {"1234", "99999994012345678900", 10, {CUKVASHE_ACCOUNT_LENGTH, CUKVASHE_OK, CUKVASHE_ACCOUNT_LENGTH}},
     {"1234", "401234567890:", 16, {CUKVASHE_ACCOUNT_DIGIT, CUKVASHE_FILL, CUKVASHE_ACCOUNT_DIGIT}},
     {"1234", "/999994012345678900", 10, {CUKVASHE_ACCOUNT_DIGIT, CUKVASHE_OK, CUKVASHE_ACCOUNT_DIGIT}},
+    {"1234", "/012345678909", 9, {CUKVASHE_ACCOUNT_DIGIT, CUKVASHE_OK, CUKVASHE_ACCOUNT_DIGIT}},
+    {"1234", "/01234567890", 9, {CUKVASHE_ACCOUNT_LENGTH, CUKVASHE_OK, CUKVASHE_ACCOUNT_LENGTH}},
+    {"1234", "40123456789012345678", 9, {CUKVASHE_ACCOUNT_LENGTH, CUKVASHE_OK, CUKVASHE_ACCOUNT_LENGTH}},
+    {"1234", "4012345678901234567", 10, {CUKVASHE_OK, CUKVASHE_OK, CUKVASHE_OK}},
+    {"1234", "4012345678901234567", 9, {CUKVASHE_OK, CUKVASHE_OK, CUKVASHE_FILL}},
     {"1234", account, 9, {CUKVASHE_OK, CUKVASHE_OK, CUKVASHE_FILL}},
     {"1234", account, 16, {CUKVASHE_OK, CUKVASHE_FILL, CUKVASHE_FILL}},
     {"1234", account, 15, {CUKVASHE_OK, CUKVASHE_OK, CUKVASHE_OK}},
@@ -189,6 +224,23 @@ static void refuses_to_encode(void) {
   CHECK(cukvashe_pin_encode_0(TEXT("1234"), NULL, 0, blocks[0]) == CUKVASHE_ACCOUNT_LENGTH);
 }
 
+/* Each fill digit is tested, also one that the block of a PIN of twelve does not take. */
+static void refuses_fill(void) {
+  static const uint8_t *const pin = (const uint8_t *)"123456789012";
+  uint8_t above[10], below[10], block[8];
+  for (int place = 0; place < 10; place++) {
+    memset(above, 15, sizeof above);
+    memset(below, 10, sizeof below);
+    above[place] = 16;
+    below[place] = 9;
+    CHECK(cukvashe_pin_encode_1(pin, 12, above, block) == CUKVASHE_FILL);
+    CHECK(cukvashe_pin_encode_3(pin, 12, TEXT(account), above, block) == CUKVASHE_FILL);
+    CHECK(cukvashe_pin_encode_3(pin, 12, TEXT(account), below, block) == CUKVASHE_FILL);
+  }
+}
+
+static const char zeros[] = "0000000000000";
+
 /* A format, a block, an account number, and the fault. */
 static const struct {
   int format;
@@ -203,6 +255,16 @@ static const struct {
     {0, "0da274edcba9876e", account, CUKVASHE_PIN_LENGTH},
     {0, "04a274edcba9876e", account, CUKVASHE_PIN_DIGIT},
     {0, "041274edcba9876e", account, CUKVASHE_FILL},
+    {0, "1010101010101010", "/01234567890", CUKVASHE_ACCOUNT_LENGTH},
+    {0, "1010101010101010", "/012345678909", CUKVASHE_ACCOUNT_DIGIT},
+    {0, "1010101010101010", "4012345678901234567", CUKVASHE_FORMAT},
+    {0, "141234ffffffffff", zeros, CUKVASHE_FORMAT},
+    {0, "031234ffffffffff", zeros, CUKVASHE_PIN_LENGTH},
+    {0, "0d1234567890123f", zeros, CUKVASHE_PIN_LENGTH},
+    {0, "04a234ffffffffff", zeros, CUKVASHE_PIN_DIGIT},
+    {0, "04123affffffffff", zeros, CUKVASHE_PIN_DIGIT},
+    {0, "041234efffffffff", zeros, CUKVASHE_FILL},
+    {0, "041234fffffffffe", zeros, CUKVASHE_FILL},
     {1, "041234fe09a51234", account, CUKVASHE_FORMAT},
     {1, "131234fe09a51234", account, CUKVASHE_PIN_LENGTH},
     {1, "14123afe09a51234", account, CUKVASHE_PIN_DIGIT},
@@ -212,6 +274,7 @@ static const struct {
     {3, "331274b9f9b9d35d", account, CUKVASHE_PIN_LENGTH},
     {3, "34a274b9f9b9d359", account, CUKVASHE_PIN_DIGIT},
     {3, "341274b9f9b9d359", account, CUKVASHE_FILL},
+    {3, "3412349aaaaaaaaa", zeros, CUKVASHE_FILL},
 };
 
 static int decoded(int format, const uint8_t block[8], const char *of, uint8_t pin[12], size_t *length) {
@@ -250,6 +313,27 @@ static void reads_first_bytes(void) {
     }
 }
 
+/* The fault of a block of these first two digits, with twelve decimal digits and two digits 15 after them, in the format of this
+ * number, of which format 1 alone is filled with any digit. */
+static int fault_of(unsigned first, unsigned format) {
+  unsigned length = first % 16;
+  if (first / 16 != format) return CUKVASHE_FORMAT;
+  if (length < 4 || length > 12) return CUKVASHE_PIN_LENGTH;
+  return format != 1 && length < 12 ? CUKVASHE_FILL : CUKVASHE_OK;
+}
+
+static void reads_first_bytes_of_each_format(void) {
+  static const int formats[] = {0, 1, 3};
+  uint8_t block[8], pin[12];
+  size_t length;
+  put(block, "00123456789012ff");
+  for (unsigned first = 0; first < 256; first++) {
+    block[0] = (uint8_t)first;
+    for (int i = 0; i < 3; i++)
+      CHECK(decoded(formats[i], block, zeros, pin, &length) == fault_of(first, (unsigned)formats[i]));
+  }
+}
+
 /* An account number, an expiry date, a service code, and the fault. */
 static const struct {
   const char *account, *expiry, *service;
@@ -258,17 +342,25 @@ static const struct {
     {"412345678901", "870", "10", CUKVASHE_ACCOUNT_LENGTH},
     {"41234567890123456789", "870", "10", CUKVASHE_ACCOUNT_LENGTH},
     {"412345678901234:", "870", "10", CUKVASHE_ACCOUNT_DIGIT},
+    {"/123456789012345", "870", "101", CUKVASHE_ACCOUNT_DIGIT},
     {"4123456789012345", "870", "10", CUKVASHE_EXPIRY_LENGTH},
     {"4123456789012345", "87010", "10", CUKVASHE_EXPIRY_LENGTH},
     {"4123456789012345", "870/", "10", CUKVASHE_EXPIRY_DIGIT},
+    {"4123456789012345", "870:", "10", CUKVASHE_EXPIRY_DIGIT},
+    {"4123456789012345", "/701", "101", CUKVASHE_EXPIRY_DIGIT},
     {"4123456789012345", "8701", "10", CUKVASHE_SERVICE_LENGTH},
     {"4123456789012345", "8701", "1011", CUKVASHE_SERVICE_LENGTH},
     {"4123456789012345", "8701", "10:", CUKVASHE_SERVICE_DIGIT},
+    {"4123456789012345", "8701", "/01", CUKVASHE_SERVICE_DIGIT},
 };
 
+/* OpenSSL makes dedcacbefc1acfc6 of the second card's blocks, in which two digits are below ten: so the third of the value is the
+ * first letter, d, less ten. */
 static void answers_card_verification_values(void) {
   uint8_t key[16], value[3];
   put(key, base_key);
+  CHECK(cukvashe_cvv(key, TEXT("4123456789025343"), TEXT("8701"), TEXT("101"), value) == CUKVASHE_OK);
+  CHECK(memcmp(value, "163", 3) == 0);
   CHECK(cukvashe_cvv(key, TEXT("4123456789012345"), TEXT("8701"), TEXT("101"), value) == CUKVASHE_OK);
   CHECK(memcmp(value, "561", 3) == 0);
   for (size_t i = 0; i < sizeof cards / sizeof *cards; i++) {
@@ -278,14 +370,18 @@ static void answers_card_verification_values(void) {
 }
 
 int main(void) {
+  answers_known_check_values();
   answers_check_values();
   combines();
+  sets_parity();
   answers_transactions();
   counts();
   answers_pin_blocks();
   refuses_to_encode();
+  refuses_fill();
   refuses_to_decode();
   reads_first_bytes();
+  reads_first_bytes_of_each_format();
   answers_card_verification_values();
   printf("payment: check values, components, keys of transactions and their counters, PIN blocks, card verification values\n");
   return 0;
