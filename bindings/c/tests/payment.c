@@ -14,8 +14,8 @@ static int are(const uint8_t *bytes, size_t count, const char *digits) {
 
 static const char base_key[] = "0123456789abcdeffedcba9876543210";
 
-/* The first and the last are OpenSSL's: `des-ede3` answers the zero block so, under three times the first key, and under the parts
- * of the last. */
+/* The first and the last are what OpenSSL's `des-ede3` makes of the zero block, under three times the first key, and under the
+ * parts of the last. */
 static void answers_known_check_values(void) {
   uint8_t key[24], value[3];
   put(key, "133457799bbcdff1");
@@ -63,7 +63,7 @@ static void combines(void) {
   CHECK(cukvashe_combine_8(key, components[0], NULL, 0, same + 8) == CUKVASHE_OK && memcmp(same + 8, key, 8) == 0);
 }
 
-/* By hand: the xor of the first two is 11 33 .. ff, of which each byte has an even number of ones, so that its lowest bit turns. */
+/* By hand: the xor of the first two is 11 33 .. ff, of which each byte has an even number of ones: its lowest bit turns. */
 static void sets_parity(void) {
   uint8_t components[3][8], key[8];
   put(components[0], "1010101010101010");
