@@ -49,17 +49,19 @@ pub fn answer(alloc: Global, command: Command, text: &[u8]) -> Result<Vec<u8>, F
     }
 }
 
-// The check value of the key that the digits write, under the cipher.
-fn check_by<C: KeyedCipher + Drop, const N: usize>(digits: &[u8]) -> Result<[u8; 3], Fault>
+// The line of the check value of the key that the digits write, under the cipher.
+fn check_by<C: KeyedCipher + Drop, const N: usize>(
+    alloc: Global,
+    digits: &[u8],
+) -> Result<Vec<u8>, Fault>
     requires size { C.KEY_SIZE ≡ N }
     requires small { N ≤ 24 }
-    ensures fault { FailsOnlyBy
-        (digits_fault N Fault.KeyLength Fault.KeyText digits.now) result }
-    ensures value { IfOk result (λ value.
-        value ≡ take 3 (C.encryption (bytes_of_text digits.now) (replicate 8 0))) }
+    ensures fault { FailsBy (digits_fault N Fault.KeyLength Fault.KeyText digits.now) result }
+    ensures answer { IfOk result (λ line. line.items
+        ≡ hex_line_of (take 3 (C.encryption (bytes_of_text digits.now) (replicate 8 0)))) }
 {
     let key = bytes_of::<N>(digits, Fault::KeyLength, Fault::KeyText)?;
-    Ok(check_value::<C>(&key).unwrap())
+    Ok(hex_line(alloc, &check_value::<C>(&key).unwrap())?)
 }
 
 // The check value of a key, of one, two or three parts.
@@ -68,12 +70,11 @@ fn check_line(alloc: Global, digits: &[u8]) -> Result<Vec<u8>, Fault>
     ensures answer { IfOk result (λ line.
         line.items ≡ hex_line_of (check_value_of digits.now)) }
 {
-    let value = match digits.len() {
-        16 => check_by::<Des, 8>(digits)?,
-        32 => check_by::<TdesEde2, 16>(digits)?,
-        _ => check_by::<TdesEde3, 24>(digits)?,
-    };
-    Ok(hex_line(alloc, &value)?)
+    match digits.len() {
+        16 => check_by::<Des, 8>(alloc, digits),
+        32 => check_by::<TdesEde2, 16>(alloc, digits),
+        _ => check_by::<TdesEde3, 24>(alloc, digits),
+    }
 }
 
 // The key of components, two at least.
@@ -106,6 +107,21 @@ fn combine_by<const N: usize>(digits: &[u8]) -> Result<[u8; N], Fault>
     Ok(combine_all(components)?)
 }
 
+// The line of that key.
+fn combined_line<const N: usize>(alloc: Global, digits: &[u8]) -> Result<Vec<u8>, Fault>
+    requires size { (N ≡ 8) ⊎ (N ≡ 16) ⊎ (N ≡ 24) }
+    requires whole { length digits.now % (2 * N) ≡ 0 }
+    requires two { 4 * N ≤ length digits.now }
+    requires longest { length digits.now ≤ LONGEST_TEXT }
+    ensures fault { FailsOrRefuses (text_fault Fault.KeyText digits.now)
+        (IsRefused (key_of_components N digits.now)) result }
+    ensures answer { IfOk result (λ line.
+        line.items ≡ hex_line_of (key_of_components N digits.now)) }
+{
+    let key = combine_by::<N>(digits)?;
+    Ok(hex_line(alloc, &key)?)
+}
+
 // The key of so many components.
 fn combine_line(alloc: Global, count: u8, digits: &[u8]) -> Result<Vec<u8>, Fault>
     requires { length digits.now ≤ LONGEST_TEXT }
@@ -118,11 +134,11 @@ fn combine_line(alloc: Global, count: u8, digits: &[u8]) -> Result<Vec<u8>, Faul
     let count = count as usize;
     let length = digits.len();
     if length == 16 * count {
-        Ok(hex_line(alloc, &combine_by::<8>(digits)?)?)
+        combined_line::<8>(alloc, digits)
     } else if length == 32 * count {
-        Ok(hex_line(alloc, &combine_by::<16>(digits)?)?)
+        combined_line::<16>(alloc, digits)
     } else if length == 48 * count {
-        Ok(hex_line(alloc, &combine_by::<24>(digits)?)?)
+        combined_line::<24>(alloc, digits)
     } else {
         Err(Fault::KeyLength)
     }
@@ -184,6 +200,16 @@ fn key_of_purpose(purpose: Purpose, transaction: &[u8; 16]) -> [u8; 16]
     }
 }
 
+// The key of the transaction of a key serial number, from the base derivation key.
+fn key_of_transaction(serial: &str, digits: &[u8]) -> Result<[u8; 16], Fault>
+    ensures fault { FailsOnlyBy (transaction_fault serial.now digits.now) result }
+    ensures key { IfOk result (λ key. key ≡ transaction_key_of serial.now digits.now) }
+{
+    let base = bytes_of::<16>(digits, Fault::KeyLength, Fault::KeyText)?;
+    let serial = bytes_of::<10>(serial.as_bytes(), Fault::SerialLength, Fault::SerialText)?;
+    Ok(transaction_key(&initial_key(&base, &serial), &serial))
+}
+
 fn transaction_line(
     alloc: Global,
     serial: &str,
@@ -194,9 +220,7 @@ fn transaction_line(
     ensures answer { IfOk result (λ line. line.items
         ≡ hex_line_of (key_for purpose (transaction_key_of serial.now digits.now))) }
 {
-    let base = bytes_of::<16>(digits, Fault::KeyLength, Fault::KeyText)?;
-    let serial = bytes_of::<10>(serial.as_bytes(), Fault::SerialLength, Fault::SerialText)?;
-    let transaction = transaction_key(&initial_key(&base, &serial), &serial);
+    let transaction = key_of_transaction(serial, digits)?;
     Ok(hex_line(alloc, &key_of_purpose(purpose, &transaction))?)
 }
 

@@ -1,7 +1,7 @@
 //! The command line.
 
 use crate::command::{Command, Decoding, Encoding, Purpose};
-use clap::{Arg, ArgAction, ArgMatches, Error};
+use clap::{Arg, ArgMatches, Error};
 use des_payment::dukpt::Message;
 use std::alloc::{AllocError, Global};
 
@@ -40,7 +40,6 @@ fn file<'a>(alloc: Global, name: &'a str, help: &'a str) -> Arg<'a> {
         .long(name)
         .value_name("FILE")
         .help(help)
-        .action(ArgAction::Set)
 }
 
 // The program's command.
@@ -49,7 +48,6 @@ fn command<'a>(alloc: Global) -> Result<clap::Command<'a>, AllocError> {
         .value_name("COMMAND")
         .required(true)
         .num_args(1..)
-        .action(ArgAction::Append)
         .help("What to do, and with what");
     let key_file = file(
         alloc,
@@ -108,14 +106,21 @@ fn decode_request<'a>(words: &[&'a str]) -> Option<Request<'a>> {
     })
 }
 
-// What a key is for: in the request, where nothing else is said.
+// The message that a word names: the request, where there is none.
+fn message_of(words: &[&str]) -> Option<Message> {
+    match *words {
+        [] | ["request"] => Some(Message::Request),
+        ["response"] => Some(Message::Response),
+        _ => None,
+    }
+}
+
+// What a key is for.
 fn purpose_of(words: &[&str]) -> Option<Purpose> {
     match *words {
         ["pin"] => Some(Purpose::Pin),
-        ["mac"] | ["mac", "request"] => Some(Purpose::Mac(Message::Request)),
-        ["mac", "response"] => Some(Purpose::Mac(Message::Response)),
-        ["data"] | ["data", "request"] => Some(Purpose::Data(Message::Request)),
-        ["data", "response"] => Some(Purpose::Data(Message::Response)),
+        ["mac", ref message @ ..] => Some(Purpose::Mac(message_of(message)?)),
+        ["data", ref message @ ..] => Some(Purpose::Data(message_of(message)?)),
         _ => None,
     }
 }

@@ -58,17 +58,18 @@ pub fn bytes_of<const N: usize>(
 fn halves(bytes: &[u8; 5]) -> [u8; 10]
     ensures { result ≡ digits_of bytes.now }
 {
+    let [a, b, c, d, e] = *bytes;
     [
-        bytes[0] / 16,
-        bytes[0] % 16,
-        bytes[1] / 16,
-        bytes[1] % 16,
-        bytes[2] / 16,
-        bytes[2] % 16,
-        bytes[3] / 16,
-        bytes[3] % 16,
-        bytes[4] / 16,
-        bytes[4] % 16,
+        a / 16,
+        a % 16,
+        b / 16,
+        b % 16,
+        c / 16,
+        c % 16,
+        d / 16,
+        d % 16,
+        e / 16,
+        e % 16,
     ]
 }
 

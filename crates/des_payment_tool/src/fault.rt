@@ -5,13 +5,12 @@ ghost use Rattle.des_payment_tool.specs.Fault.{status_of};
 
 use des::WeakKeyError;
 use des_payment::{CvvError, PinError};
-use std::alloc::{AllocError, AllocFailed};
-use std::error::Error;
+use std::alloc::AllocError;
 use std::fmt;
 
 /// Why a command has no answer. The first fault is reported: of a text the length before the
 /// digits, of the input before the arguments, and of these in their order.
-#[derive(Clone, Copy, Debug, PartialEq, Eq)]
+#[derive(Clone, Copy)]
 pub enum Fault {
     /// The key or a component does not have as many digits as a key that the command takes.
     KeyLength,
@@ -86,8 +85,6 @@ impl fmt::Display for Fault {
     }
 }
 
-impl Error for Fault {}
-
 impl From<PinError> for Fault {
     ghost use Rattle.std.specs.Prelude.{◌≡◌};
     ghost use Rattle.des_payment_tool.specs.declared.fault.Fault.TheVariants.{Pin};
@@ -128,17 +125,6 @@ impl From<AllocError> for Fault {
     ghost from_gives = { λ _ fault. fault ≡ Memory };
 
     fn from(_refused: AllocError) -> Fault {
-        Fault::Memory
-    }
-}
-
-impl<T: Drop> From<AllocFailed<T>> for Fault {
-    ghost use Rattle.std.specs.Prelude.{◌≡◌};
-    ghost use Rattle.des_payment_tool.specs.declared.fault.Fault.TheVariants.{Memory};
-
-    ghost from_gives = { λ _ fault. fault ≡ Memory };
-
-    fn from(_refused: AllocFailed<T>) -> Fault {
         Fault::Memory
     }
 }
