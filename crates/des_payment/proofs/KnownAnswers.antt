@@ -9,7 +9,7 @@ use Rattle.des.specs.KeySchedule.{c_half, d_half, rotate, shifts_through, round_
 use Rattle.des.specs.Rounds.{after_rounds, through_rounds}
 use Rattle.des_payment.specs.Digits.{digits_of}
 use Rattle.des_payment.specs.PinBlocks.{pin_field, account_field}
-use Rattle.des_payment.specs.Dukpt.{initial_key, transaction_key, next_key, ones_below, derived}
+use Rattle.des_payment.specs.Dukpt.{transaction_key, next_key, ones_below, derived}
 
 -- eight bytes, and sixteen, as words
 abbrev bytes : ℕ → List ℕ
@@ -28,21 +28,7 @@ format_0-example = refl
 abbrev serial : ℕ → List ℕ
 serial last = 0xff ∷ 0xff ∷ bytes (0x9876543200000000 + last)
 
--- its initial key, from the base key
-initial_key-example : initial_key (key 0x0123456789abcdef 0xfedcba9876543210) (serial 0x10e00000)
-    ≡ key 0x6ac292faa1315b4d 0x858ab3a3d7d5933a
-unfolding bits_of bits_of_bytes select substitute_by box_entry number_of cipher_function xor_bits
-    round_key c_half d_half rotate shifts_through key_schedule after_rounds through_rounds block_of_bits xor_blocks
-initial_key-example = refl
-
--- the keys of a transaction with one bit in its counter, and of one with two
-transaction_key-one_bit : transaction_key (key 0x6ac292faa1315b4d 0x858ab3a3d7d5933a) (serial 0x10e00001)
-    ≡ key 0x042666b49184cfa3 0x68de9628d0397bc9
-unfolding bits_of bits_of_bytes select substitute_by box_entry number_of cipher_function xor_bits
-    round_key c_half d_half rotate shifts_through key_schedule after_rounds through_rounds block_of_bits xor_blocks
-    next_key ones_below derived
-transaction_key-one_bit = refl
-
+-- the key of a transaction with two bits in its counter, from the initial key
 transaction_key-two_bits : transaction_key (key 0x6ac292faa1315b4d 0x858ab3a3d7d5933a) (serial 0x10e00003)
     ≡ key 0x0df3d9422aca56e5 0x47676d07ad6badfa
 unfolding bits_of bits_of_bytes select substitute_by box_entry number_of cipher_function xor_bits

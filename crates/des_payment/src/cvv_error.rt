@@ -1,5 +1,8 @@
 //! Why there is no card verification value.
 
+ghost use Rattle.std.specs.Prelude.{◌≡◌};
+ghost use Rattle.des_payment.specs.CardVerification.{name_of};
+
 use std::error::Error;
 use std::fmt;
 
@@ -20,6 +23,20 @@ pub enum CvvError {
     ServiceDigit,
 }
 
+// The error's name.
+fn name(error: CvvError) -> &'static str
+    ensures { result.now ≡ name_of error }
+{
+    match error {
+        CvvError::AccountLength => "AccountLength",
+        CvvError::AccountDigit => "AccountDigit",
+        CvvError::ExpiryLength => "ExpiryLength",
+        CvvError::ExpiryDigit => "ExpiryDigit",
+        CvvError::ServiceLength => "ServiceLength",
+        CvvError::ServiceDigit => "ServiceDigit",
+    }
+}
+
 /// Writes the error's name, whatever options are set.
 impl fmt::Display for CvvError {
     ghost use Rattle.std.specs.Prelude.{Some};
@@ -30,14 +47,7 @@ impl fmt::Display for CvvError {
     ghost styled_output = { λ error _. Some (name_of error) };
 
     fn fmt<W: fmt::Write>(&self, f: &mut fmt::Formatter<W>) -> fmt::Result {
-        match self {
-            CvvError::AccountLength => f.write_str("AccountLength"),
-            CvvError::AccountDigit => f.write_str("AccountDigit"),
-            CvvError::ExpiryLength => f.write_str("ExpiryLength"),
-            CvvError::ExpiryDigit => f.write_str("ExpiryDigit"),
-            CvvError::ServiceLength => f.write_str("ServiceLength"),
-            CvvError::ServiceDigit => f.write_str("ServiceDigit"),
-        }
+        f.write_str(name(*self))
     }
 }
 

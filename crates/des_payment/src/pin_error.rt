@@ -1,5 +1,8 @@
 //! Why a PIN block is not made, or holds no PIN.
 
+ghost use Rattle.std.specs.Prelude.{◌≡◌};
+ghost use Rattle.des_payment.specs.PinBlocks.{name_of};
+
 use std::error::Error;
 use std::fmt;
 
@@ -23,6 +26,20 @@ pub enum PinError {
     Fill,
 }
 
+// The error's name.
+fn name(error: PinError) -> &'static str
+    ensures { result.now ≡ name_of error }
+{
+    match error {
+        PinError::Format => "Format",
+        PinError::PinLength => "PinLength",
+        PinError::PinDigit => "PinDigit",
+        PinError::AccountLength => "AccountLength",
+        PinError::AccountDigit => "AccountDigit",
+        PinError::Fill => "Fill",
+    }
+}
+
 /// Writes the error's name, whatever options are set.
 impl fmt::Display for PinError {
     ghost use Rattle.std.specs.Prelude.{Some};
@@ -33,14 +50,7 @@ impl fmt::Display for PinError {
     ghost styled_output = { λ error _. Some (name_of error) };
 
     fn fmt<W: fmt::Write>(&self, f: &mut fmt::Formatter<W>) -> fmt::Result {
-        match self {
-            PinError::Format => f.write_str("Format"),
-            PinError::PinLength => f.write_str("PinLength"),
-            PinError::PinDigit => f.write_str("PinDigit"),
-            PinError::AccountLength => f.write_str("AccountLength"),
-            PinError::AccountDigit => f.write_str("AccountDigit"),
-            PinError::Fill => f.write_str("Fill"),
-        }
+        f.write_str(name(*self))
     }
 }
 

@@ -58,19 +58,12 @@ pub fn bytes_of<const N: usize>(
 fn halves(bytes: &[u8; 5]) -> [u8; 10]
     ensures { result ≡ digits_of bytes.now }
 {
-    let [a, b, c, d, e] = *bytes;
-    [
-        a / 16,
-        a % 16,
-        b / 16,
-        b % 16,
-        c / 16,
-        c % 16,
-        d / 16,
-        d % 16,
-        e / 16,
-        e % 16,
-    ]
+    let mut digits = [0; 10];
+    for (i, byte) in bytes.iter().enumerate() {
+        digits[2 * i] = byte / 16;
+        digits[2 * i + 1] = byte % 16;
+    }
+    digits
 }
 
 /// The values of ten transaction or fill digits, hexadecimal ones.
