@@ -48,5 +48,9 @@ fn is_encrypted(last: u32, block: u64) -> bool {
 
 #[test]
 fn encrypts_pins(rt: HostRuntime) {
-    assert!(rt; TRANSACTIONS.iter().all(|&(last, block)| is_encrypted(last, block)));
+    assert!(rt;
+        TRANSACTIONS
+            .iter()
+            .all(|&(last, block)| is_encrypted(last, block))
+    );
 }
