@@ -28,10 +28,10 @@ format_0-example = refl
 abbrev serial : ℕ → List ℕ
 serial last = 0xff ∷ 0xff ∷ bytes (0x9876543200000000 + last)
 
--- the key of a transaction with two bits in its counter, from the initial key
-transaction_key-two_bits : transaction_key (key 0x6ac292faa1315b4d 0x858ab3a3d7d5933a) (serial 0x10e00003)
-    ≡ key 0x0df3d9422aca56e5 0x47676d07ad6badfa
+-- the key of a transaction with one bit in its counter, from the initial key
+transaction_key-one_bit : transaction_key (key 0x6ac292faa1315b4d 0x858ab3a3d7d5933a) (serial 0x10e00001)
+    ≡ key 0x042666b49184cfa3 0x68de9628d0397bc9
 unfolding bits_of bits_of_bytes select substitute_by box_entry number_of cipher_function xor_bits
     round_key c_half d_half rotate shifts_through key_schedule after_rounds through_rounds block_of_bits xor_blocks
     next_key ones_below derived
-transaction_key-two_bits = refl
+transaction_key-one_bit = refl
