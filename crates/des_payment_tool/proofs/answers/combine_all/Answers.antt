@@ -1,4 +1,4 @@
-use Rattle.std.proofs.Common.{◌≡◌, ℕ, ◌-◌, ◌≤◌, List, [], ◌∷◌, length, take, drop, get_or, ap₂, ◌∙◌, ap, arith, Result, IfOk}
+use Rattle.std.proofs.Common.{◌≡◌, ℕ, ◌-◌, ◌≤◌, List, [], ◌∷◌, length, take, drop, get_or, ap₂, ◌∙◌, ap, arith}
 use Rattle.std.specs.Prelude.{IsErr}
 use Rattle.std.proofs.lemmas.List.{take_all}
 use Rattle.des.specs.WeakKeys.{IsRefused}
@@ -20,20 +20,9 @@ of_list : (xs ys : List (List ℕ)) (Fails : Type 0) → ys ≡ xs
     → (Fails → IsRefused (combined xs)) × (IsRefused (combined xs) → Fails)
 of_list xs ys Fails same refused = rw (← same) refused
 
-of_list_key : {E : Type 0} (xs ys : List (List ℕ)) (result : Result (List ℕ) E) → ys ≡ xs
-    → IfOk result (λ key. key ≡ combined ys) → IfOk result (λ key. key ≡ combined xs)
-of_list_key xs ys result same key = rw (← same) key
-
 pub returns-in-len2-up-clause-refused : goal.returns-in-len2-up-clause-refused
 returns-in-len2-up-clause-refused g c =
     of_list c.args.components.now
     (c.first-item.result ∷ c.second-item.result ∷ take (length c.args.components.now - 2) (drop 2 c.args.components.now))
     (IsErr c.combine.result)
     (two_first c.args.components.now _ _ c.in-len2-up.len_at_least c.first-item.is c.second-item.is) c.combine.ensures.refused
-
-pub returns-in-len2-up-clause-key : goal.returns-in-len2-up-clause-key
-returns-in-len2-up-clause-key g c =
-    of_list_key c.args.components.now
-    (c.first-item.result ∷ c.second-item.result ∷ take (length c.args.components.now - 2) (drop 2 c.args.components.now))
-    c.combine.result (two_first c.args.components.now _ _ c.in-len2-up.len_at_least c.first-item.is c.second-item.is)
-    c.combine.ensures.key
