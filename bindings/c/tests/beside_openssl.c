@@ -1,9 +1,10 @@
-/* Each call beside OpenSSL's libcrypto, on random keys and lists: beside_openssl [KEYS]. */
+/* Each call beside OpenSSL's libcrypto: beside_openssl KEYS KNOWN [LONGEST]. As many random keys with random lists; the keys of
+   the file of known answers; and where LONGEST is given, lists of every length from 0 to 300 blocks, and one of so many. */
 #define OPENSSL_SUPPRESS_DEPRECATED
-#include "check.h"
+#include "cases.h"
 #include <openssl/des.h>
 
-enum { MOST = 600, ROOM = 8 * MOST + 16 };
+enum { MOST = 600, BATCHES = 300, LONG = 65536, AFTER = 8 * MOST };
 
 /* The parts of a key of two or three parts, as OpenSSL's schedules. */
 struct schedules {
@@ -60,26 +61,25 @@ static size_t random_count(void) {
   return (size_t)(word % 16 == 0 ? (word >> 8) % (MOST + 1) : (word >> 8) % 41);
 }
 
-/* A list at a random address, with eight bytes before and after it that must stay. */
+/* A list at a random address, with bytes before it and AFTER of them after it that must stay. */
 struct list {
-  uint8_t room[ROOM], *blocks;
-  size_t count;
+  uint8_t room[8 * LONG + 8 + AFTER], *blocks, *end;
 };
 
 static void put(struct list *list, const uint8_t *blocks, size_t count) {
-  memset(list->room, 0xa5, sizeof list->room);
   list->blocks = list->room + 1 + random_word() % 8;
-  list->count = count;
+  list->end = list->blocks + 8 * count + AFTER;
+  memset(list->room, 0xa5, (size_t)(list->end - list->room));
   memcpy(list->blocks, blocks, 8 * count);
 }
 
 static int is(const struct list *list, const uint8_t *wanted) {
-  const uint8_t *end = list->blocks + 8 * list->count;
+  const uint8_t *after = list->end - AFTER;
   for (const uint8_t *at = list->room; at < list->blocks; at++)
     if (*at != 0xa5) return 0;
-  for (const uint8_t *at = end; at < list->room + sizeof list->room; at++)
+  for (const uint8_t *at = after; at < list->end; at++)
     if (*at != 0xa5) return 0;
-  return memcmp(list->blocks, wanted, 8 * list->count) == 0;
+  return memcmp(list->blocks, wanted, (size_t)(after - list->blocks)) == 0;
 }
 
 static struct list list, other;
@@ -130,15 +130,11 @@ static void chains_of(int cipher, const union context *context, const uint8_t *i
   }
 }
 
-static void random_key(int cipher) {
-  static uint8_t plain[8 * MOST], wanted[8 * MOST];
+/* A list under a key by all calls: each block by itself, and as a chain. */
+static void list_under(int cipher, const uint8_t *key, const uint8_t *iv, const uint8_t *plain, size_t count) {
+  static uint8_t wanted[8 * LONG];
   const struct calls *calls = &ciphers[cipher];
-  uint8_t key[24], iv[8];
   union context made, copied;
-  random_bytes(key, sizeof key);
-  random_bytes(iv, sizeof iv);
-  size_t count = random_count();
-  random_bytes(plain, 8 * count);
   CHECK(calls->init(&made, key, calls->key_size) == CUKVASHE_OK);
   /* A context is its bytes. */
   memcpy(&copied, &made, calls->context_size);
@@ -153,11 +149,43 @@ static void random_key(int cipher) {
   chains_of(cipher, &copied, iv, plain, wanted, count);
 }
 
+/* A random list of so many blocks under a random key. */
+static void random_list(int cipher, size_t count) {
+  static uint8_t plain[8 * LONG];
+  uint8_t key[24], iv[8];
+  random_bytes(key, sizeof key);
+  random_bytes(iv, sizeof iv);
+  random_bytes(plain, 8 * count);
+  list_under(cipher, key, iv, plain, count);
+}
+
+/* Under the key of a known answer, 32 blocks, each of them the answer to the one before it, and the block before the first. */
+static void blocks_in_turn(const struct known_case *known) {
+  uint8_t blocks[8 * 33];
+  struct schedules by = schedules_of(known->cipher, known->key);
+  memcpy(blocks, "Cukvashe", 8);
+  answer(known->cipher, &by, blocks, DES_DECRYPT);
+  for (int n = 1; n < 33; n++) {
+    memcpy(blocks + 8 * n, blocks + 8 * n - 8, 8);
+    answer(known->cipher, &by, blocks + 8 * n, DES_ENCRYPT);
+  }
+  list_under(known->cipher, known->key, blocks, blocks, 33);
+}
+
 int main(int count, char **words) {
-  int keys = count > 1 ? atoi(words[1]) : 10000;
+  CHECK(count == 3 || count == 4);
+  int keys = atoi(words[1]);
   for (int n = 0; n < keys; n++)
-    for (int cipher = 0; cipher < CIPHERS; cipher++) random_key(cipher);
-  printf("beside OpenSSL: %d keys for each of %d ciphers, vectors of 256 bits: %s\n", keys, CIPHERS,
-         cukvashe_has_wide() ? "yes" : "no");
+    for (int cipher = 0; cipher < CIPHERS; cipher++) random_list(cipher, random_count());
+  int cases = each_case(words[2], blocks_in_turn);
+  size_t longest = count > 3 ? (size_t)atoi(words[3]) : 0;
+  CHECK(longest <= LONG);
+  for (int cipher = 0; longest > 0 && cipher < CIPHERS; cipher++) {
+    for (size_t length = 0; length <= BATCHES; length++) random_list(cipher, length);
+    random_list(cipher, longest);
+  }
+  printf("beside OpenSSL: %d keys for each of %d ciphers, %d keys of known answers, lists of up to %zu blocks, ", keys, CIPHERS,
+         cases, longest > MOST ? longest : MOST);
+  printf("vectors of 256 bits: %s\n", cukvashe_has_wide() ? "yes" : "no");
   return 0;
 }

@@ -1,113 +1,94 @@
-/* Published values; lengths that are refused; empty lists; weak keys and parity. It compiles as C and as C++. */
-#include "check.h"
-
-/* The eight bytes of a word, the most significant first. */
-static void put_word(uint8_t *bytes, uint64_t word) {
-  for (int i = 0; i < 8; i++) bytes[i] = (uint8_t)(word >> (56 - 8 * i));
-}
+/* Known answers of a file, which is its argument; lengths that are refused; empty lists; weak keys and parity. It compiles as C
+   and as C++. */
+#include "cases.h"
 
 static void put_words(uint8_t *bytes, const uint64_t *words, size_t count) {
   for (size_t i = 0; i < count; i++) put_word(bytes + 8 * i, words[i]);
 }
 
-static int are(const uint8_t *bytes, const uint64_t *words, size_t count) {
-  uint8_t wanted[64];
-  put_words(wanted, words, count);
-  return memcmp(bytes, wanted, 8 * count) == 0;
-}
-
-/* NIST Special Publication 800-67, appendix B: "The qufck brown fox jump", by its key. The answers of the other ciphers are
-   OpenSSL's, of `des-ecb`, of `des-ede`, and of three runs of `des-ecb` for the EEE forms. */
-static const uint64_t parts[3] = {0x0123456789abcdef, 0x23456789abcdef01, 0x456789abcdef0123};
-static const uint64_t text[3] = {0x5468652071756663, 0x6b2062726f776e20, 0x666f78206a756d70};
-static const uint64_t answers[CIPHERS][3] = {
-    {0xa28e91724c4bba31, 0x167e47ec24f71d63, 0x2c1a917234425365},
-    {0xa826fd8ce53b855f, 0xcce21c8112256fe6, 0x68d5c05dd9b6b900},
-    {0xce2719ff408a7afa, 0xc3f4683ad32c6b5b, 0xec6ad3d6da9dc9b3},
-    {0xc44862f70cf2fbdc, 0x9077d0909fa91b88, 0x4cabd61fc58e0cbb},
-    {0x500013533151e90c, 0x7314612fb856088e, 0x28b61bd250fe2d39},
-};
-
-static void answers_text(int cipher) {
+/* The calls for lists, one by one and of both widths, in place and from list to list. */
+static void answers_list(int cipher, const uint8_t *key, const uint8_t *plain, const uint8_t *answer, size_t count) {
   const struct calls *calls = &ciphers[cipher];
   union context context;
-  uint8_t key[24], blocks[24];
-  put_words(key, parts, 3);
-  put_words(blocks, text, 3);
+  uint8_t blocks[8 * CASE_BLOCKS], other[8 * CASE_BLOCKS];
+  size_t size = 8 * count;
   CHECK(calls->init(&context, key, calls->key_size) == CUKVASHE_OK);
-  calls->encrypt_blocks(&context, blocks, 3);
-  CHECK(are(blocks, answers[cipher], 3));
+  memcpy(blocks, plain, size);
+  calls->encrypt_blocks(&context, blocks, count);
+  CHECK(memcmp(blocks, answer, size) == 0);
+  calls->decrypt_blocks(&context, blocks, count);
+  CHECK(memcmp(blocks, plain, size) == 0);
   for (int width = 0; width < 2; width++) {
-    calls->lists[width].decrypt(&context, blocks, 3);
-    CHECK(are(blocks, text, 3));
-    calls->lists[width].encrypt(&context, blocks, 3);
-    CHECK(are(blocks, answers[cipher], 3));
+    const struct lists *by = &calls->lists[width];
+    by->encrypt(&context, blocks, count);
+    CHECK(memcmp(blocks, answer, size) == 0);
+    by->decrypt(&context, blocks, count);
+    CHECK(memcmp(blocks, plain, size) == 0);
+    CHECK(by->encrypt_b2b(&context, plain, count, other, count) == CUKVASHE_OK);
+    CHECK(memcmp(other, answer, size) == 0);
+    CHECK(by->decrypt_b2b(&context, answer, count, other, count) == CUKVASHE_OK);
+    CHECK(memcmp(other, plain, size) == 0);
   }
 }
 
-/* Key, plaintext, ciphertext of DES. The first is the worked example of J. Orlin Grabbe, "The DES Algorithm Illustrated"; then
-   come keys of equal round keys (NBS Special Publication 500-20), of no bit and of every bit, the complement of the example,
-   and its key with other parity bits; the rest are the substitution table test of NBS Special Publication 500-20. */
-static const uint64_t single[27][3] = {
-    {0x133457799bbcdff1, 0x0123456789abcdef, 0x85e813540f0ab405},
-    {0x0101010101010101, 0x8000000000000000, 0x95f8a5e5dd31d900},
-    {0x0101010101010101, 0x95f8a5e5dd31d900, 0x8000000000000000},
-    {0x0101010101010101, 0x0000000000000000, 0x8ca64de9c1b123a7},
-    {0x0000000000000000, 0x0000000000000000, 0x8ca64de9c1b123a7},
-    {0xffffffffffffffff, 0xffffffffffffffff, 0x7359b2163e4edc58},
-    {0xeccba8866443200e, 0xfedcba9876543210, 0x7a17ecabf0f54bfa},
-    {0x123556789abddef0, 0x0123456789abcdef, 0x85e813540f0ab405},
-    {0x7ca110454a1a6e57, 0x01a1d6d039776742, 0x690f5b0d9a26939b},
-    {0x0131d9619dc1376e, 0x5cd54ca83def57da, 0x7a389d10354bd271},
-    {0x07a1133e4a0b2686, 0x0248d43806f67172, 0x868ebb51cab4599a},
-    {0x3849674c2602319e, 0x51454b582ddf440a, 0x7178876e01f19b2a},
-    {0x04b915ba43feb5b6, 0x42fd443059577fa2, 0xaf37fb421f8c4095},
-    {0x0113b970fd34f2ce, 0x059b5e0851cf143a, 0x86a560f10ec6d85b},
-    {0x0170f175468fb5e6, 0x0756d8e0774761d2, 0x0cd3da020021dc09},
-    {0x43297fad38e373fe, 0x762514b829bf486a, 0xea676b2cb7db2b7a},
-    {0x07a7137045da2a16, 0x3bdd119049372802, 0xdfd64a815caf1a0f},
-    {0x04689104c2fd3b2f, 0x26955f6835af609a, 0x5c513c9c4886c088},
-    {0x37d06bb516cb7546, 0x164d5e404f275232, 0x0a2aeeae3ff4ab77},
-    {0x1f08260d1ac2465e, 0x6b056e18759f5cca, 0xef1bf03e5dfa575a},
-    {0x584023641aba6176, 0x004bd6ef09176062, 0x88bf0db6d70dee56},
-    {0x025816164629b007, 0x480d39006ee762f2, 0xa1f9915541020b56},
-    {0x49793ebc79b3258f, 0x437540c8698f3cfa, 0x6fbf1cafcffd0556},
-    {0x4fb05e1515ab73a7, 0x072d43a077075292, 0x2f22e49bab7ca1ac},
-    {0x49e95d6d4ca229bf, 0x02fe55778117f12a, 0x5a6b612cc26cce4a},
-    {0x018310dc409b26d6, 0x1d9d5c5018f728c2, 0x5f4c038ed12b2e41},
-    {0x1c587f1c13924fef, 0x305532286d6f295a, 0x63fac0d034d9f793},
-};
-
-static void answers_single(const uint64_t row[3]) {
-  cukvashe_des context;
-  uint8_t key[8], block[8];
-  put_word(key, row[0]);
-  put_word(block, row[1]);
-  CHECK(cukvashe_des_init(&context, key, sizeof key) == CUKVASHE_OK);
-  cukvashe_des_encrypt_blocks(&context, block, 1);
-  CHECK(are(block, row + 2, 1));
-  cukvashe_des_decrypt_many(&context, block, 1);
-  CHECK(are(block, row + 1, 1));
-  cukvashe_widest_des_encrypt_many(&context, block, 1);
-  CHECK(are(block, row + 2, 1));
+/* Chains, one by one and of both widths; the vector becomes the last block of the chain. */
+static void answers_chain(const struct known_case *known) {
+  const struct calls *calls = &ciphers[known->cipher];
+  const uint8_t *last = known->answer + 8 * known->count - 8;
+  union context context;
+  uint8_t vector[8], blocks[8 * CASE_BLOCKS];
+  CHECK(calls->init(&context, known->key, calls->key_size) == CUKVASHE_OK);
+  for (int way = 0; way < 3; way++) {
+    memcpy(vector, known->vector, 8);
+    memcpy(blocks, known->plain, 8 * known->count);
+    calls->encrypt_cbc(&context, vector, blocks, known->count);
+    CHECK(memcmp(blocks, known->answer, 8 * known->count) == 0 && memcmp(vector, last, 8) == 0);
+    memcpy(vector, known->vector, 8);
+    (way == 2 ? calls->decrypt_cbc : calls->lists[way].decrypt_cbc)(&context, vector, blocks, known->count);
+    CHECK(memcmp(blocks, known->plain, 8 * known->count) == 0 && memcmp(vector, last, 8) == 0);
+  }
 }
 
-/* FIPS 81, appendix C: "Now is the time for all ". */
-static void answers_chain(void) {
-  const uint64_t plain[3] = {0x4e6f772069732074, 0x68652074696d6520, 0x666f7220616c6c20};
-  const uint64_t chained[3] = {0xe5c7cdde872bf27c, 0x43e934008c389c0f, 0x683788499a7c05f6};
-  cukvashe_des context;
-  uint8_t key[8], vector[8], blocks[24];
-  put_word(key, parts[0]);
-  put_word(vector, 0x1234567890abcdef);
-  put_words(blocks, plain, 3);
-  CHECK(cukvashe_des_init(&context, key, sizeof key) == CUKVASHE_OK);
-  cukvashe_des_encrypt_cbc(&context, vector, blocks, 3);
-  CHECK(are(blocks, chained, 3) && are(vector, chained + 2, 1));
-  put_word(vector, 0x1234567890abcdef);
-  cukvashe_widest_des_decrypt_cbc_many(&context, vector, blocks, 3);
-  CHECK(are(blocks, plain, 3) && are(vector, chained + 2, 1));
+/* The first block of a case in the widest batch, at four places of its own, among others. */
+static void answers_in_batch(const struct known_case *known, size_t place) {
+  const struct calls *calls = &ciphers[known->cipher];
+  const size_t places[4] = {place, 64 + place, 127 - place, 255 - place};
+  union context context;
+  uint8_t batch[8 * 256], old[8 * 256];
+  CHECK(calls->init(&context, known->key, calls->key_size) == CUKVASHE_OK);
+  memset(batch, 0xa5, sizeof batch);
+  for (int i = 0; i < 4; i++) memcpy(batch + 8 * places[i], known->plain, 8);
+  memcpy(old, batch, sizeof old);
+  for (int width = 0; width < 2; width++) {
+    calls->lists[width].encrypt(&context, batch, 256);
+    for (int i = 0; i < 4; i++) CHECK(memcmp(batch + 8 * places[i], known->answer, 8) == 0);
+    calls->lists[width].decrypt(&context, batch, 256);
+    CHECK(memcmp(batch, old, sizeof old) == 0);
+  }
 }
+
+static void complement(uint8_t *bytes, size_t count) {
+  for (size_t i = 0; i < count; i++) bytes[i] = (uint8_t)~bytes[i];
+}
+
+/* A case, and its complement under the complemented key. */
+static void answers_case(const struct known_case *known) {
+  static size_t place = 0;
+  struct known_case other = *known;
+  if (known->is_chain) {
+    answers_chain(known);
+    return;
+  }
+  answers_in_batch(known, place++ % 64);
+  answers_list(known->cipher, known->key, known->plain, known->answer, known->count);
+  complement(other.key, sizeof other.key);
+  complement(other.plain, sizeof other.plain);
+  complement(other.answer, sizeof other.answer);
+  answers_list(known->cipher, other.key, other.plain, other.answer, known->count);
+}
+
+/* NIST Special Publication 800-67, appendix B: the parts of a key. */
+static const uint64_t parts[3] = {0x0123456789abcdef, 0x23456789abcdef01, 0x456789abcdef0123};
 
 /* Each length but the right one is refused, and the context stays. */
 static void refuses_lengths(int cipher) {
@@ -161,50 +142,131 @@ static const uint64_t weak_keys[16] = {
     0x1ffe1ffe0efe0efe, 0xfe1ffe1ffe0efe0e, 0xe0fee0fef1fef1fe, 0xfee0fee0fef1fef1,
 };
 
-/* The weak key test, on these, on keys whatever their parity, on equal parts and on lengths. */
+static int refuses(const uint64_t *key, size_t parts) {
+  uint8_t bytes[24];
+  put_words(bytes, key, parts);
+  int status = cukvashe_weak_key_test(bytes, 8 * parts);
+  CHECK(status == CUKVASHE_OK || status == CUKVASHE_WEAK_KEY);
+  return status == CUKVASHE_WEAK_KEY;
+}
+
+static int refuses_one(uint64_t key) { return refuses(&key, 1); }
+
+static int refuses_two(uint64_t first, uint64_t second) {
+  const uint64_t key[2] = {first, second};
+  return refuses(key, 2);
+}
+
+static int refuses_three(uint64_t first, uint64_t second, uint64_t third) {
+  const uint64_t key[3] = {first, second, third};
+  return refuses(key, 3);
+}
+
+/* Keys that are not listed, and one that differs from the first in its eight parity bits alone. */
+static const uint64_t A = 0x0102030405060708, B = 0x1112131415161718, C = 0x2122232425262728, TWIN_OF_A = 0x0003020504070609;
+
+/* The weak key test: published keys, keys of no parity, other keys, equal parts, and lengths. */
 static void tests_keys(void) {
-  const uint64_t weak[3] = {0x0101010101010101, 0x0000000000000000, 0x133457799bbcdff1};
-  const uint64_t equal[3] = {0x133457799bbcdff1, 0x123556789abddef0, 0x0123456789abcdef};
   uint8_t key[24];
-  for (int i = 0; i < 16; i++) {
-    put_word(key, weak_keys[i]);
-    CHECK(cukvashe_weak_key_test(key, 8) == CUKVASHE_WEAK_KEY);
-  }
-  put_words(key, weak, 3);
-  CHECK(cukvashe_weak_key_test(key, 8) == CUKVASHE_WEAK_KEY);
-  CHECK(cukvashe_weak_key_test(key + 8, 8) == CUKVASHE_WEAK_KEY);
-  CHECK(cukvashe_weak_key_test(key + 16, 8) == CUKVASHE_OK);
-  CHECK(cukvashe_weak_key_test(key, 24) == CUKVASHE_WEAK_KEY);
+  for (int i = 0; i < 16; i++) CHECK(refuses_one(weak_keys[i]));
+  CHECK(refuses_one(0) && !refuses_one(0x133457799bbcdff1) && !refuses_one(0x0101011f0101010e));
+  CHECK(refuses_two(weak_keys[0], 0) && refuses_two(0, weak_keys[1]) && refuses_two(0, weak_keys[2]));
+  CHECK(refuses_three(weak_keys[0], 0, 0) && refuses_three(0, weak_keys[1], 0) && refuses_three(0, 0, weak_keys[2]));
+  CHECK(!refuses_two(A, B) && !refuses_three(A, B, C) && !refuses(parts, 3));
+  CHECK(refuses_two(0x0202020202020202, 0x0303030303030303));
+  CHECK(refuses_two(0x133457799bbcdff1, 0x123556789abddef0) && !refuses_two(0x123556789abddef0, 0x0123456789abcdef));
+  CHECK(refuses_two(A, A) && refuses_two(A, TWIN_OF_A));
+  CHECK(refuses_three(A, A, B) && refuses_three(A, B, A) && refuses_three(B, A, A) && refuses_three(A, A, A));
+  CHECK(refuses_three(A, TWIN_OF_A, B) && refuses_three(A, B, TWIN_OF_A) && refuses_three(B, A, TWIN_OF_A));
+  CHECK(refuses_three(TWIN_OF_A, A, B) && refuses_three(TWIN_OF_A, B, A) && refuses_three(B, TWIN_OF_A, A));
   CHECK(cukvashe_weak_key_test(NULL, 0) == CUKVASHE_KEY_LENGTH);
-  CHECK(cukvashe_weak_key_test(key, 9) == CUKVASHE_KEY_LENGTH);
-  put_words(key, equal, 3);
-  CHECK(cukvashe_weak_key_test(key, 16) == CUKVASHE_WEAK_KEY);
-  CHECK(cukvashe_weak_key_test(key + 8, 16) == CUKVASHE_OK);
-  CHECK(cukvashe_equal_but_parity(key, key + 8));
-  CHECK(!cukvashe_equal_but_parity(key, key + 16));
-  put_words(key, parts, 3);
-  CHECK(cukvashe_weak_key_test(key, 24) == CUKVASHE_OK);
+  for (size_t length = 0; length <= sizeof key; length++)
+    if (length % 8 != 0 || length == 0) CHECK(cukvashe_weak_key_test(key, length) == CUKVASHE_KEY_LENGTH);
+}
+
+/* The key of odd parity whose halves C and D repeat these four bits each, by permuted choice 1 of FIPS 46-3. */
+static uint64_t repeating_key(int c, int d) {
+  uint8_t key[8];
+  uint64_t word = 0;
+  for (int i = 0; i < 8; i++) {
+    int c_bit = c >> (3 - i % 4) & 1, d_bit = d >> (3 - i % 4) & 1;
+    key[7 - i] = (uint8_t)(i < 4 ? c_bit * 0xf0 + d_bit * 0x0e : c_bit * 0xe0 + d_bit * 0x1e);
+  }
+  cukvashe_set_odd_parity(key);
+  for (int i = 0; i < 8; i++) word = word << 8 | key[i];
+  return word;
+}
+
+/* Whether four bits, rotated left by two, are themselves or their complement: so repeat the halves of listed keys. */
+static int is_listed_half(int bits) {
+  int rotated = (bits << 2 | bits >> 2) & 15;
+  return rotated == bits || rotated == (bits ^ 15);
+}
+
+/* Whether two keys agree but for parity, in either order. */
+static int are_equal(uint64_t first, uint64_t second) {
+  uint8_t one[8], other[8];
+  put_word(one, first);
+  put_word(other, second);
+  CHECK(cukvashe_equal_but_parity(one, other) == cukvashe_equal_but_parity(other, one));
+  return cukvashe_equal_but_parity(one, other);
+}
+
+/* A listed key in each place, and with each bit flipped: it is refused still where that is a parity bit, and else not. */
+static void refuses_listed(uint64_t key) {
+  CHECK(refuses_one(key) && refuses_two(key, A) && refuses_two(B, key));
+  CHECK(refuses_three(key, A, B) && refuses_three(A, key, B) && refuses_three(A, B, key));
+  for (int bit = 0; bit < 64; bit++) CHECK(refuses_one(key ^ (uint64_t)1 << bit) == (bit % 8 == 0));
+}
+
+/* Of the 256 keys whose halves repeat every four bits the 64 listed ones are refused. Bits count, but for those of parity. */
+static void tests_listed_keys(void) {
+  int listed = 0;
+  for (int c = 0; c < 16; c++)
+    for (int d = 0; d < 16; d++)
+      if (is_listed_half(c) && is_listed_half(d)) {
+        refuses_listed(repeating_key(c, d));
+        listed++;
+      } else {
+        CHECK(!refuses_one(repeating_key(c, d)));
+      }
+  CHECK(listed == 64);
+  CHECK(are_equal(A, TWIN_OF_A) && are_equal(0x133457799bbcdff1, 0x123556789abddef0) && !are_equal(A, B));
+  for (int bit = 0; bit < 64; bit++) {
+    CHECK(are_equal(0, (uint64_t)1 << bit) == (bit % 8 == 0));
+    CHECK(refuses_two(A, A ^ (uint64_t)1 << bit) == (bit % 8 == 0));
+  }
+}
+
+/* Keys and the same with odd parity: the worked example's, as it is and with each lowest bit turned, and of no bit and all. */
+static void sets_odd_parity(uint64_t key, uint64_t odd) {
+  uint8_t bytes[8], wanted[8];
+  put_word(bytes, key);
+  put_word(wanted, odd);
+  cukvashe_set_odd_parity(bytes);
+  CHECK(memcmp(bytes, wanted, sizeof bytes) == 0);
 }
 
 static void sets_parity(void) {
-  uint8_t key[8] = {0x00, 0x01, 0xfe, 0xff, 0x02, 0x03, 0x80, 0x81};
-  const uint8_t odd[8] = {0x01, 0x01, 0xfe, 0xfe, 0x02, 0x02, 0x80, 0x80};
-  cukvashe_set_odd_parity(key);
-  CHECK(memcmp(key, odd, sizeof key) == 0);
+  sets_odd_parity(0x0001feff02038081, 0x0101fefe02028080);
+  sets_odd_parity(0x0000000000000000, 0x0101010101010101);
+  sets_odd_parity(0xffffffffffffffff, 0xfefefefefefefefe);
+  sets_odd_parity(0x133457799bbcdff1, 0x133457799bbcdff1);
+  sets_odd_parity(0x123556789abddef0, 0x133457799bbcdff1);
 }
 
-int main(void) {
+int main(int count, char **words) {
   CHECK(sizeof(cukvashe_des) == 128 && sizeof(cukvashe_tdes_ede3) == 384 && sizeof(cukvashe_tdes_eee3) == 384);
   CHECK(sizeof(cukvashe_tdes_ede2) == 256 && sizeof(cukvashe_tdes_eee2) == 256);
-  for (size_t i = 0; i < sizeof single / sizeof *single; i++) answers_single(single[i]);
-  answers_chain();
+  CHECK(count == 2);
+  int cases = each_case(words[1], answers_case);
   for (int cipher = 0; cipher < CIPHERS; cipher++) {
-    answers_text(cipher);
     refuses_lengths(cipher);
     refuses_lists(cipher);
   }
   tests_keys();
+  tests_listed_keys();
   sets_parity();
-  printf("known answers: published values, lengths, empty lists, weak keys and parity\n");
+  printf("known answers: %d of the file, lengths, empty lists, weak keys and parity\n", cases);
   return 0;
 }

@@ -9,28 +9,29 @@ use des::utils::{apply_sboxes, delta_swap, e, fp, gen_keys, ip, p, pc1, pc2, rou
 // 133457799bbcdff1 and the block 0123456789abcdef.
 #[test]
 fn steps_give_those_of_the_worked_example(rt: HostRuntime) {
-    assert_eq!(rt; ip(0x0123456789abcdef), 0xcc00ccfff0aaf0aa);
-    assert_eq!(rt; pc1(0x133457799bbcdff1), 0xf0ccaaf556678f00);
-    assert_eq!(rt; pc2(0xe19955faaccf1e00), 0x1b02effc70720000);
-    assert_eq!(rt; e(0xf0aaf0aa00000000), 0x7a15557a15550000);
-    assert_eq!(rt; apply_sboxes(0x6117ba8665270000), 0x5c82b59700000000);
-    assert_eq!(rt; p(0x5c82b59700000000), 0x234aa9bb00000000);
-    assert_eq!(rt;
-        round(0xcc00ccfff0aaf0aa, 0x1b02effc70720000),
-        0xf0aaf0aaef4a6544
+    assert!(rt;
+        ip(0x0123456789abcdef) == 0xcc00ccfff0aaf0aa
+            && pc1(0x133457799bbcdff1) == 0xf0ccaaf556678f00
+            && pc2(0xe19955faaccf1e00) == 0x1b02effc70720000
+            && e(0xf0aaf0aa00000000) == 0x7a15557a15550000
+            && apply_sboxes(0x6117ba8665270000) == 0x5c82b59700000000
+            && p(0x5c82b59700000000) == 0x234aa9bb00000000
+            && round(0xcc00ccfff0aaf0aa, 0x1b02effc70720000) == 0xf0aaf0aaef4a6544
+            && fp(0x0a4cd99543423234) == 0x85e813540f0ab405
     );
-    assert_eq!(rt; fp(0x0a4cd99543423234), 0x85e813540f0ab405);
 }
 
 // Single bits, and all of them, by hand from the tables of FIPS 46-3.
 #[test]
 fn permutations_move_single_bits(rt: HostRuntime) {
-    assert_eq!(rt; ip(0x8000000000000000), 0x0000000001000000);
-    assert_eq!(rt; fp(0x0000000001000000), 0x8000000000000000);
-    assert_eq!(rt; pc1(0x0101010101010101), 0x0000000000000000);
-    assert_eq!(rt; pc1(0xffffffffffffffff), 0xffffffffffffff00);
-    assert_eq!(rt; e(0x8000000000000000), 0x4000000000010000);
-    assert_eq!(rt; e(0x0000000100000000), 0x8000000000020000);
+    assert!(rt;
+        ip(0x8000000000000000) == 0x0000000001000000
+            && fp(0x0000000001000000) == 0x8000000000000000
+            && pc1(0x0101010101010101) == 0x0000000000000000
+            && pc1(0xffffffffffffffff) == 0xffffffffffffff00
+            && e(0x8000000000000000) == 0x4000000000010000
+            && e(0x0000000100000000) == 0x8000000000020000
+    );
 }
 
 // By hand: bit 64 goes one place up, and to the front.

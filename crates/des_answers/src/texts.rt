@@ -2,7 +2,6 @@
 
 ghost use Rattle.std.specs.Prelude.{◌≤◌};
 
-use crate::ciphers::{Cipher, Form, Test, all_pass, made};
 use des::cipher::{InvalidLength, NotEqualError};
 use des::weak_key::WeakKeyError;
 use std::fmt;
@@ -44,37 +43,14 @@ fn is_displayed_as<D: fmt::Display>(value: &D, text: &str) -> bool {
     })
 }
 
-// Whether the value has the debug text under the options of this number.
-fn is_debugged_as<D: fmt::Debug>(value: &D, text: &str, options: usize) -> bool {
-    let mut page = Page::new(ENOUGH, false);
-    write_debug(&mut page, value, options).is_ok() && page.has(text)
-}
-
 #[test]
 fn errors_write_their_texts(rt: HostRuntime) {
     assert!(rt; is_displayed_as(&InvalidLength, "InvalidLength"));
     assert!(rt; is_displayed_as(&NotEqualError, "NotEqualError"));
     assert!(rt; is_displayed_as(&WeakKeyError, "WeakKey"));
-    assert!(rt; is_debugged_as(&InvalidLength, "InvalidLength", 0));
-    assert!(rt; is_debugged_as(&NotEqualError, "NotEqualError", 0));
-    assert!(rt; is_debugged_as(&WeakKeyError, "WeakKeyError", 0));
-}
-
-// Each cipher writes its name, whatever options are set.
-struct Names;
-
-impl Test for Names {
-    fn passes<C: Cipher>(&self, form: Form) -> bool {
-        let Some(cipher) = made::<C>(form) else {
-            return false;
-        };
-        (0..8usize).all(|options| is_debugged_as(&cipher, form.text(), options))
-    }
-}
-
-#[test]
-fn ciphers_write_their_names(rt: HostRuntime) {
-    all_pass(&rt, &Names);
+    assert!(rt; shows_alone(&InvalidLength, "InvalidLength", 0));
+    assert!(rt; shows_alone(&NotEqualError, "NotEqualError", 0));
+    assert!(rt; shows_alone(&WeakKeyError, "WeakKeyError", 0));
 }
 
 // More writes than a text takes, so that none is refused.
@@ -111,12 +87,14 @@ impl Page {
         text.as_bytes().starts_with(&self.bytes[..self.taken])
     }
 
+    // A text that is too long fills the page, which then has the front of none.
     fn push(&mut self, text: &str) {
-        for byte in text.as_bytes() {
-            if self.taken < 64 {
-                self.bytes[self.taken] = *byte;
-                self.taken += 1;
-            }
+        let left = &mut self.bytes[self.taken..];
+        if text.len() < left.len() {
+            left[..text.len()].copy_from_slice(text.as_bytes());
+            self.taken += text.len();
+        } else {
+            self.taken = 64;
         }
     }
 }
@@ -141,27 +119,30 @@ fn gets_a_front<D: fmt::Debug>(value: &D, text: &str, options: usize, mut page: 
     }
 }
 
-// Whether it does so, after whatever number of writes the page refuses one: at most one for each
-// byte.
-fn shows_text_alone<D: fmt::Debug>(value: &D, text: &str, options: usize) -> bool {
-    (0..text.len() + 1).all(|takes| {
-        gets_a_front(value, text, options, Page::new(takes, true))
-            && gets_a_front(value, text, options, Page::new(takes, false))
-    })
-}
-
-struct RefusedWrites;
-
-impl Test for RefusedWrites {
-    fn passes<C: Cipher>(&self, form: Form) -> bool {
-        let Some(cipher) = made::<C>(form) else {
-            return false;
-        };
-        (0..8usize).all(|options| shows_text_alone(&cipher, form.text(), options))
+// Whether a value writes its text under the options of this number, and a page that refuses one
+// write, after whatever number of them, gets a front of the text alone: there is at most one write
+// for each byte.
+fn shows_alone<D: fmt::Debug>(value: &D, text: &str, options: usize) -> bool {
+    let mut whole = Page::new(ENOUGH, false);
+    if write_debug(&mut whole, value, options).is_err() || !whole.has(text) {
+        return false;
     }
+    for takes in 0..text.len() + 1 {
+        if !gets_a_front(value, text, options, Page::new(takes, true))
+            || !gets_a_front(value, text, options, Page::new(takes, false))
+        {
+            return false;
+        }
+    }
+    true
 }
 
-#[test]
-fn ciphers_show_no_key_to_a_writer_that_refuses(rt: HostRuntime) {
-    all_pass(&rt, &RefusedWrites);
+// Whether it does so whatever options are set.
+pub fn show_alone<D: fmt::Debug>(value: &D, text: &str) -> bool {
+    for options in 0..8usize {
+        if !shows_alone(value, text, options) {
+            return false;
+        }
+    }
+    true
 }

@@ -1,0 +1,85 @@
+/* The cases of a file of known answers (`crates/des_answers/known_answers.txt`, which says what its lines are). */
+#ifndef CASES_H
+#define CASES_H
+
+#include "check.h"
+#include <inttypes.h>
+
+enum { CASE_BLOCKS = 8 };
+
+struct known_case {
+  int cipher, is_chain;
+  uint8_t key[24], vector[8], plain[8 * CASE_BLOCKS], answer[8 * CASE_BLOCKS];
+  size_t count;
+};
+
+/* The eight bytes of a word, the most significant first. */
+static void put_word(uint8_t *bytes, uint64_t word) {
+  for (int i = 0; i < 8; i++) bytes[i] = (uint8_t)(word >> (56 - 8 * i));
+}
+
+/* The bytes of digits; how many. */
+static size_t put_digits(uint8_t *bytes, const char *digits) {
+  size_t count = strlen(digits) / 16;
+  for (size_t i = 0; i < count; i++) {
+    uint64_t word;
+    CHECK(sscanf(digits + 16 * i, "%16" SCNx64, &word) == 1);
+    put_word(bytes + 8 * i, word);
+  }
+  return 8 * count;
+}
+
+static void put_cipher(struct known_case *known, const char *name) {
+  static const char *const names[CIPHERS] = {"des", "ede3", "eee3", "ede2", "eee2"};
+  size_t length = strcspn(name, "-");
+  known->is_chain = strcmp(name + length, "-cbc") == 0;
+  CHECK(known->is_chain || name[length] == 0);
+  for (known->cipher = 0; known->cipher < CIPHERS; known->cipher++)
+    if (strlen(names[known->cipher]) == length && memcmp(name, names[known->cipher], length) == 0) return;
+  CHECK(!"a cipher of this name");
+}
+
+static void put_blocks(struct known_case *known, const char *plain, const char *answer) {
+  CHECK(known->count < CASE_BLOCKS);
+  CHECK(put_digits(known->plain + 8 * known->count, plain) == 8);
+  CHECK(put_digits(known->answer + 8 * known->count, answer) == 8);
+  known->count++;
+}
+
+/* Takes a line to the case that it begins or goes on with; one that it begins follows what was read before it. */
+static void put_line(struct known_case *known, const char *line) {
+  char cipher[17], key[49], plain[17], answer[17], vector[17];
+  if (line[0] == ' ') {
+    CHECK(sscanf(line, "%16s %16s", plain, answer) == 2);
+    put_blocks(known, plain, answer);
+    return;
+  }
+  int words = sscanf(line, "%16s %48s %16s %16s %16s", cipher, key, plain, answer, vector);
+  put_cipher(known, cipher);
+  CHECK(words == 4 + known->is_chain);
+  CHECK(put_digits(known->key, key) == ciphers[known->cipher].key_size);
+  known->count = 0;
+  put_blocks(known, plain, answer);
+  if (known->is_chain) CHECK(put_digits(known->vector, vector) == 8);
+}
+
+/* Takes each case of a file to a test; how many. */
+static int each_case(const char *path, void (*test)(const struct known_case *)) {
+  struct known_case known;
+  char line[200];
+  int cases = 0;
+  FILE *file = fopen(path, "r");
+  CHECK(file != NULL);
+  while (fgets(line, sizeof line, file)) {
+    if (line[0] == '#' || line[0] == '\n') continue;
+    if (line[0] != ' ' && cases++ > 0) test(&known);
+    CHECK(cases > 0);
+    put_line(&known, line);
+  }
+  CHECK(cases > 0);
+  test(&known);
+  fclose(file);
+  return cases;
+}
+
+#endif
