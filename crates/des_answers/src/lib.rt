@@ -8,6 +8,8 @@ mod blocks;
 #[cfg(test)]
 mod ciphers;
 #[cfg(test)]
+mod fronts;
+#[cfg(test)]
 mod known;
 #[cfg(test)]
 mod lengths;

@@ -1,10 +1,12 @@
 //! Lists of 130 blocks, a whole batch and two blocks after it, by the calls of every cipher, by
 //! those of `ManyBlocks` that name no width, and by keys that are spread once.
 
+use crate::fronts::answers_each_length;
 use crate::known::{DES, EDE2, EDE3, EEE2, EEE3, IV, Known, LIST_PARTS, STEP, blocks, multiples};
 use des::cbc;
 use des::cipher::{BlockCipher, KeyedCipher};
 use des_fast::many::{ListKeys, ManyBlocks, Slice, SpreadOnce};
+use std::process::Abort;
 use std::simd::prelude::*;
 
 // A list encrypted, decrypted, and decrypted by CBC.
@@ -47,7 +49,7 @@ pub fn answers_one_by_one<C: BlockCipher>(cipher: &C, known: &Known) -> bool {
     lists.are(known)
 }
 
-// Whether it does by the calls for many blocks.
+// Whether it does by the calls for many blocks that name no width.
 fn answers_many<C: ManyBlocks>(cipher: &C, known: &Known) -> bool {
     let mut lists = Answered::new();
     cipher.encrypt_many(&mut lists.encrypted);
@@ -66,23 +68,29 @@ fn spread_keys_answer<S: Slice, C: SpreadOnce>(cipher: &C, known: &Known) -> boo
     lists.are(known)
 }
 
-// All of it.
-fn passes<C: KeyedCipher + SpreadOnce + Drop>(known: &Known) -> bool {
-    match C::new_from_slice(known.key(&LIST_PARTS)) {
-        Ok(cipher) => {
-            answers_many(&cipher, known)
-                && spread_keys_answer::<u64x2, C>(&cipher, known)
-                && spread_keys_answer::<u64x4, C>(&cipher, known)
-        }
-        Err(_) => false,
-    }
+// All of it, and lists of each length over vectors of four words beside the port of the cipher.
+fn passes<C, P>(rt: &impl Abort, known: &Known)
+where
+    C: KeyedCipher + SpreadOnce + Drop,
+    P: KeyedCipher + Drop,
+{
+    let name = known.name;
+    let cipher = C::new_from_slice(known.key(&LIST_PARTS)).expect(rt, name);
+    let port = P::new_from_slice(known.key(&LIST_PARTS)).expect(rt, name);
+    assert!(rt; answers_many(&cipher, known), "{name}");
+    assert!(rt; spread_keys_answer::<u64x2, C>(&cipher, known), "{name}");
+    assert!(rt; spread_keys_answer::<u64x4, C>(&cipher, known), "{name}");
+    assert!(rt;
+        answers_each_length::<u64x4, C, P>(&cipher, &port),
+        "{name}"
+    );
 }
 
 #[test]
 fn lists_are_answered_as_by_openssl(rt: HostRuntime) {
-    assert!(rt; passes::<des_fast::Des>(&DES));
-    assert!(rt; passes::<des_fast::TdesEde3>(&EDE3));
-    assert!(rt; passes::<des_fast::TdesEee3>(&EEE3));
-    assert!(rt; passes::<des_fast::TdesEde2>(&EDE2));
-    assert!(rt; passes::<des_fast::TdesEee2>(&EEE2));
+    passes::<des_fast::Des, des::Des>(&rt, &DES);
+    passes::<des_fast::TdesEde3, des::TdesEde3>(&rt, &EDE3);
+    passes::<des_fast::TdesEee3, des::TdesEee3>(&rt, &EEE3);
+    passes::<des_fast::TdesEde2, des::TdesEde2>(&rt, &EDE2);
+    passes::<des_fast::TdesEee2, des::TdesEee2>(&rt, &EEE2);
 }
