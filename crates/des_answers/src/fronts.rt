@@ -1,5 +1,5 @@
-//! Lists of every length from 0 to 300 blocks, over slices of a width that not every processor has
-//! for the tests from C.
+//! Lists of every length from 0 to 300 blocks, over slices of a width. The tests from C take them
+//! over four words only where the processor has vectors of 256 bits.
 
 ghost use Rattle.std.specs.Prelude.{◌≤◌};
 

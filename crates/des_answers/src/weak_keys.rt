@@ -56,6 +56,13 @@ fn counts_round_keys(rt: HostRuntime) {
     }
 }
 
+// The listed key of this place, as a word.
+fn key_at(place: usize) -> u64
+    requires { place < 64 }
+{
+    u64::from_be_bytes(WEAK_KEYS[place])
+}
+
 // By place: the first of the 4 weak keys of NBS Special Publication 500-20, the first of the 12
 // semi-weak ones, and the keys after them that the list of the Rust crate `des` begins and ends
 // with.
@@ -63,13 +70,6 @@ fn counts_round_keys(rt: HostRuntime) {
 fn lists_keys_in_their_places(rt: HostRuntime) {
     assert!(rt; key_at(0) == 0x0101010101010101 && key_at(4) == 0x011f011f010e010e);
     assert!(rt; key_at(16) == 0x01011f1f01010e0e && key_at(63) == 0xfefee0e0fefef1f1);
-}
-
-// The listed key of this place, as a word.
-fn key_at(place: usize) -> u64
-    requires { place < 64 }
-{
-    u64::from_be_bytes(WEAK_KEYS[place])
 }
 
 // How many listed keys have so many round keys.
