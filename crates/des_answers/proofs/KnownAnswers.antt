@@ -1,5 +1,5 @@
 -- The definitions that private functions of `des_fast` stand for, computed at values from outside.
-use Rattle.std.proofs.Common.{◌≡◌, ℕ, List, [], ◌∷◌, Bool, map, refl}
+use Rattle.std.proofs.Common.{◌≡◌, ℕ, List, [], ◌∷◌, map, refl}
 use Rattle.des.specs.Bits.{bits_of, number_of, select, xor_bits}
 use Rattle.des.specs.Tables.{selection_functions}
 use Rattle.des.specs.CipherFunction.{box_entry, substitute_by, cipher_function}
