@@ -1,5 +1,5 @@
 -- Circuits of gates as data, and what they make of the bits of one block.
-use Rattle.std.proofs.Common.{◌≡◌, ℕ, ◌^◌, ◌<◌, ◌==◌, Bool, true, not, ◌&&◌, ◌||◌, List, [], ◌∷◌, ◌++◌, length, subst, refl, sym, ap, ◌∙◌}
+use Rattle.std.proofs.Common.{◌≡◌, ℕ, ◌^◌, ◌<◌, ◌==◌, Bool, true, not, ◌&&◌, ◌||◌, List, [], ◌∷◌, ◌++◌, length, map, get_or, subst, refl, sym, ap, ◌∙◌, arith}
 use Rattle.std.proofs.lemmas.Bool.{eqb-true, agree_below, agree_below_at}
 use Rattle.des.specs.Bits.{bit, bits_of, number_of, select, xor as xor_bit}
 use Rattle.des.specs.Tables.{Box}
@@ -69,9 +69,27 @@ output_bits-entry box circuit group each four six =
     sym (bits_of-number_of_n 4 (output_bits circuit group) (length-select _ _ ∙ four))
     ∙ ap (bits_of 4) (eqb-true _ _ agreed)
 
--- so do bits that its gates make
-pub made-entry : (box : Box) (circuit : Circuit) (group all : List Bool) → is_circuit_of box circuit ≡ true
-    → length circuit.outputs ≡ 4 → length group ≡ 6 → Makes circuit.gates group all
-    → select circuit.outputs all ≡ bits_of 4 (box_entry box group)
-made-entry box circuit group all each four six made =
-    ap (select circuit.outputs) (run-makes circuit.gates group all made) ∙ output_bits-entry box circuit group each four six
+-- six elements, one by one
+six_listed : {A : Type 0} (xs : List A) (d0 d1 d2 d3 d4 d5 : A) → length xs ≡ 6
+    → get_or xs 0 d0 ∷ get_or xs 1 d1 ∷ get_or xs 2 d2 ∷ get_or xs 3 d3 ∷ get_or xs 4 d4 ∷ get_or xs 5 d5 ∷ [] ≡ xs
+six_listed [] d0 d1 d2 d3 d4 d5 six = absurd (omega arith)
+six_listed (x0 ∷ []) d0 d1 d2 d3 d4 d5 six = absurd (omega arith)
+six_listed (x0 ∷ x1 ∷ []) d0 d1 d2 d3 d4 d5 six = absurd (omega arith)
+six_listed (x0 ∷ x1 ∷ x2 ∷ []) d0 d1 d2 d3 d4 d5 six = absurd (omega arith)
+six_listed (x0 ∷ x1 ∷ x2 ∷ x3 ∷ []) d0 d1 d2 d3 d4 d5 six = absurd (omega arith)
+six_listed (x0 ∷ x1 ∷ x2 ∷ x3 ∷ x4 ∷ []) d0 d1 d2 d3 d4 d5 six = absurd (omega arith)
+six_listed (x0 ∷ x1 ∷ x2 ∷ x3 ∷ x4 ∷ x5 ∷ []) d0 d1 d2 d3 d4 d5 six = refl
+six_listed (x0 ∷ x1 ∷ x2 ∷ x3 ∷ x4 ∷ x5 ∷ x6 ∷ xs) d0 d1 d2 d3 d4 d5 six = absurd (omega arith)
+
+-- so do bits that its gates make of the six of a group
+pub made-entry : {A : Type 0} (bit : A → Bool) (box : Box) (circuit : Circuit) (group : List A) (d0 d1 d2 d3 d4 d5 : A) (all : List Bool)
+    → is_circuit_of box circuit ≡ true → length circuit.outputs ≡ 4 → length group ≡ 6
+    → Makes circuit.gates (map bit
+    (get_or group 0 d0 ∷ get_or group 1 d1 ∷ get_or group 2 d2 ∷ get_or group 3 d3 ∷ get_or group 4 d4 ∷ get_or group 5 d5 ∷ [])) all
+    → select circuit.outputs all ≡ bits_of 4 (box_entry box (map bit group))
+made-entry {A = A} bit box circuit group d0 d1 d2 d3 d4 d5 all each four six made =
+    let listed : List Bool = map bit
+    (get_or group 0 d0 ∷ get_or group 1 d1 ∷ get_or group 2 d2 ∷ get_or group 3 d3 ∷ get_or group 4 d4 ∷ get_or group 5 d5 ∷ []) in
+    ap (select circuit.outputs) (run-makes circuit.gates listed all made)
+    ∙ output_bits-entry box circuit listed each four refl
+    ∙ ap (λ (elements : List A). bits_of 4 (box_entry box (map bit elements))) (six_listed group d0 d1 d2 d3 d4 d5 six)

@@ -8,7 +8,6 @@
 //! proved. `a & !b` counts as one gate. Who changes a gate changes it in the list of gates of the
 //! proof of the box too, which has them in the same order.
 
-ghost use Rattle.std.specs.Prelude.{[], ◌∷◌};
 ghost use Rattle.des.specs.Tables.{s1, s2, s3, s4, s5, s6, s7, s8};
 ghost use Rattle.des_fast.specs.Slices.{ReplacesGroups};
 
@@ -17,9 +16,10 @@ use crate::slices::Slice;
 /// The box S1 on slices (FIPS 46-3, S-boxes): a circuit of 53 gates.
 #[inline(always)]
 #[rattlefmt::skip]
-pub(crate) fn s1<S: Slice>(x1: S, x2: S, x3: S, x4: S, x5: S, x6: S) -> [S; 4]
-    ensures { ReplacesGroups S.BATCH S.bit s1 (x1 ∷ x2 ∷ x3 ∷ x4 ∷ x5 ∷ x6 ∷ []) result }
+pub(crate) fn s1<S: Slice>(group: [S; 6]) -> [S; 4]
+    ensures { ReplacesGroups S.BATCH S.bit s1 group result }
 {
+    let [x1, x2, x3, x4, x5, x6] = group;
     let x7 = x3.not(); let x8 = x4.xor(x1); let x9 = x8.and(x6); let x10 = x9.xor(x7);
     let x11 = x10.xor(x8); let x12 = x11.xor(x9); let x13 = x10.or(x1); let x14 = x5.and(x13);
     let x15 = x12.or(x14); let x16 = x15.xor(x6); let x17 = x16.and(x1); let x18 = x17.xor(x8);
@@ -42,9 +42,10 @@ pub(crate) fn s1<S: Slice>(x1: S, x2: S, x3: S, x4: S, x5: S, x6: S) -> [S; 4]
 /// The box S2 on slices (FIPS 46-3, S-boxes): a circuit of 50 gates.
 #[inline(always)]
 #[rattlefmt::skip]
-pub(crate) fn s2<S: Slice>(x1: S, x2: S, x3: S, x4: S, x5: S, x6: S) -> [S; 4]
-    ensures { ReplacesGroups S.BATCH S.bit s2 (x1 ∷ x2 ∷ x3 ∷ x4 ∷ x5 ∷ x6 ∷ []) result }
+pub(crate) fn s2<S: Slice>(group: [S; 6]) -> [S; 4]
+    ensures { ReplacesGroups S.BATCH S.bit s2 group result }
 {
+    let [x1, x2, x3, x4, x5, x6] = group;
     let x7 = x5.xor(x6); let x8 = x7.xor(x1); let x9 = x7.and_not(x8); let x10 = x5.and_not(x9);
     let x11 = x10.and(x1); let x12 = x11.or(x4); let x13 = x10.and(x4); let x14 = x6.or(x3);
     let x15 = x13.xor(x14); let x16 = x15.and_not(x1); let x17 = x12.xor(x16); let x18 = x2.not();
@@ -65,9 +66,10 @@ pub(crate) fn s2<S: Slice>(x1: S, x2: S, x3: S, x4: S, x5: S, x6: S) -> [S; 4]
 /// The box S3 on slices (FIPS 46-3, S-boxes): a circuit of 49 gates.
 #[inline(always)]
 #[rattlefmt::skip]
-pub(crate) fn s3<S: Slice>(x1: S, x2: S, x3: S, x4: S, x5: S, x6: S) -> [S; 4]
-    ensures { ReplacesGroups S.BATCH S.bit s3 (x1 ∷ x2 ∷ x3 ∷ x4 ∷ x5 ∷ x6 ∷ []) result }
+pub(crate) fn s3<S: Slice>(group: [S; 6]) -> [S; 4]
+    ensures { ReplacesGroups S.BATCH S.bit s3 group result }
 {
+    let [x1, x2, x3, x4, x5, x6] = group;
     let x7 = x4.xor(x3); let x8 = x1.xor(x7); let x9 = x8.xor(x5); let x10 = x8.or(x7);
     let x11 = x10.and_not(x5); let x12 = x6.or(x4); let x13 = x12.and(x1); let x14 = x6.xor(x3);
     let x15 = x13.xor(x14); let x16 = x11.xor(x15); let x17 = x16.xor(x4); let x18 = x17.not();
@@ -89,9 +91,10 @@ pub(crate) fn s3<S: Slice>(x1: S, x2: S, x3: S, x4: S, x5: S, x6: S) -> [S; 4]
 /// The box S4 on slices (FIPS 46-3, S-boxes): a circuit of 35 gates.
 #[inline(always)]
 #[rattlefmt::skip]
-pub(crate) fn s4<S: Slice>(x1: S, x2: S, x3: S, x4: S, x5: S, x6: S) -> [S; 4]
-    ensures { ReplacesGroups S.BATCH S.bit s4 (x1 ∷ x2 ∷ x3 ∷ x4 ∷ x5 ∷ x6 ∷ []) result }
+pub(crate) fn s4<S: Slice>(group: [S; 6]) -> [S; 4]
+    ensures { ReplacesGroups S.BATCH S.bit s4 group result }
 {
+    let [x1, x2, x3, x4, x5, x6] = group;
     let x7 = x5.and_not(x4); let x8 = x7.xor(x3); let x9 = x8.xor(x4); let x10 = x2.and(x8);
     let x11 = x10.xor(x9); let x12 = x11.not(); let x13 = x12.xor(x5); let x14 = x13.xor(x2);
     let x15 = x9.or(x14); let x16 = x15.xor(x3); let x17 = x16.and(x1); let x18 = x16.or(x1);
@@ -108,9 +111,10 @@ pub(crate) fn s4<S: Slice>(x1: S, x2: S, x3: S, x4: S, x5: S, x6: S) -> [S; 4]
 /// The box S5 on slices (FIPS 46-3, S-boxes): a circuit of 51 gates.
 #[inline(always)]
 #[rattlefmt::skip]
-pub(crate) fn s5<S: Slice>(x1: S, x2: S, x3: S, x4: S, x5: S, x6: S) -> [S; 4]
-    ensures { ReplacesGroups S.BATCH S.bit s5 (x1 ∷ x2 ∷ x3 ∷ x4 ∷ x5 ∷ x6 ∷ []) result }
+pub(crate) fn s5<S: Slice>(group: [S; 6]) -> [S; 4]
+    ensures { ReplacesGroups S.BATCH S.bit s5 group result }
 {
+    let [x1, x2, x3, x4, x5, x6] = group;
     let x7 = x3.xor(x1); let x8 = x7.or(x3); let x9 = x8.and_not(x6); let x10 = x7.xor(x9);
     let x11 = x10.or(x1); let x12 = x9.or(x4); let x13 = x12.xor(x5); let x14 = x13.xor(x3);
     let x15 = x14.xor(x4); let x16 = x15.or(x5); let x17 = x16.xor(x14); let x18 = x11.xor(x17);
@@ -132,9 +136,10 @@ pub(crate) fn s5<S: Slice>(x1: S, x2: S, x3: S, x4: S, x5: S, x6: S) -> [S; 4]
 /// The box S6 on slices (FIPS 46-3, S-boxes): a circuit of 48 gates.
 #[inline(always)]
 #[rattlefmt::skip]
-pub(crate) fn s6<S: Slice>(x1: S, x2: S, x3: S, x4: S, x5: S, x6: S) -> [S; 4]
-    ensures { ReplacesGroups S.BATCH S.bit s6 (x1 ∷ x2 ∷ x3 ∷ x4 ∷ x5 ∷ x6 ∷ []) result }
+pub(crate) fn s6<S: Slice>(group: [S; 6]) -> [S; 4]
+    ensures { ReplacesGroups S.BATCH S.bit s6 group result }
 {
+    let [x1, x2, x3, x4, x5, x6] = group;
     let x7 = x3.not(); let x8 = x7.and(x1); let x9 = x8.or(x5); let x10 = x7.or(x1);
     let x11 = x9.and(x10); let x12 = x11.xor(x2); let x13 = x12.or(x3); let x14 = x13.xor(x1);
     let x15 = x5.xor(x14); let x16 = x6.xor(x4); let x17 = x15.xor(x16); let x18 = x15.and_not(x4);
@@ -156,9 +161,10 @@ pub(crate) fn s6<S: Slice>(x1: S, x2: S, x3: S, x4: S, x5: S, x6: S) -> [S; 4]
 /// The box S7 on slices (FIPS 46-3, S-boxes): a circuit of 50 gates.
 #[inline(always)]
 #[rattlefmt::skip]
-pub(crate) fn s7<S: Slice>(x1: S, x2: S, x3: S, x4: S, x5: S, x6: S) -> [S; 4]
-    ensures { ReplacesGroups S.BATCH S.bit s7 (x1 ∷ x2 ∷ x3 ∷ x4 ∷ x5 ∷ x6 ∷ []) result }
+pub(crate) fn s7<S: Slice>(group: [S; 6]) -> [S; 4]
+    ensures { ReplacesGroups S.BATCH S.bit s7 group result }
 {
+    let [x1, x2, x3, x4, x5, x6] = group;
     let x7 = x3.not(); let x8 = x3.or(x2); let x9 = x8.xor(x5); let x10 = x9.xor(x2);
     let x11 = x4.and_not(x10); let x12 = x9.xor(x1); let x13 = x10.or(x3); let x14 = x13.and(x4);
     let x15 = x12.xor(x14); let x16 = x15.xor(x10); let x17 = x16.xor(x7); let x18 = x11.xor(x17);
@@ -180,9 +186,10 @@ pub(crate) fn s7<S: Slice>(x1: S, x2: S, x3: S, x4: S, x5: S, x6: S) -> [S; 4]
 /// The box S8 on slices (FIPS 46-3, S-boxes): a circuit of 41 gates.
 #[inline(always)]
 #[rattlefmt::skip]
-pub(crate) fn s8<S: Slice>(x1: S, x2: S, x3: S, x4: S, x5: S, x6: S) -> [S; 4]
-    ensures { ReplacesGroups S.BATCH S.bit s8 (x1 ∷ x2 ∷ x3 ∷ x4 ∷ x5 ∷ x6 ∷ []) result }
+pub(crate) fn s8<S: Slice>(group: [S; 6]) -> [S; 4]
+    ensures { ReplacesGroups S.BATCH S.bit s8 group result }
 {
+    let [x1, x2, x3, x4, x5, x6] = group;
     let x7 = x3.or(x2); let x8 = x1.xor(x3); let x9 = x7.xor(x5); let x10 = x8.and_not(x9);
     let x11 = x4.or(x1); let x12 = x10.xor(x11); let x13 = x12.or(x5); let x14 = x13.and(x2);
     let x15 = x10.xor(x4); let x16 = x14.xor(x15); let x17 = x16.or(x5); let x18 = x17.and(x4);

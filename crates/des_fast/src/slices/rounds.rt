@@ -71,20 +71,12 @@ pub(super) fn round<S: Slice>(
         (cipher_function (map (S.bit b) right.now)
         (round_key_of (map (S.bit b) key.now) rotation))) }
 {
-    let [x1, x2, x3, x4, x5, x6] = group(right, key, rotation, 0);
-    xor_at(left, [8, 16, 22, 30], s1(x1, x2, x3, x4, x5, x6));
-    let [x1, x2, x3, x4, x5, x6] = group(right, key, rotation, 1);
-    xor_at(left, [12, 27, 1, 17], s2(x1, x2, x3, x4, x5, x6));
-    let [x1, x2, x3, x4, x5, x6] = group(right, key, rotation, 2);
-    xor_at(left, [23, 15, 29, 5], s3(x1, x2, x3, x4, x5, x6));
-    let [x1, x2, x3, x4, x5, x6] = group(right, key, rotation, 3);
-    xor_at(left, [25, 19, 9, 0], s4(x1, x2, x3, x4, x5, x6));
-    let [x1, x2, x3, x4, x5, x6] = group(right, key, rotation, 4);
-    xor_at(left, [7, 13, 24, 2], s5(x1, x2, x3, x4, x5, x6));
-    let [x1, x2, x3, x4, x5, x6] = group(right, key, rotation, 5);
-    xor_at(left, [3, 28, 10, 18], s6(x1, x2, x3, x4, x5, x6));
-    let [x1, x2, x3, x4, x5, x6] = group(right, key, rotation, 6);
-    xor_at(left, [31, 11, 21, 6], s7(x1, x2, x3, x4, x5, x6));
-    let [x1, x2, x3, x4, x5, x6] = group(right, key, rotation, 7);
-    xor_at(left, [4, 26, 14, 20], s8(x1, x2, x3, x4, x5, x6));
+    xor_at(left, [8, 16, 22, 30], s1(group(right, key, rotation, 0)));
+    xor_at(left, [12, 27, 1, 17], s2(group(right, key, rotation, 1)));
+    xor_at(left, [23, 15, 29, 5], s3(group(right, key, rotation, 2)));
+    xor_at(left, [25, 19, 9, 0], s4(group(right, key, rotation, 3)));
+    xor_at(left, [7, 13, 24, 2], s5(group(right, key, rotation, 4)));
+    xor_at(left, [3, 28, 10, 18], s6(group(right, key, rotation, 5)));
+    xor_at(left, [31, 11, 21, 6], s7(group(right, key, rotation, 6)));
+    xor_at(left, [4, 26, 14, 20], s8(group(right, key, rotation, 7)));
 }

@@ -1,5 +1,5 @@
 -- The circuit of S2, and that it answers as the box.
-use Rattle.std.proofs.Common.{[], ◌∷◌, map, refl}
+use Rattle.std.proofs.Common.{[], ◌∷◌, refl, arith}
 use Rattle.des.specs.Bits.{bits_of, number_of, select}
 use Rattle.des.specs.Tables.{s2}
 use Rattle.des.specs.CipherFunction.{box_entry}
@@ -22,8 +22,7 @@ circuit = record {
 pub returns : goal.returns
 unfolding bits_of number_of select box_entry
 returns g c b within =
-    let a = c.args in
-    made-entry s2 circuit (map (g.S.Slice.bit b) (a.x1 ∷ a.x2 ∷ a.x3 ∷ a.x4 ∷ a.x5 ∷ a.x6 ∷ [])) _ refl refl refl (
+    made-entry (g.S.Slice.bit b) s2 circuit c.args.group _ _ _ _ _ _ _ refl refl (omega arith) (
     next (c.xor-x7.ensures b within) (next (c.xor-x8.ensures b within) (next (c.and_not-x9.ensures b within) (
     next (c.and_not-x10.ensures b within) (next (c.and-x11.ensures b within) (next (c.or-x12.ensures b within) (
     next (c.and-x13.ensures b within) (next (c.or-x14.ensures b within) (next (c.xor-x15.ensures b within) (
