@@ -45,6 +45,12 @@ pub answered-all : (f : List ℕ → List ℕ) (m : ℕ) (old : List (List ℕ))
 answered-all f m old all =
     ap₂ (λ (front back : List (List ℕ)). map f front ++ back) (take_all m old all) (drop_all m old all) ∙ append-nil (map f old)
 
+-- a batch of a longer list over whose front a list was written
+pub length-filled : {n : ℕ} (batch : ℕ) (part filling : List (List ℕ)) → length part ≤ batch → batch ≤ 256
+    → length part ≡ n → length filling ≡ 256 → length (take batch (part ++ drop n filling)) ≡ batch
+length-filled {n} batch part filling fits most in_part long =
+    length-take-le batch (part ++ drop n filling) (omega (arith, length-append part (drop n filling), length-drop n filling))
+
 -- the answers to a list that was written over the front of a longer one
 pub answered-front : (f : List ℕ → List ℕ) (n batch : ℕ) (old part filling answers back : List (List ℕ)) → length old ≡ n → n ≤ batch
     → batch ≤ 256 → length filling ≡ 256 → part ≡ old → answers ≡ map f (take batch (part ++ drop n filling))
@@ -52,8 +58,7 @@ pub answered-front : (f : List ℕ → List ℕ) (n batch : ℕ) (old part filli
 answered-front f n batch old part filling answers back size fits most long same made =
     let whole : List (List ℕ) = part ++ drop n filling in
     let in_part : length part ≡ n = ap length same ∙ size in
-    let room : batch ≤ length whole = omega (arith, length-append part (drop n filling), length-drop n filling) in
-    let width : length (take batch whole) ≡ batch = length-take-le batch whole room in
+    let width : length (take batch whole) ≡ batch = length-filled batch part filling (omega arith) most in_part long in
     let count : length answers ≡ batch = ap length made ∙ length-map (take batch whole) f ∙ width in
     ext_get_or [] (take n (answers ++ back)) (map f old)
     (length-take-le n (answers ++ back) (omega (arith, length-append answers back)) ∙ sym (length-map old f ∙ size))

@@ -3,7 +3,11 @@ use Rattle.std.proofs.Common.{◌≡◌, ℕ, ◌-◌, ◌<◌, List, [], length
 use Rattle.std.proofs.lemmas.List.{get_or-map, get_or-take}
 use Rattle.des.specs.Cbc.{xor_blocks, block_at, block_before}
 use Rattle.des_fast.specs.Passes.{block_through_passes}
+use Rattle.des_fast.proofs.SliceSizes.{pass_slices-le}
 use Rattle.des_fast.proofs.many.chains.unchain_part.Goals as goal
+
+pub answers_of-answers-requires : goal.answers_of-answers-requires
+answers_of-answers-requires g c = (omega (arith, pass_slices-le _ _ g.met.S.Slice.small_gaps g.met.S.Slice.few_bytes), c.requires)
 
 pub returns : goal.returns
 returns g c keys hold =

@@ -21,6 +21,15 @@ round-requires g c = (
   ),
 )
 
+pub round-requires-in-pairs : goal.round-requires-in-pairs
+round-requires-in-pairs g c = (
+  omega (arith, g.met.S.Slice.few_bytes),
+  (
+    omega (arith, g.met.S.Slice.few_bytes),
+    rotation-le c.args.pass.now.deciphers c.rotations-rotations.result (2 * c.pairs.i + 1) c.rotations-rotations.ensures (omega arith),
+  ),
+)
+
 pub pairs-preserved : goal.pairs-preserved
 pairs-preserved g c b within =
     let read = map (g.S.Slice.bit b) in

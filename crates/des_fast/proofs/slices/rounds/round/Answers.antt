@@ -1,5 +1,5 @@
 -- A round xors the entries of the eight boxes one after another, where P puts their bits.
-use Rattle.std.proofs.Common.{List, [], ◌∷◌, Bool, map, refl, ◌∙◌, arith}
+use Rattle.std.proofs.Common.{List, [], ◌∷◌, Bool, map, refl, ◌∙◌}
 use Rattle.std.proofs.lemmas.List.{length-map}
 use Rattle.des.specs.Bits.{select, xor_bits}
 use Rattle.des.specs.Tables.{s1, s2, s3, s4, s5, s6, s7, s8, expansion}

@@ -1,5 +1,7 @@
-use Rattle.std.proofs.Common.{◌≡◌, ℕ, ◌<◌, true, false, List, Bool, [], ◌∷◌, map, get_or, slice_set, take, add-one, length, nat_lt, refl, sym, ap, ap₂, ◌∙◌, arith}
-use Rattle.std.proofs.lemmas.Bool.Decides.{nat_tests}
+use Rattle.std.proofs.Common.{◌≡◌, ℕ, ◌*◌, ◌<◌, ◌≤◌, IsTrue, true, false, List, Bool, [], ◌∷◌, map, get_or, slice_set, take, add-one, length, nat_lt, refl, sym, ap, ap₂, ◌∙◌, arith}
+use Rattle.std.specs.List.{list_all}
+use Rattle.std.proofs.lemmas.Bool.{ltb-true}
+use Rattle.std.proofs.lemmas.Nat.{mul-le}
 use Rattle.std.proofs.lemmas.List.{length-map, length-set, map-set, get_or-map, take_all}
 use Rattle.std.proofs.lemmas.List.Elements.{All-get_or}
 use Rattle.std.proofs.lemmas.List.Sums.{AllPass-from_list_all}
@@ -8,8 +10,14 @@ use Rattle.des_fast.specs.Slices.{xor_at}
 use Rattle.des_fast.proofs.CipherFunctionByGroups.{xor_at-more}
 use Rattle.des_fast.proofs.slices.rounds.xor_at.Goals as goal
 
-index_within : (index n : ℕ) → nat_lt index 32 ≡ true → n ≡ 32 → index < n
-index_within index n passes size = grind (arith, nat_tests)
+-- an index is within a half block
+index_below : (indexes : List ℕ) (i : ℕ) → i < length indexes → IsTrue (list_all (λ x. nat_lt x 32) indexes) → get_or indexes i 0 < 32
+index_below indexes i inside each =
+    ltb-true _ _ (All-get_or (λ x. nat_lt x 32 ≡ true) indexes i 0 inside (AllPass-from_list_all (λ x. nat_lt x 32) indexes each))
+
+-- and its slice is not far from the first
+offset-le : (index size : ℕ) → index < 32 → size ≤ 32 → index * size ≤ 32 * 32
+offset-le index size below few = mul-le index size 32 32 (omega arith) few
 
 pub loop-i-init : goal.loop-i-init
 loop-i-init g c = (c.told-half, λ b within. refl)
@@ -23,9 +31,8 @@ loop-i-preserved g c = (
       let index : ℕ = get_or c.args.indexes i 0 in
       let half = c.loop-i.half in
       let changes : List Bool = map read c.args.changes in
-      let passes : nat_lt index 32 ≡ true =
-      All-get_or (λ x. nat_lt x 32 ≡ true) c.args.indexes i 0 (omega arith) (AllPass-from_list_all (λ x. nat_lt x 32) c.args.indexes c.requires) in
-      let within_half : index < length half = index_within index (length half) passes c.loop-i.invariant.0 in
+      let within_half : index < length half =
+      omega (arith, index_below c.args.indexes i (omega arith) c.requires, c.loop-i.invariant.0) in
       let xored : read c.xor.result ≡ xor (get_or (map read half) index false) (get_or changes i false) =
       c.xor.ensures b within ∙ sym (ap₂ xor (get_or-map read half _ _ false within_half) (get_or-map read c.args.changes _ _ false (omega arith))) in
       let inside : i < length changes = rw (length-map c.args.changes read) (omega arith) in
@@ -35,6 +42,28 @@ loop-i-preserved g c = (
       ∙ sym (xor_at-more (map read c.args.half.now) c.args.indexes changes i (omega arith) inside)
       ∙ ap (λ (k : ℕ). xor_at (map read c.args.half.now) (take k c.args.indexes) (take k changes)) (sym (add-one i)),
 )
+
+pub offset_bounds-half-indexes : goal.offset_bounds-half-indexes
+offset_bounds-half-indexes g c =
+    let below = index_below c.args.indexes c.loop-i.i (omega arith) c.requires in
+    record { fits = omega (arith, offset-le _ _ below g.met.S.Slice.few_bytes) }
+
+pub listed : goal.listed
+listed g c = omega (arith, index_below c.args.indexes c.loop-i.i (omega arith) c.requires, c.loop-i.invariant.0)
+
+pub bounds-half-indexes : goal.bounds-half-indexes
+bounds-half-indexes g c = index_below c.args.indexes c.loop-i.i (omega arith) c.requires
+
+pub offset_bounds-half-indexes-in-loop-i : goal.offset_bounds-half-indexes-in-loop-i
+offset_bounds-half-indexes-in-loop-i g c =
+    let below = index_below c.args.indexes c.loop-i.i (omega arith) c.requires in
+    record { fits = omega (arith, offset-le _ _ below g.met.S.Slice.few_bytes) }
+
+pub listed-in-loop-i-2 : goal.listed-in-loop-i-2
+listed-in-loop-i-2 g c = omega (arith, index_below c.args.indexes c.loop-i.i (omega arith) c.requires, c.loop-i.invariant.0)
+
+pub bounds-half-indexes-in-loop-i : goal.bounds-half-indexes-in-loop-i
+bounds-half-indexes-in-loop-i g c = index_below c.args.indexes c.loop-i.i (omega arith) c.requires
 
 pub returns : goal.returns
 returns g c b within =

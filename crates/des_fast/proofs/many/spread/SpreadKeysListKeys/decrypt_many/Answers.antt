@@ -1,0 +1,17 @@
+use Rattle.std.proofs.Common.{ℕ, List, map, ap, sym, subst, ◌∙◌, arith}
+use Rattle.des_fast.specs.Passes.{HoldPasses}
+use Rattle.des_fast.proofs.SliceSizes.{pass_slices-le}
+use Rattle.des_fast.proofs.many.spread.SpreadKeysListKeys.decrypt_many.Goals as goal
+
+pub used-requires : goal.used-requires
+used-requires g c = omega (arith, pass_slices-le _ _ g.met.S.Slice.small_gaps g.met.S.Slice.few_bytes)
+
+pub answer-requires : goal.answer-requires
+answer-requires g c = omega (arith, pass_slices-le _ _ g.met.S.Slice.small_gaps g.met.S.Slice.few_bytes)
+
+pub returns-clause-decrypted : goal.returns-clause-decrypted
+returns-clause-decrypted g c encrypted decrypted are =
+    let slices = are.decryption in
+    c.answer.ensures slices.keys
+    (subst (λ passes. HoldPasses g.S.Slice.BATCH g.S.Slice.bit passes slices.keys) (sym c.used.ensures) slices.hold)
+    ∙ ap (λ (f : List ℕ → List ℕ). map f c.args.blocks.now) slices.answers
