@@ -10,6 +10,9 @@ used-requires g c = omega (arith, pass_slices-le _ _ g.met.S.Slice.small_gaps g.
 pub unchain-requires : goal.unchain-requires
 unchain-requires g c = omega (arith, pass_slices-le _ _ g.met.S.Slice.small_gaps g.met.S.Slice.few_bytes)
 
+pub returns-clause-blocks : goal.returns-clause-blocks
+returns-clause-blocks g c = c.are_blocks.ensures
+
 pub returns-clause-unchained : goal.returns-clause-unchained
 returns-clause-unchained g c encrypted decrypted are =
     let slices = are.decryption in
