@@ -1,5 +1,5 @@
 -- The rounds of the cipher on words: the steps from a block to what the rounds make of it.
-use Rattle.std.proofs.Common.{◌≡◌, ℕ, ◌-◌, List, [], ◌∷◌, ◌++◌, Bool, length, take, drop, reverse, refl, ap, ap₂, sym, ◌∙◌, take_at, drop_at, length-drop}
+use Rattle.std.proofs.Common.{◌≡◌, ℕ, ◌-◌, List, [], ◌∷◌, ◌++◌, Bool, length, take, drop, reverse, ap, ap₂, sym, ◌∙◌, take_at, drop_at, length-drop}
 use Rattle.std.proofs.lemmas.List.{map-append}
 use Rattle.des.specs.Bits.{bits_of_word, select, xor_bits}
 use Rattle.des.specs.Tables.{initial_permutation, final_permutation}

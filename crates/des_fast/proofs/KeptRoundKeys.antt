@@ -1,5 +1,5 @@
 -- Round keys that are kept as plain words.
-use Rattle.std.proofs.Common.{◌≡◌, ℕ, ◌<◌, ◌^◌, List, [], length, slice_index_or, bit_and, map, refl, ap, sym, ◌∙◌, arith}
+use Rattle.std.proofs.Common.{◌≡◌, ℕ, ◌<◌, ◌^◌, List, [], length, slice_index_or, bit_and, map, sym, ◌∙◌, arith}
 use Rattle.std.proofs.lemmas.Nat.{and_le_r}
 use Rattle.std.proofs.lemmas.List.{length-map, get_or-map}
 use Rattle.des.specs.Bits.{bits_of_word}

@@ -1,15 +1,15 @@
-use Rattle.std.proofs.Common.{◌∙◌, arith}
+use Rattle.std.proofs.Common.{arith}
 use Rattle.des_fast.proofs.SliceSizes.{pass_slices-le}
 use Rattle.des_fast.proofs.many.answer_part.Goals as goal
 
 pub answer_batch-requires : goal.answer_batch-requires
-answer_batch-requires g c = (omega (arith, pass_slices-le _ _ g.met.S.Slice.small_gaps g.met.S.Slice.few_bytes), omega (arith, c.BATCH.ensures))
+answer_batch-requires g c = (
+  omega (arith, pass_slices-le _ _ g.met.S.Slice.small_gaps g.met.S.Slice.few_bytes),
+  omega (arith, c.BATCH.ensures),
+)
 
 pub answers_of-answers-requires : goal.answers_of-answers-requires
-answers_of-answers-requires g c = (omega (arith, pass_slices-le _ _ g.met.S.Slice.small_gaps g.met.S.Slice.few_bytes), c.requires)
-
-pub returns-then-blocks-BATCH : goal.returns-then-blocks-BATCH
-returns-then-blocks-BATCH g c keys hold = c.answer_batch.ensures keys hold
-
-pub returns : goal.returns
-returns g c keys hold = c.copy_from_slice.ensures.after ∙ c.answers_of-answers.ensures keys hold
+answers_of-answers-requires g c = (
+  omega (arith, pass_slices-le _ _ g.met.S.Slice.small_gaps g.met.S.Slice.few_bytes),
+  omega (arith, c.requires),
+)

@@ -1,4 +1,4 @@
-use Rattle.std.proofs.Common.{ap, sym, ◌∙◌, arith}
+use Rattle.std.proofs.Common.{ap, ◌∙◌, arith}
 use Rattle.des_fast.specs.Groups.{bits_of_groups}
 use Rattle.des_fast.proofs.KeptRoundKeys.{round_keys_in-by_place}
 use Rattle.des_fast.proofs.words.round_key_words.Goals as goal

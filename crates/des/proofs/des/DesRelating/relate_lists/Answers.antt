@@ -1,4 +1,3 @@
-use Rattle.std.proofs.Common.{ℕ, List}
 use Rattle.des.specs.Enciphering.{Enciphers}
 use Rattle.des.specs.Des.{encrypted, decrypted}
 use Rattle.des.proofs.Graphs.{IsGraphOf-encrypted, IsGraphOf-decrypted}

@@ -1,4 +1,3 @@
-use Rattle.std.proofs.Common.{ℕ, List}
 use Rattle.des.specs.Triple.{EnciphersEde3}
 use Rattle.des.specs.Laws.TriplePasses.{Agree-ede3_encrypted, Agree-ede3_decrypted}
 use Rattle.des.proofs.RelatedLists.{IsTheOneList-agreeing, IsTheOneList-agreeing_turned}

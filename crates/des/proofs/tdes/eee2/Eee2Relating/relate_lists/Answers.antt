@@ -1,4 +1,3 @@
-use Rattle.std.proofs.Common.{ℕ, List}
 use Rattle.des.specs.Triple.{EnciphersEee2}
 use Rattle.des.specs.Laws.TriplePasses.{Agree-eee2_encrypted, Agree-eee2_decrypted}
 use Rattle.des.proofs.RelatedLists.{IsTheOneList-agreeing, IsTheOneList-agreeing_turned}
