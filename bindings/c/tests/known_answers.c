@@ -1,4 +1,4 @@
-/* Known answers of a file, which is its argument; lengths that are refused; empty lists; weak keys and parity. It compiles as C
+/* Known answers of a file, which is its argument, chains of a text and a long list; lengths that are refused; empty lists; weak keys and parity. It compiles as C
    and as C++. */
 #include "cases.h"
 
@@ -87,8 +87,74 @@ static void answers_case(const struct known_case *known) {
   answers_list(known->cipher, other.key, other.plain, other.answer, known->count);
 }
 
-/* NIST Special Publication 800-67, appendix B: the parts of a key. */
+/* NIST Special Publication 800-67, appendix B: the parts of a key, and "The qufck brown fox jump". */
 static const uint64_t parts[3] = {0x0123456789abcdef, 0x23456789abcdef01, 0x456789abcdef0123};
+static const uint64_t text[3] = {0x5468652071756663, 0x6b2062726f776e20, 0x666f78206a756d70};
+
+/* Whether the blocks are these words. */
+static int are(const uint8_t *blocks, const uint64_t *words, size_t count) {
+  uint8_t wanted[24];
+  put_words(wanted, words, count);
+  return memcmp(blocks, wanted, 8 * count) == 0;
+}
+
+/* The text chained from the vector of FIPS 81: OpenSSL's answers, of `des-cbc`, `des-ede3-cbc` and `des-ede-cbc`, and for the
+   EEE forms of three runs of `des-ecb` for each block xor the answer before it. */
+static const uint64_t chained[CIPHERS][3] = {
+    {0x6126136e77f27f53, 0xb132c523d7e8ea5f, 0x14b9dbb57f7788b3},
+    {0x38413d4ba2325cf1, 0x141f707471ac2ced, 0x57db530f0123b5ac},
+    {0x632da124f91e6d60, 0x031e46c3a2b02765, 0xdd5d236d88ea9683},
+    {0xb0ed7d5e6849dc73, 0xcfb0c1915e64897f, 0x8182f143185f6cf1},
+    {0x074fa8511aec9e79, 0xa04d035b4974da81, 0xdca40f0e1e9610b6},
+};
+
+/* Each front of the text, the empty one first, is chained so, and itself again by each call. */
+static void chains_text(int cipher) {
+  const struct calls *calls = &ciphers[cipher];
+  union context context;
+  uint8_t key[24], vector[8], blocks[24];
+  put_words(key, parts, 3);
+  CHECK(calls->init(&context, key, calls->key_size) == CUKVASHE_OK);
+  for (size_t count = 0; count <= 3; count++)
+    for (int call = 0; call < 3; call++) {
+      put_words(blocks, text, 3);
+      put_word(vector, 0x1234567890abcdef);
+      calls->encrypt_cbc(&context, vector, blocks, count);
+      CHECK(are(blocks, chained[cipher], count) && are(blocks + 8 * count, text + count, 3 - count));
+      put_word(vector, 0x1234567890abcdef);
+      if (call == 2) calls->decrypt_cbc(&context, vector, blocks, count);
+      else calls->lists[call].decrypt_cbc(&context, vector, blocks, count);
+      CHECK(are(blocks, text, 3));
+    }
+}
+
+/* Blocks 0, 127, 128 and 129 of a list. */
+static int are_at_places(const uint8_t *list, const uint64_t words[4]) {
+  return are(list, words, 1) && are(list + 8 * 127, words + 1, 3);
+}
+
+/* A list of 130 blocks, of which block n, from 0, has eight times the byte n. With K the digits of the key, the answers are
+   OpenSSL's: openssl enc -des-ede3-ecb -nopad -K K, and openssl enc -d -des-ede3-cbc -nopad -K K -iv 1234567890abcdef */
+static void answers_long_list(void) {
+  const uint64_t encrypted[4] = {0x4eba739c998bcb60, 0xfcb911fa2159ab0c, 0xddb2e8a38329dc6a, 0x5d95ee9f30751714};
+  const uint64_t read[4] = {0x36878b269aebf11a, 0xf534a16e456e2cd1, 0xe414de591c59b241, 0x9d8ae2f3ff6cf7c5};
+  const struct calls *calls = &ciphers[EDE3];
+  union context context;
+  uint8_t key[24], vector[8], list[8 * 130], blocks[8 * 130];
+  for (size_t i = 0; i < sizeof list; i++) list[i] = (uint8_t)(i / 8);
+  put_words(key, parts, 3);
+  CHECK(calls->init(&context, key, calls->key_size) == CUKVASHE_OK);
+  for (int width = 0; width < 2; width++) {
+    memcpy(blocks, list, sizeof list);
+    calls->lists[width].encrypt(&context, blocks, 130);
+    CHECK(are_at_places(blocks, encrypted));
+    calls->lists[width].decrypt(&context, blocks, 130);
+    CHECK(memcmp(blocks, list, sizeof list) == 0);
+    put_word(vector, 0x1234567890abcdef);
+    calls->lists[width].decrypt_cbc(&context, vector, blocks, 130);
+    CHECK(are_at_places(blocks, read));
+  }
+}
 
 /* Each length but the right one is refused, and the context stays. */
 static void refuses_lengths(int cipher) {
@@ -260,7 +326,9 @@ int main(int count, char **words) {
   CHECK(sizeof(cukvashe_tdes_ede2) == 256 && sizeof(cukvashe_tdes_eee2) == 256);
   CHECK(count == 2);
   int cases = each_case(words[1], answers_case);
+  answers_long_list();
   for (int cipher = 0; cipher < CIPHERS; cipher++) {
+    chains_text(cipher);
     refuses_lengths(cipher);
     refuses_lists(cipher);
   }

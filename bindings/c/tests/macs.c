@@ -142,12 +142,20 @@ static void answers_cmac(void) {
       {20, 0x743ddbe0ce2dc2ed, 0x62dd1b471902bd4e},
       {32, 0x33e6b1092400eae5, 0x31b1e431dabc4eb8},
   };
+  /* OpenSSL's, as are those above. With K the digits of the key, those of a key of two parts with the first part after them
+     again: printf '%s' MESSAGE | openssl mac -cipher DES-EDE3-CBC -macopt hexkey:K CMAC */
+  static const char record[] = "Record 1: 100.00 EUR to account 4711....";
+  static const char sentence[] = "Now is the time for all good men to come to the aid of their country.";
   uint8_t message[32];
   for (int i = 0; i < 4; i++) put_word(message + 8 * i, words[i]);
   for (size_t i = 0; i < sizeof rows / sizeof *rows; i++) {
     answers(&cmac_tdes_ede3_calls, three, 0, message, rows[i].length, rows[i].three);
     answers(&cmac_tdes_ede2_calls, two, 0, message, rows[i].length, rows[i].two);
   }
+  answers(&cmac_tdes_ede3_calls, three, 0, record, strlen(record), 0x8a096b3807b964d0);
+  answers(&cmac_tdes_ede2_calls, two, 0, record, strlen(record), 0xc013629346d8e09d);
+  answers(&cmac_tdes_ede3_calls, three, 0, sentence, strlen(sentence), 0x75e5a4017f74163f);
+  answers(&cmac_tdes_ede2_calls, two, 0, sentence, strlen(sentence), 0xd1983582ce4ca75d);
 }
 
 /* What OpenSSL says of a message, by a cipher of its own. */

@@ -8,15 +8,11 @@ mod both_libraries;
 #[cfg(test)]
 mod by_relation;
 #[cfg(test)]
-mod callers;
-#[cfg(test)]
 mod chaining;
 #[cfg(test)]
 mod clones;
 #[cfg(test)]
 mod complements;
-#[cfg(test)]
-mod digits;
 #[cfg(test)]
 mod known;
 #[cfg(test)]

@@ -1,48 +1,48 @@
 //! Records kept under CBC.
 
+use crate::known::{IV, ONE, THREE};
 use des::Des;
 use des::cipher::InvalidLength;
 use des_rows::records::{read_chain, read_record};
 
-// The ciphertext is OpenSSL's, of a text of 40 bytes:
+// The record is OpenSSL's, of a text of 40 bytes:
 // printf '%s' 'Record 1: 100.00 EUR to account 4711....' | openssl enc -des-ede3-cbc -nopad
 // -K 0123456789abcdef23456789abcdef01456789abcdef0123 -iv fedcba9876543210 | xxd -p
+const RECORD: [[u8; 8]; 5] = [
+    *b"\xf8\x59\x0b\x12\xd5\xd0\xdb\xc0",
+    *b"\x59\xbe\xb9\xb2\xf1\xc8\x34\x78",
+    *b"\xa4\x6f\x94\x12\x6a\x54\x6b\x20",
+    *b"\xbf\xce\x98\x98\x83\xcf\x23\xe1",
+    *b"\xd7\x9f\x94\x3a\x46\xef\xe2\xbb",
+];
+
+const TEXT: [[u8; 8]; 5] = [
+    *b"Record 1",
+    *b": 100.00",
+    *b" EUR to ",
+    *b"account ",
+    *b"4711....",
+];
+
 #[test]
 fn reads_a_record(rt: HostRuntime) {
-    let parts: [u64; 3] = [0x0123456789abcdef, 0x23456789abcdef01, 0x456789abcdef0123];
-    let key: [[u8; 8]; 3] = parts.map(u64::to_be_bytes);
-    let iv = 0xfedcba9876543210u64.to_be_bytes();
-    let ciphertext: [u64; 5] = [
-        0xf8590b12d5d0dbc0,
-        0x59beb9b2f1c83478,
-        0xa46f94126a546b20,
-        0xbfce989883cf23e1,
-        0xd79f943a46efe2bb,
-    ];
-    let mut record: [[u8; 8]; 5] = ciphertext.map(u64::to_be_bytes);
-    assert_eq!(rt;
-        read_record(&key.as_flattened()[..16], &iv, &mut record),
-        Err(InvalidLength)
-    );
-    assert_eq!(rt; record.map(u64::from_be_bytes), ciphertext);
-    assert_eq!(rt; read_record(key.as_flattened(), &iv, &mut record), Ok(()));
-    assert_eq!(rt;
-        record.as_flattened(),
-        b"Record 1: 100.00 EUR to account 4711....".as_slice()
-    );
+    let iv = b"\xfe\xdc\xba\x98\x76\x54\x32\x10";
+    let mut blocks = RECORD;
+    assert!(rt; read_record(&THREE[..16], iv, &mut blocks) == Err(InvalidLength));
+    assert!(rt; blocks == RECORD);
+    assert!(rt; read_record(&THREE, iv, &mut blocks) == Ok(()));
+    assert!(rt; blocks == TEXT);
 }
 
-// FIPS 81, appendix C: "Now is the time for all ", and no block at all.
+// FIPS 81, appendix C: a text of three blocks, and no block at all.
 #[test]
 fn reads_a_chain(rt: HostRuntime) {
-    let key = 0x0123456789abcdefu64.to_be_bytes();
-    let iv = 0x1234567890abcdefu64.to_be_bytes();
-    let ciphertext: [u64; 3] = [0xe5c7cdde872bf27c, 0x43e934008c389c0f, 0x683788499a7c05f6];
-    let mut blocks: [[u8; 8]; 3] = ciphertext.map(u64::to_be_bytes);
-    assert_eq!(rt; read_chain::<Des>(&key, &iv, &mut blocks[..0]), Ok(()));
-    assert_eq!(rt; read_chain::<Des>(&key, &iv, &mut blocks), Ok(()));
-    assert_eq!(rt;
-        blocks.as_flattened(),
-        b"Now is the time for all ".as_slice()
-    );
+    let mut blocks = [
+        *b"\xe5\xc7\xcd\xde\x87\x2b\xf2\x7c",
+        *b"\x43\xe9\x34\x00\x8c\x38\x9c\x0f",
+        *b"\x68\x37\x88\x49\x9a\x7c\x05\xf6",
+    ];
+    assert!(rt; read_chain::<Des>(&ONE, &IV, &mut []) == Ok(()));
+    assert!(rt; read_chain::<Des>(&ONE, &IV, &mut blocks) == Ok(()));
+    assert!(rt; blocks == [*b"Now is t", *b"he time ", *b"for all "]);
 }

@@ -5,16 +5,19 @@ use des::cipher::{BlockCipherDecrypt, BlockCipherEncrypt, KeyInit};
 use des_mac::{CbcMac, Cmac, Mac, Method1, RetailMac};
 use des_rows::odd_ciphers::XorKey;
 
+// Whether the key of equal bytes answers so to the block of equal bytes, and back.
+fn answers(key: u8, block: u8, answer: u8) -> bool {
+    let cipher = XorKey::new(&[key; 8]);
+    let mut bytes = [block; 8];
+    cipher.encrypt_block(&mut bytes);
+    let is_answer = bytes == [answer; 8];
+    cipher.decrypt_block(&mut bytes);
+    is_answer && bytes == [block; 8]
+}
+
 #[test]
 fn answers_with_the_block_xor_the_key(rt: HostRuntime) {
-    for (key, block, answer) in [(0x0f, 0x00, 0x0f), (0xf0, 0xff, 0x0f)] {
-        let cipher = XorKey::new(&[key; 8]);
-        let mut bytes = [block; 8];
-        cipher.encrypt_block(&mut bytes);
-        assert_eq!(rt; bytes, [answer; 8]);
-        cipher.decrypt_block(&mut bytes);
-        assert_eq!(rt; bytes, [block; 8]);
-    }
+    assert!(rt; answers(0x0f, 0x00, 0x0f) && answers(0xf0, 0xff, 0x0f));
 }
 
 // Whether the block of the bytes 1 to 8 has the tag.
