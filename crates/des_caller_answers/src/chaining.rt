@@ -5,19 +5,13 @@ use des::cipher::{BlockCipher, KeyInit};
 use des_rows::chaining::{chain, unchain};
 use des_rows::odd_ciphers::{Reverse, XorKey};
 
-// Whether each front of the plaintext, the empty one first, becomes that of the chained blocks, and
-// itself again.
+// Whether the plaintext becomes these blocks, and itself again.
 fn goes_there_and_back<C: BlockCipher>(cipher: &C, chained: &[[u8; 8]; 3]) -> bool {
-    for count in 0..4usize {
-        let mut blocks = PLAINTEXT;
-        chain(cipher, &IV, &mut blocks[..count]);
-        let is_chained = blocks[..count] == chained[..count];
-        unchain(cipher, &IV, &mut blocks[..count]);
-        if !is_chained || blocks != PLAINTEXT {
-            return false;
-        }
-    }
-    true
+    let mut blocks = PLAINTEXT;
+    chain(cipher, &IV, &mut blocks);
+    let is_chained = blocks == *chained;
+    unchain(cipher, &IV, &mut blocks);
+    is_chained && blocks == PLAINTEXT
 }
 
 // Made by hand: each block of the text xor 0f, xor the answer before it.

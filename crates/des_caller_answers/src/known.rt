@@ -32,10 +32,23 @@ pub const EDE2: [u8; 8] = *b"\xc4\x48\x62\xf7\x0c\xf2\xfb\xdc";
 
 pub const EEE2: [u8; 8] = *b"\x50\x00\x13\x53\x31\x51\xe9\x0c";
 
+// The plaintext by `des-ecb`.
+pub const CIPHERTEXT_OF_DES: [[u8; 8]; 3] = [
+    DES,
+    *b"\x16\x7e\x47\xec\x24\xf7\x1d\x63",
+    *b"\x2c\x1a\x91\x72\x34\x42\x53\x65",
+];
+
 // FIPS 81, appendix C: the initialization vector.
 pub const IV: [u8; 8] = *b"\x12\x34\x56\x78\x90\xab\xcd\xef";
 
-// The plaintext chained from it under the key of three parts: OpenSSL's answer, of `des-ede3-cbc`.
+// The plaintext chained from it: OpenSSL's answers, of `des-cbc` and of `des-ede3-cbc`.
+pub const CHAINED_BY_DES: [[u8; 8]; 3] = [
+    *b"\x61\x26\x13\x6e\x77\xf2\x7f\x53",
+    *b"\xb1\x32\xc5\x23\xd7\xe8\xea\x5f",
+    *b"\x14\xb9\xdb\xb5\x7f\x77\x88\xb3",
+];
+
 pub const CHAINED: [[u8; 8]; 3] = [
     *b"\x38\x41\x3d\x4b\xa2\x32\x5c\xf1",
     *b"\x14\x1f\x70\x74\x71\xac\x2c\xed",

@@ -1,6 +1,7 @@
-//! Known answers of the MACs of `des_mac`, and of the callers of `des_rows`, at the ciphers of both
-//! libraries and at those that hide nothing. The answers stand in publications, were made by
-//! OpenSSL or by hand. There is nothing here but tests.
+//! The callers of `des_rows` and the MACs of `des_mac` at known answers, by ciphers of both
+//! libraries and by those that hide nothing. Each caller is called, and each error that it names is
+//! met; what holds at every key is in the contracts. The answers stand in publications, were made
+//! by OpenSSL or by hand. There is nothing here but tests.
 #![tactic(auto)]
 
 #[cfg(test)]

@@ -1,27 +1,30 @@
 //! Records and lists by the calls that take many blocks at a time.
 
-use crate::known::{CHAINED, CIPHERTEXT, IV, PLAINTEXT, THREE};
+use crate::known::{CHAINED_BY_DES, CIPHERTEXT_OF_DES, IV, ONE, PLAINTEXT, TWO};
 use des::cipher::InvalidLength;
-use des_fast::TdesEde3;
+use des_fast::Des;
 use des_rows::long_records::{decrypt_list, encrypt_list, read_long_chain};
 
 #[test]
 fn reads_a_record(rt: HostRuntime) {
-    let mut blocks = CHAINED;
-    assert!(rt; read_long_chain::<TdesEde3>(&THREE[1..], &IV, &mut blocks) == Err(InvalidLength));
-    assert!(rt; blocks == CHAINED);
-    assert!(rt; read_long_chain::<TdesEde3>(&THREE, &IV, &mut blocks).is_ok());
-    assert!(rt; blocks == PLAINTEXT);
+    let mut blocks = CHAINED_BY_DES;
+    assert!(rt; read_long_chain::<Des>(&TWO, &IV, &mut blocks) == Err(InvalidLength));
+    assert!(rt; blocks == CHAINED_BY_DES);
+    assert!(rt; read_long_chain::<Des>(&ONE, &IV, &mut blocks).is_ok() && blocks == PLAINTEXT);
 }
 
 #[test]
-fn lists_go_there_and_back(rt: HostRuntime) {
+fn encrypts_a_list(rt: HostRuntime) {
     let mut blocks = PLAINTEXT;
-    assert!(rt; encrypt_list::<TdesEde3>(&THREE[1..], &mut blocks) == Err(InvalidLength));
-    assert!(rt; decrypt_list::<TdesEde3>(&THREE[1..], &mut blocks) == Err(InvalidLength));
+    assert!(rt; encrypt_list::<Des>(&TWO, &mut blocks) == Err(InvalidLength));
     assert!(rt; blocks == PLAINTEXT);
-    assert!(rt; encrypt_list::<TdesEde3>(&THREE, &mut blocks).is_ok());
-    assert!(rt; blocks == CIPHERTEXT);
-    assert!(rt; decrypt_list::<TdesEde3>(&THREE, &mut blocks).is_ok());
-    assert!(rt; blocks == PLAINTEXT);
+    assert!(rt; encrypt_list::<Des>(&ONE, &mut blocks).is_ok() && blocks == CIPHERTEXT_OF_DES);
+}
+
+#[test]
+fn decrypts_a_list(rt: HostRuntime) {
+    let mut blocks = CIPHERTEXT_OF_DES;
+    assert!(rt; decrypt_list::<Des>(&TWO, &mut blocks) == Err(InvalidLength));
+    assert!(rt; blocks == CIPHERTEXT_OF_DES);
+    assert!(rt; decrypt_list::<Des>(&ONE, &mut blocks).is_ok() && blocks == PLAINTEXT);
 }

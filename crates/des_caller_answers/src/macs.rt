@@ -62,6 +62,6 @@ fn messages_have_their_tags(rt: HostRuntime) {
 
 #[test]
 fn the_error_writes_its_name(rt: HostRuntime) -> Result<(), Fail> {
-    assert_eq!(rt; format!(in rt.alloc(); "{MacError}")?.as_str(), "MacError");
+    assert!(rt; format!(in rt.alloc(); "{MacError}")?.as_str() == "MacError");
     Ok(())
 }

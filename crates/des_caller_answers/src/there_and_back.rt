@@ -1,31 +1,17 @@
 //! Lists there and back by triple DES and by ciphers that hide nothing, and lists of two lengths.
 
-use crate::known::{CIPHERTEXT, PLAINTEXT, THREE};
-use des::TdesEde3;
+use crate::known::{BLOCK, CIPHERTEXT, DES, ONE, PLAINTEXT, THREE};
 use des::cipher::{BlockCipher, KeyInit};
+use des::{Des, TdesEde3};
 use des_rows::odd_ciphers::{Reverse, XorKey};
 use des_rows::there_and_back::{decrypt_into, encrypt_into, there_and_back};
 
-// Whether each front of the plaintext, the empty one first, becomes that of the answers, and itself
-// again.
+// Whether the plaintext becomes these answers, and itself again.
 fn goes_there_and_back<C: BlockCipher>(cipher: &C, ciphertext: &[[u8; 8]; 3]) -> bool {
-    for count in 0..4usize {
-        let (mut answers, mut back) = (FILLED, FILLED);
-        there_and_back(
-            cipher,
-            &PLAINTEXT[..count],
-            &mut answers[..count],
-            &mut back[..count],
-        );
-        if answers[..count] != ciphertext[..count] || back[..count] != PLAINTEXT[..count] {
-            return false;
-        }
-    }
-    true
+    let (mut answers, mut back) = ([[0xa5; 8]; 3], [[0xa5; 8]; 3]);
+    there_and_back(cipher, &PLAINTEXT, &mut answers, &mut back);
+    answers == *ciphertext && back == PLAINTEXT
 }
-
-// Blocks as no call has written them.
-const FILLED: [[u8; 8]; 3] = [[0xa5; 8]; 3];
 
 // Made by hand: the bytes of the text xor 0f, and the text from its end.
 const XORED: [[u8; 8]; 3] = [
@@ -43,14 +29,16 @@ fn lists_go_there_and_back(rt: HostRuntime) {
     assert!(rt; goes_there_and_back(&Reverse, &REVERSED));
 }
 
-// Lists of two lengths leave the output; those of one are answered as above.
+// A block as no call has written it.
+const FILLED: [[u8; 8]; 1] = [[0xa5; 8]];
+
+// Lists of two lengths leave the output, and those of one are answered.
 #[test]
-fn lists_of_two_lengths_stay(rt: HostRuntime) {
-    let cipher = TdesEde3::new(&THREE);
+fn lists_are_answered_into_others_of_their_length(rt: HostRuntime) {
+    let cipher = Des::new(&ONE);
     let mut output = FILLED;
-    assert!(rt; !encrypt_into(&cipher, &PLAINTEXT[1..], &mut output));
-    assert!(rt; !decrypt_into(&cipher, &PLAINTEXT[1..], &mut output));
-    assert!(rt; output == FILLED);
-    assert!(rt; encrypt_into(&cipher, &PLAINTEXT, &mut output) && output == CIPHERTEXT);
-    assert!(rt; decrypt_into(&cipher, &CIPHERTEXT, &mut output) && output == PLAINTEXT);
+    assert!(rt; !encrypt_into(&cipher, &PLAINTEXT, &mut output));
+    assert!(rt; !decrypt_into(&cipher, &PLAINTEXT, &mut output) && output == FILLED);
+    assert!(rt; encrypt_into(&cipher, &[BLOCK], &mut output) && output == [DES]);
+    assert!(rt; decrypt_into(&cipher, &[DES], &mut output) && output == [BLOCK]);
 }

@@ -3,6 +3,7 @@
 //! either library.
 
 ghost use Rattle.std.specs.Prelude.{◌≡◌, ◌↔◌, length, IsTrue};
+ghost use Rattle.des.specs.Relations.{TakesBlock};
 
 use des::cipher::KeyedCipher;
 
@@ -20,17 +21,23 @@ pub use eee3::{answers_of_eee3, relates_eee3};
 pub use fast_single::{answers_of_fast_des, relates_fast_des};
 pub use single::{answers_of_des, relates_des};
 
-// What a cipher of a key makes of a block by encryption and by decryption: what the key answers.
-fn answers<C: KeyedCipher>(cipher: &C, key: &[u8], block: &[u8; 8]) -> ([u8; 8], [u8; 8])
+// Whether what a key answers takes a block to another, by encryption, and the other to the block, by
+// decryption. The cipher is one of the key.
+fn relates<C: KeyedCipher>(
+    cipher: &C,
+    key: &[u8],
+    block: &[u8; 8],
+    answer: &[u8; 8],
+) -> (bool, bool)
     requires made { C.is_made_from cipher.now key.now }
     requires size { length key.now ≡ C.KEY_SIZE }
-    ensures encrypted { result.0 ≡ C.encryption key.now block.now }
-    ensures decrypted { result.1 ≡ C.decryption key.now block.now }
+    ensures there { IsTrue result.0 ↔ TakesBlock (C.encryption key.now) block.now answer.now }
+    ensures back { IsTrue result.1 ↔ TakesBlock (C.decryption key.now) answer.now block.now }
 {
-    let (mut encrypted, mut decrypted) = (*block, *block);
+    let (mut encrypted, mut decrypted) = (*block, *answer);
     cipher.encrypt_block(&mut encrypted);
     cipher.decrypt_block(&mut decrypted);
-    (encrypted, decrypted)
+    (is_same(&encrypted, answer), is_same(&decrypted, block))
 }
 
 // Whether two blocks are the same.

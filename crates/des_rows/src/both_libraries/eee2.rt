@@ -2,8 +2,9 @@
 
 ghost use Rattle.std.specs.Prelude.{◌≡◌};
 
+use super::{decrypted_by_both, encrypted_by_both};
 use des::TdesEee2;
-use des::cipher::{BlockCipherDecrypt, BlockCipherEncrypt, KeyInit};
+use des::cipher::KeyInit;
 use des::tdes::{Eee2, SingleDes};
 
 /// What the cipher of `des` makes of a block by encryption, and what the other makes of it, under a
@@ -11,22 +12,16 @@ use des::tdes::{Eee2, SingleDes};
 pub fn encrypted_by_eee2<D: SingleDes>(key: &[u8; 16], block: &[u8; 8]) -> ([u8; 8], [u8; 8])
     ensures { result.1 ≡ result.0 }
 {
-    let (mut answer, mut other_answer) = (*block, *block);
     let cipher = TdesEee2::new(key);
-    cipher.encrypt_block(&mut answer);
     let other = Eee2::<D>::new(key);
-    other.encrypt_block(&mut other_answer);
-    (answer, other_answer)
+    encrypted_by_both(&cipher, &other, block)
 }
 
 /// The same by decryption.
 pub fn decrypted_by_eee2<D: SingleDes>(key: &[u8; 16], block: &[u8; 8]) -> ([u8; 8], [u8; 8])
     ensures { result.1 ≡ result.0 }
 {
-    let (mut answer, mut other_answer) = (*block, *block);
     let cipher = TdesEee2::new(key);
-    cipher.decrypt_block(&mut answer);
     let other = Eee2::<D>::new(key);
-    other.decrypt_block(&mut other_answer);
-    (answer, other_answer)
+    decrypted_by_both(&cipher, &other, block)
 }

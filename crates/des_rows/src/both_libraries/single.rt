@@ -2,29 +2,24 @@
 
 ghost use Rattle.std.specs.Prelude.{◌≡◌};
 
-use des::cipher::{BlockCipherDecrypt, BlockCipherEncrypt, KeyInit};
+use super::{decrypted_by_both, encrypted_by_both};
+use des::cipher::KeyInit;
 
 /// What the cipher of `des` makes of a block by encryption, and what the other makes of it, under a
 /// key. The two are one.
 pub fn encrypted_by_des(key: &[u8; 8], block: &[u8; 8]) -> ([u8; 8], [u8; 8])
     ensures { result.1 ≡ result.0 }
 {
-    let (mut answer, mut other_answer) = (*block, *block);
     let cipher = des::Des::new(key);
-    cipher.encrypt_block(&mut answer);
     let other = des_fast::Des::new(key);
-    other.encrypt_block(&mut other_answer);
-    (answer, other_answer)
+    encrypted_by_both(&cipher, &other, block)
 }
 
 /// The same by decryption.
 pub fn decrypted_by_des(key: &[u8; 8], block: &[u8; 8]) -> ([u8; 8], [u8; 8])
     ensures { result.1 ≡ result.0 }
 {
-    let (mut answer, mut other_answer) = (*block, *block);
     let cipher = des::Des::new(key);
-    cipher.decrypt_block(&mut answer);
     let other = des_fast::Des::new(key);
-    other.decrypt_block(&mut other_answer);
-    (answer, other_answer)
+    decrypted_by_both(&cipher, &other, block)
 }

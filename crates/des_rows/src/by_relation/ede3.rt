@@ -4,7 +4,7 @@ ghost use Rattle.std.specs.Prelude.{◌↔◌, IsTrue};
 ghost use Rattle.des.specs.Relations.{IsTheOne};
 ghost use Rattle.des.specs.Triple.{EnciphersEde3};
 
-use super::{answers, is_same};
+use super::relates;
 use des::cipher::{BlockCipherDecrypt, BlockCipherEncrypt, KeyInit};
 use des::tdes::{Ede3, SingleDes};
 
@@ -27,7 +27,5 @@ pub fn relates_ede3<D: SingleDes>(key: &[u8; 24], block: &[u8; 8], answer: &[u8;
     ensures back { IsTrue result.1 ↔ EnciphersEde3 key.now block.now answer.now }
 {
     let cipher = Ede3::<D>::new(key);
-    let (encrypted, _) = answers(&cipher, key, block);
-    let (_, decrypted) = answers(&cipher, key, answer);
-    (is_same(&encrypted, answer), is_same(&decrypted, block))
+    relates(&cipher, key, block, answer)
 }

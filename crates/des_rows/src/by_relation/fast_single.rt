@@ -4,7 +4,7 @@ ghost use Rattle.std.specs.Prelude.{◌↔◌, IsTrue};
 ghost use Rattle.des.specs.Relations.{IsTheOne};
 ghost use Rattle.des.specs.Enciphering.{Enciphers};
 
-use super::{answers, is_same};
+use super::relates;
 use des::cipher::{BlockCipherDecrypt, BlockCipherEncrypt, KeyInit};
 use des_fast::Des;
 
@@ -27,7 +27,5 @@ pub fn relates_fast_des(key: &[u8; 8], block: &[u8; 8], answer: &[u8; 8]) -> (bo
     ensures back { IsTrue result.1 ↔ Enciphers key.now block.now answer.now }
 {
     let cipher = Des::new(key);
-    let (encrypted, _) = answers(&cipher, key, block);
-    let (_, decrypted) = answers(&cipher, key, answer);
-    (is_same(&encrypted, answer), is_same(&decrypted, block))
+    relates(&cipher, key, block, answer)
 }

@@ -19,8 +19,11 @@ returns-clause-answered g c =
     let is_block : IsBlock block = (c.told-block, All-from_get_or (λ byte. byte < 256) block 0 (λ i within. c.fits-block i)) in
     let made : g.C.KeyInit.is_made_from cipher (complement key) =
     subst (g.C.KeyInit.is_made_from cipher) c.complement_bytes.ensures c.in_ok-new_from_slice.ensures.made in
-    c.decrypt_block.ensures
-    ∙ ap (g.C.BlockCipherDecrypt.decrypted cipher) c.complement_bytes-2.ensures
-    ∙ g.met.C.KeyedCipher.decrypts_by_key cipher (complement key) (complement block)
-    (IsKey-complement size key is_key) made (IsKey-complement 8 block is_block)
-    ∙ g.met.C.Complementing.decryption_complements key block is_key is_block
+    let answers = g.C.BlockCipherDecrypt.decrypted cipher in
+    let answered : answers c.complement_bytes-2.new.bytes ≡ g.C.KeyedCipher.decryption (complement key) (complement block) =
+    ◌∙◌ {b = answers (complement block)} (ap answers c.complement_bytes-2.ensures)
+    (g.met.C.KeyedCipher.decrypts_by_key cipher (complement key) (complement block)
+    (IsKey-complement size key is_key) made (IsKey-complement 8 block is_block)) in
+    ◌∙◌ {b = g.C.KeyedCipher.decryption (complement key) (complement block)}
+    (◌∙◌ {b = answers c.complement_bytes-2.new.bytes} c.decrypt_block.ensures answered)
+    (g.met.C.Complementing.decryption_complements key block is_key is_block)

@@ -1,12 +1,8 @@
-use Rattle.std.proofs.Common.{ℕ, List, ◌<◌, sym, ◌∙◌}
-use Rattle.std.proofs.lemmas.List.Elements.{All-from_get_or}
-use Rattle.des.specs.Blocks.{IsBlock}
 use Rattle.des_rows.proofs.both_libraries.eee2.decrypted_by_eee2.Goals as goal
 
 -- the clause that cites the other cipher, which is made from the same key
+pub decrypted_by_both-requires : goal.decrypted_by_both-requires
+decrypted_by_both-requires g c = c.new-other.ensures.decrypts_alike c.new-cipher.result c.new-cipher.ensures.made
+
 pub returns : goal.returns
-returns g c =
-    let block : List ℕ = c.args.block.now in
-    let is_block : IsBlock block = (c.told-block, All-from_get_or (λ byte. byte < 256) block 0 (λ i within. c.fits-block i)) in
-    c.decrypt_block-2.ensures.decrypted ∙ c.new-other.ensures.decrypts_alike c.new-cipher.result c.new-cipher.ensures.made block is_block
-    ∙ sym c.decrypt_block.ensures.decrypted
+returns g c = c.decrypted_by_both.ensures

@@ -1,12 +1,8 @@
-use Rattle.std.proofs.Common.{ℕ, List, ◌<◌, sym, ◌∙◌}
-use Rattle.std.proofs.lemmas.List.Elements.{All-from_get_or}
-use Rattle.des.specs.Blocks.{IsBlock}
 use Rattle.des_rows.proofs.both_libraries.single.encrypted_by_des.Goals as goal
 
 -- the clause that cites the other cipher, which is made from the same key
+pub encrypted_by_both-requires : goal.encrypted_by_both-requires
+encrypted_by_both-requires c = c.new-other.ensures.encrypts_alike c.new-cipher.result c.new-cipher.ensures.made
+
 pub returns : goal.returns
-returns c =
-    let block : List ℕ = c.args.block.now in
-    let is_block : IsBlock block = (c.told-block, All-from_get_or (λ byte. byte < 256) block 0 (λ i within. c.fits-block i)) in
-    c.encrypt_block-2.ensures.encrypted ∙ c.new-other.ensures.encrypts_alike c.new-cipher.result c.new-cipher.ensures.made block is_block
-    ∙ sym c.encrypt_block.ensures.encrypted
+returns c = c.encrypted_by_both.ensures
