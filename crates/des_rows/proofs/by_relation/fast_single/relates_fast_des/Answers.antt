@@ -1,10 +1,10 @@
 use Rattle.des_rows.proofs.by_relation.fast_single.relates_fast_des.Goals as goal
 
-pub relates-requires-made : goal.relates-requires-made
-relates-requires-made c = c.new-cipher.ensures.made
+pub relates-requires-clause-made : goal.relates-requires-clause-made
+relates-requires-clause-made c = c.new-cipher.ensures.made
 
-pub relates-requires-size : goal.relates-requires-size
-relates-requires-size c = c.told-key
+pub relates-requires-clause-size : goal.relates-requires-clause-size
+relates-requires-clause-size c = c.told-key
 
 -- the key takes the block to what its relation does, each way
 pub returns-clause-there : goal.returns-clause-there
