@@ -1,4 +1,4 @@
-use Rattle.std.proofs.Common.{List, ℕ, ◌↔◌, subst}
+use Rattle.std.proofs.Common.{◌↔◌, subst}
 use Rattle.std.specs.Prelude.{IsTrue}
 use Rattle.des.specs.Parity.{ContainsAgreeing}
 use Rattle.des_rows.proofs.verdicts.verdicts.Goals as goal
