@@ -122,6 +122,12 @@ CMAC = [
     (32, "33e6b1092400eae5", "31b1e431dabc4eb8"),
 ]
 
+# The same of texts, by OpenSSL: openssl mac -cipher DES-EDE3-CBC -macopt hexkey:K CMAC, with K the digits of all three parts.
+CMAC_OF_TEXTS = [
+    (b"Record 1: 100.00 EUR to account 4711....", "8a096b3807b964d0", "c013629346d8e09d"),
+    (b"Now is the time for all good men to come to the aid of their country.", "75e5a4017f74163f", "d1983582ce4ca75d"),
+]
+
 
 class Macs(unittest.TestCase):
     def answers(self, make, message, tag):
@@ -158,6 +164,9 @@ class Macs(unittest.TestCase):
         for length, three, two in CMAC:
             self.answers(lambda: cukvashe_des.CmacTdesEde3(THREE), MESSAGE[:length], three)
             self.answers(lambda: cukvashe_des.CmacTdesEde2(TWO), MESSAGE[:length], two)
+        for message, three, two in CMAC_OF_TEXTS:
+            self.answers(lambda: cukvashe_des.CmacTdesEde3(THREE), message, three)
+            self.answers(lambda: cukvashe_des.CmacTdesEde2(TWO), message, two)
 
     def test_cbc_mac_is_the_end_of_a_chain(self):
         chain = TdesEde3(KEY).encrypt_cbc(bytes(8), MESSAGE)
