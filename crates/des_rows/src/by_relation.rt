@@ -21,7 +21,7 @@ pub use eee3::{answers_of_eee3, relates_eee3};
 pub use fast_single::{answers_of_fast_des, relates_fast_des};
 pub use single::{answers_of_des, relates_des};
 
-// Whether what a key answers takes a block to another, by encryption, and the other to the block, by
+// Whether what a key answers takes a block to another by encryption, and the other to the block by
 // decryption. The cipher is one of the key.
 fn relates<C: KeyedCipher>(
     cipher: &C,
