@@ -1,5 +1,5 @@
-/* Known answers of a file, which is its argument, chains of a text and a long list; lengths that are refused; empty lists; weak keys and parity. It compiles as C
-   and as C++. */
+/* Known answers of a file, which is its argument; chains of a text and a long list; lengths that are refused; empty lists; weak
+   keys and parity. It compiles as C and as C++. */
 #include "cases.h"
 
 static void put_words(uint8_t *bytes, const uint64_t *words, size_t count) {
