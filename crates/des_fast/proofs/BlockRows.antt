@@ -1,9 +1,9 @@
 -- Blocks as rows, and the bits of transposed rows.
-use Rattle.std.proofs.Common.{◌≡◌, ℕ, zero, suc, ◌+◌, ◌*◌, ◌/◌, ◌%◌, ◌<◌, Bool, false, List, [], ◌∷◌, length, map, get_or, refl, ap, ap₂, sym, subst, ◌∙◌, arith, zero-add, inl, inr}
+use Rattle.std.proofs.Common.{◌≡◌, ℕ, zero, suc, ◌+◌, ◌*◌, ◌/◌, ◌%◌, ◌<◌, ◌≢◌, Bool, false, List, [], ◌∷◌, length, map, get_or, refl, ap, ap₂, sym, subst, ◌∙◌, arith, zero-add, inl, inr}
 use Rattle.std.proofs.Math.ListN.{set}
 use Rattle.std.proofs.lemmas.Bool.{cases_eq}
 use Rattle.std.specs.List.{range_with_len}
-use Rattle.std.proofs.lemmas.List.{length-map, get_or-map, map-set, get_or-set_same, get_or-set_other}
+use Rattle.std.proofs.lemmas.List.{length-map, length-set, get_or-map, map-set, get_or-set_same, get_or-set_other}
 use Rattle.std.proofs.lemmas.List.FromFn.{fill_by_all, length-map-range_with_len, get_or-map-range_with_len}
 use Rattle.des.specs.Bits.{bits_of_word, bits_of_bytes}
 use Rattle.des.specs.Blocks.{block_of_bits}
@@ -81,11 +81,48 @@ row_written_below bit P rows i lane row inside each here m below =
     ]
 
 -- the bits of a word of a row
-pub bits_of_row-lane : {A : Type 0} (bit : ℕ → A → Bool) (rows : List A) (k : ℕ) (d : A) → length rows ≡ 64
-    → bits_of_lane bit (get_or rows (k % 64) d) (k / 64) ≡ bits_of_row bit rows k
-bits_of_row-lane bit rows k d size =
-    map-same (λ p. bit (64 * (k / 64) + p) (get_or rows (k % 64) d)) (λ p. get_or (map (bit (64 * (k / 64) + p)) rows) (k % 64) false) 64
-    (λ p below. sym (get_or-map (bit (64 * (k / 64) + p)) rows (k % 64) d false (omega arith)))
+pub bits_of_lane-row : {A : Type 0} (bit : ℕ → A → Bool) (rows : List A) (m lane : ℕ) (d : A) → m < length rows
+    → bits_of_lane bit (get_or rows m d) lane ≡ row_lane bit rows m lane
+bits_of_lane-row bit rows m lane d inside =
+    map-same (λ p. bit (64 * lane + p) (get_or rows m d)) (λ p. get_or (map (bit (64 * lane + p)) rows) m false) 64
+    (λ p below. sym (get_or-map (bit (64 * lane + p)) rows m d false inside))
+
+-- the blocks of so many words of a row are written, and no other block is
+abbrev pub AreWordsWritten : {A : Type 0} → (ℕ → A → Bool) → A → ℕ → List (List ℕ) → List (List ℕ) → ℕ → Type 0
+AreWordsWritten bit row n old new count =
+    ((lane : ℕ) → lane < count → get_or new (64 * lane + n) [] ≡ block_of_bits (bits_of_lane bit row lane))
+    × (((k : ℕ) → k % 64 ≢ n → get_or new k [] ≡ get_or old k [])
+    × (length new ≡ length old))
+
+-- none is
+pub AreWordsWritten-none : {A : Type 0} (bit : ℕ → A → Bool) (row : A) (n : ℕ) (old : List (List ℕ)) → AreWordsWritten bit row n old old 0
+AreWordsWritten-none bit row n old = (λ lane below. absurd (omega arith), (λ k other. refl, refl))
+
+-- one more
+pub AreWordsWritten-more : {A : Type 0} (bit : ℕ → A → Bool) (row : A) (n : ℕ) (old new : List (List ℕ)) (count i : ℕ) (block : List ℕ) (word : ℕ)
+    → i ≡ 64 * count + n → n < 64 → i < length old → bits_of_word word ≡ bits_of_lane bit row count → block ≡ block_of_bits (bits_of_word word)
+    → AreWordsWritten bit row n old new count → AreWordsWritten bit row n old (set new i block) (count + 1)
+AreWordsWritten-more bit row n old new count i block word at low inside bits made are =
+    let room : i < length new = omega (arith, are.1.1) in (
+      λ lane below. elim (cases_eq lane count) [
+        | inl same ↦
+            ap (λ (l : ℕ). get_or (set new i block) (64 * l + n) []) same
+            ∙ ap (λ (k : ℕ). get_or (set new i block) k []) (sym at)
+            ∙ get_or-set_same new i block [] room
+            ∙ made
+            ∙ ap block_of_bits (bits ∙ ap (bits_of_lane bit row) (sym same))
+        | inr other ↦
+            let elsewhere : 64 * lane + n ≢ i = λ q. other (omega arith) in
+            get_or-set_other new i (64 * lane + n) block [] elsewhere
+            ∙ are.0 lane (omega arith)
+      ],
+      (
+        λ k other.
+            let elsewhere : k ≢ i = λ q. other (omega arith) in
+            get_or-set_other new i k block [] elsewhere ∙ are.1.0 k other,
+        length-set new i block ∙ are.1.1,
+      ),
+    )
 
 -- the slices of blocks, from their rows
 pub AreSlicesOf-rows : {A : Type 0} (batch : ℕ) (bit : ℕ → A → Bool) (blocks : List (List ℕ)) (rows slices : List A) → length slices ≡ 64

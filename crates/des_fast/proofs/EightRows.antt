@@ -1,6 +1,8 @@
 -- Eight rows that exchange bits in pairs.
-use Rattle.std.proofs.Common.{◌≡◌, ℕ, zero, suc, ◌+◌, ◌-◌, ◌*◌, ◌/◌, ◌%◌, ◌<◌, Bool, false, List, [], ◌∷◌, length, map, get_or, ap, sym, ◌∙◌, arith}
-use Rattle.std.proofs.lemmas.List.{get_or-map}
+use Rattle.std.proofs.Common.{◌≡◌, ℕ, zero, suc, ◌+◌, ◌-◌, ◌*◌, ◌/◌, ◌%◌, ◌<◌, ◌≢◌, Bool, false, List, [], ◌∷◌, length, map, get_or, ap, sym, ◌∙◌, arith, inl, inr}
+use Rattle.std.proofs.Math.ListN.{set}
+use Rattle.std.proofs.lemmas.Bool.{cases_eq}
+use Rattle.std.proofs.lemmas.List.{get_or-map, get_or-set_same, get_or-set_other, length-map, map-set}
 use Rattle.des_fast.specs.Transposition.{second, ArePairwiseExchanged}
 use Rattle.des_fast.proofs.ExchangedRows.{mod-lt_two}
 
@@ -76,3 +78,58 @@ bits-every_eighth read rows i d0 d1 d2 d3 d4 d5 d6 d7 size within (suc (suc (suc
 bits-every_eighth read rows i d0 d1 d2 d3 d4 d5 d6 d7 size within (suc (suc (suc (suc (suc (suc (suc zero))))))) below =
     sym (get_or-map read rows (56 + i) d7 false (omega arith)) ∙ ap (λ (k : ℕ). get_or (map read rows) k false) (omega arith)
 bits-every_eighth read rows i d0 d1 d2 d3 d4 d5 d6 d7 size within (suc (suc (suc (suc (suc (suc (suc (suc j)))))))) below = absurd (omega arith)
+
+-- eight rows side by side, from row 8 * i on
+pub bits-eight_rows : {A : Type 0} (read : A → Bool) (rows : List A) (i : ℕ) (d0 d1 d2 d3 d4 d5 d6 d7 : A) → length rows ≡ 64 → i < 8
+    → (j : ℕ) → j < 8
+    → get_or (map read (get_or rows (8 * i) d0 ∷ get_or rows (8 * i + 1) d1 ∷ get_or rows (8 * i + 2) d2 ∷ get_or rows (8 * i + 3) d3
+    ∷ get_or rows (8 * i + 4) d4 ∷ get_or rows (8 * i + 5) d5 ∷ get_or rows (8 * i + 6) d6 ∷ get_or rows (8 * i + 7) d7 ∷ [])) j false
+    ≡ get_or (map read rows) (8 * i + j) false
+bits-eight_rows read rows i d0 d1 d2 d3 d4 d5 d6 d7 size within zero below =
+    sym (get_or-map read rows (8 * i) d0 false (omega arith)) ∙ ap (λ (k : ℕ). get_or (map read rows) k false) (omega arith)
+bits-eight_rows read rows i d0 d1 d2 d3 d4 d5 d6 d7 size within (suc zero) below =
+    sym (get_or-map read rows (8 * i + 1) d1 false (omega arith))
+bits-eight_rows read rows i d0 d1 d2 d3 d4 d5 d6 d7 size within (suc (suc zero)) below =
+    sym (get_or-map read rows (8 * i + 2) d2 false (omega arith))
+bits-eight_rows read rows i d0 d1 d2 d3 d4 d5 d6 d7 size within (suc (suc (suc zero))) below =
+    sym (get_or-map read rows (8 * i + 3) d3 false (omega arith))
+bits-eight_rows read rows i d0 d1 d2 d3 d4 d5 d6 d7 size within (suc (suc (suc (suc zero)))) below =
+    sym (get_or-map read rows (8 * i + 4) d4 false (omega arith))
+bits-eight_rows read rows i d0 d1 d2 d3 d4 d5 d6 d7 size within (suc (suc (suc (suc (suc zero))))) below =
+    sym (get_or-map read rows (8 * i + 5) d5 false (omega arith))
+bits-eight_rows read rows i d0 d1 d2 d3 d4 d5 d6 d7 size within (suc (suc (suc (suc (suc (suc zero)))))) below =
+    sym (get_or-map read rows (8 * i + 6) d6 false (omega arith))
+bits-eight_rows read rows i d0 d1 d2 d3 d4 d5 d6 d7 size within (suc (suc (suc (suc (suc (suc (suc zero))))))) below =
+    sym (get_or-map read rows (8 * i + 7) d7 false (omega arith))
+bits-eight_rows read rows i d0 d1 d2 d3 d4 d5 d6 d7 size within (suc (suc (suc (suc (suc (suc (suc (suc j)))))))) below = absurd (omega arith)
+
+-- the first of eight rows are written at their places, and no other place is
+abbrev pub AreWrittenAt : {A : Type 0} → (A → Bool) → (ℕ → ℕ) → List A → List A → List A → ℕ → Type 0
+AreWrittenAt read place eight old new count =
+    ((j : ℕ) → j < count → get_or (map read new) (place j) false ≡ get_or (map read eight) j false)
+    × ((m : ℕ) → ((j : ℕ) → j < 8 → m ≢ place j) → get_or (map read new) m false ≡ get_or (map read old) m false)
+
+-- one more
+pub AreWrittenAt-more : {A : Type 0} (read : A → Bool) (place : ℕ → ℕ) (eight old new : List A) (j : ℕ) (row : A)
+    → j < 8 → place j < length new → ((k : ℕ) → k < j → place k ≢ place j) → read row ≡ get_or (map read eight) j false
+    → AreWrittenAt read place eight old new j → AreWrittenAt read place eight old (set new (place j) row) (j + 1)
+AreWrittenAt-more read place eight old new j row below inside apart is are =
+    let bits : List Bool = map read new in
+    let written : map read (set new (place j) row) ≡ set bits (place j) (read row) = map-set read new (place j) row in
+    let in_bits : place j < length bits = rw (length-map new read) inside in (
+      λ k low. ap (λ (xs : List Bool). get_or xs (place k) false) written
+          ∙ elim (cases_eq k j) [
+            | inl same ↦
+                ap (λ (i : ℕ). get_or (set bits (place j) (read row)) (place i) false) same
+                ∙ get_or-set_same bits (place j) (read row) false in_bits
+                ∙ is
+                ∙ ap (λ (i : ℕ). get_or (map read eight) i false) (sym same)
+            | inr other ↦
+                let lower : k < j = omega arith in
+                get_or-set_other bits (place j) (place k) (read row) false (apart k lower) ∙ are.0 k lower
+          ],
+      λ m elsewhere.
+          ap (λ (xs : List Bool). get_or xs m false) written
+          ∙ get_or-set_other bits (place j) m (read row) false (elsewhere j below)
+          ∙ are.1 m elsewhere,
+    )

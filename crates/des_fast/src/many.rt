@@ -20,7 +20,7 @@ mod passes;
 mod spread;
 
 pub use crate::slices::Slice;
-use crate::slices::{LARGEST_BATCH, PassSlices, slices_of, slices_through_passes, write_blocks};
+use crate::slices::{LARGEST_BATCH, PassSlices, read_blocks, slices_through_passes, write_blocks};
 use des::cipher::{BlockCipherDecrypt, BlockCipherEncrypt};
 pub use passes::Passes;
 pub use spread::{ListKeys, SpreadKeys, SpreadOnce};
@@ -32,21 +32,25 @@ fn answer_batch<S: Slice>(blocks: &mut [[u8; 8]], passes: &[PassSlices<S>])
     ensures { (keys : List (List (List Bool))) → HoldPasses S.BATCH S.bit passes.now keys
         → blocks.new ≡ map (block_through_passes keys) blocks.old }
 {
-    let slices = slices_of(blocks);
-    write_blocks(blocks, &slices_through_passes(&slices, passes));
+    let mut slices = [S::same(false); 64];
+    read_blocks(&mut slices, blocks);
+    slices_through_passes(&mut slices, passes);
+    write_blocks(blocks, &mut slices);
 }
 
-// What passes make of at most a batch of blocks: the first blocks of an array. They go through
-// the passes in a batch that is filled up with zeros.
-fn answers_of<S: Slice>(blocks: &[[u8; 8]], passes: &[PassSlices<S>]) -> [[u8; 8]; LARGEST_BATCH]
+// Makes the first blocks of an array what passes make of at most a batch of blocks. They go
+// through the passes in a batch that is filled up with blocks of the array.
+fn write_answers<S: Slice>(
+    answers: &mut [[u8; 8]; LARGEST_BATCH],
+    blocks: &[[u8; 8]],
+    passes: &[PassSlices<S>],
+)
     requires { length blocks.now ≤ S.BATCH }
     ensures { (keys : List (List (List Bool))) → HoldPasses S.BATCH S.bit passes.now keys
-        → take (length blocks.now) result ≡ map (block_through_passes keys) blocks.now }
+        → take (length blocks.now) answers.new ≡ map (block_through_passes keys) blocks.now }
 {
-    let mut answers = [[0u8; 8]; LARGEST_BATCH];
     answers[..blocks.len()].copy_from_slice(blocks);
     answer_batch(&mut answers[..S::BATCH], passes);
-    answers
 }
 
 // Takes at most a batch of blocks through passes.
@@ -58,7 +62,8 @@ fn answer_part<S: Slice>(blocks: &mut [[u8; 8]], passes: &[PassSlices<S>])
     if blocks.len() == S::BATCH {
         return answer_batch(blocks, passes);
     }
-    let answers = answers_of(blocks, passes);
+    let mut answers = [[0; 8]; LARGEST_BATCH];
+    write_answers(&mut answers, blocks, passes);
     blocks.copy_from_slice(&answers[..blocks.len()]);
 }
 

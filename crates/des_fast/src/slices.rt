@@ -3,10 +3,11 @@
 //!
 //! All is written once, over the width: what a slice must be is said by the trait `Slice`.
 
-ghost use Rattle.std.specs.Prelude.{◌≡◌, ◌<◌, ◌*◌, ◌+◌, ◌%◌, ◌≤◌, ◌&&◌, ◌||◌, Bool, true, ℕ, [], ◌∷◌, IsTrue, length, not, slice_index_or};
+ghost use Rattle.std.specs.Prelude.{◌≡◌, ◌<◌, ◌*◌, ◌+◌, ◌%◌, ◌≤◌, ◌≢◌, ◌&&◌, ◌||◌, Bool, true, ℕ, [], ◌∷◌, IsTrue, length, not, slice_index_or};
 ghost use Rattle.std.specs.Align.{type_align};
 ghost use Rattle.std.specs.Mem.{type_size};
 ghost use Rattle.des.specs.Bits.{bits_of_bytes, bits_of_word, xor};
+ghost use Rattle.des.specs.Blocks.{block_of_bits};
 ghost use Rattle.des_fast.specs.Slices.{InEachBlock};
 ghost use Rattle.des_fast.specs.Transposition.{AreSlicesOf, AreBlocksOf, ArePairwiseExchanged, all_come_from, bits_from, bytes_from, pairs_places, bits_of_lane};
 
@@ -73,10 +74,22 @@ pub trait Slice: Copy {
         ensures { (lane : ℕ) → 64 * lane < BATCH → bits_of_lane bit result lane
             ≡ bits_of_bytes (slice_index_or blocks.now (64 * lane + n) []) };
 
+    /// Writes the blocks n, 64 + n, 128 + n and so on of a batch, a block of each word. All others
+    /// stay.
+    fn write_row(&self, blocks: &mut [[u8; 8]], n: usize)
+        requires batch { length blocks.old ≡ BATCH }
+        requires within { n < 64 }
+        ensures written { (lane : ℕ) → 64 * lane < BATCH
+            → slice_index_or blocks.new (64 * lane + n) []
+            ≡ block_of_bits (bits_of_lane bit self.now lane) }
+        ensures kept { (k : ℕ) → k % 64 ≢ n
+            → slice_index_or blocks.new k [] ≡ slice_index_or blocks.old k [] }
+        ensures count { length blocks.new ≡ length blocks.old };
+
     /// A word.
-    fn word(self, lane: usize) -> u64
+    fn word(&self, lane: usize) -> u64
         requires { 64 * lane < BATCH }
-        ensures { bits_of_word result ≡ bits_of_lane bit self lane };
+        ensures { bits_of_word result ≡ bits_of_lane bit self.now lane };
 
     // A batch is not empty, has whole words, and is at most the largest one.
     ghost some_blocks: { 1 ≤ BATCH };
@@ -96,19 +109,21 @@ pub trait Slice: Copy {
     ghost bits: { all_come_from BATCH 4 2 1 bits_from ≡ true };
 }
 
-/// The slices of a batch of blocks.
-pub(crate) fn slices_of<S: Slice>(blocks: &[[u8; 8]]) -> Rows<S>
+/// Makes slices those of a batch of blocks.
+pub(crate) fn read_blocks<S: Slice>(slices: &mut Rows<S>, blocks: &[[u8; 8]])
     requires { length blocks.now ≡ S.BATCH }
-    ensures { AreSlicesOf S.BATCH S.bit blocks.now result }
+    ensures { AreSlicesOf S.BATCH S.bit blocks.now slices.new }
 {
-    transpose(&read_rows(blocks))
+    read_rows(slices, blocks);
+    transpose(slices);
 }
 
-/// Writes the batch of blocks of slices.
-pub(crate) fn write_blocks<S: Slice>(blocks: &mut [[u8; 8]], slices: &Rows<S>)
+/// Writes the batch of blocks of slices, which are used up.
+pub(crate) fn write_blocks<S: Slice>(blocks: &mut [[u8; 8]], slices: &mut Rows<S>)
     requires { length blocks.old ≡ S.BATCH }
-    ensures written { AreBlocksOf S.BATCH S.bit slices.now blocks.new }
+    ensures written { AreBlocksOf S.BATCH S.bit slices.old blocks.new }
     ensures count { length blocks.new ≡ length blocks.old }
 {
-    write_rows(blocks, &transpose(slices));
+    transpose(slices);
+    write_rows(blocks, slices);
 }

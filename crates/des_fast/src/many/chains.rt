@@ -5,7 +5,7 @@ ghost use Rattle.std.specs.Prelude.{◌≡◌, ◌≤◌, List, Bool, length};
 ghost use Rattle.des.specs.Cbc.{Unchains};
 ghost use Rattle.des_fast.specs.Passes.{HoldPasses, block_through_passes};
 
-use super::{Slice, answers_of, next_count};
+use super::{LARGEST_BATCH, Slice, next_count, write_answers};
 use crate::slices::PassSlices;
 use des::cbc;
 
@@ -15,7 +15,8 @@ fn unchain_part<S: Slice>(blocks: &mut [[u8; 8]], iv: &[u8; 8], passes: &[PassSl
     ensures { (keys : List (List (List Bool))) → HoldPasses S.BATCH S.bit passes.now keys
         → Unchains (block_through_passes keys) iv.now blocks.old blocks.new }
 {
-    let answers = answers_of(blocks, passes);
+    let mut answers = [[0; 8]; LARGEST_BATCH];
+    write_answers(&mut answers, blocks, passes);
     let mut before = *iv;
     for k in 0..blocks.len() {
         let ciphertext = blocks[k];

@@ -3,10 +3,10 @@
 //!
 //! No permutation moves a bit: it names slices. Slice n of 64, from 0, has bit n + 1 of each block.
 
-ghost use Rattle.std.specs.Prelude.{◌≡◌, ◌++◌, ◌&&◌, take, drop, map, IsTrue, nat_lt};
+ghost use Rattle.std.specs.Prelude.{◌≡◌, ◌++◌, ◌&&◌, ◌<◌, false, take, drop, map, slice_index_or, IsTrue, nat_lt};
 ghost use Rattle.std.specs.List.{list_all};
 ghost use Rattle.des.specs.Bits.{select};
-ghost use Rattle.des.specs.Tables.{initial_permutation, final_permutation};
+ghost use Rattle.des.specs.Tables.{initial_permutation};
 ghost use Rattle.des.specs.Rounds.{after_rounds};
 ghost use Rattle.des_fast.specs.Slices.{InEachBlock};
 ghost use Rattle.des_fast.specs.Passes.{through_passes};
@@ -66,19 +66,36 @@ fn selection<S: Slice, const N: usize>(slices: &[S; 64], positions: &[usize; N])
     selected
 }
 
-// The final permutation of two halves.
-fn joined<S: Slice>(left: &Half<S>, right: &Half<S>) -> Rows<S>
-    ensures { InEachBlock S.BATCH (λ b. map (S.bit b) result
-        ≡ select final_permutation (map (S.bit b) left.now ++ map (S.bit b) right.now)) }
+// The slice at an index of those of two halves.
+#[inline(always)]
+fn slice_of_halves<S: Slice>(left: &Half<S>, right: &Half<S>, index: usize) -> S
+    requires { index < 64 }
+    ensures { InEachBlock S.BATCH (λ b. S.bit b result
+        ≡ slice_index_or (map (S.bit b) left.now ++ map (S.bit b) right.now) index false) }
 {
-    let mut both = [S::same(false); 64];
-    'first: for i in 0..32usize {
-        both[i] = left[i];
+    if index < 32 {
+        left[index]
+    } else {
+        right[index - 32]
     }
-    'second: for i in 0..32usize {
-        both[32 + i] = right[i];
+}
+
+// Makes slices those of two halves at these positions, from 1.
+#[inline(always)]
+fn select_from_halves<S: Slice>(
+    slices: &mut Rows<S>,
+    left: &Half<S>,
+    right: &Half<S>,
+    positions: &[usize; 64],
+)
+    requires { IsTrue (list_all (λ position. nat_lt 0 position && nat_lt position 65)
+        positions.now) }
+    ensures { InEachBlock S.BATCH (λ b. map (S.bit b) slices.new
+        ≡ select positions.now (map (S.bit b) left.now ++ map (S.bit b) right.now)) }
+{
+    for i in 0..64usize {
+        slices[i] = slice_of_halves(left, right, positions[i] - 1);
     }
-    selection(&both, &FINAL)
 }
 
 // How far C and D are rotated in each round, from the first to the last.
@@ -114,9 +131,9 @@ fn sixteen_rounds<S: Slice>(left: &mut Half<S>, right: &mut Half<S>, pass: &Pass
 }
 
 /// Takes slices through passes, one after another.
-pub(crate) fn slices_through_passes<S: Slice>(slices: &Rows<S>, passes: &[PassSlices<S>]) -> Rows<S>
-    ensures { InEachBlock S.BATCH (λ b. map (S.bit b) result
-        ≡ through_passes (map (round_keys_in (S.bit b)) passes.now) (map (S.bit b) slices.now)) }
+pub(crate) fn slices_through_passes<S: Slice>(slices: &mut Rows<S>, passes: &[PassSlices<S>])
+    ensures { InEachBlock S.BATCH (λ b. map (S.bit b) slices.new
+        ≡ through_passes (map (round_keys_in (S.bit b)) passes.now) (map (S.bit b) slices.old)) }
 {
     let mut left = selection(slices, &INITIAL_LEFT);
     let mut right = selection(slices, &INITIAL_RIGHT);
@@ -126,5 +143,5 @@ pub(crate) fn slices_through_passes<S: Slice>(slices: &Rows<S>, passes: &[PassSl
         left = right;
         right = last;
     }
-    joined(&left, &right)
+    select_from_halves(slices, &left, &right, &FINAL);
 }

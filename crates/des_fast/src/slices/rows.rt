@@ -17,24 +17,22 @@ pub(super) fn word_of(block: &[u8; 8]) -> u64
     u64::from_be_bytes(*block)
 }
 
-// The block of the bits of a word.
+/// The block of the bits of a word.
 #[inline(always)]
-fn block_of(word: u64) -> [u8; 8]
+pub(super) fn block_of(word: u64) -> [u8; 8]
     ensures { result ≡ block_of_bits (bits_of_word word) }
 {
     word.to_be_bytes()
 }
 
-/// The rows of a batch of blocks.
-pub(super) fn read_rows<S: Slice>(blocks: &[[u8; 8]]) -> Rows<S>
+/// Makes rows those of a batch of blocks.
+pub(super) fn read_rows<S: Slice>(rows: &mut Rows<S>, blocks: &[[u8; 8]])
     requires { length blocks.now ≡ S.BATCH }
-    ensures { AreRowsOf S.BATCH S.bit blocks.now result }
+    ensures { AreRowsOf S.BATCH S.bit blocks.now rows.new }
 {
-    let mut rows = [S::same(false); 64];
     'rows: for n in 0..64usize {
         rows[n] = S::row_of(blocks, n);
     }
-    rows
 }
 
 /// Writes the batch of blocks of the rows.
@@ -43,7 +41,7 @@ pub(super) fn write_rows<S: Slice>(blocks: &mut [[u8; 8]], rows: &Rows<S>)
     ensures written { AreBlocksOfRows S.BATCH S.bit rows.now blocks.new }
     ensures count { length blocks.new ≡ length blocks.old }
 {
-    'each: for k in 0..S::BATCH {
-        blocks[k] = block_of(rows[k % 64].word(k / 64));
+    'rows: for n in 0..64usize {
+        rows[n].write_row(blocks, n);
     }
 }

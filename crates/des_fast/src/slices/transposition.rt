@@ -2,7 +2,7 @@
 //!
 //! Each word of the vectors holds a square of 64 rows of 64 bits, and all are transposed at once.
 
-ghost use Rattle.std.specs.Prelude.{◌≡◌, ◌<◌, ◌*◌, ◌+◌, ℕ, false, IsTrue, map, slice_index_or};
+ghost use Rattle.std.specs.Prelude.{◌≡◌, ◌<◌, ◌≢◌, ◌*◌, ◌+◌, ◌/◌, ◌%◌, ℕ, false, IsTrue, length, map, slice_index_or};
 ghost use Rattle.des_fast.specs.Slices.{InEachBlock};
 ghost use Rattle.des_fast.specs.Transposition.{pairs_places, ArePairwiseExchanged, AreBytesExchanged, AreBitsExchanged, AreTransposed};
 
@@ -67,6 +67,43 @@ fn every_eighth<S: Slice>(rows: &Rows<S>, i: usize) -> [S; 8]
     ]
 }
 
+// Writes eight rows in the place of every eighth row, from row i on.
+#[inline(always)]
+fn write_every_eighth<S: Slice>(rows: &mut Rows<S>, i: usize, eight: [S; 8])
+    requires { i < 8 }
+    ensures written { InEachBlock S.BATCH (λ b. (j : ℕ) → j < 8
+        → slice_index_or (map (S.bit b) rows.new) (8 * j + i) false
+        ≡ slice_index_or (map (S.bit b) eight) j false) }
+    ensures kept { InEachBlock S.BATCH (λ b. (m : ℕ) → m % 8 ≢ i
+        → slice_index_or (map (S.bit b) rows.new) m false
+        ≡ slice_index_or (map (S.bit b) rows.old) m false) }
+    ensures count { length rows.new ≡ 64 }
+{
+    for j in 0..8usize {
+        rows[8 * j + i] = eight[j];
+    }
+}
+
+// Eight rows side by side, from row 8 * i on.
+#[inline(always)]
+fn eight_rows<S: Slice>(rows: &Rows<S>, i: usize) -> [S; 8]
+    requires { i < 8 }
+    ensures { InEachBlock S.BATCH (λ b. (j : ℕ) → j < 8
+        → slice_index_or (map (S.bit b) result) j false
+        ≡ slice_index_or (map (S.bit b) rows.now) (8 * i + j) false) }
+{
+    [
+        rows[8 * i],
+        rows[8 * i + 1],
+        rows[8 * i + 2],
+        rows[8 * i + 3],
+        rows[8 * i + 4],
+        rows[8 * i + 5],
+        rows[8 * i + 6],
+        rows[8 * i + 7],
+    ]
+}
+
 // Writes eight rows side by side, from row 8 * i on.
 #[inline(always)]
 fn write_eight<S: Slice>(rows: &mut Rows<S>, i: usize, eight: [S; 8])
@@ -74,26 +111,27 @@ fn write_eight<S: Slice>(rows: &mut Rows<S>, i: usize, eight: [S; 8])
     ensures written { InEachBlock S.BATCH (λ b. (j : ℕ) → j < 8
         → slice_index_or (map (S.bit b) rows.new) (8 * i + j) false
         ≡ slice_index_or (map (S.bit b) eight) j false) }
-    ensures kept { InEachBlock S.BATCH (λ b. (m : ℕ) → m < 8 * i
+    ensures kept { InEachBlock S.BATCH (λ b. (m : ℕ) → m / 8 ≢ i
         → slice_index_or (map (S.bit b) rows.new) m false
         ≡ slice_index_or (map (S.bit b) rows.old) m false) }
+    ensures count { length rows.new ≡ 64 }
 {
     for j in 0..8usize {
         rows[8 * i + j] = eight[j];
     }
 }
 
-/// The rows transposed in each word: bit n of row m becomes bit m of row n.
-pub(crate) fn transpose<S: Slice>(rows: &Rows<S>) -> Rows<S>
-    ensures { AreTransposed S.BATCH S.bit rows.now result }
+/// Transposes the rows in each word: bit n of row m becomes bit m of row n.
+pub(crate) fn transpose<S: Slice>(rows: &mut Rows<S>)
+    ensures transposed { AreTransposed S.BATCH S.bit rows.old rows.new }
+    ensures count { length rows.new ≡ 64 }
 {
-    let mut halfway = [S::same(false); 64];
     'bytes: for i in 0..8usize {
-        write_eight(&mut halfway, i, exchange_bytes(every_eighth(rows, i)));
+        let eight = exchange_bytes(every_eighth(rows, i));
+        write_every_eighth(rows, i, eight);
     }
-    let mut transposed = [S::same(false); 64];
     'bits: for i in 0..8usize {
-        write_eight(&mut transposed, i, exchange_bits(every_eighth(&halfway, i)));
+        let eight = exchange_bits(eight_rows(rows, i));
+        write_eight(rows, i, eight);
     }
-    transposed
 }

@@ -6,7 +6,7 @@ ghost use Rattle.des.specs.Bits.{bits_of_bytes, bits_of_word};
 ghost use Rattle.des_fast.specs.Slices.{bit_of_block};
 
 use super::Slice;
-use super::rows::word_of;
+use super::rows::{block_of, word_of};
 use std::simd::prelude::*;
 
 /// Slices of 128 blocks.
@@ -59,8 +59,14 @@ impl Slice for u64x2 {
     }
 
     #[inline(always)]
-    fn word(self, lane: usize) -> u64 {
-        self.to_array()[lane]
+    fn write_row(&self, blocks: &mut [[u8; 8]], n: usize) {
+        blocks[n] = block_of(self.word(0));
+        blocks[64 + n] = block_of(self.word(1));
+    }
+
+    #[inline(always)]
+    fn word(&self, lane: usize) -> u64 {
+        self.as_array()[lane]
     }
 
     ghost some_blocks = { lit≤ tt };
@@ -133,8 +139,16 @@ impl Slice for u64x4 {
     }
 
     #[inline(always)]
-    fn word(self, lane: usize) -> u64 {
-        self.to_array()[lane]
+    fn write_row(&self, blocks: &mut [[u8; 8]], n: usize) {
+        blocks[n] = block_of(self.word(0));
+        blocks[64 + n] = block_of(self.word(1));
+        blocks[128 + n] = block_of(self.word(2));
+        blocks[192 + n] = block_of(self.word(3));
+    }
+
+    #[inline(always)]
+    fn word(&self, lane: usize) -> u64 {
+        self.as_array()[lane]
     }
 
     ghost some_blocks = { lit≤ tt };

@@ -8,8 +8,8 @@ answer_batch-requires g c = (
   omega (arith, c.BATCH.ensures),
 )
 
-pub answers_of-answers-requires : goal.answers_of-answers-requires
-answers_of-answers-requires g c = (
+pub write_answers-requires : goal.write_answers-requires
+write_answers-requires g c = (
   omega (arith, pass_slices-le _ _ g.met.S.Slice.small_gaps g.met.S.Slice.few_bytes),
   omega (arith, c.requires),
 )

@@ -6,15 +6,15 @@ use Rattle.des_fast.specs.Passes.{block_through_passes}
 use Rattle.des_fast.proofs.SliceSizes.{pass_slices-le}
 use Rattle.des_fast.proofs.many.chains.unchain_part.Goals as goal
 
-pub answers_of-answers-requires : goal.answers_of-answers-requires
-answers_of-answers-requires g c = (omega (arith, pass_slices-le _ _ g.met.S.Slice.small_gaps g.met.S.Slice.few_bytes), c.requires)
+pub write_answers-requires : goal.write_answers-requires
+write_answers-requires g c = (omega (arith, pass_slices-le _ _ g.met.S.Slice.small_gaps g.met.S.Slice.few_bytes), c.requires)
 
 pub returns : goal.returns
 returns g c keys hold =
     let f : List ℕ → List ℕ = block_through_passes keys in
     let old : List (List ℕ) = c.args.blocks.now in
-    let answers : List (List ℕ) = c.answers_of-answers.result in
-    let made : take (length old) answers ≡ map f old = c.answers_of-answers.ensures keys hold in record {
+    let answers : List (List ℕ) = c.write_answers.new.answers in
+    let made : take (length old) answers ≡ map f old = c.write_answers.ensures keys hold in record {
       count = omega arith;
       unchained = λ n from within.
           let inside : n - 1 < length old = omega arith in

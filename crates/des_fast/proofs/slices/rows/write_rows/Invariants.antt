@@ -1,10 +1,11 @@
--- The blocks below k are written.
-use Rattle.std.proofs.Common.{◌≡◌, ℕ, ◌<◌, [], get_or, length}
+-- The blocks of the rows below n are written.
+use Rattle.std.proofs.Common.{◌≡◌, ℕ, ◌+◌, ◌*◌, ◌<◌, [], get_or, length}
 use Rattle.des.specs.Blocks.{block_of_bits}
-use Rattle.des_fast.specs.Transposition.{bits_of_row}
+use Rattle.des_fast.proofs.BlockRows.{row_lane}
 use Rattle.des_fast.proofs.slices.rows.write_rows.Given as goal
 
-abbrev pub invariant-each : goal.invariant-each
-invariant-each g l =
+abbrev pub invariant-rows : goal.invariant-rows
+invariant-rows g l =
     (length l.blocks ≡ g.S.Slice.BATCH)
-    × ((j : ℕ) → j < l.k → get_or l.blocks j [] ≡ block_of_bits (bits_of_row g.S.Slice.bit l.rows j))
+    × ((lane : ℕ) → 64 * lane < g.S.Slice.BATCH → (m : ℕ) → m < l.n
+    → get_or l.blocks (64 * lane + m) [] ≡ block_of_bits (row_lane g.S.Slice.bit l.rows m lane))
