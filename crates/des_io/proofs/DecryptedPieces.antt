@@ -2,7 +2,7 @@
 use Rattle.std.proofs.Common.{◌≡◌, ◌≢◌, ◌⊎◌, inl, inr, ℕ, ◌-◌, ◌*◌, ◌%◌, ◌<◌, List, [], ◌∷◌, ◌++◌, Option, None, Some, length, take, drop, refl, ap, ap₂, sym, subst, ◌∙◌, arith, append_assoc, append-nil, take-append-drop, length-append, take_all, take_at, drop_at, get_or}
 use Rattle.std.specs.Io.KnownBytes.{Consumes, Appends, IsAtEnd}
 use Rattle.std.proofs.KnownBytes.{Consumes-trans, Appends-trans, Consumes-nil, Appends-nil}
-use Rattle.des_io.specs.Streams.{joined, bytes_of, IsLeft, IsBlockIfThere, WritesPiece, DeciphersPiece, HoldsLast, EndsStream, Decrypts, DecryptsFront, EndsInBlock, IsWronglyPadded, FailsToDecrypt}
+use Rattle.des_io.specs.Streams.{joined, bytes_of, IsLeft, IsWithin, IsBlockIfThere, WritesPiece, DeciphersPiece, HoldsLast, EndsStream, Decrypts, DecryptsFront, EndsInBlock, IsWronglyPadded, FailsToDecrypt}
 use Rattle.std.proofs.lemmas.List.Elements.{All-append, All-nil}
 use Rattle.std.proofs.Math.Seq.{get_or-append_seam}
 use Rattle.std.specs.Prelude.{Err}
@@ -183,6 +183,12 @@ IsLeft-none (Some limit) (Some left) q more all count first is same joins =
     let this : left ≡ count = cc in
     let total : limit ≡ length all = omega (arith, ap length joins ∙ length-append q more, first, this, same) in
     ap Some total
+
+-- where something may be left of a limit, it was not passed
+pub IsLeft-within : (limit left : Option ℕ) (count : ℕ) → IsLeft limit count left → IsWithin limit count
+IsLeft-within None left count first = tt
+IsLeft-within (Some limit) None count first = absurd first
+IsLeft-within (Some limit) (Some left) count first = omega (arith, first)
 
 -- without a limit a stream ends where the reader does
 pub ends_alone : (r : Option (List ℕ)) (count : ℕ) → IsAtEnd r ⊎ (None ≡ Some count) → IsAtEnd r

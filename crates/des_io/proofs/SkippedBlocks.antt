@@ -143,6 +143,7 @@ DecryptsPart-ended decryption mode padding taken limit r s t u v w held bytes pl
     written = Appends-trans u v w _ _ part.holds.written written;
   };
   ends = part.ends;
+  within = part.within;
   read = read;
   after = after;
 }

@@ -1,5 +1,5 @@
 -- Bytes that go from a reader through a cipher to a writer.
-use Rattle.std.specs.Prelude.{◌≡◌, ◌≢◌, ◌⊎◌, ℕ, ◌+◌, ◌-◌, ◌*◌, ◌%◌, ◌<◌, Bool, true, false, List, [], ◌++◌, Option, None, Some, length, take, ⊤, Result, Ok, Err}
+use Rattle.std.specs.Prelude.{◌≡◌, ◌≢◌, ◌⊎◌, ℕ, ◌+◌, ◌-◌, ◌*◌, ◌%◌, ◌<◌, ◌≤◌, Bool, true, false, List, [], ◌++◌, Option, None, Some, length, take, ⊤, Result, Ok, Err}
 use Rattle.std.specs.List.{All, flat_map}
 use Rattle.std.specs.Io.KnownBytes.{Consumes, Appends, IsAtEnd}
 use Rattle.des.specs.Blocks.{IsBlock}
@@ -133,11 +133,17 @@ IsLeft None count None = ⊤
 IsLeft (Some limit) count (Some left) = count + left ≡ limit
 IsLeft _ count _ = ⊥
 
+-- so many blocks are no more than the limit, where there is one
+abbrev pub IsWithin : Option ℕ → ℕ → Type 0
+IsWithin None count = ⊤
+IsWithin (Some limit) count = count ≤ limit
+
 -- the same of a stream that ends where the reader does, or at a limit in blocks
 pub record HoldsPart (decryption : List ℕ → List ℕ) (mode : Mode) (limit : Option ℕ)
     (read_from read_to written_from written_to : Option (List ℕ)) (last : Option (List ℕ)) : Type 0 where
   pub holds : HoldsLast decryption mode read_from read_to written_from written_to last
   pub ends : IsAtEnd read_to ⊎ (limit ≡ Some (length holds.q))
+  pub within : IsWithin limit (length holds.q)
 
 -- what was written begins what was read, deciphered: bytes were read that begin with blocks q, and
 -- bytes were written that begin p, which is q deciphered
@@ -258,6 +264,7 @@ pub record DecryptsPart (decryption : List ℕ → List ℕ) (mode : Mode) (padd
   pub rest : List ℕ
   pub part : Decrypts decryption mode taken read_from middle written_from written_to
   pub ends : IsAtEnd middle ⊎ (limit ≡ Some (length part.q))
+  pub within : IsWithin limit (length part.q)
   pub read : Consumes middle read_to rest
   pub after : ((rest ≡ []) × IsAtEnd read_to × (taken ≡ padding) × (part.q ≢ [])) ⊎ ((length rest ≡ 1) × (taken ≡ Unpadded))
 

@@ -7,12 +7,12 @@ ghost use Rattle.des_io.specs.Streams.{joined, bytes_of, WritesPiece, DeciphersP
 ghost use Rattle.des_io.specs.Streams.{HoldsPart, FailsBefore, EndsStream, Decrypts};
 ghost use Rattle.des_io.specs.Streams.{DecryptsFront, FailsToDecrypt, IsOfWriting};
 
-use crate::error::StreamError;
+use crate::error::{StreamError, without_end};
 use crate::mode::Mode;
 use crate::padding::{Padding, count_before};
 use crate::pieces::{blocks_of, fill_front, write_whole};
 use des_fast::many::ManyBlocks;
-use std::io::{Error, ErrorKind, Read, Write};
+use std::io::{Read, Write};
 
 // Writes a block that may be there.
 fn write_held<W: Write>(writer: &mut W, held: &Option<[u8; 8]>) -> Result<(), StreamError>
@@ -68,7 +68,7 @@ fn decrypt_piece<W: Write, C: ManyBlocks>(
 
 /// How many blocks go into the next piece: as many as there is room for, or fewer where fewer are
 /// left.
-pub fn next_count(room: usize, left: Option<u64>) -> usize
+pub(crate) fn next_count(room: usize, left: Option<u64>) -> usize
     ensures within { result ≤ room }
     ensures full { result ≡ room ⊎ left ≡ Some result }
     ensures left { IfSome left (λ left. result ≤ left) }
@@ -91,7 +91,11 @@ fn left_after(left: Option<u64>, count: usize) -> Option<u64>
 }
 
 /// Decrypts what the reader gives, up to its end or to a limit in blocks, and writes it but for the
-/// last block, which it gives. The buffers are of as many bytes as the blocks have.
+/// last block, which it gives. The two buffers, of bytes and of blocks, have the same size, of one
+/// block at least.
+///
+/// The error is `Read` or `Write` where the reader or the writer failed, and `Length` where what was
+/// read is not whole blocks.
 pub fn decrypt_blocks<R: Read, W: Write, C: ManyBlocks>(
     cipher: &C,
     mode: Mode,
@@ -128,10 +132,13 @@ pub fn decrypt_blocks<R: Read, W: Write, C: ManyBlocks>(
             return Ok(held);
         }
     }
-    Err(StreamError::Read(Error::from(ErrorKind::TimedOut)))
+    Err(StreamError::Read(without_end()))
 }
 
 /// Writes the last block of a list of blocks without its padding.
+///
+/// The error is `Padding` where it is the last block of no padded bytes, and `Write` where the writer
+/// failed.
 pub fn finish<W: Write>(
     padding: Padding,
     last: &Option<[u8; 8]>,
@@ -151,7 +158,10 @@ pub fn finish<W: Write>(
 }
 
 /// Decrypts what the reader gives, up to its end, and writes it without its padding, a buffer at a
-/// time. The buffers are of as many bytes as the blocks have.
+/// time. The two buffers, of bytes and of blocks, have the same size, of one block at least.
+///
+/// The error is `Read` or `Write` where the reader or the writer failed, `Length` where what was read
+/// is not whole blocks, and `Padding` where its padding is wrong.
 pub fn decrypt_stream<R: Read, W: Write, C: ManyBlocks>(
     cipher: &C,
     mode: Mode,

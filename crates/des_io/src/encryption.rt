@@ -5,12 +5,12 @@ ghost use Rattle.std.specs.Io.KnownBytes.{Appends, IsAtEnd};
 ghost use Rattle.des_io.specs.Streams.{EnciphersPiece, Encrypts, EncryptsFront, FailsToEncrypt};
 ghost use Rattle.des_io.specs.Streams.{IsOfWriting};
 
-use crate::error::StreamError;
+use crate::error::{StreamError, without_end};
 use crate::mode::Mode;
 use crate::padding::{Padding, pad};
 use crate::pieces::{blocks_of, fill, write_whole};
 use des_fast::many::ManyBlocks;
-use std::io::{Error, ErrorKind, Read, Write};
+use std::io::{Read, Write};
 
 // Encrypts bytes that are whole blocks, and writes them.
 fn encrypt_piece<W: Write, C: ManyBlocks>(
@@ -31,7 +31,10 @@ fn encrypt_piece<W: Write, C: ManyBlocks>(
 }
 
 /// Encrypts what the reader gives, up to its end, with its padding, and writes it, a buffer at a
-/// time. The buffers are of as many bytes as the blocks have.
+/// time. The two buffers, of bytes and of blocks, have the same size, of one block at least.
+///
+/// The error is `Read` or `Write` where the reader or the writer failed, and `Length` where the
+/// padding is `Unpadded` and what was read is not whole blocks.
 pub fn encrypt_stream<R: Read, W: Write, C: ManyBlocks>(
     cipher: &C,
     mode: Mode,
@@ -66,5 +69,5 @@ pub fn encrypt_stream<R: Read, W: Write, C: ManyBlocks>(
         }
         encrypt_piece(cipher, &mut mode, writer, bytes, blocks)?;
     }
-    Err(StreamError::Read(Error::from(ErrorKind::TimedOut)))
+    Err(StreamError::Read(without_end()))
 }

@@ -1,5 +1,6 @@
 //! What can fail between a reader and a writer.
 
+use std::io::{Error, ErrorKind};
 use std::{fmt, io};
 
 /// Why a stream ended before its time.
@@ -11,7 +12,7 @@ pub enum StreamError {
     Write(io::Error),
     /// The input is not whole blocks: so many bytes follow the last whole one.
     Length(usize),
-    /// The input has no block where the part begins, or ends within the vector.
+    /// The input has no block where the part begins, or none for the vector.
     Start,
     /// The padding is wrong.
     Padding,
@@ -29,8 +30,14 @@ impl fmt::Display for StreamError {
                     "the input has {past} bytes after its last whole block of 8"
                 )
             }
-            StreamError::Start => f.write_str("the input ends before the part"),
+            StreamError::Start => f.write_str("the input has no block where the part begins"),
             StreamError::Padding => f.write_str("the padding is wrong"),
         }
     }
+}
+
+// The error where a loop has gone round 2^64 - 1 times, which no process lives to see: a loop over a
+// reader or a writer has an end of its own, since each call is proved to return.
+pub(crate) fn without_end() -> Error {
+    Error::from(ErrorKind::TimedOut)
 }

@@ -6,15 +6,17 @@ ghost use Rattle.des_io.specs.Streams.{Skips, FailsToSkip, DecryptsPart, Decrypt
 ghost use Rattle.des_io.specs.Streams.{FailsInPart, IsOfReading, IsEndOrMore};
 
 use crate::decryption::{decrypt_blocks, finish, next_count};
-use crate::error::StreamError;
+use crate::error::{StreamError, without_end};
 use crate::mode::Mode;
 use crate::padding::Padding;
 use crate::pieces::{blocks_of, fill, fill_front};
 use des_fast::many::ManyBlocks;
-use std::io::{Error, ErrorKind, Read, Write};
+use std::io::{Read, Write};
 
 /// Reads the blocks before a part, so many, and gives how the blocks of the part go on from them.
-/// The buffers are of as many bytes as the blocks have.
+/// The two buffers, of bytes and of blocks, have the same size, of one block at least.
+///
+/// The error is `Start` where there are fewer blocks, and `Read` where the reader failed.
 pub fn skip_blocks<R: Read>(
     mode: Mode,
     count: u64,
@@ -45,7 +47,7 @@ pub fn skip_blocks<R: Read>(
         mode.pass(piece);
         left -= count as u64;
     }
-    Err(StreamError::Read(Error::from(ErrorKind::TimedOut)))
+    Err(StreamError::Read(without_end()))
 }
 
 // Whether the reader has nothing left; where it has, a byte is read.
@@ -63,6 +65,9 @@ fn is_at_end<R: Read>(reader: &mut R) -> Result<bool, StreamError>
 
 /// Decrypts a part of so many blocks, or up to the end of the reader, and writes it. Where the
 /// reader is then at its end, the padding is taken off, and there must be a block.
+///
+/// The error is `Start` where there is none, `Padding` where the padding is wrong, `Length` where what
+/// was read is not whole blocks, and `Read` or `Write` where the reader or the writer failed.
 pub fn decrypt_part<R: Read, W: Write, C: ManyBlocks>(
     cipher: &C,
     mode: Mode,

@@ -4,11 +4,11 @@ ghost use Rattle.std.specs.Prelude.{◌≡◌, ◌≤◌, ◌<◌, ◌*◌, ℕ,
 ghost use Rattle.std.specs.Io.KnownBytes.{Consumes, Appends, IsAtEnd};
 ghost use Rattle.des_io.specs.Streams.{joined, IsOfReading, IsOfWriting};
 
-use crate::error::StreamError;
+use crate::error::{StreamError, without_end};
 use std::io::{Error, ErrorKind, Read, Write};
 
 /// Reads until the buffer is full or the reader is at its end, and gives the number of bytes. A
-/// read that was interrupted is tried again.
+/// read that was interrupted is tried again. The error is `Read`, where the reader failed.
 pub fn fill<R: Read>(reader: &mut R, buffer: &mut [u8]) -> Result<usize, StreamError>
     ensures consumed { (bytes : List ℕ)
         × Consumes (R.remaining reader.old) (R.remaining reader.new) bytes }
@@ -33,7 +33,7 @@ pub fn fill<R: Read>(reader: &mut R, buffer: &mut [u8]) -> Result<usize, StreamE
             }
         }
     }
-    Err(StreamError::Read(Error::from(ErrorKind::TimedOut)))
+    Err(StreamError::Read(without_end()))
 }
 
 /// Reads as `fill` does, into the first bytes of a buffer.
@@ -56,7 +56,7 @@ pub fn fill_front<R: Read>(
 }
 
 /// Writes the bytes; where that fails, some of the first of them are written. A write that was
-/// interrupted is tried again.
+/// interrupted is tried again. The error is `Write`, where the writer failed or took nothing.
 pub fn write_whole<W: Write>(writer: &mut W, bytes: &[u8]) -> Result<(), StreamError>
     ensures written { (k : ℕ) × (k ≤ length bytes.now)
         × Appends (W.contents writer.old) (W.contents writer.new) (take k bytes.now)
@@ -78,7 +78,7 @@ pub fn write_whole<W: Write>(writer: &mut W, bytes: &[u8]) -> Result<(), StreamE
             }
         }
     }
-    Err(StreamError::Write(Error::from(ErrorKind::TimedOut)))
+    Err(StreamError::Write(without_end()))
 }
 
 /// Writes the blocks of 8 bytes that the bytes are.

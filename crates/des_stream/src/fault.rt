@@ -89,7 +89,7 @@ fn write_stream_error<W: fmt::Write>(
         StreamError::Read(_) => write!(f, "Read: {error}"),
         StreamError::Write(_) => write!(f, "Write: {error}"),
         StreamError::Length(_) => write!(f, "Length: {error}"),
-        StreamError::Start => write!(f, "Start: {error} that --from names"),
+        StreamError::Start => write!(f, "Start: {error}"),
         StreamError::Padding => write!(f, "Padding: {error}, which is not that of --padding"),
     }
 }

@@ -113,7 +113,7 @@ fn run_cipher<C: KeyInit + ManyBlocks + Drop, R: Read, W: Write>(
 {
     let cipher = match C::new_from_slice(job.key) {
         Ok(cipher) => cipher,
-        Err(_) => return Err(Fault::KeyText),
+        Err(_) => return Err(Fault::KeyLength(2 * job.options.cipher.key_size())),
     };
     let mut bytes = vec![in alloc; 0u8; count * 8]?;
     let mut blocks = vec![in alloc; [0u8; 8]; count]?;
@@ -196,12 +196,22 @@ fn run_from_stdin(rt: &HostRuntime, options: &Options, key: &[u8]) -> Result<(),
     run_to_output(rt, &job, &mut reader)
 }
 
+// The bytes that are to be read, where a whole file is: a part is read of as many as it says, and a
+// pipe that has a name has no length.
+fn total_of(options: &Options, length: u64) -> Option<u64> {
+    if options.part.is_none() && length > 0 {
+        Some(length)
+    } else {
+        None
+    }
+}
+
 // Reads a file.
 fn run_from_file(rt: &HostRuntime, options: &Options, key: &[u8], path: &str) -> Result<(), Fault> {
     let mut file = File::open(rt, path).map_err(Fault::of_reader)?;
-    let total = file.metadata().map_err(Fault::of_reader)?.len();
+    let total = total_of(options, file.metadata().map_err(Fault::of_reader)?.len());
     let skipped = seek_to_last(&mut file, blocks_before(options));
-    let mut reader = Watched::new(rt, file, options.shows_progress, Some(total));
+    let mut reader = Watched::new(rt, file, options.shows_progress, total);
     let job = Job {
         options,
         key,

@@ -1,6 +1,6 @@
 use Rattle.std.proofs.Common.{◌≡◌, ◌<◌, ◌*◌, inl, inr, [], length, take, rules, arith, refl, length-take-le}
 use Rattle.std.proofs.KnownBytes.{Consumes-nil}
-use Rattle.des_io.proofs.DecryptedPieces.{HoldsLast-none, HoldsLast-more, DecryptsFront-read, DecryptsFront-written, EndsInBlock-read, IsLeft-all, IsLeft-more, IsLeft-none, length-piece}
+use Rattle.des_io.proofs.DecryptedPieces.{HoldsLast-none, HoldsLast-more, DecryptsFront-read, DecryptsFront-written, EndsInBlock-read, IsLeft-all, IsLeft-more, IsLeft-none, IsLeft-within, length-piece}
 use Rattle.std.proofs.Math.Nat.{eq-or-lt_of_le}
 use Rattle.des_io.proofs.decryption.decrypt_blocks.Goals as goal
 
@@ -41,6 +41,8 @@ returns-then-n-bytes-clause-done g c =
         ]
         | inr less ↦ inl (c.in_ok-n.ensures.end less)
       ];
+      within = IsLeft-within _ _ _
+          (IsLeft-more _ _ _ _ _ _ _ c.loop.invariant.left c.left_after-left.ensures (omega (arith, counts)) more.2);
     }
 
 pub returns-then-n-bytes-clause-front : goal.returns-then-n-bytes-clause-front
