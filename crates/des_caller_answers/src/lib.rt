@@ -29,6 +29,8 @@ mod related_lists;
 #[cfg(test)]
 mod reverse;
 #[cfg(test)]
+mod streams;
+#[cfg(test)]
 mod there_and_back;
 #[cfg(test)]
 mod verdicts;

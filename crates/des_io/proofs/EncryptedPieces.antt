@@ -133,6 +133,12 @@ past-padded Unpadded bytes n count past = ap (λ m. m % 8) (ap length (sym (appe
 past-padded Pkcs7 bytes n count past = absurd (past (omega (arith, sym (length-padded Pkcs7 bytes (λ e. cc)) ∙ count)))
 past-padded Iso7816 bytes n count past = absurd (past (omega (arith, sym (length-padded Iso7816 bytes (λ e. cc)) ∙ count)))
 
+-- only where there is no padding
+pub unpadded-past : (padding : Padding) (bytes : List ℕ) (n : ℕ) → length (padded padding bytes) ≡ n → n % 8 ≢ 0 → padding ≡ Unpadded
+unpadded-past Unpadded bytes n count past = refl
+unpadded-past Pkcs7 bytes n count past = absurd (past (omega (arith, sym (length-padded Pkcs7 bytes (λ e. cc)) ∙ count)))
+unpadded-past Iso7816 bytes n count past = absurd (past (omega (arith, sym (length-padded Iso7816 bytes (λ e. cc)) ∙ count)))
+
 pub EndsInBlock-padded : (encryption : List ℕ → List ℕ) (mode next : Mode) (padding : Padding) (r s t u v : Option (List ℕ)) (bytes : List ℕ) (n : ℕ)
     → EncryptsBlocks encryption mode next r s u v → Consumes s t bytes → IsAtEnd t → length (padded padding bytes) ≡ n → n % 8 ≢ 0
     → EndsInBlock r t (n % 8)

@@ -193,12 +193,12 @@ abbrev pub IsOfWriting : StreamError → Type 0
 IsOfWriting (Write error) = ⊤
 IsOfWriting _ = ⊥
 
--- what a fault says of an encryption: padding is never wrong
-abbrev pub FailsToEncrypt : StreamError → Option (List ℕ) → Option (List ℕ) → Type 0
-FailsToEncrypt (Length past) read_from read_to = EndsInBlock read_from read_to past
-FailsToEncrypt Start read_from read_to = ⊥
-FailsToEncrypt WrongPadding read_from read_to = ⊥
-FailsToEncrypt _ read_from read_to = ⊤
+-- what a fault says of an encryption: padding is never wrong, and with padding any bytes go
+abbrev pub FailsToEncrypt : StreamError → Padding → Option (List ℕ) → Option (List ℕ) → Type 0
+FailsToEncrypt (Length past) padding read_from read_to = (padding ≡ Unpadded) × EndsInBlock read_from read_to past
+FailsToEncrypt Start padding read_from read_to = ⊥
+FailsToEncrypt WrongPadding padding read_from read_to = ⊥
+FailsToEncrypt _ padding read_from read_to = ⊤
 
 -- what a fault says of a decryption, before its padding is looked at
 abbrev pub FailsBefore : StreamError → Option (List ℕ) → Option (List ℕ) → Type 0

@@ -54,7 +54,7 @@ pub fn encrypt_stream<R: Read, W: Write, C: ManyBlocks>(
         (R.remaining reader.old) (R.remaining reader.new)
         (W.contents writer.old) (W.contents writer.new) }
     ensures fault { IfErr result (λ fault.
-        FailsToEncrypt fault (R.remaining reader.old) (R.remaining reader.new)) }
+        FailsToEncrypt fault padding (R.remaining reader.old) (R.remaining reader.new)) }
 {
     let mut mode = mode;
     for _ in 0..u64::MAX {

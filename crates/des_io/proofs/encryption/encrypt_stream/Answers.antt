@@ -1,7 +1,7 @@
 use Rattle.std.proofs.Common.{◌∙◌, length, rules, refl, sym, subst, ap, take_all, length-take-le, append-nil, []}
 use Rattle.std.specs.Io.KnownBytes.{Consumes}
 use Rattle.std.proofs.KnownBytes.{Consumes-nil}
-use Rattle.des_io.proofs.EncryptedPieces.{EncryptsBlocks-none, EncryptsBlocks-more, Encrypts-last, EncryptsFront-read, EncryptsFront-written, EndsInBlock-padded}
+use Rattle.des_io.proofs.EncryptedPieces.{EncryptsBlocks-none, EncryptsBlocks-more, Encrypts-last, EncryptsFront-read, EncryptsFront-written, EndsInBlock-padded, unpadded-past}
 use Rattle.des_io.proofs.encryption.encrypt_stream.Goals as goal
 
 pub loop-init : goal.loop-init
@@ -16,8 +16,11 @@ returns-then-n-ne0-clause-front g c = EncryptsFront-read _ _ _ _ _ _ _ _ _ _ c.l
 
 pub returns-then-n-ne0-clause-fault : goal.returns-then-n-ne0-clause-fault
 returns-then-n-ne0-clause-fault g c =
-    let count = ap length (sym c.pad-n.ensures.padded) ∙ length-take-le _ _ c.pad-n.ensures.within in
-    EndsInBlock-padded _ _ _ _ _ _ _ _ _ _ _ c.loop.invariant.so_far c.in_ok-n.ensures.read (c.in_ok-n.ensures.end c.if-n-bytes.true) count c.if-n-ne0.true
+    let count = ap length (sym c.pad-n.ensures.padded) ∙ length-take-le _ _ c.pad-n.ensures.within in (
+      unpadded-past _ _ _ count c.if-n-ne0.true,
+      EndsInBlock-padded _ _ _ _ _ _ _ _ _ _ _ c.loop.invariant.so_far c.in_ok-n.ensures.read (c.in_ok-n.ensures.end c.if-n-bytes.true) count
+          c.if-n-ne0.true,
+    )
 
 pub returns-in_err-encrypt_piece-clause-front : goal.returns-in_err-encrypt_piece-clause-front
 returns-in_err-encrypt_piece-clause-front g c =
