@@ -13,11 +13,6 @@ struct known_case {
   size_t count;
 };
 
-/* The eight bytes of a word, the most significant first. */
-static void put_word(uint8_t *bytes, uint64_t word) {
-  for (int i = 0; i < 8; i++) bytes[i] = (uint8_t)(word >> (56 - 8 * i));
-}
-
 /* The bytes of digits; how many. */
 static size_t put_digits(uint8_t *bytes, const char *digits) {
   size_t count = strlen(digits) / 16;

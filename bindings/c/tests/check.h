@@ -1,4 +1,4 @@
-/* What the tests share: a check that says where it fails, the calls of each cipher in a table, and random bytes. */
+/* What the tests share: a check that says where it fails, the calls of each cipher in a table, words and random bytes. */
 #ifndef CHECK_H
 #define CHECK_H
 
@@ -111,6 +111,11 @@ static const struct calls ciphers[CIPHERS] = {
     CALLS(tdes_ede2, CUKVASHE_TDES_EDE2_KEY_SIZE),
     CALLS(tdes_eee2, CUKVASHE_TDES_EEE2_KEY_SIZE),
 };
+
+/* The eight bytes of a word, the most significant first. */
+static inline void put_word(uint8_t *bytes, uint64_t word) {
+  for (int i = 0; i < 8; i++) bytes[i] = (uint8_t)(word >> (56 - 8 * i));
+}
 
 /* Splitmix64: the same numbers in each run. */
 static uint64_t state = 1;

@@ -60,11 +60,6 @@ DEFINE_MAC(cmac_tdes_ede2)
 UNPADDED(cmac_tdes_ede3)
 DEFINE_MAC(cmac_tdes_ede3)
 
-/* The eight bytes of a word, the most significant first. */
-static void put_word(uint8_t *bytes, uint64_t word) {
-  for (int i = 0; i < 8; i++) bytes[i] = (uint8_t)(word >> (56 - 8 * i));
-}
-
 /* Under a context: a tag, each of its lengths, each bit of it turned, and lengths that no tag has. */
 static void verifies(const struct mac_calls *calls, const union mac *context, const uint8_t wanted[8]) {
   uint8_t tag[9];

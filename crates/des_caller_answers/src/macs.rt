@@ -43,9 +43,9 @@ fn has_tag<M: Mac + Drop>(key: &[u8], tag: [u8; 8]) -> bool {
 }
 
 // With the bytes of the padded message, K the digits of the first eight bytes of KEY three times,
-// and an IV of sixteen digits 0, the tag of algorithm 1 is OpenSSL's, the last block of
+// and an IV of sixteen digits 0, the CBC-MAC is OpenSSL's, the last block of
 // openssl enc -des-ede3-cbc -nopad -K K -iv IV
-// That of algorithm 3 is the same block through openssl enc -d -des-ede3 -nopad -K L and then
+// The retail MAC is the same block through openssl enc -d -des-ede3 -nopad -K L and then
 // openssl enc -des-ede3 -nopad -K K, with L the digits of the last eight bytes of KEY three times.
 // And that of CMAC under the first eight bytes is OpenSSL's too:
 // printf '%s' MESSAGE | openssl mac -cipher DES-EDE3-CBC -macopt hexkey:K CMAC

@@ -2,8 +2,8 @@
 
 use des_rows::verdicts::verdicts;
 
-// Keys of FIPS 46-3's time that NBS Special Publication 500-20 calls weak and semi-weak, the first
-// of them with other parity bits.
+// Keys that NBS Special Publication 500-20 calls weak and semi-weak; the second is the first of them
+// with other parity bits.
 const LISTED: [[u8; 8]; 4] = [
     [0x01; 8],
     [0; 8],

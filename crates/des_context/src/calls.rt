@@ -25,8 +25,8 @@ pub const LIST_LENGTHS: i32 = 2;
 /// The status of a key that the weak key test refuses.
 pub const WEAK_KEY: i32 = 3;
 
-/// Makes a context from the bytes of a key. Where there are not as many as it needs, it stays as it
-/// was.
+/// Makes a context from the bytes of a key. The status is 0, or 1 where there are not as many as it
+/// needs; the context then stays as it was.
 pub fn init<K: KeyInit + Drop>(context: &mut K, key: &[u8]) -> i32
     ensures accepted { (result ≡ pos 0) ↔ (length key.now ≡ K.KEY_SIZE) }
     ensures refused { (result ≡ pos 1) ↔ (length key.now ≢ K.KEY_SIZE) }
@@ -83,7 +83,7 @@ pub fn decrypt_many<S: Slice, K: Context>(context: &K, blocks: &mut [[u8; 8]])
 }
 
 /// Encrypts each block of `input` into the block at its place in `output`, `S::BATCH` at a time.
-/// Where the two differ in length, `output` stays as it was.
+/// The status is 0, or 2 where the two differ in length; `output` then stays as it was.
 pub fn encrypt_many_b2b<S: Slice, K: Context>(
     context: &K,
     input: &[[u8; 8]],
@@ -107,7 +107,7 @@ pub fn encrypt_many_b2b<S: Slice, K: Context>(
 }
 
 /// Decrypts each block of `input` into the block at its place in `output`, `S::BATCH` at a time.
-/// Where the two differ in length, `output` stays as it was.
+/// The status is 0, or 2 where the two differ in length; `output` then stays as it was.
 pub fn decrypt_many_b2b<S: Slice, K: Context>(
     context: &K,
     input: &[[u8; 8]],

@@ -44,7 +44,9 @@ fn digits_of(alloc: Global, text: &[u8]) -> Result<Vec<u8>, AllocError>
         .collect(alloc)
 }
 
-/// The bytes of a key from its digits, of so many bytes. White space is passed over.
+/// The bytes of a key from its digits, of so many bytes. White space is passed over. The fault is
+/// `KeyText` where a character is no digit, `KeyLength` where there are not as many digits, and
+/// `Memory` where a request for memory was refused.
 pub fn key_of_text(alloc: Global, text: &[u8], size: usize) -> Result<Vec<u8>, Fault>
     requires { size < 1000 }
     ensures key { IfOk result (λ key. decode_of (key_digits text.now) ≡ Ok key.items) }
@@ -104,7 +106,8 @@ fn key_of_variable(rt: &HostRuntime, name: &str, size: usize) -> Result<Vec<u8>,
     }
 }
 
-/// The bytes of the key, of so many bytes, that the source has.
+/// The bytes of the key, of so many bytes, that the source has. The fault is one of the text, as of
+/// `key_of_text`, or one of the source: `KeySource`, or `KeyVariable`.
 pub fn read_key(rt: &HostRuntime, source: KeySource, size: usize) -> Result<Vec<u8>, Fault>
     requires { size < 1000 }
 {
@@ -118,7 +121,7 @@ pub fn read_key(rt: &HostRuntime, source: KeySource, size: usize) -> Result<Vec<
     }
 }
 
-/// The initialization vector that 16 digits write.
+/// The initialization vector that 16 digits write. The fault of any other text is `Vector`.
 pub fn vector_of_text(text: &str) -> Result<[u8; 8], Fault>
     ensures { IfOk result (λ iv. decode_of text.now ≡ Ok iv) }
 {

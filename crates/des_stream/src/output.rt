@@ -15,7 +15,7 @@ pub struct OutputFile<'a> {
 }
 
 impl<'a> OutputFile<'a> {
-    /// A new file beside `path`.
+    /// A new file beside `path`. The fault is that it cannot be written, or `Memory`.
     pub fn create(rt: &HostRuntime, path: &'a str) -> Result<OutputFile<'a>, Fault> {
         let id = process::id(rt.process());
         let beside = format!(in rt.alloc(); "{path}.{id}.part")?;
