@@ -1,1 +1,2 @@
+pub mod AlikeAnswers
 pub mod BlockLists

@@ -1,27 +1,36 @@
 //! The EDE form under two parts.
 
 ghost use Rattle.std.specs.Prelude.{◌≡◌};
+ghost use Rattle.des.specs.Relations.{IsTheOne};
+ghost use Rattle.des.specs.Triple.{EnciphersEde2};
 
-use super::{decrypted_by_both, encrypted_by_both};
 use des::TdesEde2;
-use des::cipher::KeyInit;
+use des::cipher::{BlockCipherDecrypt, BlockCipherEncrypt, KeyInit};
 use des::tdes::{Ede2, SingleDes};
 
 /// What the cipher of `des` makes of a block by encryption, and what the other makes of it, under a
 /// key. The two are one.
 pub fn encrypted_by_ede2<D: SingleDes>(key: &[u8; 16], block: &[u8; 8]) -> ([u8; 8], [u8; 8])
-    ensures { result.1 ≡ result.0 }
+    ensures enciphers { IsTheOne (λ answer. EnciphersEde2 key.now block.now answer) result.0 }
+    ensures alike { result.1 ≡ result.0 }
 {
     let cipher = TdesEde2::new(key);
     let other = Ede2::<D>::new(key);
-    encrypted_by_both(&cipher, &other, block)
+    let (mut answer, mut other_answer) = (*block, *block);
+    cipher.encrypt_block(&mut answer);
+    other.encrypt_block(&mut other_answer);
+    (answer, other_answer)
 }
 
 /// The same by decryption.
 pub fn decrypted_by_ede2<D: SingleDes>(key: &[u8; 16], block: &[u8; 8]) -> ([u8; 8], [u8; 8])
-    ensures { result.1 ≡ result.0 }
+    ensures deciphers { IsTheOne (λ answer. EnciphersEde2 key.now answer block.now) result.0 }
+    ensures alike { result.1 ≡ result.0 }
 {
     let cipher = TdesEde2::new(key);
     let other = Ede2::<D>::new(key);
-    decrypted_by_both(&cipher, &other, block)
+    let (mut answer, mut other_answer) = (*block, *block);
+    cipher.decrypt_block(&mut answer);
+    other.decrypt_block(&mut other_answer);
+    (answer, other_answer)
 }
