@@ -15,8 +15,11 @@
  *
  * Sizes. A block has 8 bytes, bit 1 of FIPS 46-3 is the most significant bit of the first. A list of blocks is a
  * pointer to its first byte and a COUNT OF BLOCKS, not of bytes: `count` blocks are 8 * count bytes. Lists, keys and
- * vectors may stand at any address, contexts where their type may. A list of no blocks and a key or a text of no bytes may
- * have a null pointer; no other pointer may be null.
+ * vectors may stand at any address, contexts where their type may.
+ *
+ * Null pointers. A pointer that has a count or a length beside it may be null where that is 0: a list of blocks, each by
+ * itself of two; a key with a key_length; a piece of a message; a tag; further components; a PIN, an account number, a date
+ * or a code. No other pointer may be null: not a context, a vector, a key without a length, or what a call writes.
  *
  * Aliasing. The arguments of a call must not overlap, but for those that are only read. To work in place take the calls
  * with one list.
@@ -28,13 +31,17 @@
  * What is left to the caller. Padding, since lists are of whole blocks; authentication, which no mode here gives; an
  * initialization vector that is not used twice and can't be foreseen; and wiping contexts, keys and PINs from memory.
  *
- * Proved, and not. Each call of the library is proved to answer as FIPS 46-3 and the standards named below define, and to be
- * safe, as long as the caller keeps what stands here. The inline functions at the end of this file, which choose one of two
- * such calls, are tested. On time and caches nothing is claimed. The code of `init` of ciphers, and of the calls with `many`
- * in their name, reads no table at an index that depends on the key or on a block, and branches on neither (tested under
- * valgrind). The calls named `_blocks`, `_encrypt_cbc` and `_decrypt_cbc`, those of MACs, check values, keys of a transaction
- * and card verification values read tables so. The weak key test and `set_odd_parity`, and with them `combine`, branch on the
- * key, the call of card verification values on what the key makes, and those of PIN blocks on the PIN.
+ * Proved, and not. Each call of the library is proved to answer as is said beside it, and to be safe, as long as the caller
+ * keeps what stands here: the ciphers des, tdes_ede3 and tdes_ede2 as FIPS 46-3 defines, chains as FIPS 81, and where a
+ * call names another standard as that one. No standard is named for tdes_eee3 and tdes_eee2, the weak key test,
+ * set_odd_parity, equal_but_parity, check values, components and card verification values: their rules are the words beside
+ * them, made exact by the definitions by which the repository proves them. The inline functions at the end of this file,
+ * which choose one of two such calls, are tested. On time and caches nothing is claimed. The code of `init` of ciphers, and
+ * of the calls with `many` in their name, reads no table at an index that depends on the key or on a block, and branches on
+ * neither (tested under valgrind). The calls named `_blocks`, `_encrypt_cbc` and `_decrypt_cbc`, those of MACs, check
+ * values, keys of a transaction and card verification values read tables so. The weak key test and `set_odd_parity`, and
+ * with them `combine`, branch on the key, the call of card verification values on what the key makes, and those of PIN
+ * blocks on the PIN.
  */
 #ifndef CUKVASHE_DES_H
 #define CUKVASHE_DES_H
@@ -133,7 +140,7 @@ int cukvashe_tdes_eee2_init(cukvashe_tdes_eee2 *context, const uint8_t *key, siz
  *
  * Encrypts, or decrypts, each of `count` blocks in place, each by itself (electronic codebook). They take 128 blocks at a
  * time, and a list or an end of one that is shorter takes the time of 128 blocks, as long as some 20 blocks one by one.
- * At most some 20,000 bytes of the stack are used.
+ * At most 20,000 bytes of the stack are used, which is tested.
  */
 void cukvashe_des_encrypt_many(const cukvashe_des *context, uint8_t *blocks, size_t count);
 void cukvashe_des_decrypt_many(const cukvashe_des *context, uint8_t *blocks, size_t count);
@@ -365,7 +372,9 @@ int cukvashe_combine_24(const uint8_t first[24], const uint8_t second[24], const
  * the request, or where `is_response` of the response.
  *
  * next_serial gives the next key serial number whose counter has at most ten one bits. CUKVASHE_NO_SERIAL, and `next` stays as
- * it was, where there is none. Counters with more one bits, which no terminal has, have keys here all the same.
+ * it was, where there is none. Counters that no terminal has, have keys here all the same: those with more one bits, and the
+ * counter 0, for which transaction_key gives the initial key itself. A host that takes serial numbers from outside refuses
+ * both before it asks for a key.
  */
 void cukvashe_dukpt_initial_key(const uint8_t base[16], const uint8_t serial[10], uint8_t key[16]);
 void cukvashe_dukpt_transaction_key(const uint8_t initial[16], const uint8_t serial[10], uint8_t key[16]);
@@ -414,7 +423,7 @@ int cukvashe_cvv(const uint8_t key[16], const uint8_t *account, size_t account_l
  * The calls for lists once more, 256 blocks at a time, for processors of x86-64-v3 (AVX2, BMI, BMI2, FMA, F16C, LZCNT and
  * MOVBE). On any other they may end the program by an illegal instruction: ask cukvashe_has_wide() first, or take the
  * functions below, which ask.
- * At most some 40,000 bytes of the stack are used.
+ * At most 40,000 bytes of the stack are used, which is tested.
  */
 void cukvashe_wide_des_encrypt_many(const cukvashe_des *context, uint8_t *blocks, size_t count);
 void cukvashe_wide_des_decrypt_many(const cukvashe_des *context, uint8_t *blocks, size_t count);

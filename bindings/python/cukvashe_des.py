@@ -7,9 +7,10 @@
 The library is the file that the environment variable CUKVASHE_DES_LIBRARY names, else `bindings/out/lib/libcukvashe_des.so`
 of the repository that this file stands in, else the one that the system finds.
 
-Data are whole blocks of 8 bytes, as bytes, bytearray, memoryview or anything else with contiguous bytes. The calls return
-new `bytes`; the calls named `_into` work in place, in anything writable, and copy nothing. Padding is the caller's. What
-has the wrong length is a ValueError, which is one of `KeyLength`, `BlockLength`, `VectorLength` and `SerialLength`.
+Data are whole blocks of 8 bytes, as bytes, bytearray, memoryview or anything else with a buffer. The calls return new
+`bytes`, and copy first what is not `bytes`; the calls named `_into` work in place, in anything writable and contiguous, and
+copy nothing. Padding is the caller's. What has the wrong length is a ValueError, which is one of `KeyLength`, `BlockLength`,
+`VectorLength` and `SerialLength`.
 
 Messages are authenticated by objects as those of `hmac`, with `update`, `digest`, `hexdigest`, `copy` and `verify`:
 
@@ -19,7 +20,7 @@ Messages are authenticated by objects as those of `hmac`, with `update`, `digest
 
 `check_value` and `combine` make check values and keys of components, the calls named `dukpt_` the keys of a transaction,
 those named `pin_` PIN blocks, which are not encrypted, and `cvv` card verification values. Each fault has a ValueError of its
-name, and no text of one tells a number that was given.
+name, and no text of one tells a key, a number or any other value that was given; lengths are told.
 """
 
 import ctypes
@@ -111,6 +112,9 @@ class ServiceDigit(ValueError):
     """A character of a service code is not a digit."""
 
 
+# What is given in the place of the method may be a key, so its text is told nowhere.
+_PADDING_TEXT = "padding is by method 1 or 2, the second argument"
+
 # By the status. No text tells a digit of what was given.
 _FAULTS = {
     7: (Format, "the PIN block is of another format"),
@@ -164,8 +168,9 @@ _equal_but_parity = _function("equal_but_parity", ctypes.c_bool, _POINTER, _POIN
 
 
 def _bytes_of(data):
-    """The bytes of an object with contiguous ones; of `bytes` the same object."""
-    if isinstance(data, bytes):
+    """The bytes of an object that has some. They are taken once, and what is given is not asked again, since another thread
+    may change it meanwhile, and a class of the caller's may say another length."""
+    if type(data) is bytes:
         return data
     with memoryview(data) as view:
         return view.tobytes()
@@ -261,14 +266,10 @@ class _Cipher:
         return bytes(vector)
 
     def _answered(self, call, blocks):
-        with memoryview(blocks) as view:
-            count = _count_of(view.nbytes)
-            answer = ctypes.create_string_buffer(view.nbytes)
-            if view.readonly or not count:
-                call(self._context, _bytes_of(blocks), count, answer, count)
-            else:
-                with view.cast("B") as data:
-                    call(self._context, (ctypes.c_uint8 * view.nbytes).from_buffer(data), count, answer, count)
+        blocks = _bytes_of(blocks)
+        count = _count_of(len(blocks))
+        answer = ctypes.create_string_buffer(len(blocks))
+        call(self._context, blocks, count, answer, count)
         return answer.raw
 
     def _change(self, call, blocks, *vector):
@@ -331,19 +332,15 @@ class _Mac:
         key = _key_of(key, self.key_size)
         self._context = (ctypes.c_uint64 * self.words)()
         if type(self)._init(self._context, key, len(key), *padding) != _OK:
-            raise PaddingMethod("padding is by method 1 or 2")
+            raise PaddingMethod(_PADDING_TEXT)
 
     def __repr__(self):
         return f"{type(self).__name__} {{ ... }}"
 
     def update(self, data):
         """Adds bytes to the message."""
-        with memoryview(data) as view:
-            if view.readonly or not view.nbytes:
-                type(self)._update(self._context, _bytes_of(data), view.nbytes)
-            else:
-                with view.cast("B") as bytes_of_it:
-                    type(self)._update(self._context, (ctypes.c_uint8 * view.nbytes).from_buffer(bytes_of_it), view.nbytes)
+        data = _bytes_of(data)
+        type(self)._update(self._context, data, len(data))
 
     def digest(self):
         """The tag of the message so far, 8 bytes; the message may go on."""
@@ -375,7 +372,7 @@ class _PaddedMac(_Mac):
 
     def __init__(self, key, padding, data=b""):
         if padding not in (1, 2):
-            raise PaddingMethod(f"padding is by method 1 or 2, not {padding}")
+            raise PaddingMethod(_PADDING_TEXT)
         self._begin(key, padding)
         self.update(data)
 
@@ -449,12 +446,13 @@ def check_value(cipher, key):
 
 def combine(first, second, *others):
     """The key that two or more components of 8, 16 or 24 bytes make: their xor, with odd parity. A weak one is WeakKey."""
-    size = len(_bytes_of(first))
+    first = _bytes_of(first)
+    size = len(first)
     if size not in _combine:
         raise KeyLength(f"a key has 8, 16 or 24 bytes, not {size}")
     key = (ctypes.c_uint8 * size)()
     more = b"".join(_key_of(other, size) for other in others)
-    if _combine[size](_bytes_of(first), _key_of(second, size), more, len(others), key) != _OK:
+    if _combine[size](first, _key_of(second, size), more, len(others), key) != _OK:
         raise WeakKey("the weak key test refuses the key that the components make")
     return bytes(key)
 
@@ -507,7 +505,7 @@ def dukpt_next_serial(serial):
 
 def _text_of(digits):
     """A text, of str or of bytes, and its length. A character beyond ASCII becomes one that is no digit either."""
-    text = digits.encode("ascii", "replace") if isinstance(digits, str) else _bytes_of(digits)
+    text = str.encode(digits, "ascii", "replace") if isinstance(digits, str) else _bytes_of(digits)
     return text, len(text)
 
 

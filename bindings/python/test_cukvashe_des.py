@@ -1,6 +1,8 @@
 """Tests of the classes over the shared library: published values, kinds of data, and what is refused."""
 
 import array
+import copy
+import sys
 import unittest
 
 import cukvashe_des
@@ -19,6 +21,8 @@ ANSWERS = {
     TdesEde2: "c44862f70cf2fbdc9077d0909fa91b884cabd61fc58e0cbb",
     TdesEee2: "500013533151e90c7314612fb856088e28b61bd250fe2d39",
 }
+
+CHAIN_IV = bytes.fromhex("0034567890abcdef")
 
 
 class KnownAnswers(unittest.TestCase):
@@ -48,6 +52,33 @@ class KnownAnswers(unittest.TestCase):
         self.assertEqual(vector, chained[-8:])
         self.assertEqual(cipher.decrypt_cbc_into(bytes(8), pieces), chained[-8:])
         self.assertEqual(bytes(pieces), blocks)
+
+
+class Lists(unittest.TestCase):
+    def test_lists_of_blocks(self):
+        """The published blocks, again and again, in lists of every kind of length. A chain of their answers is decrypted to each
+        block xor the answer before it, so its encryption gives the answers back."""
+        for kind, answer in ANSWERS.items():
+            cipher, answers = kind(KEY[: kind.key_size]), bytes.fromhex(answer) * 200
+            for count in (0, 1, 2, 19, 127, 128, 129, 257, 300, 600):
+                plain, encrypted = (TEXT * 200)[: 8 * count], answers[: 8 * count]
+                before = (CHAIN_IV + encrypted)[: 8 * count]
+                chained = bytes(byte ^ other for byte, other in zip(plain, before))
+                last = (CHAIN_IV + encrypted)[-8:]
+                self.assertEqual(cipher.encrypt(plain), encrypted)
+                self.assertEqual(cipher.decrypt(encrypted), plain)
+                self.assertEqual(cipher.encrypt_cbc(CHAIN_IV, chained), encrypted)
+                self.assertEqual(cipher.decrypt_cbc(CHAIN_IV, encrypted), chained)
+                data = bytearray(plain)
+                cipher.encrypt_into(data)
+                self.assertEqual(data, encrypted)
+                cipher.decrypt_into(data)
+                self.assertEqual(data, plain)
+                data = bytearray(chained)
+                self.assertEqual(cipher.encrypt_cbc_into(CHAIN_IV, data), last)
+                self.assertEqual(data, encrypted)
+                self.assertEqual(cipher.decrypt_cbc_into(CHAIN_IV, data), last)
+                self.assertEqual(data, chained)
 
 
 class Kinds(unittest.TestCase):
@@ -220,6 +251,7 @@ class Payment(unittest.TestCase):
     def test_transactions(self):
         initial = cukvashe_des.dukpt_initial_key(MAC_KEY, bytes.fromhex("ffff9876543210e00000"))
         self.assertEqual(initial.hex(), "6ac292faa1315b4d858ab3a3d7d5933a")
+        self.assertEqual(cukvashe_des.dukpt_transaction_key(initial, bytes.fromhex("ffff9876543210e00000")), initial)
         for serial, transaction, pin, mac in TRANSACTIONS:
             key = cukvashe_des.dukpt_transaction_key(initial, bytes.fromhex(serial))
             self.assertEqual(key.hex(), transaction)
@@ -333,6 +365,177 @@ class CardVerification(unittest.TestCase):
                 cukvashe_des.cvv(MAC_KEY, *card)
             self.assertIsInstance(caught.exception, ValueError)
         self.assertRaises(KeyLength, cukvashe_des.cvv, bytes(24), *self.CARD)
+
+
+def pieces_of(value):
+    """Each three bytes of a value, or three characters of a text, as an error might show them."""
+    if isinstance(value, str):
+        return {value[at : at + 3] for at in range(len(value) - 2)}
+    pieces = [bytes(value)[at : at + 3] for at in range(len(value) - 2)]
+    forms = (bytes.hex, lambda piece: str(list(piece))[1:-1], lambda piece: repr(piece)[2:-1])
+    return {form(piece) for piece in pieces for form in forms}
+
+
+# Of each cipher and MAC the arguments that make an object, and of each call its arguments, which may all be given. Of the numbers
+# of card and PIN no three digits are a length that a text may tell.
+OBJECTS = [(kind, (KEY[: kind.key_size],)) for kind in ANSWERS]
+OBJECTS += [(kind, (KEY[: kind.key_size], 2, MESSAGE)) for kind in (cukvashe_des.CbcMacDes, cukvashe_des.CbcMacTdesEde3)]
+OBJECTS += [(cukvashe_des.RetailMacDes, (MAC_KEY, 1, MESSAGE)), (cukvashe_des.CmacTdesEde2, (TWO, MESSAGE)),
+            (cukvashe_des.CmacTdesEde3, (THREE, MESSAGE))]
+SERIAL = bytes.fromhex("ffff9876543210e00001")
+BLOCK = bytes.fromhex("041274edcba9876f")
+CALLS = [
+    (cukvashe_des.weak_key_test, (KEY,)),
+    (cukvashe_des.with_odd_parity, (KEY[:8],)),
+    (cukvashe_des.equal_but_parity, (KEY[:8], KEY[8:16])),
+    (cukvashe_des.check_value, (TdesEde3, KEY)),
+    (cukvashe_des.combine, (KEY, bytes(range(24)), bytes(range(100, 124)))),
+    (cukvashe_des.dukpt_initial_key, (MAC_KEY, SERIAL)),
+    (cukvashe_des.dukpt_transaction_key, (MAC_KEY, SERIAL)),
+    (cukvashe_des.dukpt_pin_key, (MAC_KEY,)),
+    (cukvashe_des.dukpt_mac_key, (MAC_KEY, True)),
+    (cukvashe_des.dukpt_data_key, (MAC_KEY, True)),
+    (cukvashe_des.dukpt_next_serial, (SERIAL,)),
+    (cukvashe_des.pin_encode_0, (b"8765", b"4012345678909")),
+    (cukvashe_des.pin_encode_1, (b"8765", DIGITS)),
+    (cukvashe_des.pin_encode_3, (b"8765", b"4012345678909", FILL)),
+    (cukvashe_des.pin_decode_0, (BLOCK, b"4012345678909")),
+    (cukvashe_des.pin_decode_1, (bytes.fromhex("141234fe09a51234"),)),
+    (cukvashe_des.pin_decode_3, (bytes.fromhex("341274b9f9b9d35d"), b"4012345678909")),
+    (cukvashe_des.cvv, (MAC_KEY, b"4123456789012345", b"8701", b"101")),
+]
+IV = bytes.fromhex("1234567890abcdef")
+for make in OBJECTS[:5]:
+    cipher = make[0](*make[1])
+    CALLS += [(cipher.encrypt, (TEXT,)), (cipher.decrypt, (TEXT,)), (cipher.encrypt_cbc, (IV, TEXT)), (cipher.decrypt_cbc, (IV, TEXT))]
+for make in OBJECTS[5:]:
+    mac = make[0](*make[1])
+    CALLS.append((mac.verify, (mac.digest(),)))
+
+
+class Texts(unittest.TestCase):
+    """No text of an error or an object tells three bytes, or three characters, of what was given."""
+
+    def tells_nothing(self, teller, given):
+        texts = [form(teller) for form in (str, repr, format)]
+        if isinstance(teller, BaseException):
+            texts += [str(teller.args), repr(teller.__cause__)]
+        for value in given:
+            if isinstance(value, (bytes, bytearray, str)):
+                for piece in pieces_of(value):
+                    for text in texts:
+                        self.assertNotIn(piece.lower(), text.lower())
+
+    def faults(self, call, *arguments):
+        """The error of a call, if it has one, tells nothing of the arguments."""
+        try:
+            call(*arguments)
+        except Exception as error:
+            self.tells_nothing(error, arguments)
+            return 1
+        return 0
+
+    def test_objects(self):
+        for kind, arguments in OBJECTS:
+            self.tells_nothing(kind(*arguments), arguments)
+
+    def test_errors(self):
+        """Each argument cut, made longer, and changed, as bytes and as a text; all turned round; and a message for the method."""
+        faults = 0
+        for call, arguments in OBJECTS + CALLS:
+            faults += self.faults(call, *reversed(arguments))
+            faults += self.faults(call, *arguments, KEY)
+            for at, value in enumerate(arguments):
+                for wrong in (MESSAGE, MESSAGE.hex(), KEY, None, 3):
+                    faults += self.faults(call, *arguments[:at], wrong, *arguments[at + 1 :])
+                if isinstance(value, bytes):
+                    turned = bytes([value[0] ^ 0xA0]) + value[1:]
+                    for wrong in (value[:-1], value + b"7", value.hex(), turned, turned.decode("latin-1")):
+                        faults += self.faults(call, *arguments[:at], wrong, *arguments[at + 1 :])
+        self.assertGreater(faults, 500)
+
+    def test_method(self):
+        """A key, or a message, in the place of the padding method."""
+        for kind in (cukvashe_des.CbcMacDes, cukvashe_des.CbcMacTdesEde3, cukvashe_des.RetailMacDes):
+            key = KEY[: kind.key_size]
+            for arguments in ((1, key), (key, MESSAGE), (key, key), (key, key.hex()), (key, int.from_bytes(key, "big"))):
+                with self.assertRaises(PaddingMethod) as caught:
+                    kind(*arguments)
+                given = [*arguments, str(arguments[1])]
+                self.tells_nothing(caught.exception, given)
+
+
+class OnceAlone(unittest.TestCase):
+    """What is given is read once: what becomes of it later, by another thread, changes no answer and is read nowhere."""
+
+    def emptied(self, call, arguments):
+        """The answer of a call whose arguments are emptied as soon as one function of the module has read them."""
+
+        def profile(frame, event, _):
+            if event == "return" and frame.f_code is cukvashe_des._bytes_of.__code__ and isinstance(frame.f_locals["data"], bytearray):
+                frame.f_locals["data"].clear()
+
+        sys.setprofile(profile)
+        try:
+            return call(*arguments)
+        finally:
+            sys.setprofile(None)
+
+    def test_emptied(self):
+        for call, arguments in CALLS:
+            given = [bytearray(value) if isinstance(value, bytes) else value for value in arguments]
+            self.assertEqual(self.emptied(call, given), call(*arguments))
+            self.assertFalse(any(value for value in given if isinstance(value, bytearray)))
+        for kind, arguments in OBJECTS:
+            given = [bytearray(value) if isinstance(value, bytes) else value for value in arguments]
+            call = "encrypt" if hasattr(kind, "encrypt") else "update"
+            one, other = self.emptied(kind, given), kind(*arguments)
+            self.assertEqual(self.emptied(getattr(one, call), [bytearray(TEXT)]), getattr(other, call)(TEXT))
+            if call == "update":
+                self.assertEqual(one.digest(), other.digest())
+
+    def test_other_lengths(self):
+        """A class that says another length than it has, in `len`, is taken for the bytes that it has."""
+
+        class Said(bytes):
+            def __len__(self):
+                return self.said
+
+            said = 24
+
+        for call, arguments in OBJECTS + CALLS:
+            for at, value in enumerate(arguments):
+                for said in (0, 7, 8, 10, 16, 24, 32) if isinstance(value, bytes) else ():
+                    lying, short = Said(value), Said(value[:-3])
+                    lying.said = short.said = said
+                    one, other = (call(*arguments[:at], given, *arguments[at + 1 :]) for given in (lying, value))
+                    if call in dict(CALLS):
+                        self.assertEqual(one, other)
+                    elif hasattr(one, "digest"):
+                        self.assertEqual(one.digest(), other.digest())
+                    else:
+                        self.assertEqual(one.encrypt(TEXT), other.encrypt(TEXT))
+                    self.assertEqual(self.outcome(call, arguments, at, short), self.outcome(call, arguments, at, value[:-3]))
+
+    def outcome(self, call, arguments, at, value):
+        """What a call answers with another value at a place, or its error."""
+        try:
+            answer = call(*arguments[:at], value, *arguments[at + 1 :])
+        except ValueError as error:
+            return type(error)
+        return answer if call in dict(CALLS) else type(answer)
+
+    def test_inputs_stay(self):
+        """No call writes what it is given, and views of the middle and of every second byte are as good as their bytes."""
+        for call, arguments in CALLS:
+            given = [bytearray(value) if isinstance(value, bytes) else value for value in arguments]
+            before = copy.deepcopy([value for value in given if isinstance(value, bytearray)])
+            answer = call(*arguments)
+            self.assertEqual(call(*given), answer)
+            self.assertEqual([value for value in given if isinstance(value, bytearray)], before)
+            for make in (lambda value: memoryview(b"head" + value + b"tail")[4 : 4 + len(value)],
+                         lambda value: memoryview(bytes(byte for pair in zip(value, value) for byte in pair))[::2]):
+                self.assertEqual(call(*(make(value) if isinstance(value, bytes) else value for value in arguments)), answer)
 
 
 class Keys(unittest.TestCase):

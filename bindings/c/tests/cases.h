@@ -1,4 +1,4 @@
-/* The cases of a file of known answers (`crates/des_answers/known_answers.txt`, which says what its lines are). */
+/* The cases of a file of known answers (`crates/des_tests/known_answers.txt`, which says what its lines are). */
 #ifndef CASES_H
 #define CASES_H
 

@@ -220,8 +220,6 @@ static void refuses_to_encode(void) {
     check_block(cukvashe_pin_encode_3(TEXT(made_of[i].pin), TEXT(made_of[i].account), fill, blocks[2]), made_of[i].status[2],
                 blocks[2]);
   }
-  CHECK(cukvashe_pin_encode_0(NULL, 0, NULL, 0, blocks[0]) == CUKVASHE_PIN_LENGTH);
-  CHECK(cukvashe_pin_encode_0(TEXT("1234"), NULL, 0, blocks[0]) == CUKVASHE_ACCOUNT_LENGTH);
 }
 
 /* Each fill digit is tested, also one that the block of a PIN of twelve does not take. */
@@ -369,6 +367,33 @@ static void answers_card_verification_values(void) {
   }
 }
 
+/* A pointer whose length or count is 0 may be null: keys, further components and texts. */
+static void takes_null_pointers(void) {
+  static int (*const check_values[5])(const uint8_t *, size_t, uint8_t *) = {
+      cukvashe_des_check_value, cukvashe_tdes_ede3_check_value, cukvashe_tdes_eee3_check_value,
+      cukvashe_tdes_ede2_check_value, cukvashe_tdes_eee2_check_value};
+  uint8_t key[24], other[24], made[24], fill[10], block[8], pin[12], value[3];
+  size_t length = 0;
+  random_bytes(key, sizeof key);
+  random_bytes(other, sizeof other);
+  memset(fill, 10, sizeof fill);
+  memset(block, 0, sizeof block);
+  for (int i = 0; i < 5; i++) CHECK(check_values[i](NULL, 0, value) == CUKVASHE_KEY_LENGTH);
+  CHECK(cukvashe_combine_8(key, other, NULL, 0, made) == CUKVASHE_OK);
+  CHECK(cukvashe_combine_16(key, other, NULL, 0, made) == CUKVASHE_OK);
+  CHECK(cukvashe_combine_24(key, other, NULL, 0, made) == CUKVASHE_OK);
+  CHECK(cukvashe_pin_encode_0(NULL, 0, NULL, 0, block) == CUKVASHE_PIN_LENGTH);
+  CHECK(cukvashe_pin_encode_1(NULL, 0, fill, block) == CUKVASHE_PIN_LENGTH);
+  CHECK(cukvashe_pin_encode_3(NULL, 0, NULL, 0, fill, block) == CUKVASHE_PIN_LENGTH);
+  CHECK(cukvashe_pin_encode_0(TEXT("1234"), NULL, 0, block) == CUKVASHE_ACCOUNT_LENGTH);
+  CHECK(cukvashe_pin_encode_3(TEXT("1234"), NULL, 0, fill, block) == CUKVASHE_ACCOUNT_LENGTH);
+  CHECK(cukvashe_pin_decode_0(block, NULL, 0, pin, &length) == CUKVASHE_ACCOUNT_LENGTH);
+  CHECK(cukvashe_pin_decode_3(block, NULL, 0, pin, &length) == CUKVASHE_ACCOUNT_LENGTH);
+  CHECK(cukvashe_cvv(key, NULL, 0, NULL, 0, NULL, 0, value) == CUKVASHE_ACCOUNT_LENGTH);
+  CHECK(cukvashe_cvv(key, TEXT("4123456789012345"), NULL, 0, NULL, 0, value) == CUKVASHE_EXPIRY_LENGTH);
+  CHECK(cukvashe_cvv(key, TEXT("4123456789012345"), TEXT("8701"), NULL, 0, value) == CUKVASHE_SERVICE_LENGTH);
+}
+
 int main(void) {
   answers_known_check_values();
   answers_check_values();
@@ -383,6 +408,7 @@ int main(void) {
   reads_first_bytes();
   reads_first_bytes_of_each_format();
   answers_card_verification_values();
+  takes_null_pointers();
   printf("payment: check values, components, keys of transactions and their counters, PIN blocks, card verification values\n");
   return 0;
 }

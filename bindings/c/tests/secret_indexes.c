@@ -3,12 +3,15 @@
  * them. `secret_indexes calls` runs the calls that must give no report; `secret_indexes blocks` and `secret_indexes
  * planted` must give one each: by the calls for single blocks, which read tables so, and by a lookup that is planted here.
  */
-#include "check.h"
+#include "wide.h"
 #include <valgrind/memcheck.h>
 
-enum { COUNT = 300 };
+/* No blocks, fewer than a batch of each width, whole batches, and more: code may be another for each. */
+static const size_t counts[] = {0, 1, 2, 19, 127, 128, 129, 257, 300};
 
-static uint8_t key[24], vector[8], blocks[8 * COUNT], others[8 * COUNT];
+enum { COUNTS = sizeof counts / sizeof *counts, LONGEST = 300 };
+
+static uint8_t key[24], vector[8], blocks[8 * LONGEST], others[8 * LONGEST];
 
 static void hide(void *bytes, size_t count) {
   random_bytes((uint8_t *)bytes, count);
@@ -16,21 +19,25 @@ static void hide(void *bytes, size_t count) {
 }
 
 static void lists_of(const struct lists *by, const union context *context) {
-  hide(blocks, sizeof blocks);
-  hide(vector, sizeof vector);
-  by->encrypt(context, blocks, COUNT);
-  by->decrypt(context, blocks, COUNT);
-  CHECK(by->encrypt_b2b(context, blocks, COUNT, others, COUNT) == CUKVASHE_OK);
-  CHECK(by->decrypt_b2b(context, others, COUNT, blocks, COUNT) == CUKVASHE_OK);
-  by->decrypt_cbc(context, vector, blocks, COUNT);
+  for (int i = 0; i < COUNTS; i++) {
+    size_t count = counts[i];
+    hide(blocks, sizeof blocks);
+    hide(vector, sizeof vector);
+    by->encrypt(context, blocks, count);
+    by->decrypt(context, blocks, count);
+    CHECK(by->encrypt_b2b(context, blocks, count, others, count) == CUKVASHE_OK);
+    CHECK(by->decrypt_b2b(context, others, count, blocks, count) == CUKVASHE_OK);
+    by->decrypt_cbc(context, vector, blocks, count);
+  }
 }
 
-static void calls_of(const struct calls *calls) {
+static void calls_of(int cipher) {
+  const struct calls *calls = &ciphers[cipher];
   union context context;
   hide(key, sizeof key);
   CHECK(calls->init(&context, key, calls->key_size) == CUKVASHE_OK);
   lists_of(&calls->lists[0], &context);
-  lists_of(&calls->lists[1], &context);
+  if (cukvashe_has_wide()) lists_of(&wide[cipher], &context);
 }
 
 static void blocks_of(const struct calls *calls) {
@@ -81,7 +88,7 @@ static void planted(void) {
 int main(int count, char **words) {
   CHECK(count == 2);
   if (strcmp(words[1], "calls") == 0) {
-    for (int cipher = 0; cipher < CIPHERS; cipher++) calls_of(&ciphers[cipher]);
+    for (int cipher = 0; cipher < CIPHERS; cipher++) calls_of(cipher);
     verify_tags();
   } else if (strcmp(words[1], "blocks") == 0) {
     blocks_of(&ciphers[DES]);

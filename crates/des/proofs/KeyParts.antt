@@ -18,7 +18,7 @@ IsKey-part n size key is_key from within =
     )
 
 -- the chunk at an index is the part of the next number
-get_or-first_chunks : (k i : ℕ) (s : List ℕ) → i < k → get_or (first_chunks 8 k s) i [] ≡ take 8 (drop (8 * i) s)
+pub get_or-first_chunks : (k i : ℕ) (s : List ℕ) → i < k → get_or (first_chunks 8 k s) i [] ≡ take 8 (drop (8 * i) s)
 get_or-first_chunks zero i s within = absurd (omega arith)
 get_or-first_chunks (suc k) zero s within = refl
 get_or-first_chunks (suc k) (suc i) s within =

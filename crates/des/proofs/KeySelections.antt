@@ -18,7 +18,7 @@ use Rattle.des.specs.Laws.BlockBits.{length-bits_of_block}
 -- ---- the positions of a round key
 
 -- positions rotated to the left by n places
-abbrev rotated : List ℕ → ℕ → List ℕ
+abbrev pub rotated : List ℕ → ℕ → List ℕ
 rotated positions n = drop n positions ++ take n positions
 
 -- the positions of the key that round key i takes: permuted choice 2 of the rotated halves of permuted choice 1. The
@@ -29,7 +29,7 @@ round_key_positions i =
     composed 65 permuted_choice_2 (rotated (take 28 permuted_choice_1) shifts ++ rotated (drop 28 permuted_choice_1) shifts)
 
 -- a selection, rotated, is the selection by the positions, rotated
-rotate-select : (positions : List ℕ) (bits : List Bool) (n : ℕ) → rotate (select positions bits) n ≡ select (rotated positions n) bits
+pub rotate-select : (positions : List ℕ) (bits : List Bool) (n : ℕ) → rotate (select positions bits) n ≡ select (rotated positions n) bits
 unfolding rotate select
 rotate-select positions bits n =
     ap₂ ◌++◌ (drop-map (bit bits) n positions) (take-map (bit bits) n positions)

@@ -36,3 +36,4 @@ pub mod KeySelections
 pub mod AgreeingKeys
 pub mod XoredBlocks
 pub mod ChainedBlocks
+pub mod ChainedPieces

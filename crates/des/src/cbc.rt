@@ -8,7 +8,7 @@
 ghost use Rattle.std.specs.Prelude.{◌≡◌};
 ghost use Rattle.std.specs.List.{All};
 ghost use Rattle.des.specs.Blocks.{IsBlock};
-ghost use Rattle.des.specs.Cbc.{xor_blocks, Cbc, Unchains};
+ghost use Rattle.des.specs.Cbc.{xor_blocks, Cbc, Unchains, next_vector};
 
 use crate::cipher::{BlockCipherDecrypt, BlockCipherEncrypt, are_blocks};
 
@@ -54,5 +54,16 @@ pub fn decrypt<C: BlockCipherDecrypt>(cipher: &C, iv: &[u8; 8], blocks: &mut [[u
         cipher.decrypt_block(block);
         xor(block, &before);
         before = ciphertext;
+    }
+}
+
+/// The vector with which a chain goes on after these ciphertext blocks: the last of them, or
+/// `vector`, with which it began, where there is none.
+pub fn next_vector(vector: &[u8; 8], ciphertext: &[[u8; 8]]) -> [u8; 8]
+    ensures { result ≡ next_vector vector.now ciphertext.now }
+{
+    match ciphertext.last() {
+        Some(block) => *block,
+        None => *vector,
     }
 }

@@ -2,10 +2,9 @@
 
 ghost use Rattle.std.specs.Prelude.{◌≡◌, ◌≢◌, ◌↔◌, ℕ, List, length, pos};
 ghost use Rattle.des.specs.Blocks.{AnswersEach};
-ghost use Rattle.des.specs.Cbc.{Chains};
+ghost use Rattle.des.specs.Cbc.{Chains, next_vector};
 ghost use Rattle.des.specs.Triple.{EnciphersEee2};
 ghost use Rattle.des.specs.Relations.{IsTheOneList};
-ghost use Rattle.des_context.specs.Chaining.{next_vector};
 ghost use Rattle.des_context.specs.Contexts.{IsEee2ContextOf};
 
 use des_context::calls;

@@ -1,4 +1,2 @@
-pub mod Answering
-pub mod Chaining
 pub mod Contexts
 pub mod Keys

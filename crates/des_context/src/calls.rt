@@ -3,15 +3,13 @@
 
 ghost use Rattle.std.specs.Prelude.{◌≡◌, ◌≢◌, ◌↔◌, ℕ, List, length, pos};
 ghost use Rattle.des.specs.Blocks.{AnswersEach};
-ghost use Rattle.des.specs.Cbc.{Chains};
+ghost use Rattle.des.specs.Cbc.{Chains, next_vector};
 ghost use Rattle.des.specs.Relations.{IsTheOneList};
-ghost use Rattle.des_context.specs.Chaining.{next_vector};
 
 use crate::contexts::Context;
-use crate::lists::Work;
+use crate::lists;
 use des::cipher::KeyInit;
 use des_fast::many::Slice;
-use std::simd::prelude::*;
 
 /// The status of a call that did what it is for.
 pub const DONE: i32 = 0;
@@ -46,40 +44,40 @@ pub fn init<K: KeyInit + Drop>(context: &mut K, key: &[u8]) -> i32
 pub fn encrypt_blocks<K: Context>(context: &K, blocks: &mut [[u8; 8]])
     requires { (key : List ℕ) × K.is_made_from context.now key }
     ensures { (key : List ℕ) → K.is_made_from context.now key
-        → IsTheOneList (λ answers. AnswersEach (K.relation key) blocks.old answers)
+        → IsTheOneList (λ answers. AnswersEach (K.Cipher.relation key) blocks.old answers)
         blocks.new }
 {
-    context.answer::<u64x2>(Work::Encrypt, &mut [0; 8], blocks);
+    lists::encrypt_blocks(&context.to_cipher(), blocks);
 }
 
 /// Decrypts each block in place, one by one.
 pub fn decrypt_blocks<K: Context>(context: &K, blocks: &mut [[u8; 8]])
     requires { (key : List ℕ) × K.is_made_from context.now key }
     ensures { (key : List ℕ) → K.is_made_from context.now key
-        → IsTheOneList (λ answers. AnswersEach (K.relation key) answers blocks.old)
+        → IsTheOneList (λ answers. AnswersEach (K.Cipher.relation key) answers blocks.old)
         blocks.new }
 {
-    context.answer::<u64x2>(Work::Decrypt, &mut [0; 8], blocks);
+    lists::decrypt_blocks(&context.to_cipher(), blocks);
 }
 
 /// Encrypts each block in place, `S::BATCH` at a time.
 pub fn encrypt_many<S: Slice, K: Context>(context: &K, blocks: &mut [[u8; 8]])
     requires { (key : List ℕ) × K.is_made_from context.now key }
     ensures { (key : List ℕ) → K.is_made_from context.now key
-        → IsTheOneList (λ answers. AnswersEach (K.relation key) blocks.old answers)
+        → IsTheOneList (λ answers. AnswersEach (K.Cipher.relation key) blocks.old answers)
         blocks.new }
 {
-    context.answer::<S>(Work::EncryptMany, &mut [0; 8], blocks);
+    lists::encrypt_many::<S, _>(&context.to_cipher(), blocks);
 }
 
 /// Decrypts each block in place, `S::BATCH` at a time.
 pub fn decrypt_many<S: Slice, K: Context>(context: &K, blocks: &mut [[u8; 8]])
     requires { (key : List ℕ) × K.is_made_from context.now key }
     ensures { (key : List ℕ) → K.is_made_from context.now key
-        → IsTheOneList (λ answers. AnswersEach (K.relation key) answers blocks.old)
+        → IsTheOneList (λ answers. AnswersEach (K.Cipher.relation key) answers blocks.old)
         blocks.new }
 {
-    context.answer::<S>(Work::DecryptMany, &mut [0; 8], blocks);
+    lists::decrypt_many::<S, _>(&context.to_cipher(), blocks);
 }
 
 /// Encrypts each block of `input` into the block at its place in `output`, `S::BATCH` at a time.
@@ -94,7 +92,7 @@ pub fn encrypt_many_b2b<S: Slice, K: Context>(
     ensures refused { (result ≡ pos 2) ↔ (length input.now ≢ length output.old) }
     ensures answered { length input.now ≡ length output.old
         → (key : List ℕ) → K.is_made_from context.now key
-        → IsTheOneList (λ answers. AnswersEach (K.relation key) input.now answers)
+        → IsTheOneList (λ answers. AnswersEach (K.Cipher.relation key) input.now answers)
         output.new }
     ensures kept { length input.now ≢ length output.old → output.new ≡ output.old }
 {
@@ -118,7 +116,7 @@ pub fn decrypt_many_b2b<S: Slice, K: Context>(
     ensures refused { (result ≡ pos 2) ↔ (length input.now ≢ length output.old) }
     ensures answered { length input.now ≡ length output.old
         → (key : List ℕ) → K.is_made_from context.now key
-        → IsTheOneList (λ answers. AnswersEach (K.relation key) answers input.now)
+        → IsTheOneList (λ answers. AnswersEach (K.Cipher.relation key) answers input.now)
         output.new }
     ensures kept { length input.now ≢ length output.old → output.new ≡ output.old }
 {
@@ -135,10 +133,10 @@ pub fn decrypt_many_b2b<S: Slice, K: Context>(
 pub fn encrypt_cbc<K: Context>(context: &K, vector: &mut [u8; 8], blocks: &mut [[u8; 8]])
     requires { (key : List ℕ) × K.is_made_from context.now key }
     ensures chained { (key : List ℕ) → K.is_made_from context.now key
-        → Chains (K.relation key) vector.old blocks.old blocks.new }
+        → Chains (K.Cipher.relation key) vector.old blocks.old blocks.new }
     ensures goes_on { vector.new ≡ next_vector vector.old blocks.new }
 {
-    context.answer::<u64x2>(Work::EncryptCbc, vector, blocks);
+    lists::encrypt_cbc(&context.to_cipher(), vector, blocks);
 }
 
 /// Decrypts a list of blocks in place that CBC chained from the vector, one block at a time; the
@@ -146,10 +144,10 @@ pub fn encrypt_cbc<K: Context>(context: &K, vector: &mut [u8; 8], blocks: &mut [
 pub fn decrypt_cbc<K: Context>(context: &K, vector: &mut [u8; 8], blocks: &mut [[u8; 8]])
     requires { (key : List ℕ) × K.is_made_from context.now key }
     ensures chained { (key : List ℕ) → K.is_made_from context.now key
-        → Chains (K.relation key) vector.old blocks.new blocks.old }
+        → Chains (K.Cipher.relation key) vector.old blocks.new blocks.old }
     ensures goes_on { vector.new ≡ next_vector vector.old blocks.old }
 {
-    context.answer::<u64x2>(Work::DecryptCbc, vector, blocks);
+    lists::decrypt_cbc(&context.to_cipher(), vector, blocks);
 }
 
 /// Decrypts a list of blocks in place that CBC chained from the vector, `S::BATCH` at a time; the
@@ -161,8 +159,8 @@ pub fn decrypt_cbc_many<S: Slice, K: Context>(
 )
     requires { (key : List ℕ) × K.is_made_from context.now key }
     ensures chained { (key : List ℕ) → K.is_made_from context.now key
-        → Chains (K.relation key) vector.old blocks.new blocks.old }
+        → Chains (K.Cipher.relation key) vector.old blocks.new blocks.old }
     ensures goes_on { vector.new ≡ next_vector vector.old blocks.old }
 {
-    context.answer::<S>(Work::DecryptCbcMany, vector, blocks);
+    lists::decrypt_cbc_many::<S, _>(&context.to_cipher(), vector, blocks);
 }

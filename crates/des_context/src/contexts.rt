@@ -3,36 +3,19 @@
 
 ghost use Rattle.std.specs.Prelude.{◌≤◌, ◌*◌, ℕ, List, length};
 ghost use Rattle.des.specs.Blocks.{part};
-ghost use Rattle.des.specs.Enciphering.{Enciphers};
-ghost use Rattle.des.specs.Triple.{EnciphersEde3, EnciphersEee3, EnciphersEde2, EnciphersEee2};
-ghost use Rattle.des_context.specs.Answering.{Answers};
 ghost use Rattle.des_fast.specs.Words.{AreRoundKeysOf};
 ghost use Rattle.des_context.specs.Contexts.{IsDesContextOf, IsEde3ContextOf, IsEee3ContextOf, IsEde2ContextOf, IsEee2ContextOf};
 
-use crate::lists::{self, Work};
-use des::cipher::{KeyInit, KeySizeUser};
+use des::cipher::{KeyInit, KeySizeUser, Relating};
 use des::tdes::{joined, key_part};
-use des_fast::many::Slice;
+use des_fast::many::ManyBlocks;
 use des_fast::words::{from_round_key_words, round_key_words};
 use des_fast::{Des, TdesEde2, TdesEde3, TdesEee2, TdesEee3};
 
 /// What a caller keeps of a cipher between calls.
 pub trait Context: KeyInit {
-    // The relation of a key: it takes a block to its encryption.
-    ghost relation: { List ℕ → List ℕ → List ℕ → Type 0 };
-
-    /// Does the work with a list in place, as `lists::answer` does over the context's cipher. The
-    /// calls of `calls` stand on it alone, so that what they need of a context is short.
-    fn answer<S: Slice>(&self, work: Work, vector: &mut [u8; 8], blocks: &mut [[u8; 8]])
-        requires { (key : List ℕ) × Self.is_made_from self.now key }
-        ensures { (key : List ℕ) → Self.is_made_from self.now key
-            → Answers (relation key) work vector.old blocks.old vector.new blocks.new };
-}
-
-/// A context whose cipher can be had again.
-pub trait ToCipher: KeyInit {
-    /// The cipher.
-    type Cipher: KeyInit;
+    /// The cipher whose round keys it keeps.
+    type Cipher: Relating + ManyBlocks + Drop;
 
     /// The cipher of the context, which is made from the key that the context is made from.
     fn to_cipher(&self) -> Self::Cipher
@@ -72,14 +55,6 @@ impl KeyInit for DesContext {
 }
 
 impl Context for DesContext {
-    ghost relation = { λ key block answer. Enciphers key block answer };
-
-    fn answer<S: Slice>(&self, work: Work, vector: &mut [u8; 8], blocks: &mut [[u8; 8]]) {
-        lists::answer::<S, _>(&self.to_cipher(), work, vector, blocks);
-    }
-}
-
-impl ToCipher for DesContext {
     type Cipher = Des;
 
     fn to_cipher(&self) -> Des {
@@ -131,14 +106,6 @@ impl KeyInit for TdesEde3Context {
 }
 
 impl Context for TdesEde3Context {
-    ghost relation = { λ key block answer. EnciphersEde3 key block answer };
-
-    fn answer<S: Slice>(&self, work: Work, vector: &mut [u8; 8], blocks: &mut [[u8; 8]]) {
-        lists::answer::<S, _>(&self.to_cipher(), work, vector, blocks);
-    }
-}
-
-impl ToCipher for TdesEde3Context {
     type Cipher = TdesEde3;
 
     fn to_cipher(&self) -> TdesEde3 {
@@ -185,14 +152,6 @@ impl KeyInit for TdesEee3Context {
 }
 
 impl Context for TdesEee3Context {
-    ghost relation = { λ key block answer. EnciphersEee3 key block answer };
-
-    fn answer<S: Slice>(&self, work: Work, vector: &mut [u8; 8], blocks: &mut [[u8; 8]]) {
-        lists::answer::<S, _>(&self.to_cipher(), work, vector, blocks);
-    }
-}
-
-impl ToCipher for TdesEee3Context {
     type Cipher = TdesEee3;
 
     fn to_cipher(&self) -> TdesEee3 {
@@ -237,14 +196,6 @@ impl KeyInit for TdesEde2Context {
 }
 
 impl Context for TdesEde2Context {
-    ghost relation = { λ key block answer. EnciphersEde2 key block answer };
-
-    fn answer<S: Slice>(&self, work: Work, vector: &mut [u8; 8], blocks: &mut [[u8; 8]]) {
-        lists::answer::<S, _>(&self.to_cipher(), work, vector, blocks);
-    }
-}
-
-impl ToCipher for TdesEde2Context {
     type Cipher = TdesEde2;
 
     fn to_cipher(&self) -> TdesEde2 {
@@ -288,14 +239,6 @@ impl KeyInit for TdesEee2Context {
 }
 
 impl Context for TdesEee2Context {
-    ghost relation = { λ key block answer. EnciphersEee2 key block answer };
-
-    fn answer<S: Slice>(&self, work: Work, vector: &mut [u8; 8], blocks: &mut [[u8; 8]]) {
-        lists::answer::<S, _>(&self.to_cipher(), work, vector, blocks);
-    }
-}
-
-impl ToCipher for TdesEee2Context {
     type Cipher = TdesEee2;
 
     fn to_cipher(&self) -> TdesEee2 {

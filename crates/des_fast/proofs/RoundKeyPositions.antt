@@ -8,11 +8,8 @@ use Rattle.des.specs.Tables.{permuted_choice_1, permuted_choice_2, left_shifts}
 use Rattle.des.specs.KeySchedule.{c_half, d_half, rotate, shifts_through, round_key}
 use Rattle.des.specs.Laws.BitLists.{length-bits_of}
 use Rattle.des.specs.Laws.Selections.{composed, length-select, select-select, select-range_with_len}
+use Rattle.des.proofs.KeySelections.{rotated, rotate-select}
 use Rattle.des.proofs.RoundKeys.{length-d_half}
-
--- positions rotated to the left by n places
-abbrev rotated : List ℕ → ℕ → List ℕ
-rotated positions n = drop n positions ++ take n positions
 
 -- the positions of C and D in a word of 64 bits, rotated for round key i; the shifts are written out, so that the
 -- positions compute
@@ -28,13 +25,10 @@ halves_positions i = composed 65 permuted_choice_2 (rotated_halves i)
 -- some bits in a row of a list, rotated
 rotate-range : (k n places : ℕ) (bits : List Bool) → k + n ≤ length bits
     → rotate (take n (drop k bits)) places ≡ select (rotated (range_with_len (k + 1) n) places) bits
-unfolding rotate select
 rotate-range k n places bits inside =
     let positions : List ℕ = range_with_len (k + 1) n in
     let taken : take n (drop k bits) ≡ select positions bits = sym (select-range_with_len k n bits inside) in
-    ap (λ half. rotate half places) taken
-    ∙ ap₂ ◌++◌ (drop-map (bit bits) places positions) (take-map (bit bits) places positions)
-    ∙ sym (map-append (bit bits) (drop places positions) (take places positions))
+    ap (λ half. rotate half places) taken ∙ rotate-select positions bits places
 
 -- C and D in the bits of their word
 c_half-in_bits : (key : List Bool) → take 28 (drop 0 (select permuted_choice_1 key ++ zeros 8)) ≡ c_half key

@@ -2,23 +2,9 @@
 use Rattle.std.proofs.Common.{◌≡◌, ℕ, zero, suc, ◌+◌, ◌-◌, ◌*◌, ◌<◌, ◌≤◌, List, [], ◌∷◌, ◌++◌, length, take, slice_range, set, get_or, refl, ap, sym, ◌∙◌, arith, drop_at, length-take-le}
 use Rattle.std.proofs.lemmas.Grind.{flat_map-append}
 use Rattle.std.proofs.lemmas.List.{take_more_set, append-nil, take-append-le}
-use Rattle.des_io.specs.CipherModes.{last_of}
 use Rattle.des_io.specs.Streams.{joined}
 use borrow.Rule.Slice.PartMut.{put_mid, post_of}
 use lib.Seq.{take-add}
-
--- the block that a chain of two lists goes on from
-pub last_of-append : (iv : List ℕ) (blocks more : List (List ℕ)) → last_of iv (blocks ++ more) ≡ last_of (last_of iv blocks) more
-last_of-append iv [] more = refl
-last_of-append iv (block ∷ blocks) more = last_of-append block blocks more
-
--- the last of some blocks is the one that the chain goes on from
-pub last_of-index : (iv : List ℕ) (blocks : List (List ℕ)) (k : ℕ) → k + 1 ≡ length blocks → last_of iv blocks ≡ get_or blocks k []
-last_of-index iv [] k same = absurd (omega arith)
-last_of-index iv (block ∷ []) zero same = refl
-last_of-index iv (block ∷ []) (suc k) same = absurd (omega arith)
-last_of-index iv (block ∷ (next ∷ blocks)) zero same = absurd (omega arith)
-last_of-index iv (block ∷ (next ∷ blocks)) (suc k) same = last_of-index block (next ∷ blocks) k (omega arith)
 
 -- what was there, and a part behind it
 pub take_split : (a b : ℕ) (old new : List ℕ) → a ≤ b → take a new ≡ take a old → take a old ++ slice_range new a b ≡ take b new

@@ -3,4 +3,8 @@ pub mod JoinedPieces
 pub mod ModesInPieces
 pub mod EncryptedPieces
 pub mod DecryptedPieces
+pub mod LimitedBlocks
+pub mod DecryptedFronts
+pub mod DecryptedEnds
 pub mod SkippedBlocks
+pub mod DecryptedParts

@@ -1,14 +1,9 @@
 -- The modes of operation that lists of blocks are enciphered in: each block by itself (ECB), or
 -- chained (CBC), both FIPS 81.
-use Rattle.std.specs.Prelude.{◌≡◌, ℕ, List, [], ◌∷◌, map}
-use Rattle.des.specs.Cbc.{Cbc, Unchains}
+use Rattle.std.specs.Prelude.{◌≡◌, ℕ, List, map}
+use Rattle.des.specs.Cbc.{Cbc, Unchains, next_vector}
 use Rattle.des_io.specs.declared.mode.Mode.{Mode}
 use Rattle.des_io.specs.declared.mode.Mode.TheVariants.{Ecb, Cbc as InChain}
-
--- the block that a chain of ciphertext blocks goes on from
-abbrev pub last_of : List ℕ → List (List ℕ) → List ℕ
-last_of iv [] = iv
-last_of iv (block ∷ blocks) = last_of block blocks
 
 -- q is p enciphered
 abbrev pub Enciphered : (List ℕ → List ℕ) → Mode → List (List ℕ) → List (List ℕ) → Type 0
@@ -23,4 +18,4 @@ Deciphered decryption (InChain iv) q p = Unchains decryption iv q p
 -- how blocks go on after ciphertext blocks q
 abbrev pub mode_after : Mode → List (List ℕ) → Mode
 mode_after Ecb q = Ecb
-mode_after (InChain iv) q = InChain (last_of iv q)
+mode_after (InChain iv) q = InChain (next_vector iv q)

@@ -1,3 +1,4 @@
 pub mod PaddedBytes
 pub mod CipherModes
 pub mod Streams
+pub mod StreamFaults

@@ -1,5 +1,5 @@
 -- Bytes that go from a reader through a cipher to a writer.
-use Rattle.std.specs.Prelude.{◌≡◌, ◌≢◌, ◌⊎◌, ℕ, ◌+◌, ◌-◌, ◌*◌, ◌%◌, ◌<◌, ◌≤◌, Bool, true, false, List, [], ◌++◌, Option, None, Some, length, take, ⊤, Result, Ok, Err}
+use Rattle.std.specs.Prelude.{◌≡◌, ◌≢◌, ◌⊎◌, ℕ, ◌+◌, ◌%◌, ◌≤◌, Bool, true, false, List, [], ◌++◌, Option, None, Some, length, take, ⊤}
 use Rattle.std.specs.List.{All, flat_map}
 use Rattle.std.specs.Io.KnownBytes.{Consumes, Appends, IsAtEnd}
 use Rattle.des.specs.Blocks.{IsBlock}
@@ -8,8 +8,6 @@ use Rattle.des_io.specs.CipherModes.{Enciphered, Deciphered, mode_after}
 use Rattle.des_io.specs.declared.mode.Mode.{Mode}
 use Rattle.des_io.specs.declared.padding.Padding.{Padding}
 use Rattle.des_io.specs.declared.padding.Padding.TheVariants.{Unpadded}
-use Rattle.des_io.specs.declared.error.StreamError.{StreamError}
-use Rattle.des_io.specs.declared.error.StreamError.TheVariants.{Read, Write, Length, Start, Padding as WrongPadding}
 
 -- the bytes of blocks, one after another
 abbrev pub joined : List (List ℕ) → List ℕ
@@ -21,7 +19,7 @@ bytes_of None = []
 bytes_of (Some block) = block
 
 -- a block that may be there has eight bytes
-abbrev pub IsBlockIfThere : Option (List ℕ) → Type 0
+abbrev pub IsBlockIfThere : (held : Option (List ℕ)) → Type 0
 IsBlockIfThere None = ⊤
 IsBlockIfThere (Some block) = length block ≡ 8
 
@@ -39,9 +37,9 @@ pub record Encrypts (encryption : List ℕ → List ℕ) (mode : Mode) (padding 
   pub enciphered : Enciphered encryption mode p q
   pub written : Appends written_from written_to (joined q)
 
--- what was written begins the answer to what was read: the blocks p are the front of the bytes that
--- were read, with their padding, and the bytes that were written the front of q, which is p
--- enciphered
+-- what was written begins the answer to what was read: the bytes that were read begin with blocks p,
+-- or, only where the input is at its end, those bytes with their padding do; and the bytes that were
+-- written begin q, which is p enciphered
 pub record EncryptsFront (encryption : List ℕ → List ℕ) (mode : Mode) (padding : Padding)
     (read_from read_to written_from written_to : Option (List ℕ)) : Type 0 where
   pub bytes : List ℕ
@@ -52,7 +50,7 @@ pub record EncryptsFront (encryption : List ℕ → List ℕ) (mode : Mode) (pad
   pub missing : List ℕ
   pub read : Consumes read_from read_to bytes
   pub blocks : All IsBlock p
-  pub front : joined p ++ rest ≡ padded padding bytes
+  pub front : (joined p ++ rest ≡ bytes) ⊎ (IsAtEnd read_to × (joined p ++ rest ≡ padded padding bytes))
   pub enciphered : Enciphered encryption mode p q
   pub begins : put ++ missing ≡ joined q
   pub written : Appends written_from written_to put
@@ -73,14 +71,19 @@ pub record EnciphersPiece (encryption : List ℕ → List ℕ) (mode next : Mode
 
 -- ---- decryption
 
--- the writer has the front of the block that was held back and of the blocks after it, or at
--- success all but for the last block, which is held back
+-- the last block was held back: nothing was written, or eight bytes at least are missing
+abbrev pub IsHeldBack : (put missing : List ℕ) → Type 0
+IsHeldBack put missing = (put ≡ []) ⊎ (8 ≤ length missing)
+
+-- the writer has a prefix of the block that was held back and of the blocks after it, but for the
+-- last block, or at success all but for it, and it is held back
 pub record WritesPiece (held next : Option (List ℕ)) (blocks : List (List ℕ))
     (written_from written_to : Option (List ℕ)) (Succeeds : Type 0) : Type 0 where
   pub put : List ℕ
   pub missing : List ℕ
   pub written : Appends written_from written_to put
   pub begins : put ++ missing ≡ bytes_of held ++ joined blocks
+  pub back : IsHeldBack put missing
   pub last : Succeeds → missing ≡ bytes_of next
   pub size : Succeeds → IsBlockIfThere held → IsBlockIfThere next
   pub even : Succeeds → IsBlockIfThere held → length put % 8 ≡ 0
@@ -100,7 +103,8 @@ pub record DeciphersPiece (decryption : List ℕ → List ℕ) (mode after_mode 
   pub count : length p ≡ length q
   pub written : WritesPiece held next p written_from written_to Succeeds
 
--- blocks q were read, and bytes were written that are p with their padding, which is q deciphered
+-- blocks q were read, and bytes were written that are p with their padding, which is q deciphered,
+-- and whole blocks
 pub record Decrypts (decryption : List ℕ → List ℕ) (mode : Mode) (padding : Padding)
     (read_from read_to written_from written_to : Option (List ℕ)) : Type 0 where
   pub q : List (List ℕ)
@@ -110,6 +114,7 @@ pub record Decrypts (decryption : List ℕ → List ℕ) (mode : Mode) (padding 
   pub blocks : All IsBlock q
   pub deciphered : Deciphered decryption mode q p
   pub whole : joined p ≡ padded padding plain
+  pub even : length (joined p) % 8 ≡ 0
   pub written : Appends written_from written_to plain
 
 -- blocks q were read, and p, which is q deciphered, was written but for its last block
@@ -127,14 +132,14 @@ pub record HoldsLast (decryption : List ℕ → List ℕ) (mode : Mode)
   pub none : last ≡ None → p ≡ []
   pub written : Appends written_from written_to put
 
--- what is left of a limit, where there is one, after so many blocks
-abbrev pub IsLeft : Option ℕ → ℕ → Option ℕ → Type 0
+-- what is left of a limit, where there is one, after `count` blocks
+abbrev pub IsLeft : (limit : Option ℕ) (count : ℕ) (left : Option ℕ) → Type 0
 IsLeft None count None = ⊤
 IsLeft (Some limit) count (Some left) = count + left ≡ limit
 IsLeft _ count _ = ⊥
 
--- so many blocks are no more than the limit, where there is one
-abbrev pub IsWithin : Option ℕ → ℕ → Type 0
+-- `count` blocks are no more than the limit, where there is one
+abbrev pub IsWithin : (limit : Option ℕ) (count : ℕ) → Type 0
 IsWithin None count = ⊤
 IsWithin (Some limit) count = count ≤ limit
 
@@ -147,7 +152,7 @@ pub record HoldsPart (decryption : List ℕ → List ℕ) (mode : Mode) (limit :
 
 -- what was written begins what was read, deciphered: bytes were read that begin with blocks q, and
 -- bytes were written that begin p, which is q deciphered
-pub record DecryptsFront (decryption : List ℕ → List ℕ) (mode : Mode)
+pub record DeciphersFront (decryption : List ℕ → List ℕ) (mode : Mode)
     (read_from read_to written_from written_to : Option (List ℕ)) : Type 0 where
   pub q : List (List ℕ)
   pub p : List (List ℕ)
@@ -160,75 +165,33 @@ pub record DecryptsFront (decryption : List ℕ → List ℕ) (mode : Mode)
   pub begins : put ++ missing ≡ joined p
   pub written : Appends written_from written_to put
 
--- ---- faults
-
--- all was read, and so many bytes follow the last whole block
-pub record EndsInBlock (read_from read_to : Option (List ℕ)) (past : ℕ) : Type 0 where
-  pub bytes : List ℕ
-  pub read : Consumes read_from read_to bytes
-  pub end : IsAtEnd read_to
-  pub count : length bytes % 8 ≡ past
-  pub some : past ≢ 0
-
--- all was read, blocks q, and no bytes are p with their padding, which is q deciphered; all but the
--- last block of p was written
-pub record IsWronglyPadded (decryption : List ℕ → List ℕ) (mode : Mode) (padding : Padding)
+-- the same within a limit in blocks, where there is one, with the last block held back
+pub record HoldsFront (decryption : List ℕ → List ℕ) (mode : Mode) (limit : Option ℕ)
     (read_from read_to written_from written_to : Option (List ℕ)) : Type 0 where
-  pub q : List (List ℕ)
-  pub p : List (List ℕ)
-  pub read : Consumes read_from read_to (joined q)
+  pub front : DeciphersFront decryption mode read_from read_to written_from written_to
+  pub within : IsWithin limit (length front.q)
+  pub held : IsHeldBack front.put front.missing
+
+-- all was read, and the bytes that were written begin those which with their padding are p
+pub record BeginsPlain (padding : Padding) (p : List (List ℕ)) (rest put : List ℕ) (read_to : Option (List ℕ))
+    : Type 0 where
+  pub plain : List ℕ
+  pub missing : List ℕ
   pub end : IsAtEnd read_to
-  pub blocks : All IsBlock q
-  pub deciphered : Deciphered decryption mode q p
-  pub wrong : (plain : List ℕ) → padded padding plain ≢ joined p
-  pub written : Appends written_from written_to (take (length (joined p) - 8) (joined p))
+  pub all : rest ≡ []
+  pub whole : padded padding plain ≡ joined p
+  pub begins : put ++ missing ≡ plain
 
--- the fault is one of reading
-abbrev pub IsOfReading : StreamError → Type 0
-IsOfReading (Read error) = ⊤
-IsOfReading _ = ⊥
-
--- the fault is one of writing
-abbrev pub IsOfWriting : StreamError → Type 0
-IsOfWriting (Write error) = ⊤
-IsOfWriting _ = ⊥
-
--- what a fault says of an encryption: padding is never wrong, and with padding any bytes go
-abbrev pub FailsToEncrypt : StreamError → Padding → Option (List ℕ) → Option (List ℕ) → Type 0
-FailsToEncrypt (Length past) padding read_from read_to = (padding ≡ Unpadded) × EndsInBlock read_from read_to past
-FailsToEncrypt Start padding read_from read_to = ⊥
-FailsToEncrypt WrongPadding padding read_from read_to = ⊥
-FailsToEncrypt _ padding read_from read_to = ⊤
-
--- what a fault says of a decryption, before its padding is looked at
-abbrev pub FailsBefore : StreamError → Option (List ℕ) → Option (List ℕ) → Type 0
-FailsBefore (Length past) read_from read_to = EndsInBlock read_from read_to past
-FailsBefore Start read_from read_to = ⊥
-FailsBefore WrongPadding read_from read_to = ⊥
-FailsBefore _ read_from read_to = ⊤
-
--- the writer has the bytes that are the last ones with their padding, or some of the first of them,
--- or there are none and it is as it was
-abbrev pub EndsStream : Padding → List ℕ → Option (List ℕ) → Option (List ℕ) → Result (Unit {0}) StreamError → Type 0
-EndsStream padding last written_from written_to (Ok done) =
-    (plain : List ℕ) × (padded padding plain ≡ last) × Appends written_from written_to plain
-EndsStream padding last written_from written_to (Err WrongPadding) =
-    ((plain : List ℕ) → padded padding plain ≢ last) × (written_to ≡ written_from)
-EndsStream padding last written_from written_to (Err fault) =
-    IsOfWriting fault × ((k : ℕ) × Appends written_from written_to (take k last))
-
--- what a fault says of a decryption
-abbrev pub FailsToDecrypt : StreamError → (List ℕ → List ℕ) → Mode → Padding
-    → Option (List ℕ) → Option (List ℕ) → Option (List ℕ) → Option (List ℕ) → Type 0
-FailsToDecrypt (Length past) decryption mode padding read_from read_to written_from written_to = EndsInBlock read_from read_to past
-FailsToDecrypt Start decryption mode padding read_from read_to written_from written_to = ⊥
-FailsToDecrypt WrongPadding decryption mode padding read_from read_to written_from written_to =
-    IsWronglyPadded decryption mode padding read_from read_to written_from written_to
-FailsToDecrypt _ decryption mode padding read_from read_to written_from written_to = ⊤
+-- what was written begins what was read, deciphered, with the last block held back, or, only where
+-- the input is at its end, without the padding
+pub record DecryptsFront (decryption : List ℕ → List ℕ) (mode : Mode) (padding : Padding)
+    (read_from read_to written_from written_to : Option (List ℕ)) : Type 0 where
+  pub front : DeciphersFront decryption mode read_from read_to written_from written_to
+  pub held : IsHeldBack front.put front.missing ⊎ BeginsPlain padding front.p front.rest front.put read_to
 
 -- ---- parts
 
--- so many blocks were read, and the blocks after them go on from them
+-- `count` blocks were read, and the blocks after them go on from them
 pub record Skips (mode next : Mode) (count : ℕ) (read_from read_to : Option (List ℕ)) : Type 0 where
   pub q : List (List ℕ)
   pub read : Consumes read_from read_to (joined q)
@@ -236,21 +199,8 @@ pub record Skips (mode next : Mode) (count : ℕ) (read_from read_to : Option (L
   pub size : length q ≡ count
   pub after : next ≡ mode_after mode q
 
--- all was read, and it is fewer bytes than so many blocks have
-pub record EndsBefore (count : ℕ) (read_from read_to : Option (List ℕ)) : Type 0 where
-  pub bytes : List ℕ
-  pub read : Consumes read_from read_to bytes
-  pub end : IsAtEnd read_to
-  pub short : length bytes < 8 * count
-
--- what a fault says before a part
-abbrev pub FailsToSkip : StreamError → ℕ → Option (List ℕ) → Option (List ℕ) → Type 0
-FailsToSkip (Read error) count read_from read_to = ⊤
-FailsToSkip Start count read_from read_to = EndsBefore count read_from read_to
-FailsToSkip _ count read_from read_to = ⊥
-
 -- a reader is at its end, and nothing was read, or it was not, and a byte was read
-abbrev pub IsEndOrMore : Bool → List ℕ → Option (List ℕ) → Type 0
+abbrev pub IsEndOrMore : (is_end : Bool) (bytes : List ℕ) (read_to : Option (List ℕ)) → Type 0
 IsEndOrMore true bytes read_to = (bytes ≡ []) × IsAtEnd read_to
 IsEndOrMore false bytes read_to = length bytes ≡ 1
 
@@ -266,13 +216,21 @@ pub record DecryptsPart (decryption : List ℕ → List ℕ) (mode : Mode) (padd
   pub ends : IsAtEnd middle ⊎ (limit ≡ Some (length part.q))
   pub within : IsWithin limit (length part.q)
   pub read : Consumes middle read_to rest
-  pub after : ((rest ≡ []) × IsAtEnd read_to × (taken ≡ padding) × (part.q ≢ [])) ⊎ ((length rest ≡ 1) × (taken ≡ Unpadded))
+  pub after : ((rest ≡ []) × IsAtEnd read_to × (taken ≡ padding) × (part.q ≢ []))
+      ⊎ ((length rest ≡ 1) × (taken ≡ Unpadded))
 
--- what a fault says of a part: the input has no block where it begins, or what a fault says of a
--- decryption
-abbrev pub FailsInPart : StreamError → (List ℕ → List ℕ) → Mode → Padding
-    → Option (List ℕ) → Option (List ℕ) → Option (List ℕ) → Option (List ℕ) → Type 0
-FailsInPart Start decryption mode padding read_from read_to written_from written_to =
-    Consumes read_from read_to [] × IsAtEnd read_to
-FailsInPart fault decryption mode padding read_from read_to written_from written_to =
-    FailsToDecrypt fault decryption mode padding read_from read_to written_from written_to
+-- more follows a part of `count` blocks: `rest` was read after it, and the part has as many blocks
+-- as its limit, where the reader tells its bytes
+pub record IsFollowed (limit : Option ℕ) (count : ℕ) (rest : List ℕ) (read_from : Option (List ℕ)) : Type 0 where
+  pub more : rest ≢ []
+  pub reached : (bytes : List ℕ) → read_from ≡ Some bytes → limit ≡ Some count
+
+-- what was written begins what was read, deciphered, within a limit in blocks, where there is one:
+-- with the last block held back; or, only where the input is at its end, without the padding; or,
+-- only where more follows the part, with its last block
+pub record DecryptsPartFront (decryption : List ℕ → List ℕ) (mode : Mode) (padding : Padding) (limit : Option ℕ)
+    (read_from read_to written_from written_to : Option (List ℕ)) : Type 0 where
+  pub front : DeciphersFront decryption mode read_from read_to written_from written_to
+  pub within : IsWithin limit (length front.q)
+  pub held : (IsHeldBack front.put front.missing ⊎ BeginsPlain padding front.p front.rest front.put read_to)
+      ⊎ IsFollowed limit (length front.q) front.rest read_from

@@ -4,8 +4,8 @@ ghost use Rattle.std.specs.Prelude.{◌≡◌, ◌⊎◌, ◌≤◌, ◌<◌, �
 ghost use Rattle.std.specs.Prelude.{IfOk, IfErr, IsOk};
 ghost use Rattle.std.specs.Io.KnownBytes.{Appends, IsAtEnd};
 ghost use Rattle.des_io.specs.Streams.{joined, bytes_of, WritesPiece, DeciphersPiece, IsLeft};
-ghost use Rattle.des_io.specs.Streams.{HoldsPart, FailsBefore, EndsStream, Decrypts};
-ghost use Rattle.des_io.specs.Streams.{DecryptsFront, FailsToDecrypt, IsOfWriting};
+ghost use Rattle.des_io.specs.Streams.{HoldsPart, HoldsFront, Decrypts, DecryptsFront};
+ghost use Rattle.des_io.specs.StreamFaults.{FailsBefore, EndsStream, FailsToDecrypt, IsOfWriting};
 
 use crate::error::{StreamError, without_end};
 use crate::mode::Mode;
@@ -92,10 +92,12 @@ fn left_after(left: Option<u64>, count: usize) -> Option<u64>
 
 /// Decrypts what the reader gives, up to its end or to a limit in blocks, and writes it but for the
 /// last block, which it gives. The two buffers, of bytes and of blocks, have the same size, of one
-/// block at least.
+/// block at least; what they hold afterwards, which can be plaintext, is not said. The writer is not
+/// flushed.
 ///
 /// The error is `Read` or `Write` where the reader or the writer failed, and `Length` where what was
-/// read is not whole blocks.
+/// read is not whole blocks. The writer then has a prefix of what was read, decrypted, without its
+/// last block, and the reader may have gone further.
 pub fn decrypt_blocks<R: Read, W: Write, C: ManyBlocks>(
     cipher: &C,
     mode: Mode,
@@ -110,11 +112,11 @@ pub fn decrypt_blocks<R: Read, W: Write, C: ManyBlocks>(
     ensures done { IfOk result (λ last. HoldsPart (C.decrypted cipher.now) mode limit
         (R.remaining reader.old) (R.remaining reader.new)
         (W.contents writer.old) (W.contents writer.new) last) }
-    ensures front { DecryptsFront (C.decrypted cipher.now) mode
+    ensures front { HoldsFront (C.decrypted cipher.now) mode limit
         (R.remaining reader.old) (R.remaining reader.new)
         (W.contents writer.old) (W.contents writer.new) }
     ensures fault { IfErr result (λ fault.
-        FailsBefore fault (R.remaining reader.old) (R.remaining reader.new)) }
+        FailsBefore fault limit (R.remaining reader.old) (R.remaining reader.new)) }
 {
     let mut mode = mode;
     let mut left = limit;
@@ -135,10 +137,11 @@ pub fn decrypt_blocks<R: Read, W: Write, C: ManyBlocks>(
     Err(StreamError::Read(without_end()))
 }
 
-/// Writes the last block of a list of blocks without its padding.
+/// Writes the last block of a list of blocks without its padding. The writer is not flushed.
 ///
-/// The error is `Padding` where it is the last block of no padded bytes, and `Write` where the writer
-/// failed.
+/// The error is `Padding` where it is the last block of no padded bytes, and nothing is then
+/// written; and `Write` where the writer failed, which then has a prefix of the bytes before the
+/// padding.
 pub fn finish<W: Write>(
     padding: Padding,
     last: &Option<[u8; 8]>,
@@ -158,10 +161,13 @@ pub fn finish<W: Write>(
 }
 
 /// Decrypts what the reader gives, up to its end, and writes it without its padding, a buffer at a
-/// time. The two buffers, of bytes and of blocks, have the same size, of one block at least.
+/// time. The two buffers, of bytes and of blocks, have the same size, of one block at least; what
+/// they hold afterwards, which can be plaintext, is not said. The writer is not flushed.
 ///
 /// The error is `Read` or `Write` where the reader or the writer failed, `Length` where what was read
-/// is not whole blocks, and `Padding` where its padding is wrong.
+/// is not whole blocks, and `Padding` where its padding is wrong. The writer then has a prefix of the
+/// answer: without the last block that was read, or, where the input is at its end, without the
+/// padding. The reader may have gone further.
 pub fn decrypt_stream<R: Read, W: Write, C: ManyBlocks>(
     cipher: &C,
     mode: Mode,
@@ -177,7 +183,7 @@ pub fn decrypt_stream<R: Read, W: Write, C: ManyBlocks>(
         (R.remaining reader.old) (R.remaining reader.new)
         (W.contents writer.old) (W.contents writer.new)) }
     ensures end { IfOk result (λ _. IsAtEnd (R.remaining reader.new)) }
-    ensures front { DecryptsFront (C.decrypted cipher.now) mode
+    ensures front { DecryptsFront (C.decrypted cipher.now) mode padding
         (R.remaining reader.old) (R.remaining reader.new)
         (W.contents writer.old) (W.contents writer.new) }
     ensures fault { IfErr result (λ fault.

@@ -2,8 +2,8 @@
 
 ghost use Rattle.std.specs.Prelude.{◌≡◌, ◌≤◌, ◌<◌, ◌*◌, ℕ, List, length, take, IfOk, IfErr, IsOk};
 ghost use Rattle.std.specs.Io.KnownBytes.{Appends, IsAtEnd};
-ghost use Rattle.des_io.specs.Streams.{EnciphersPiece, Encrypts, EncryptsFront, FailsToEncrypt};
-ghost use Rattle.des_io.specs.Streams.{IsOfWriting};
+ghost use Rattle.des_io.specs.Streams.{EnciphersPiece, Encrypts, EncryptsFront};
+ghost use Rattle.des_io.specs.StreamFaults.{FailsToEncrypt, IsOfWriting};
 
 use crate::error::{StreamError, without_end};
 use crate::mode::Mode;
@@ -31,10 +31,13 @@ fn encrypt_piece<W: Write, C: ManyBlocks>(
 }
 
 /// Encrypts what the reader gives, up to its end, with its padding, and writes it, a buffer at a
-/// time. The two buffers, of bytes and of blocks, have the same size, of one block at least.
+/// time. The two buffers, of bytes and of blocks, have the same size, of one block at least; what
+/// they hold afterwards, which can be plaintext, is not said. The writer is not flushed.
 ///
 /// The error is `Read` or `Write` where the reader or the writer failed, and `Length` where the
-/// padding is `Unpadded` and what was read is not whole blocks.
+/// padding is `Unpadded` and what was read is not whole blocks. The writer then has a prefix of the
+/// answer to what was read, with padding only where the input is at its end, and the reader may have
+/// gone further.
 pub fn encrypt_stream<R: Read, W: Write, C: ManyBlocks>(
     cipher: &C,
     mode: Mode,

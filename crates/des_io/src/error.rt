@@ -1,16 +1,19 @@
 //! What can fail between a reader and a writer.
 
+ghost use Rattle.std.specs.Prelude.{◌≡◌};
+ghost use Rattle.std.specs.IoError.{error_kind};
+
 use std::io::{Error, ErrorKind};
 use std::{fmt, io};
 
 /// Why a stream ended before its time.
 #[derive(Debug, Drop)]
 pub enum StreamError {
-    /// The reader failed.
+    /// The reader failed, and was not only interrupted.
     Read(io::Error),
-    /// The writer failed, or took nothing.
+    /// The writer failed, and was not only interrupted, or it took nothing.
     Write(io::Error),
-    /// The input is not whole blocks: so many bytes follow the last whole one.
+    /// The input is not whole blocks: this number of bytes follow the last whole one.
     Length(usize),
     /// The input has no block where the part begins, or none for the vector.
     Start,
@@ -38,6 +41,8 @@ impl fmt::Display for StreamError {
 
 // The error where a loop has gone round 2^64 - 1 times, which no process lives to see: a loop over a
 // reader or a writer has an end of its own, since each call is proved to return.
-pub(crate) fn without_end() -> Error {
+pub(crate) fn without_end() -> Error
+    ensures { error_kind result ≡ ErrorKind.TimedOut }
+{
     Error::from(ErrorKind::TimedOut)
 }

@@ -3,8 +3,13 @@
 //! the trait `ManyBlocks` of `des_fast`. The reader, the writer and the buffers are the caller's:
 //! no call takes memory, however much goes through.
 //!
-//! What is written is the answer to what was read; after an error it is a front of the answer.
+//! What is written is the answer to what was read; after an error it is a prefix of the answer.
 //! Nothing is authenticated: a changed ciphertext decrypts to something, mostly with no error.
+//!
+//! After an error the reader is somewhere after the bytes whose answer was written, and how far is
+//! not said: neither it nor the writer can be gone on with. No call flushes the writer: the caller
+//! does, at success, where it holds bytes back. What the buffers hold after a call is not said
+//! either, and it can be plaintext.
 #![tactic(auto)]
 
 pub mod decryption;

@@ -3,7 +3,7 @@
 ghost use Rattle.std.specs.Prelude.{◌≡◌};
 ghost use Rattle.std.specs.List.{All};
 ghost use Rattle.des.specs.Blocks.{IsBlock};
-ghost use Rattle.des_io.specs.CipherModes.{last_of, Enciphered, Deciphered, mode_after};
+ghost use Rattle.des_io.specs.CipherModes.{Enciphered, Deciphered, mode_after};
 
 use des::cbc;
 use des::cipher::are_blocks;
@@ -19,16 +19,6 @@ pub enum Mode {
     Cbc([u8; 8]),
 }
 
-// The block that a chain goes on from.
-fn last_block(iv: &[u8; 8], blocks: &[[u8; 8]]) -> [u8; 8]
-    ensures { result ≡ last_of iv.now blocks.now }
-{
-    match blocks.last() {
-        Some(block) => *block,
-        None => *iv,
-    }
-}
-
 impl Mode {
     /// Goes on to what follows ciphertext blocks.
     pub fn pass(&mut self, blocks: &[[u8; 8]])
@@ -38,7 +28,7 @@ impl Mode {
         are_blocks(blocks);
         match self {
             Mode::Ecb => {}
-            Mode::Cbc(iv) => *iv = last_block(iv, blocks),
+            Mode::Cbc(iv) => *iv = cbc::next_vector(iv, blocks),
         }
     }
 
@@ -52,7 +42,7 @@ impl Mode {
             Mode::Ecb => cipher.encrypt_many(blocks),
             Mode::Cbc(iv) => {
                 cbc::encrypt(cipher, iv, blocks);
-                *iv = last_block(iv, blocks);
+                *iv = cbc::next_vector(iv, blocks);
             }
         }
     }
@@ -66,7 +56,7 @@ impl Mode {
         match self {
             Mode::Ecb => cipher.decrypt_many(blocks),
             Mode::Cbc(iv) => {
-                let next = last_block(iv, blocks);
+                let next = cbc::next_vector(iv, blocks);
                 cipher.decrypt_cbc(iv, blocks);
                 *iv = next;
             }

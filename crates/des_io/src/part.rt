@@ -2,8 +2,8 @@
 
 ghost use Rattle.std.specs.Prelude.{◌≡◌, ◌≤◌, ◌<◌, ◌*◌, ℕ, List, length, map, IfOk, IfErr, IsOk};
 ghost use Rattle.std.specs.Io.KnownBytes.{Consumes, IsAtEnd};
-ghost use Rattle.des_io.specs.Streams.{Skips, FailsToSkip, DecryptsPart, DecryptsFront};
-ghost use Rattle.des_io.specs.Streams.{FailsInPart, IsOfReading, IsEndOrMore};
+ghost use Rattle.des_io.specs.Streams.{Skips, DecryptsPart, DecryptsPartFront, IsEndOrMore};
+ghost use Rattle.des_io.specs.StreamFaults.{FailsToSkip, FailsInPart, IsOfReading};
 
 use crate::decryption::{decrypt_blocks, finish, next_count};
 use crate::error::{StreamError, without_end};
@@ -13,10 +13,12 @@ use crate::pieces::{blocks_of, fill, fill_front};
 use des_fast::many::ManyBlocks;
 use std::io::{Read, Write};
 
-/// Reads the blocks before a part, so many, and gives how the blocks of the part go on from them.
-/// The two buffers, of bytes and of blocks, have the same size, of one block at least.
+/// Reads the `count` blocks before a part, and gives how the blocks of the part go on from them. The
+/// two buffers, of bytes and of blocks, have the same size, of one block at least; what they hold
+/// afterwards is not said.
 ///
-/// The error is `Start` where there are fewer blocks, and `Read` where the reader failed.
+/// The error is `Start` where there are fewer blocks, and `Read` where the reader failed, which may
+/// then be anywhere in them.
 pub fn skip_blocks<R: Read>(
     mode: Mode,
     count: u64,
@@ -63,11 +65,16 @@ fn is_at_end<R: Read>(reader: &mut R) -> Result<bool, StreamError>
     Ok(n == 0)
 }
 
-/// Decrypts a part of so many blocks, or up to the end of the reader, and writes it. Where the
-/// reader is then at its end, the padding is taken off, and there must be a block.
+/// Decrypts a part of `limit` blocks, or up to the end of the reader, and writes it. One byte more
+/// is read, where there is one. Where the reader is then at its end, the padding is taken off, and
+/// there must be a block. The two buffers, of bytes and of blocks, have the same size, of one block
+/// at least; what they hold afterwards, which can be plaintext, is not said. The writer is not
+/// flushed.
 ///
-/// The error is `Start` where there is none, `Padding` where the padding is wrong, `Length` where what
-/// was read is not whole blocks, and `Read` or `Write` where the reader or the writer failed.
+/// The error is `Start` where there is no block, `Padding` where the padding is wrong, `Length` where
+/// what was read is not whole blocks, and `Read` or `Write` where the reader or the writer failed.
+/// The writer then has a prefix of the part, without its last block or its padding, or with that
+/// block where more follows the part. The reader may have gone further.
 pub fn decrypt_part<R: Read, W: Write, C: ManyBlocks>(
     cipher: &C,
     mode: Mode,
@@ -83,11 +90,11 @@ pub fn decrypt_part<R: Read, W: Write, C: ManyBlocks>(
     ensures done { IfOk result (λ _. DecryptsPart (C.decrypted cipher.now) mode padding limit
         (R.remaining reader.old) (R.remaining reader.new)
         (W.contents writer.old) (W.contents writer.new)) }
-    ensures front { DecryptsFront (C.decrypted cipher.now) mode
+    ensures front { DecryptsPartFront (C.decrypted cipher.now) mode padding limit
         (R.remaining reader.old) (R.remaining reader.new)
         (W.contents writer.old) (W.contents writer.new) }
     ensures fault { IfErr result (λ fault.
-        FailsInPart fault (C.decrypted cipher.now) mode padding
+        FailsInPart fault (C.decrypted cipher.now) mode padding limit
         (R.remaining reader.old) (R.remaining reader.new)
         (W.contents writer.old) (W.contents writer.new)) }
 {

@@ -2,13 +2,15 @@
 
 ghost use Rattle.std.specs.Prelude.{◌≡◌, ◌≤◌, ◌<◌, ◌*◌, ℕ, List, length, take, IfOk, IfErr, IsOk};
 ghost use Rattle.std.specs.Io.KnownBytes.{Consumes, Appends, IsAtEnd};
-ghost use Rattle.des_io.specs.Streams.{joined, IsOfReading, IsOfWriting};
+ghost use Rattle.des_io.specs.Streams.{joined};
+ghost use Rattle.des_io.specs.StreamFaults.{IsOfReading, IsOfWriting};
 
 use crate::error::{StreamError, without_end};
 use std::io::{Error, ErrorKind, Read, Write};
 
 /// Reads until the buffer is full or the reader is at its end, and gives the number of bytes. A
-/// read that was interrupted is tried again. The error is `Read`, where the reader failed.
+/// read that was interrupted is tried again. The error is `Read`, where the reader failed; bytes may
+/// then have been read, and are lost.
 pub fn fill<R: Read>(reader: &mut R, buffer: &mut [u8]) -> Result<usize, StreamError>
     ensures consumed { (bytes : List ℕ)
         × Consumes (R.remaining reader.old) (R.remaining reader.new) bytes }
@@ -26,9 +28,9 @@ pub fn fill<R: Read>(reader: &mut R, buffer: &mut [u8]) -> Result<usize, StreamE
         match reader.read(&mut buffer[at..]) {
             Ok(0) => return Ok(at),
             Ok(n) => at += n,
-            Err(e) => {
-                if e.kind() != ErrorKind::Interrupted {
-                    return Err(StreamError::Read(e));
+            Err(error) => {
+                if error.kind() != ErrorKind::Interrupted {
+                    return Err(StreamError::Read(error));
                 }
             }
         }

@@ -7,7 +7,8 @@ use Rattle.des_mac.specs.Padding.{block_count, AreWholeBlocks}
 use Rattle.des_mac.specs.CbcMac.{zero_block, block_after, chain_after, cbc_mac}
 use Rattle.des_mac.specs.Cmac.{masked}
 use Rattle.des_mac.specs.Absorbed.{Absorbed}
-use Rattle.des_mac.proofs.ChainedBytes.{block_after-append, block_after-past, chain_after-append, chain_after-next, get_or-first_chunks}
+use Rattle.des.proofs.KeyParts.{get_or-first_chunks}
+use Rattle.des_mac.proofs.ChainedBytes.{block_after-append, block_after-past, chain_after-append, chain_after-next}
 
 -- the state of no bytes
 pub Absorbed-none : (e : List ℕ → List ℕ) (held : List ℕ) → length held ≡ 8 → Absorbed e 0 zero_block held 0 []

@@ -29,12 +29,3 @@ pub chain_after-next : (e : List ℕ → List ℕ) (m : List ℕ) (n : ℕ)
     → chain_after e m (n + 1) ≡ e (xor_blocks (block_after m n) (chain_after e m n))
 unfolding chain_after
 chain_after-next e m n = rw add-one refl
-
--- the chunks of bytes are their blocks
-pub get_or-first_chunks : (k i : ℕ) (s : List ℕ) → i < k → get_or (first_chunks 8 k s) i [] ≡ block_after s i
-get_or-first_chunks zero i s within = absurd (omega arith)
-get_or-first_chunks (suc k) zero s within = refl
-get_or-first_chunks (suc k) (suc i) s within =
-    get_or-first_chunks k i (drop 8 s) (omega arith)
-    ∙ ap (take 8) (drop-drop (8 * i) 8 s)
-    ∙ ap (λ (n : ℕ). take 8 (drop n s)) (omega arith)

@@ -10,7 +10,7 @@ use Rattle.des.proofs.XoredBlocks.{IsBlock-xor_blocks}
 use Rattle.des.proofs.ChainedBlocks.{block_before-next}
 use Rattle.des_mac.specs.CbcMac.{zero_block, block_after, chain_after, cbc_mac}
 use Rattle.des_mac.specs.MacRelations.{blocks_of, IsCbcMac}
-use Rattle.des_mac.proofs.ChainedBytes.{get_or-first_chunks}
+use Rattle.des.proofs.KeyParts.{get_or-first_chunks}
 
 pub IsBlock-zero_block : IsBlock zero_block
 IsBlock-zero_block = (refl, All-replicate (λ byte. byte < 256) 8 0 (omega arith))

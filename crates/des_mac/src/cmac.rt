@@ -68,6 +68,14 @@ impl<C: KeyedCipher + Drop> Cmac<C> {
             chaining: Chaining::resume(cipher, progress),
         }
     }
+
+    /// How far the state has come.
+    pub fn progress(&self) -> Progress
+        ensures { (key m : List ℕ) → ⟦<Cmac<C> as Mac>⟧.holds self.now key m
+            → IsProgressOf (C.encryption key) result m }
+    {
+        self.chaining.progress()
+    }
 }
 
 impl<C: KeyedCipher + Drop> Mac for Cmac<C> {

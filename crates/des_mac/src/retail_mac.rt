@@ -55,6 +55,14 @@ impl<C: KeyedCipher + Drop, P: Padding> RetailMac<C, P> {
             padding: PhantomData,
         }
     }
+
+    /// How far the state has come: its chain is that of the first key.
+    pub fn progress(&self) -> Progress
+        ensures { (key m : List ℕ) → ⟦<RetailMac<C, P> as Mac>⟧.holds self.now key m
+            → IsProgressOf (C.encryption (take C.KEY_SIZE key)) result m }
+    {
+        self.chaining.progress()
+    }
 }
 
 impl<C: KeyedCipher + Drop, P: Padding> Mac for RetailMac<C, P> {

@@ -23,8 +23,8 @@ pub enum CvvError {
     ServiceDigit,
 }
 
-// The error's name.
-fn name(error: CvvError) -> &'static str
+/// The error's name.
+pub fn name(error: CvvError) -> &'static str
     ensures { result.now ≡ name_of error }
 {
     match error {

@@ -26,8 +26,8 @@ pub enum PinError {
     Fill,
 }
 
-// The error's name.
-fn name(error: PinError) -> &'static str
+/// The error's name.
+pub fn name(error: PinError) -> &'static str
     ensures { result.now ≡ name_of error }
 {
     match error {

@@ -1,5 +1,5 @@
 -- The fault that one call gave is the first that a longer order of tests finds.
-use Rattle.std.proofs.Common.{◌≡◌, Bool, true, false, not, if◌then◌else◌, Option, Some, None, Result, Ok, Err, inr, refl, sym, ap, ◌∙◌}
+use Rattle.std.proofs.Common.{◌≡◌, Bool, true, false, not, if◌then◌else◌, Option, Some, None, Result, Ok, Err, inl, inr, refl, sym, ap, ◌∙◌}
 use Rattle.std.specs.Option.{option_or}
 use Rattle.std.specs.Result.{result_err}
 use Rattle.des_payment_tool.specs.declared.fault.Fault.{Fault}
@@ -26,4 +26,8 @@ fails_after A test f o e passed found = rw (passed, found) refl
 
 -- nothing is at fault, and the key is refused
 pub refuses : (A R : Type 0) (o : Option Fault) (e : Fault) → o ≡ None → e ≡ WeakKey → R → FailsOrRefuses {A = A} o R (Err e)
-refuses A R o e none weak refused = rw none (inr (weak, refused))
+refuses A R o e none weak refused = rw none (inl (refused, ap Err weak))
+
+-- nothing is at fault, and the key is not refused
+pub accepts : (A R : Type 0) (o : Option Fault) (x : A) → o ≡ None → ¬ R → FailsOrRefuses {A = A} o R (Ok x)
+accepts A R o x none sound = rw none (inr (sound, tt))

@@ -1,10 +1,10 @@
 //! Why a command has no answer.
 
 ghost use Rattle.std.specs.Prelude.{◌≡◌};
-ghost use Rattle.des_payment_tool.specs.Fault.{status_of};
+ghost use Rattle.des_payment_tool.specs.Fault.{name_of, status_of};
 
 use des::WeakKeyError;
-use des_payment::{CvvError, PinError};
+use des_payment::{CvvError, PinError, cvv_error, pin_error};
 use std::alloc::AllocError;
 use std::fmt;
 
@@ -46,6 +46,27 @@ const ARGUMENTS_AT_FAULT: u8 = 2;
 const MEMORY_REFUSED: u8 = 3;
 
 impl Fault {
+    /// The fault's name.
+    pub fn name(&self) -> &'static str
+        ensures { result.now ≡ name_of self.now }
+    {
+        match self {
+            Fault::KeyLength => "KeyLength",
+            Fault::KeyText => "KeyText",
+            Fault::Components => "Components",
+            Fault::WeakKey => "WeakKey",
+            Fault::BlockLength => "BlockLength",
+            Fault::BlockText => "BlockText",
+            Fault::SerialLength => "SerialLength",
+            Fault::SerialText => "SerialText",
+            Fault::FillLength => "FillLength",
+            Fault::FillText => "FillText",
+            Fault::Pin(error) => pin_error::name(*error),
+            Fault::Card(error) => cvv_error::name(*error),
+            Fault::Memory => "Memory",
+        }
+    }
+
     /// The status that the program ends with.
     pub fn status(&self) -> u8
         ensures { result ≡ status_of self.now }
@@ -67,21 +88,7 @@ impl fmt::Display for Fault {
     ghost styled_output = { λ fault _. Some (name_of fault) };
 
     fn fmt<W: fmt::Write>(&self, f: &mut fmt::Formatter<W>) -> fmt::Result {
-        match self {
-            Fault::KeyLength => f.write_str("KeyLength"),
-            Fault::KeyText => f.write_str("KeyText"),
-            Fault::Components => f.write_str("Components"),
-            Fault::WeakKey => f.write_str("WeakKey"),
-            Fault::BlockLength => f.write_str("BlockLength"),
-            Fault::BlockText => f.write_str("BlockText"),
-            Fault::SerialLength => f.write_str("SerialLength"),
-            Fault::SerialText => f.write_str("SerialText"),
-            Fault::FillLength => f.write_str("FillLength"),
-            Fault::FillText => f.write_str("FillText"),
-            Fault::Pin(error) => error.fmt(f),
-            Fault::Card(error) => error.fmt(f),
-            Fault::Memory => f.write_str("Memory"),
-        }
+        f.write_str(self.name())
     }
 }
 

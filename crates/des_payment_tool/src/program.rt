@@ -59,19 +59,25 @@ fn run_command(rt: &HostRuntime, command: Command, source: Source) -> ExitCode {
     }
 }
 
-// Help and the version go to standard output; of a mistake the first line goes to standard error.
+// The words of the command line are not those of a command. None of them is told, since it may be a
+// key.
+fn report_usage(rt: &HostRuntime) -> ExitCode {
+    report(rt, "Usage", &"no command is as these words (see --help)")
+}
+
+// Help and the version go to standard output.
 fn show_usage(rt: &HostRuntime, error: &clap::Error) -> ExitCode {
     if error.kind() == ErrorKind::OutOfMemory {
         return report_memory(rt);
     }
-    if !error.use_stderr() {
-        return match error.print(rt) {
-            Ok(()) => ExitCode::SUCCESS,
-            Err(_) => ExitCode::from(4),
-        };
+    if error.use_stderr() {
+        return report_usage(rt);
     }
     match format!(in rt.alloc(); "{error}") {
-        Ok(text) => report(rt, "Usage", &text.lines().next().unwrap_or("")),
+        Ok(text) => {
+            let text = Ok(text.into_bytes());
+            ExitCode::from(show(&text, &mut rt.stdout(), &mut rt.stderr()))
+        }
         Err(_) => report_memory(rt),
     }
 }
@@ -80,7 +86,7 @@ fn show_usage(rt: &HostRuntime, error: &clap::Error) -> ExitCode {
 fn run_matches(rt: &HostRuntime, matches: &ArgMatches) -> ExitCode {
     let words = matches.get_raw("command").unwrap_or(&[]);
     let Some(request) = request_of(words) else {
-        return report(rt, "Usage", &"no command is as these words (see --help)");
+        return report_usage(rt);
     };
     match source_of(request.input, matches) {
         Some(source) => run_command(rt, request.command, source),

@@ -3,14 +3,15 @@
 ghost use Rattle.std.specs.Prelude.{◌≤◌, length, OnOk};
 ghost use Rattle.std.specs.Io.KnownBytes.{Appends};
 ghost use Rattle.std.specs.Process.{exit_status};
-ghost use Rattle.des_payment_tool.specs.Run.{IsShown, IsRun};
+ghost use Rattle.des_payment_tool.specs.Fault.{line_of};
+ghost use Rattle.des_payment_tool.specs.Run.{AppendsPrefix, IsShown, IsRun};
 
 use crate::answers::{LONGEST_TEXT, answer};
 use crate::command::Command;
 use crate::digits::strip;
 use crate::fault::Fault;
 use std::alloc::Global;
-use std::io::{self, Write};
+use std::io::{self, Error, ErrorKind, Write};
 use std::process::ExitCode;
 
 // The statuses of answers.
@@ -18,30 +19,66 @@ const ANSWER_WRITTEN: u8 = 0;
 
 const ANSWER_NOT_WRITTEN: u8 = 4;
 
-fn write_whole<W: Write>(out: &mut W, text: &[u8]) -> io::Result<()>
-    ensures { OnOk result (Appends (W.contents out.old) (W.contents out.new) text.now) }
-{
-    out.write_all(text)?;
-    out.flush()
-}
-
 /// Writes an answer to `out`, or a fault's name and a newline to `err`, and gives the status that
 /// the program ends with: 0 where the whole answer was written, 4 where it was not, and that of the
-/// fault. A name that cannot be written changes no status.
+/// fault. A name that cannot be written changes no status. No clause says that the status is 4 only
+/// where `out` failed, since std has no word for that; runs of the program show it.
 pub fn show<W: Write, E: Write>(answer: &Result<Vec<u8>, Fault>, out: &mut W, err: &mut E) -> u8
-    ensures { IsShown W.contents answer.now result out.old out.new err.old err.new }
+    ensures { IsShown W.contents E.contents answer.now result out.old out.new err.old err.new }
 {
     match answer {
-        Ok(line) => match write_whole(out, line.as_slice()) {
+        Ok(line) => match send(out, line.as_slice()) {
             Ok(()) => ANSWER_WRITTEN,
             Err(_) => ANSWER_NOT_WRITTEN,
         },
         Err(fault) => {
-            let _ = writeln!(err, "{fault}");
-            let _ = err.flush();
+            let _ = report(fault, err);
             fault.status()
         }
     }
+}
+
+// Writes the bytes. Where that fails, a prefix of them is written. A write that was interrupted is
+// tried again.
+fn write_whole<W: Write>(out: &mut W, bytes: &[u8]) -> io::Result<()>
+    ensures part { AppendsPrefix (W.contents out.old) (W.contents out.new) bytes.now }
+    ensures whole { OnOk result (Appends (W.contents out.old) (W.contents out.new) bytes.now) }
+{
+    let mut at = 0;
+    for _ in 0..u64::MAX {
+        if at >= bytes.len() {
+            return Ok(());
+        }
+        match out.write(&bytes[at..]) {
+            Ok(0) => return Err(Error::from(ErrorKind::WriteZero)),
+            Ok(n) => at += n,
+            Err(error) => {
+                if error.kind() != ErrorKind::Interrupted {
+                    return Err(error);
+                }
+            }
+        }
+    }
+    // A writer that is interrupted again and again, and never ends.
+    Err(Error::from(ErrorKind::TimedOut))
+}
+
+fn send<W: Write>(out: &mut W, text: &[u8]) -> io::Result<()>
+    ensures part { AppendsPrefix (W.contents out.old) (W.contents out.new) text.now }
+    ensures whole { OnOk result (Appends (W.contents out.old) (W.contents out.new) text.now) }
+{
+    write_whole(out, text)?;
+    out.flush()
+}
+
+fn report<E: Write>(fault: &Fault, err: &mut E) -> io::Result<()>
+    ensures part { AppendsPrefix (E.contents err.old) (E.contents err.new) (line_of fault.now) }
+    ensures whole { OnOk result
+        (Appends (E.contents err.old) (E.contents err.new) (line_of fault.now)) }
+{
+    write_whole(err, fault.name().as_bytes())?;
+    write_whole(err, b"\n")?;
+    err.flush()
 }
 
 /// Answers a command by an input, of which white space is no part, writes what `show` writes, and
@@ -54,7 +91,7 @@ pub fn run_on<W: Write, E: Write>(
     err: &mut E,
 ) -> ExitCode
     requires { length input.items ≤ LONGEST_TEXT }
-    ensures { IsRun W.contents command.entry input.items (exit_status result)
+    ensures { IsRun W.contents E.contents command.entry input.items (exit_status result)
         out.old out.new err.old err.new }
 {
     strip(&mut input);

@@ -1,6 +1,7 @@
 //! The command line.
 
-ghost use Rattle.std.specs.Prelude.{◌≤◌};
+ghost use Rattle.std.specs.Prelude.{◌≡◌, ◌≤◌};
+ghost use Rattle.des_stream.specs.Jobs.{key_size_of};
 
 use crate::fault::Fault;
 use crate::key::KeySource;
@@ -26,7 +27,8 @@ pub enum Cipher {
 impl Cipher {
     /// The bytes of a key.
     pub fn key_size(self) -> usize
-        ensures { result ≤ 24 }
+        ensures size { result ≡ key_size_of self }
+        ensures most { result ≤ 24 }
     {
         match self {
             Cipher::Des => 8,

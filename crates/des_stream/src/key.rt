@@ -2,7 +2,8 @@
 
 ghost use Rattle.std.specs.Prelude.{◌≡◌, ◌<◌, ◌*◌, ℕ, List, IfOk, Ok, length};
 ghost use Rattle.hex.specs.Hex.{decode_of};
-ghost use Rattle.des_stream.specs.KeyText.{is_space, key_digits};
+ghost use Rattle.des_stream.specs.KeyText.{is_space, key_digits, digits_fault, key_fault, vector_fault};
+ghost use Rattle.des_stream.specs.KeyText.{FailsBy, FailsOnlyBy};
 
 use crate::fault::Fault;
 use des_io::StreamError;
@@ -10,8 +11,8 @@ use des_io::pieces::fill;
 use hex::{FromHex, FromHexError};
 use std::alloc::{AllocError, Global};
 use std::env::{self, VarError};
-use std::fs::File;
-use std::io::Read;
+use std::fs::{self, File};
+use std::io::{self, ErrorKind, Read, Seek, SeekFrom};
 
 /// Where the digits of the key are.
 #[derive(Clone, Copy)]
@@ -44,23 +45,33 @@ fn digits_of(alloc: Global, text: &[u8]) -> Result<Vec<u8>, AllocError>
         .collect(alloc)
 }
 
-/// The bytes of a key from its digits, of so many bytes. White space is passed over. The fault is
-/// `KeyText` where a character is no digit, `KeyLength` where there are not as many digits, and
-/// `Memory` where a request for memory was refused.
-pub fn key_of_text(alloc: Global, text: &[u8], size: usize) -> Result<Vec<u8>, Fault>
+// The bytes, so many, that hexadecimal digits write.
+fn key_of_digits(alloc: Global, digits: &[u8], size: usize) -> Result<Vec<u8>, Fault>
     requires { size < 1000 }
-    ensures key { IfOk result (λ key. decode_of (key_digits text.now) ≡ Ok key.items) }
-    ensures size { IfOk result (λ key. length (key_digits text.now) ≡ 2 * size) }
+    ensures fault { FailsBy (digits_fault size digits.now) result }
+    ensures key { IfOk result (λ key. decode_of digits.now ≡ Ok key.items) }
 {
-    let digits = digits_of(alloc, text)?;
     if digits.len() != 2 * size {
         return Err(Fault::KeyLength(2 * size));
     }
-    match hex::decode(alloc, digits.as_slice()) {
+    match hex::decode(alloc, digits) {
         Ok(key) => Ok(key),
         Err(FromHexError::OutOfMemory) => Err(Fault::Memory),
         Err(_) => Err(Fault::KeyText),
     }
+}
+
+/// The bytes of a key from its digits, of so many bytes. White space is passed over. The fault is
+/// `KeyLength` where there are not as many digits, `KeyText` where a character is no digit, and
+/// `Memory` where a request for memory was refused.
+pub fn key_of_text(alloc: Global, text: &[u8], size: usize) -> Result<Vec<u8>, Fault>
+    requires { size < 1000 }
+    ensures fault { FailsBy (key_fault size text.now) result }
+    ensures key { IfOk result (λ key. decode_of (key_digits text.now) ≡ Ok key.items) }
+    ensures size { IfOk result (λ key. length (key_digits text.now) ≡ 2 * size) }
+{
+    let digits = digits_of(alloc, text)?;
+    key_of_digits(alloc, digits.as_slice(), size)
 }
 
 // A fault of the reader is one of the key.
@@ -96,6 +107,31 @@ fn key_of_file(rt: &HostRuntime, path: &str, size: usize) -> Result<Vec<u8>, Fau
     key_of_reader(rt.alloc(), &mut file, size, LONGEST_TEXT)
 }
 
+// Where a descriptor of the process stands in its file: 0 in a pipe.
+fn place_of(rt: &HostRuntime, number: u64) -> Result<u64, Fault> {
+    let path = format!(in rt.alloc(); "/proc/self/fdinfo/{number}")?;
+    let text = fs::read_to_string(rt, path.as_str()).map_err(Fault::KeySource)?;
+    let place = text
+        .lines()
+        .find_map(|line| line.strip_prefix("pos:"))
+        .and_then(|digits| digits.trim().parse().ok());
+    place.ok_or(Fault::KeySource(io::Error::from(ErrorKind::InvalidData)))
+}
+
+// The system opens the file of a descriptor anew, at its beginning, so the key is read from where the
+// descriptor stands.
+fn key_of_descriptor(rt: &HostRuntime, number: u64, size: usize) -> Result<Vec<u8>, Fault>
+    requires { size < 1000 }
+{
+    let place = place_of(rt, number)?;
+    let path = format!(in rt.alloc(); "/dev/fd/{number}")?;
+    let mut file = File::open(rt, path.as_str()).map_err(Fault::KeySource)?;
+    if place > 0 {
+        file.seek(SeekFrom::Start(place)).map_err(Fault::KeySource)?;
+    }
+    key_of_reader(rt.alloc(), &mut file, size, LONGEST_TEXT)
+}
+
 fn key_of_variable(rt: &HostRuntime, name: &str, size: usize) -> Result<Vec<u8>, Fault>
     requires { size < 1000 }
 {
@@ -113,17 +149,15 @@ pub fn read_key(rt: &HostRuntime, source: KeySource, size: usize) -> Result<Vec<
 {
     match source {
         KeySource::File(path) => key_of_file(rt, path, size),
-        KeySource::Descriptor(number) => {
-            let path = format!(in rt.alloc(); "/dev/fd/{number}")?;
-            key_of_file(rt, path.as_str(), size)
-        }
+        KeySource::Descriptor(number) => key_of_descriptor(rt, number, size),
         KeySource::Variable(name) => key_of_variable(rt, name, size),
     }
 }
 
 /// The initialization vector that 16 digits write. The fault of any other text is `Vector`.
 pub fn vector_of_text(text: &str) -> Result<[u8; 8], Fault>
-    ensures { IfOk result (λ iv. decode_of text.now ≡ Ok iv) }
+    ensures fault { FailsOnlyBy (vector_fault text.now) result }
+    ensures vector { IfOk result (λ iv. decode_of text.now ≡ Ok iv) }
 {
     match <[u8; 8] as FromHex>::from_hex(text) {
         Ok(iv) => Ok(iv),

@@ -1,6 +1,11 @@
 //! The program: what a command line asks for is done.
 
-ghost use Rattle.std.specs.Prelude.{◌≡◌, ◌<◌, ◌≤◌, ◌*◌, length};
+ghost use Rattle.std.specs.Prelude.{◌≡◌, ◌<◌, ◌≤◌, ◌*◌, length, IfOk};
+ghost use Rattle.des.specs.Blocks.{IsBlock};
+ghost use Rattle.des.specs.Relations.{AnswerAlike};
+ghost use Rattle.des_io.specs.declared.mode.Mode.TheVariants.{Cbc};
+ghost use Rattle.des_stream.specs.Jobs.{encryption_of, decryption_of, IsFirstMode, blocks_before as blocks_before_of};
+ghost use Rattle.des_stream.specs.Jobs.{DecryptsAfter, IsDone};
 
 use crate::arguments::{Cipher, Options, Vector, WeakKeys, options_of, parse};
 use crate::fault::Fault;
@@ -8,7 +13,7 @@ use crate::key::{read_key, vector_of_text};
 use crate::output::OutputFile;
 use crate::watched::Watched;
 use clap::error::ErrorKind;
-use des::cipher::KeyInit;
+use des::cipher::{InvalidLength, KeyedCipher, are_blocks};
 use des::weak_key::weak_key_test;
 use des_fast::many::ManyBlocks;
 use des_fast::{Des, TdesEde2, TdesEde3, TdesEee2, TdesEee3};
@@ -31,18 +36,31 @@ struct Job<'a> {
     skipped: u64,
 }
 
+// A chain that goes on from a block.
+fn chained_from(iv: &[u8; 8]) -> Mode
+    ensures block { IsBlock iv.now }
+    ensures mode { result ≡ Cbc iv.now }
+{
+    are_blocks(&[*iv]);
+    Mode::Cbc(*iv)
+}
+
 // The mode that the input begins with. A vector that is the first block comes with the blocks
 // before those that are decrypted.
-fn first_mode(vector: Vector) -> Result<Mode, Fault> {
+fn first_mode(vector: Vector) -> Result<Mode, Fault>
+    ensures { IfOk result (λ mode. IsFirstMode vector.entry mode) }
+{
     match vector {
         Vector::Absent => Ok(Mode::Ecb),
-        Vector::Digits(digits) => Ok(Mode::Cbc(vector_of_text(digits)?)),
+        Vector::Digits(digits) => Ok(chained_from(&vector_of_text(digits)?)),
         Vector::FirstBlock => Ok(Mode::Cbc([0; 8])),
     }
 }
 
 // How many blocks stand before those that are decrypted: the vector, and those before the part.
-fn blocks_before(options: &Options) -> u64 {
+fn blocks_before(options: &Options) -> u64
+    ensures { result ≡ blocks_before_of options.now.vector options.now.part }
+{
     let from = match options.part {
         Some(part) => part.from,
         None => 0,
@@ -65,6 +83,10 @@ fn decrypt_in<C: ManyBlocks, R: Read, W: Write>(
 ) -> Result<(), StreamError>
     requires size { length bytes.old ≡ length blocks.old * 8 }
     requires room { 0 < length blocks.old }
+    ensures done { IfOk result (λ _. DecryptsAfter (C.decrypted cipher.now) mode
+        job.now.options.now.padding job.now.skipped job.now.options.now.part
+        (R.remaining reader.old) (R.remaining reader.new)
+        (W.contents writer.old) (W.contents writer.new)) }
 {
     let padding = job.options.padding;
     let mode = skip_blocks(mode, job.skipped, reader, bytes, blocks)?;
@@ -89,6 +111,10 @@ fn run_in<C: ManyBlocks, R: Read, W: Write>(
 ) -> Result<(), Fault>
     requires size { length bytes.old ≡ length blocks.old * 8 }
     requires room { 0 < length blocks.old }
+    ensures done { IfOk result (λ _. IsDone job.now.options.now job.now.skipped
+        (C.encrypted cipher.now) (C.decrypted cipher.now)
+        (R.remaining reader.old) (R.remaining reader.new)
+        (W.contents writer.old) (W.contents writer.new)) }
 {
     let mode = first_mode(job.options.vector)?;
     let padding = job.options.padding;
@@ -101,8 +127,18 @@ fn run_in<C: ManyBlocks, R: Read, W: Write>(
     Ok(())
 }
 
+// The cipher of a key, which answers as the key does.
+fn cipher_of<C: KeyedCipher>(key: &[u8]) -> Result<C, InvalidLength>
+    ensures encrypts { IfOk result (λ cipher.
+        AnswerAlike (C.encrypted cipher) (C.encryption key.now)) }
+    ensures decrypts { IfOk result (λ cipher.
+        AnswerAlike (C.decrypted cipher) (C.decryption key.now)) }
+{
+    C::new_from_slice(key)
+}
+
 // The same with buffers of its own, of so many blocks.
-fn run_cipher<C: KeyInit + ManyBlocks + Drop, R: Read, W: Write>(
+fn run_cipher<C: KeyedCipher + ManyBlocks + Drop, R: Read, W: Write>(
     alloc: Global,
     job: &Job,
     reader: &mut R,
@@ -110,8 +146,12 @@ fn run_cipher<C: KeyInit + ManyBlocks + Drop, R: Read, W: Write>(
     count: usize,
 ) -> Result<(), Fault>
     requires { (0 < count) × (count < 100000) }
+    ensures done { IfOk result (λ _. IsDone job.now.options.now job.now.skipped
+        (C.encryption job.now.key.now) (C.decryption job.now.key.now)
+        (R.remaining reader.old) (R.remaining reader.new)
+        (W.contents writer.old) (W.contents writer.new)) }
 {
-    let cipher = match C::new_from_slice(job.key) {
+    let cipher = match cipher_of::<C>(job.key) {
         Ok(cipher) => cipher,
         Err(_) => return Err(Fault::KeyLength(2 * job.options.cipher.key_size())),
     };
@@ -126,7 +166,13 @@ fn run_named<R: Read, W: Write>(
     job: &Job,
     reader: &mut R,
     writer: &mut W,
-) -> Result<(), Fault> {
+) -> Result<(), Fault>
+    ensures done { IfOk result (λ _. IsDone job.now.options.now job.now.skipped
+        (encryption_of job.now.options.now.cipher job.now.key.now)
+        (decryption_of job.now.options.now.cipher job.now.key.now)
+        (R.remaining reader.old) (R.remaining reader.new)
+        (W.contents writer.old) (W.contents writer.new)) }
+{
     let count = BLOCKS_AT_A_TIME;
     match job.options.cipher {
         Cipher::Des => run_cipher::<Des, R, W>(alloc, job, reader, writer, count),

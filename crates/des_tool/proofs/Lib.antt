@@ -5,4 +5,5 @@ pub mod KeyAnswers
 pub mod EqualLists
 pub mod OneToOne
 pub mod OneText
+pub mod Prefixes
 pub mod Runs

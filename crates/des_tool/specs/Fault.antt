@@ -1,5 +1,5 @@
 -- The faults of a command line that are found before any memory is asked for, and their names.
-use Rattle.std.specs.Prelude.{◌≡◌, ℕ, ◌*◌, ◌%◌, ◌==◌, ◌||◌, not, if◌then◌else◌, List, length, codes, Option, Some, None, Result, Err, IsOk, IfErr}
+use Rattle.std.specs.Prelude.{◌≡◌, ℕ, ◌*◌, ◌%◌, ◌==◌, ◌||◌, not, if◌then◌else◌, List, ◌++◌, length, codes, Option, Some, None, Result, Err, IsOk, IfErr}
 use Rattle.std.specs.List.{list_all}
 use Rattle.std.specs.Option.{option_map_or, option_or}
 use Rattle.hex.specs.Hex.{is_hex_digit}
@@ -67,3 +67,7 @@ name_of KeyText = codes "KeyText"
 name_of BlockLength = codes "BlockLength"
 name_of BlockText = codes "BlockText"
 name_of Memory = codes "Memory"
+
+-- the line that tells it
+abbrev pub line_of : Fault → List ℕ
+line_of fault = name_of fault ++ codes "\n"

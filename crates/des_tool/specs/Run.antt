@@ -3,9 +3,10 @@ use Rattle.std.specs.Prelude.{◌≡◌, ◌⊎◌, ℕ, List, Option, Some, Res
 use Rattle.std.specs.Io.KnownBytes.{Appends}
 use Rattle.des.specs.Relations.{IsTheOne}
 use Rattle.des_tool.specs.declared.command.fault.Fault.{Fault}
+use Rattle.des_tool.specs.declared.command.fault.Fault.TheVariants.{Memory}
 use Rattle.des_tool.specs.Fault.{fault_of}
 use Rattle.des_tool.specs.Answer.{IsAnswer}
-use Rattle.des_tool.specs.Status.{answer_written, memory_refused, status_of, IsOfAnswer, IsOfFault}
+use Rattle.des_tool.specs.Status.{answer_written, answer_not_written, IsOfAnswer, IsOfFault, AppendsPrefix, IsTold}
 
 -- the first fault, but for memory, of arguments or of what kept them from being fetched
 abbrev pub fault_in : Result (List (List ℕ)) Fault → Option Fault
@@ -17,16 +18,22 @@ abbrev pub IsTheAnswer : Result (List (List ℕ)) Fault → List ℕ → Type 0
 IsTheAnswer arguments text = IsOkAnd arguments (λ arguments. IsTheOne (IsAnswer arguments) text)
 
 -- a run on these arguments, or on what kept them from being fetched, with the writers before and
--- after. A fault has its own status. Where there is none, the answer is written whole, or not, or
--- memory is refused. What has no part in that writer stays as it is
-pub record IsRun {W E : Type 0} (contents : W → Option (List ℕ))
-    (arguments : Result (List (List ℕ)) Fault) (status : ℕ)
+-- after. A fault has its own status, and its line is told. Where there is none, the answer is
+-- written whole, or a prefix of it, or memory is refused. What has no part in that writer stays as
+-- it is
+pub record IsRun {W E : Type 0} (out_contents : W → Option (List ℕ))
+    (err_contents : E → Option (List ℕ)) (arguments : Result (List (List ℕ)) Fault) (status : ℕ)
     (out_old out_new : W) (err_old err_new : E) : Type 0 where
   pub ends : IsOfAnswer status ⊎ IsOfFault status
-  pub fault : IfSome (fault_in arguments) (λ fault. status ≡ status_of fault)
-  pub memory : IfNone (fault_in arguments) (IsOfFault status → status ≡ memory_refused)
+  pub fault : IfSome (fault_in arguments)
+      (λ fault. IsTold err_contents fault status err_old err_new)
+  pub memory : IfNone (fault_in arguments)
+      (IsOfFault status → IsTold err_contents Memory status err_old err_new)
   pub written : status ≡ answer_written
       → (text : List ℕ) × (IsTheAnswer arguments text
-      × Appends (contents out_old) (contents out_new) text)
+      × Appends (out_contents out_old) (out_contents out_new) text)
+  pub part : status ≡ answer_not_written
+      → (text : List ℕ) × (IsTheAnswer arguments text
+      × AppendsPrefix (out_contents out_old) (out_contents out_new) text)
   pub err : IsOfAnswer status → err_new ≡ err_old
   pub out : IsOfFault status → out_new ≡ out_old

@@ -1,5 +1,8 @@
 //! Why arguments have no answer.
 
+ghost use Rattle.std.specs.Prelude.{◌≡◌};
+ghost use Rattle.des_tool.specs.Fault.{name_of};
+
 use std::alloc::{AllocError, AllocFailed};
 use std::error::Error;
 use std::fmt;
@@ -24,6 +27,22 @@ pub enum Fault {
     Memory,
 }
 
+impl Fault {
+    // The fault's name.
+    pub(super) fn name(self) -> &'static str
+        ensures { result.now ≡ name_of self }
+    {
+        match self {
+            Fault::Usage => "Usage",
+            Fault::KeyLength => "KeyLength",
+            Fault::KeyText => "KeyText",
+            Fault::BlockLength => "BlockLength",
+            Fault::BlockText => "BlockText",
+            Fault::Memory => "Memory",
+        }
+    }
+}
+
 /// Writes the fault's name, whatever options are set.
 impl fmt::Display for Fault {
     ghost use Rattle.std.specs.Prelude.{Some};
@@ -34,14 +53,7 @@ impl fmt::Display for Fault {
     ghost styled_output = { λ fault _. Some (name_of fault) };
 
     fn fmt<W: fmt::Write>(&self, f: &mut fmt::Formatter<W>) -> fmt::Result {
-        match self {
-            Fault::Usage => f.write_str("Usage"),
-            Fault::KeyLength => f.write_str("KeyLength"),
-            Fault::KeyText => f.write_str("KeyText"),
-            Fault::BlockLength => f.write_str("BlockLength"),
-            Fault::BlockText => f.write_str("BlockText"),
-            Fault::Memory => f.write_str("Memory"),
-        }
+        f.write_str(self.name())
     }
 }
 

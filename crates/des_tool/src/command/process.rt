@@ -23,7 +23,7 @@ pub fn run_on<W: Write, E: Write>(
     out: &mut W,
     err: &mut E,
 ) -> ExitCode
-    ensures { IsRun W.contents (Ok (texts arguments.now)) (exit_status result)
+    ensures { IsRun W.contents E.contents (Ok (texts arguments.now)) (exit_status result)
         out.old out.new err.old err.new }
 {
     finish(&answer(alloc, arguments), out, err)
@@ -34,7 +34,8 @@ pub fn run_on<W: Write, E: Write>(
 pub fn run<R: Env + AllocGlobal, W: Write, E: Write>(rt: &R, out: &mut W, err: &mut E) -> ExitCode
     // No contract says which arguments the process has.
     ensures { (arguments : Result (List (List ℕ)) Fault)
-        × IsRun W.contents arguments (exit_status result) out.old out.new err.old err.new }
+        × IsRun W.contents E.contents arguments (exit_status result)
+        out.old out.new err.old err.new }
 {
     match run_on_arguments(rt, out, err) {
         Ok(code) => code,
@@ -49,7 +50,8 @@ fn run_on_arguments<R: Env + AllocGlobal, W: Write, E: Write>(
     err: &mut E,
 ) -> Result<ExitCode, Fault>
     ensures ran { IfOk result (λ code. (arguments : List (List ℕ))
-        × IsRun W.contents (Ok arguments) (exit_status code) out.old out.new err.old err.new) }
+        × IsRun W.contents E.contents (Ok arguments) (exit_status code)
+        out.old out.new err.old err.new) }
     ensures out { OnErr result (out.new ≡ out.old) }
     ensures err { OnErr result (err.new ≡ err.old) }
 {

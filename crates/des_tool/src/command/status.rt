@@ -1,14 +1,13 @@
 //! What is written of an answer or a fault, and the status that the program ends with.
 
-ghost use Rattle.std.specs.Prelude.{◌≡◌, codes, ◌++◌, OnOk};
+ghost use Rattle.std.specs.Prelude.{OnOk};
 ghost use Rattle.std.specs.Io.KnownBytes.{Appends};
 ghost use Rattle.std.specs.Process.{exit_status};
-ghost use Rattle.des_tool.specs.Fault.{name_of};
-ghost use Rattle.des_tool.specs.Status.{IsShown};
+ghost use Rattle.des_tool.specs.Fault.{line_of};
+ghost use Rattle.des_tool.specs.Status.{AppendsPrefix, IsShown};
 
 use super::fault::Fault;
-use std::io;
-use std::io::Write;
+use std::io::{self, Error, ErrorKind, Write};
 use std::process::ExitCode;
 
 #[cfg(test)]
@@ -42,13 +41,16 @@ impl Fault {
 /// the program ends with.
 ///
 /// The status is 0 where the whole answer was written, 2 where the arguments are at fault, 3 where
-/// memory is, and 4 where the answer could not be written: `out` may then hold a part of it. A name
-/// that cannot be written changes no status. It takes no memory of its own.
+/// memory is, and 4 where the answer could not be written: `out` may then hold a prefix of it. A
+/// name that cannot be written changes no status. It takes no memory of its own.
+///
+/// No clause says that the status is 4 only where `out` failed, since std has no word for that; runs
+/// of the program show it.
 pub fn show<W: Write, E: Write>(answer: &Result<Vec<u8>, Fault>, out: &mut W, err: &mut E) -> u8
-    ensures { IsShown W.contents answer.now result out.old out.new err.old err.new }
+    ensures { IsShown W.contents E.contents answer.now result out.old out.new err.old err.new }
 {
     match answer {
-        Ok(text) => match write_whole(out, text.as_slice()) {
+        Ok(text) => match send(out, text.as_slice()) {
             Ok(()) => ANSWER_WRITTEN,
             Err(_) => ANSWER_NOT_WRITTEN,
         },
@@ -59,18 +61,46 @@ pub fn show<W: Write, E: Write>(answer: &Result<Vec<u8>, Fault>, out: &mut W, er
     }
 }
 
-fn write_whole<W: Write>(out: &mut W, text: &[u8]) -> io::Result<()>
-    ensures { OnOk result (Appends (W.contents out.old) (W.contents out.new) text.now) }
+// Writes the bytes. Where that fails, a prefix of them is written. A write that was interrupted is
+// tried again.
+fn write_whole<W: Write>(out: &mut W, bytes: &[u8]) -> io::Result<()>
+    ensures part { AppendsPrefix (W.contents out.old) (W.contents out.new) bytes.now }
+    ensures whole { OnOk result (Appends (W.contents out.old) (W.contents out.new) bytes.now) }
 {
-    out.write_all(text)?;
+    let mut at = 0;
+    for _ in 0..u64::MAX {
+        if at >= bytes.len() {
+            return Ok(());
+        }
+        match out.write(&bytes[at..]) {
+            Ok(0) => return Err(Error::from(ErrorKind::WriteZero)),
+            Ok(n) => at += n,
+            Err(error) => {
+                if error.kind() != ErrorKind::Interrupted {
+                    return Err(error);
+                }
+            }
+        }
+    }
+    // A writer that is interrupted again and again, and never ends.
+    Err(Error::from(ErrorKind::TimedOut))
+}
+
+fn send<W: Write>(out: &mut W, text: &[u8]) -> io::Result<()>
+    ensures part { AppendsPrefix (W.contents out.old) (W.contents out.new) text.now }
+    ensures whole { OnOk result (Appends (W.contents out.old) (W.contents out.new) text.now) }
+{
+    write_whole(out, text)?;
     out.flush()
 }
 
 fn report<E: Write>(fault: Fault, err: &mut E) -> io::Result<()>
-    ensures { OnOk result
-        (Appends (E.contents err.old) (E.contents err.new) (name_of fault ++ codes "\n")) }
+    ensures part { AppendsPrefix (E.contents err.old) (E.contents err.new) (line_of fault) }
+    ensures whole { OnOk result
+        (Appends (E.contents err.old) (E.contents err.new) (line_of fault)) }
 {
-    writeln!(err, "{fault}")?;
+    write_whole(err, fault.name().as_bytes())?;
+    write_whole(err, b"\n")?;
     err.flush()
 }
 
@@ -80,7 +110,8 @@ pub fn finish<W: Write, E: Write>(
     out: &mut W,
     err: &mut E,
 ) -> ExitCode
-    ensures { IsShown W.contents answer.now (exit_status result) out.old out.new err.old err.new }
+    ensures { IsShown W.contents E.contents answer.now (exit_status result)
+        out.old out.new err.old err.new }
 {
     ExitCode::from(show(answer, out, err))
 }

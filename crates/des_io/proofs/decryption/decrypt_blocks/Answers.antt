@@ -1,33 +1,54 @@
 use Rattle.std.proofs.Common.{◌≡◌, ◌<◌, ◌*◌, inl, inr, [], length, take, rules, arith, refl, length-take-le}
 use Rattle.std.proofs.KnownBytes.{Consumes-nil}
-use Rattle.des_io.proofs.DecryptedPieces.{HoldsLast-none, HoldsLast-more, DecryptsFront-read, DecryptsFront-written, EndsInBlock-read, IsLeft-all, IsLeft-more, IsLeft-none, IsLeft-within, length-piece}
+use Rattle.des_io.proofs.DecryptedPieces.{HoldsLast-none, HoldsLast-more, length-piece}
+use Rattle.des_io.proofs.DecryptedFronts.{HoldsFront-read, HoldsFront-written, EndsInPart-read}
+use Rattle.des_io.proofs.LimitedBlocks.{IsLeft-all, IsLeft-more, IsLeft-none, IsLeft-within, IsLeft-fits, IsLeft-begun}
 use Rattle.std.proofs.Math.Nat.{eq-or-lt_of_le}
 use Rattle.des_io.proofs.decryption.decrypt_blocks.Goals as goal
 
 pub loop-init : goal.loop-init
 loop-init g c =
-    let none = HoldsLast-none _ _ _ _ in record { count = refl; room = refl; so_far = none.0; left = IsLeft-all _ _ none.2; after = none.1 }
+    let none = HoldsLast-none _ _ _ _ in record {
+      count = refl;
+      room = refl;
+      so_far = none.0;
+      left = IsLeft-all _ _
+          none.2;
+      after = none.1;
+    }
 
 pub returns-in_err-n-clause-front : goal.returns-in_err-n-clause-front
 returns-in_err-n-clause-front g c =
-    let (bytes, read) = c.in_err-n.ensures.consumed in DecryptsFront-read _ _ _ _ _ _ _ _ bytes c.loop.invariant.so_far read
+    let (bytes, read) = c.in_err-n.ensures.consumed in
+    HoldsFront-read _ _ _ _ _ _ _ _ _ bytes c.loop.invariant.so_far (IsLeft-within _ _ _ c.loop.invariant.left) read
 
 pub returns-then-n-ne0-clause-front : goal.returns-then-n-ne0-clause-front
-returns-then-n-ne0-clause-front g c = DecryptsFront-read _ _ _ _ _ _ _ _ _ c.loop.invariant.so_far c.in_ok-n.ensures.read
+returns-then-n-ne0-clause-front g c =
+    HoldsFront-read _ _ _ _ _ _ _ _ _ _ c.loop.invariant.so_far
+    (IsLeft-within _ _ _ c.loop.invariant.left) c.in_ok-n.ensures.read
 
 pub returns-then-n-ne0-clause-fault : goal.returns-then-n-ne0-clause-fault
 returns-then-n-ne0-clause-fault g c =
     let below : c.in_ok-n.n < 8 * c.next_count-count.result = search rules in
-    EndsInBlock-read _ _ _ _ _ _ _ _ _ _ c.loop.invariant.so_far c.in_ok-n.ensures.read (c.in_ok-n.ensures.end below) (length-take-le _ _ (search rules)) c.if-n-ne0.true
+    EndsInPart-read _ _ _ _ _ _ _ _ _ _ _ c.loop.invariant.so_far c.in_ok-n.ensures.read (c.in_ok-n.ensures.end below)
+    (length-take-le _ _ (search rules)) c.if-n-ne0.true
+    (λ all total. IsLeft-begun _ _ _ c.next_count-count.result c.in_ok-n.n all c.loop.invariant.left
+    c.next_count-count.ensures.left below total)
 
 pub returns-in_err-decrypt_piece-clause-front : goal.returns-in_err-decrypt_piece-clause-front
 returns-in_err-decrypt_piece-clause-front g c =
-    DecryptsFront-written _ _ _ _ _ _ _ _ _ _ _ _ _ _ c.loop.invariant.so_far c.loop.invariant.after c.in_ok-n.ensures.read
+    let size : length (take c.in_ok-n.n c.fill_front.new.buffer) ≡ c.in_ok-n.n = length-take-le _ _ (search rules) in
+    let counts = length-piece _ _ _ _ _ _ _ _ _ c.in_ok-n.n size c.in_err-decrypt_piece.ensures.deciphered in
+    HoldsFront-written _ _ _ _ _ _ _ _ _ _ _ _ _ _ _ c.loop.invariant.so_far c.loop.invariant.after
+    c.in_ok-n.ensures.read
     c.in_err-decrypt_piece.ensures.deciphered
+    (IsLeft-fits _ _ _ _ c.next_count-count.result c.loop.invariant.left c.next_count-count.ensures.left
+    (omega (arith, counts, c.in_ok-n.ensures.within)))
 
 pub returns-then-n-bytes-clause-done : goal.returns-then-n-bytes-clause-done
 returns-then-n-bytes-clause-done g c =
-    let more = HoldsLast-more _ _ _ _ _ _ _ _ _ _ _ _ _ _ refl c.loop.invariant.so_far c.loop.invariant.after c.in_ok-n.ensures.read
+    let more = HoldsLast-more _ _ _ _ _ _ _ _ _ _ _ _ _ _ refl c.loop.invariant.so_far c.loop.invariant.after
+    c.in_ok-n.ensures.read
     c.in_ok-decrypt_piece.ensures.deciphered in
     let piece = c.in_ok-decrypt_piece.ensures.deciphered in
     let size : length (take c.in_ok-n.n c.fill_front.new.buffer) ≡ c.in_ok-n.n = length-take-le _ _ (search rules) in
@@ -36,8 +57,18 @@ returns-then-n-bytes-clause-done g c =
       holds = more.0;
       ends = elim (eq-or-lt_of_le c.in_ok-n.ensures.within) [
         | inl all ↦ elim c.next_count-count.ensures.full [
-          | inl room ↦ absurd (omega (arith, all, room, c.if-n-bytes.true, c.in_ok-n.ensures.room, c.loop.invariant.count, c.loop.invariant.room, c.requires.size))
-          | inr is ↦ inr (IsLeft-none _ _ _ _ _ c.next_count-count.result c.loop.invariant.left is (omega (arith, all, counts)) more.2)
+          | inl room ↦ absurd (omega (
+            arith,
+            all,
+            room,
+            c.if-n-bytes.true,
+            c.in_ok-n.ensures.room,
+            c.loop.invariant.count,
+            c.loop.invariant.room,
+            c.requires.size,
+          ))
+          | inr is ↦ inr (IsLeft-none _ _ _ _ _ c.next_count-count.result c.loop.invariant.left is
+              (omega (arith, all, counts)) more.2)
         ]
         | inr less ↦ inl (c.in_ok-n.ensures.end less)
       ];
@@ -47,12 +78,18 @@ returns-then-n-bytes-clause-done g c =
 
 pub returns-then-n-bytes-clause-front : goal.returns-then-n-bytes-clause-front
 returns-then-n-bytes-clause-front g c =
-    DecryptsFront-written _ _ _ _ _ _ _ _ _ _ _ _ _ _ c.loop.invariant.so_far c.loop.invariant.after c.in_ok-n.ensures.read
+    let size : length (take c.in_ok-n.n c.fill_front.new.buffer) ≡ c.in_ok-n.n = length-take-le _ _ (search rules) in
+    let counts = length-piece _ _ _ _ _ _ _ _ _ c.in_ok-n.n size c.in_ok-decrypt_piece.ensures.deciphered in
+    HoldsFront-written _ _ _ _ _ _ _ _ _ _ _ _ _ _ _ c.loop.invariant.so_far c.loop.invariant.after
+    c.in_ok-n.ensures.read
     c.in_ok-decrypt_piece.ensures.deciphered
+    (IsLeft-fits _ _ _ _ c.next_count-count.result c.loop.invariant.left c.next_count-count.ensures.left
+    (omega (arith, counts, c.in_ok-n.ensures.within)))
 
 pub loop-preserved : goal.loop-preserved
 loop-preserved g c =
-    let more = HoldsLast-more _ _ _ _ _ _ _ _ _ _ _ _ _ _ refl c.loop.invariant.so_far c.loop.invariant.after c.in_ok-n.ensures.read
+    let more = HoldsLast-more _ _ _ _ _ _ _ _ _ _ _ _ _ _ refl c.loop.invariant.so_far c.loop.invariant.after
+    c.in_ok-n.ensures.read
     c.in_ok-decrypt_piece.ensures.deciphered in
     let size : length (take c.in_ok-n.n c.fill_front.new.buffer) ≡ c.in_ok-n.n = length-take-le _ _ (search rules) in
     let counts = length-piece _ _ _ _ _ _ _ _ _ c.in_ok-n.n size c.in_ok-decrypt_piece.ensures.deciphered in
@@ -65,4 +102,6 @@ loop-preserved g c =
     }
 
 pub returns-clause-front : goal.returns-clause-front
-returns-clause-front g c = DecryptsFront-read _ _ _ _ _ _ _ _ [] c.loop.invariant.so_far (Consumes-nil _)
+returns-clause-front g c =
+    HoldsFront-read _ _ _ _ _ _ _ _ _ [] c.loop.invariant.so_far (IsLeft-within _ _ _ c.loop.invariant.left)
+    (Consumes-nil _)

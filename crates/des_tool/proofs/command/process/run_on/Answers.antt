@@ -5,5 +5,5 @@ use Rattle.des_tool.proofs.command.process.run_on.Goals as goal
 
 pub returns : goal.returns
 returns g c =
-    IsRun-from_IsShown g.W.Write.contents (Ok (texts c.args.arguments.now)) c.answer.result _ _ _ _ _ c.answer.ensures.fault
-    c.answer.ensures.answer c.finish.ensures
+    IsRun-from_IsShown g.W.Write.contents g.E.Write.contents (Ok (texts c.args.arguments.now)) c.answer.result _ _ _ _ _
+    c.answer.ensures.fault c.answer.ensures.answer c.finish.ensures

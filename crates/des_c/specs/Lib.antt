@@ -1,0 +1,6 @@
+pub mod PaddingMethods
+pub mod MacContexts
+pub mod Messages
+pub mod PinStatuses
+pub mod CvvStatuses
+pub mod Statuses

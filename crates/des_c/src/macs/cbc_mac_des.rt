@@ -1,0 +1,79 @@
+//! The exports of CBC-MAC over DES.
+
+ghost use Rattle.std.specs.Prelude.{◌≡◌, ◌≢◌, ◌↔◌, ℕ, List, [], ◌++◌, length, pos};
+ghost use Rattle.des.specs.Des.{encryption};
+ghost use Rattle.des_mac.specs.CbcMac.{cbc_mac};
+ghost use Rattle.des_mac.specs.Padding.{padded};
+ghost use Rattle.des_mac.specs.Tags.{IsTruncated};
+ghost use Rattle.des_c.specs.MacContexts.{IsCbcMacDesOf, Stands};
+ghost use Rattle.des_c.specs.PaddingMethods.{padding_by, status_of};
+
+use super::message::{self, Message};
+use super::tags;
+use des_context::contexts::{Context, DesContext};
+
+/// The context of CBC-MAC over DES.
+#[repr(C)]
+#[derive(Clone, Copy)]
+pub struct CbcMacDes {
+    cipher: DesContext,
+    message: Message,
+}
+
+/// Makes the context of a key of 8 bytes and the message of no bytes, with padding method 1 or 2.
+/// The status of a key of another length is 1, of another padding 4, and then the context stays.
+#[unsafe(no_mangle)]
+pub extern "C" fn cukvashe_cbc_mac_des_init(
+    context: &mut CbcMacDes,
+    key: &[u8],
+    padding: u32,
+) -> i32
+    ensures status { result ≡ status_of 8 (length key.now) padding }
+    ensures made { result ≡ pos 0 → IsCbcMacDesOf context.new padding key.now [] }
+    ensures kept { result ≢ pos 0 → context.new ≡ context.old }
+{
+    message::begin(&mut context.cipher, &mut context.message, key, padding)
+}
+
+/// Adds bytes to the message, after those that it has.
+#[unsafe(no_mangle)]
+pub extern "C" fn cukvashe_cbc_mac_des_update(context: &mut CbcMacDes, bytes: &[u8])
+    requires { Stands (IsCbcMacDesOf context.old) }
+    ensures { (padding : ℕ) (key m : List ℕ) → IsCbcMacDesOf context.old padding key m
+        → IsCbcMacDesOf context.new padding key (m ++ bytes.now) }
+{
+    context.message.update(context.cipher.to_cipher(), bytes);
+}
+
+// The tag of the message.
+fn tag_of(context: &CbcMacDes) -> [u8; 8]
+    requires { Stands (IsCbcMacDesOf context.now) }
+    ensures { (padding : ℕ) (key m : List ℕ) → IsCbcMacDesOf context.now padding key m
+        → result ≡ cbc_mac (encryption key) (padded (padding_by padding) m) }
+{
+    tags::cbc_mac(context.cipher.to_cipher(), &context.message)
+}
+
+/// Gives the tag of the message, which may go on.
+#[unsafe(no_mangle)]
+pub extern "C" fn cukvashe_cbc_mac_des_final(context: &CbcMacDes, tag: &mut [u8; 8])
+    requires { Stands (IsCbcMacDesOf context.now) }
+    ensures { (padding : ℕ) (key m : List ℕ) → IsCbcMacDesOf context.now padding key m
+        → tag.new ≡ cbc_mac (encryption key) (padded (padding_by padding) m) }
+{
+    *tag = tag_of(context);
+}
+
+/// Accepts the first 4 to 8 bytes of the tag of the message: the status of all others is 5.
+#[unsafe(no_mangle)]
+pub extern "C" fn cukvashe_cbc_mac_des_verify(context: &CbcMacDes, tag: &[u8]) -> i32
+    requires { Stands (IsCbcMacDesOf context.now) }
+    ensures accepted { (padding : ℕ) (key m : List ℕ) → IsCbcMacDesOf context.now padding key m
+        → (result ≡ pos 0) ↔ IsTruncated tag.now
+        (cbc_mac (encryption key) (padded (padding_by padding) m)) }
+    ensures refused { (padding : ℕ) (key m : List ℕ) → IsCbcMacDesOf context.now padding key m
+        → (result ≡ pos 5) ↔ (IsTruncated tag.now
+        (cbc_mac (encryption key) (padded (padding_by padding) m)) → ⊥) }
+{
+    tags::verified(tag, &tag_of(context))
+}

@@ -1,0 +1,79 @@
+//! The exports of CBC-MAC over triple DES, EDE with three keys.
+
+ghost use Rattle.std.specs.Prelude.{◌≡◌, ◌≢◌, ◌↔◌, ℕ, List, [], ◌++◌, length, pos};
+ghost use Rattle.des.specs.TripleCiphers.{ede3_encryption};
+ghost use Rattle.des_mac.specs.CbcMac.{cbc_mac};
+ghost use Rattle.des_mac.specs.Padding.{padded};
+ghost use Rattle.des_mac.specs.Tags.{IsTruncated};
+ghost use Rattle.des_c.specs.MacContexts.{IsCbcMacTdesEde3Of, Stands};
+ghost use Rattle.des_c.specs.PaddingMethods.{padding_by, status_of};
+
+use super::message::{self, Message};
+use super::tags;
+use des_context::contexts::{Context, TdesEde3Context};
+
+/// The context of CBC-MAC over triple DES, EDE with three keys.
+#[repr(C)]
+#[derive(Clone, Copy)]
+pub struct CbcMacTdesEde3 {
+    cipher: TdesEde3Context,
+    message: Message,
+}
+
+/// Makes the context of a key of 24 bytes and the message of no bytes, with padding method 1 or 2.
+/// The status of a key of another length is 1, of another padding 4, and then the context stays.
+#[unsafe(no_mangle)]
+pub extern "C" fn cukvashe_cbc_mac_tdes_ede3_init(
+    context: &mut CbcMacTdesEde3,
+    key: &[u8],
+    padding: u32,
+) -> i32
+    ensures status { result ≡ status_of 24 (length key.now) padding }
+    ensures made { result ≡ pos 0 → IsCbcMacTdesEde3Of context.new padding key.now [] }
+    ensures kept { result ≢ pos 0 → context.new ≡ context.old }
+{
+    message::begin(&mut context.cipher, &mut context.message, key, padding)
+}
+
+/// Adds bytes to the message, after those that it has.
+#[unsafe(no_mangle)]
+pub extern "C" fn cukvashe_cbc_mac_tdes_ede3_update(context: &mut CbcMacTdesEde3, bytes: &[u8])
+    requires { Stands (IsCbcMacTdesEde3Of context.old) }
+    ensures { (padding : ℕ) (key m : List ℕ) → IsCbcMacTdesEde3Of context.old padding key m
+        → IsCbcMacTdesEde3Of context.new padding key (m ++ bytes.now) }
+{
+    context.message.update(context.cipher.to_cipher(), bytes);
+}
+
+// The tag of the message.
+fn tag_of(context: &CbcMacTdesEde3) -> [u8; 8]
+    requires { Stands (IsCbcMacTdesEde3Of context.now) }
+    ensures { (padding : ℕ) (key m : List ℕ) → IsCbcMacTdesEde3Of context.now padding key m
+        → result ≡ cbc_mac (ede3_encryption key) (padded (padding_by padding) m) }
+{
+    tags::cbc_mac(context.cipher.to_cipher(), &context.message)
+}
+
+/// Gives the tag of the message, which may go on.
+#[unsafe(no_mangle)]
+pub extern "C" fn cukvashe_cbc_mac_tdes_ede3_final(context: &CbcMacTdesEde3, tag: &mut [u8; 8])
+    requires { Stands (IsCbcMacTdesEde3Of context.now) }
+    ensures { (padding : ℕ) (key m : List ℕ) → IsCbcMacTdesEde3Of context.now padding key m
+        → tag.new ≡ cbc_mac (ede3_encryption key) (padded (padding_by padding) m) }
+{
+    *tag = tag_of(context);
+}
+
+/// Accepts the first 4 to 8 bytes of the tag of the message: the status of all others is 5.
+#[unsafe(no_mangle)]
+pub extern "C" fn cukvashe_cbc_mac_tdes_ede3_verify(context: &CbcMacTdesEde3, tag: &[u8]) -> i32
+    requires { Stands (IsCbcMacTdesEde3Of context.now) }
+    ensures accepted { (padding : ℕ) (key m : List ℕ) → IsCbcMacTdesEde3Of context.now padding key m
+        → (result ≡ pos 0) ↔ IsTruncated tag.now
+        (cbc_mac (ede3_encryption key) (padded (padding_by padding) m)) }
+    ensures refused { (padding : ℕ) (key m : List ℕ) → IsCbcMacTdesEde3Of context.now padding key m
+        → (result ≡ pos 5) ↔ (IsTruncated tag.now
+        (cbc_mac (ede3_encryption key) (padded (padding_by padding) m)) → ⊥) }
+{
+    tags::verified(tag, &tag_of(context))
+}

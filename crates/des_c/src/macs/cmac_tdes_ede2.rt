@@ -1,0 +1,72 @@
+//! The exports of CMAC over triple DES, EDE with two keys.
+
+ghost use Rattle.std.specs.Prelude.{◌≡◌, ◌≢◌, ◌↔◌, ℕ, List, [], ◌++◌, length, pos};
+ghost use Rattle.des.specs.TripleCiphers.{ede2_encryption};
+ghost use Rattle.des_mac.specs.Cmac.{cmac};
+ghost use Rattle.des_mac.specs.Tags.{IsTruncated};
+ghost use Rattle.des_c.specs.MacContexts.{IsCmacTdesEde2Of, StandsByKey};
+ghost use Rattle.des_c.specs.PaddingMethods.{status_of};
+
+use super::message::{self, Message};
+use super::tags;
+use des_context::contexts::{Context, TdesEde2Context};
+
+/// The context of CMAC over triple DES, EDE with two keys.
+#[repr(C)]
+#[derive(Clone, Copy)]
+pub struct CmacTdesEde2 {
+    cipher: TdesEde2Context,
+    message: Message,
+}
+
+/// Makes the context of a key of 16 bytes and the message of no bytes. The status of a key of
+/// another length is 1, and then the context stays.
+#[unsafe(no_mangle)]
+pub extern "C" fn cukvashe_cmac_tdes_ede2_init(context: &mut CmacTdesEde2, key: &[u8]) -> i32
+    ensures status { result ≡ status_of 16 (length key.now) 2 }
+    ensures made { result ≡ pos 0 → IsCmacTdesEde2Of context.new key.now [] }
+    ensures kept { result ≢ pos 0 → context.new ≡ context.old }
+{
+    message::begin(&mut context.cipher, &mut context.message, key, 2)
+}
+
+/// Adds bytes to the message, after those that it has.
+#[unsafe(no_mangle)]
+pub extern "C" fn cukvashe_cmac_tdes_ede2_update(context: &mut CmacTdesEde2, bytes: &[u8])
+    requires { StandsByKey (IsCmacTdesEde2Of context.old) }
+    ensures { (key m : List ℕ) → IsCmacTdesEde2Of context.old key m
+        → IsCmacTdesEde2Of context.new key (m ++ bytes.now) }
+{
+    context.message.update(context.cipher.to_cipher(), bytes);
+}
+
+// The tag of the message.
+fn tag_of(context: &CmacTdesEde2) -> [u8; 8]
+    requires { StandsByKey (IsCmacTdesEde2Of context.now) }
+    ensures { (key m : List ℕ) → IsCmacTdesEde2Of context.now key m
+        → result ≡ cmac (ede2_encryption key) m }
+{
+    tags::cmac(context.cipher.to_cipher(), &context.message)
+}
+
+/// Gives the tag of the message, which may go on.
+#[unsafe(no_mangle)]
+pub extern "C" fn cukvashe_cmac_tdes_ede2_final(context: &CmacTdesEde2, tag: &mut [u8; 8])
+    requires { StandsByKey (IsCmacTdesEde2Of context.now) }
+    ensures { (key m : List ℕ) → IsCmacTdesEde2Of context.now key m
+        → tag.new ≡ cmac (ede2_encryption key) m }
+{
+    *tag = tag_of(context);
+}
+
+/// Accepts the first 4 to 8 bytes of the tag of the message: the status of all others is 5.
+#[unsafe(no_mangle)]
+pub extern "C" fn cukvashe_cmac_tdes_ede2_verify(context: &CmacTdesEde2, tag: &[u8]) -> i32
+    requires { StandsByKey (IsCmacTdesEde2Of context.now) }
+    ensures accepted { (key m : List ℕ) → IsCmacTdesEde2Of context.now key m
+        → (result ≡ pos 0) ↔ IsTruncated tag.now (cmac (ede2_encryption key) m) }
+    ensures refused { (key m : List ℕ) → IsCmacTdesEde2Of context.now key m
+        → (result ≡ pos 5) ↔ (IsTruncated tag.now (cmac (ede2_encryption key) m) → ⊥) }
+{
+    tags::verified(tag, &tag_of(context))
+}

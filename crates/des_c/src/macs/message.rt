@@ -1,0 +1,76 @@
+//! What the contexts of all MACs have of a message.
+
+ghost use Rattle.std.specs.Prelude.{◌≡◌, ◌≢◌, ℕ, List, [], ◌++◌, length, pos};
+ghost use Rattle.des.specs.Blocks.{IsKey};
+ghost use Rattle.des_mac.specs.IsProgress.{HoldsOneBlock, IsProgressOf};
+ghost use Rattle.des_c.specs.PaddingMethods.{status_of};
+
+use des::cipher::{KeyInit, KeyedCipher};
+use des_context::calls::{DONE, KEY_LENGTH};
+use des_mac::{CbcMac, Mac, Method1, Progress};
+
+/// The status of a number that is no padding method's.
+pub const PADDING: i32 = 4;
+
+/// How far a MAC has come in its message, and the number of the padding method.
+#[repr(C)]
+#[derive(Clone, Copy)]
+pub struct Message {
+    pub(crate) progress: Progress,
+    pub(crate) padding: u32,
+}
+
+impl Message {
+    // The message of no bytes.
+    pub(crate) fn new(padding: u32) -> Message
+        ensures progress { (encryption : List ℕ → List ℕ)
+            → IsProgressOf encryption result.progress [] }
+        ensures padding { result.padding ≡ padding }
+    {
+        Message {
+            progress: Progress::new(),
+            padding,
+        }
+    }
+
+    // Adds bytes, under the cipher of the chain. All MACs take bytes in alike, by the chain.
+    pub(crate) fn update<C: KeyedCipher + Drop>(&mut self, cipher: C, bytes: &[u8])
+        requires { HoldsOneBlock self.old.progress }
+        ensures progress { (key m : List ℕ) → IsKey C.KEY_SIZE key → C.is_made_from cipher key
+            → IsProgressOf (C.encryption key) self.old.progress m
+            → IsProgressOf (C.encryption key) self.new.progress (m ++ bytes.now) }
+        ensures padding { self.new.padding ≡ self.old.padding }
+    {
+        let mut mac = CbcMac::<C, Method1>::resume(cipher, &self.progress);
+        mac.update(bytes);
+        self.progress = mac.progress();
+    }
+}
+
+// Makes the context of a cipher of the bytes of a key, and the message of no bytes with a padding.
+pub fn begin<K: KeyInit + Drop>(
+    cipher: &mut K,
+    message: &mut Message,
+    key: &[u8],
+    padding: u32,
+) -> i32
+    ensures status { result ≡ status_of K.KEY_SIZE (length key.now) padding }
+    ensures made { result ≡ pos 0 → K.is_made_from cipher.new key.now }
+    ensures begun { result ≡ pos 0 → (encryption : List ℕ → List ℕ)
+        → IsProgressOf encryption message.new.progress [] }
+    ensures padded_by { result ≡ pos 0 → message.new.padding ≡ padding }
+    ensures kept { result ≢ pos 0 → cipher.new ≡ cipher.old }
+    ensures kept_message { result ≢ pos 0 → message.new ≡ message.old }
+{
+    match K::new_from_slice(key) {
+        Err(_) => KEY_LENGTH,
+        Ok(made) => {
+            if padding != 1 && padding != 2 {
+                return PADDING;
+            }
+            *cipher = made;
+            *message = Message::new(padding);
+            DONE
+        }
+    }
+}

@@ -1,0 +1,94 @@
+//! The exports of the retail MAC over DES.
+
+ghost use Rattle.std.specs.Prelude.{◌≡◌, ◌≢◌, ◌↔◌, ℕ, List, [], ◌++◌, length, pos};
+ghost use Rattle.des.specs.Des.{encryption, decryption};
+ghost use Rattle.des_mac.specs.Padding.{padded};
+ghost use Rattle.des_mac.specs.RetailMac.{retail_mac_of};
+ghost use Rattle.des_mac.specs.Tags.{IsTruncated};
+ghost use Rattle.des_c.specs.MacContexts.{IsRetailMacDesOf, Stands};
+ghost use Rattle.des_c.specs.PaddingMethods.{padding_by, status_of};
+
+use super::message::{self, Message};
+use super::tags;
+use des_context::calls::{self, DONE, KEY_LENGTH};
+use des_context::contexts::{Context, DesContext};
+
+/// The context of the retail MAC over DES.
+#[repr(C)]
+#[derive(Clone, Copy)]
+pub struct RetailMacDes {
+    first: DesContext,
+    second: DesContext,
+    message: Message,
+}
+
+/// Makes the context of a key of 16 bytes, two keys of 8, and the message of no bytes, with padding
+/// method 1 or 2. The status of a key of another length is 1, of another padding 4, and then the
+/// context stays.
+#[unsafe(no_mangle)]
+pub extern "C" fn cukvashe_retail_mac_des_init(
+    context: &mut RetailMacDes,
+    key: &[u8],
+    padding: u32,
+) -> i32
+    ensures status { result ≡ status_of 16 (length key.now) padding }
+    ensures made { result ≡ pos 0 → IsRetailMacDesOf context.new padding key.now [] }
+    ensures kept { result ≢ pos 0 → context.new ≡ context.old }
+{
+    if key.len() != 16 {
+        return KEY_LENGTH;
+    }
+    let (first, second) = key.split_at(8);
+    let status = message::begin(&mut context.first, &mut context.message, first, padding);
+    if status == DONE {
+        calls::init(&mut context.second, second);
+    }
+    status
+}
+
+/// Adds bytes to the message, after those that it has.
+#[unsafe(no_mangle)]
+pub extern "C" fn cukvashe_retail_mac_des_update(context: &mut RetailMacDes, bytes: &[u8])
+    requires { Stands (IsRetailMacDesOf context.old) }
+    ensures { (padding : ℕ) (key m : List ℕ) → IsRetailMacDesOf context.old padding key m
+        → IsRetailMacDesOf context.new padding key (m ++ bytes.now) }
+{
+    context.message.update(context.first.to_cipher(), bytes);
+}
+
+// The tag of the message.
+fn tag_of(context: &RetailMacDes) -> [u8; 8]
+    requires { Stands (IsRetailMacDesOf context.now) }
+    ensures { (padding : ℕ) (key m : List ℕ) → IsRetailMacDesOf context.now padding key m
+        → result ≡ retail_mac_of 8 encryption decryption key (padded (padding_by padding) m) }
+{
+    tags::retail_mac(
+        context.first.to_cipher(),
+        context.second.to_cipher(),
+        &context.message,
+    )
+}
+
+/// Gives the tag of the message, which may go on.
+#[unsafe(no_mangle)]
+pub extern "C" fn cukvashe_retail_mac_des_final(context: &RetailMacDes, tag: &mut [u8; 8])
+    requires { Stands (IsRetailMacDesOf context.now) }
+    ensures { (padding : ℕ) (key m : List ℕ) → IsRetailMacDesOf context.now padding key m
+        → tag.new ≡ retail_mac_of 8 encryption decryption key (padded (padding_by padding) m) }
+{
+    *tag = tag_of(context);
+}
+
+/// Accepts the first 4 to 8 bytes of the tag of the message: the status of all others is 5.
+#[unsafe(no_mangle)]
+pub extern "C" fn cukvashe_retail_mac_des_verify(context: &RetailMacDes, tag: &[u8]) -> i32
+    requires { Stands (IsRetailMacDesOf context.now) }
+    ensures accepted { (padding : ℕ) (key m : List ℕ) → IsRetailMacDesOf context.now padding key m
+        → (result ≡ pos 0) ↔ IsTruncated tag.now
+        (retail_mac_of 8 encryption decryption key (padded (padding_by padding) m)) }
+    ensures refused { (padding : ℕ) (key m : List ℕ) → IsRetailMacDesOf context.now padding key m
+        → (result ≡ pos 5) ↔ (IsTruncated tag.now
+        (retail_mac_of 8 encryption decryption key (padded (padding_by padding) m)) → ⊥) }
+{
+    tags::verified(tag, &tag_of(context))
+}

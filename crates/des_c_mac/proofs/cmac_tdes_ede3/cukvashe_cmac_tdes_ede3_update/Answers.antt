@@ -1,7 +1,0 @@
-use Rattle.des_c_mac.proofs.cmac_tdes_ede3.cukvashe_cmac_tdes_ede3_update.Goals as goal
-
-pub returns : goal.returns
-returns c key m is = record {
-  made = is.made;
-  progress = c.update.ensures.progress key m is.made.0 (c.to_cipher.ensures key is.made) is.progress;
-}

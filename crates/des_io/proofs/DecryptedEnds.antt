@@ -1,0 +1,162 @@
+-- The end of a stream that is decrypted: its last block without the padding, or wrong padding.
+use Rattle.std.proofs.Common.{◌≡◌, ◌≢◌, inr, ℕ, ◌-◌, ◌%◌, List, [], ◌++◌, Option, None, Some, length, take, drop, refl, ap, sym, subst, ◌∙◌, arith, append_assoc, append-nil, take-append-drop, length-append, take_at, drop_at}
+use Rattle.std.specs.Prelude.{Err}
+use Rattle.std.specs.Io.KnownBytes.{Appends, IsAtEnd}
+use Rattle.std.proofs.KnownBytes.{Appends-trans, Consumes-nil}
+use Rattle.des_io.specs.PaddedBytes.{padded, padding_after}
+use Rattle.des_io.specs.Streams.{joined, bytes_of, IsBlockIfThere, IsWithin, HoldsLast, Decrypts}
+use Rattle.des_io.specs.StreamFaults.{EndsStream, IsWronglyPadded, FailsToDecrypt}
+use Rattle.des_io.specs.declared.error.StreamError.{StreamError}
+use Rattle.des_io.specs.declared.error.StreamError.TheVariants.{Read, Write, Length, Start, Padding as WrongPadding}
+use Rattle.des_io.specs.declared.mode.Mode.{Mode}
+use Rattle.des_io.specs.declared.padding.Padding.{Padding}
+use Rattle.des_io.specs.declared.padding.Padding.TheVariants.{Pkcs7, Iso7816, Unpadded}
+use Rattle.des_io.proofs.DecryptedFronts.{DeciphersFront-ended, HoldsFront-read, WithinFront, WithinFront-held}
+use Rattle.des_io.proofs.DecryptedPieces.{even_bytes}
+use Rattle.des_io.proofs.PaddedLists.{padded-append, last_block}
+
+-- what was written and the last block are whole blocks
+even_whole : (decryption : List ℕ → List ℕ) (mode : Mode) (r s u v : Option (List ℕ)) (held : Option (List ℕ))
+    → (so_far : HoldsLast decryption mode r s u v held) → length (joined so_far.p) % 8 ≡ 0
+even_whole decryption mode r s u v held so_far =
+    omega (
+      arith,
+      ap length (sym so_far.whole) ∙ length-append so_far.put
+          (bytes_of held),
+      so_far.even,
+      even_bytes held so_far.size,
+    )
+
+-- the last bytes without their padding
+pub Decrypts-ended : (decryption : List ℕ → List ℕ) (mode : Mode) (padding : Padding) (r s u v w : Option (List ℕ))
+    (held : Option (List ℕ)) (plain : List ℕ)
+    → (so_far : HoldsLast decryption mode r s u v held) → padded padding plain ≡ bytes_of held → Appends v w plain
+    → (all : Decrypts decryption mode padding r s u w) × (all.q ≡ so_far.q)
+Decrypts-ended decryption mode padding r s u v w held plain so_far is written = (
+  record {
+    q = so_far.q;
+    p = so_far.p;
+    plain = so_far.put ++ plain;
+    read = so_far.read;
+    blocks = so_far.blocks;
+    deciphered = so_far.deciphered;
+    whole = sym so_far.whole ∙ ap (λ l. so_far.put ++ l) (sym is)
+        ∙ sym (padded-append padding so_far.put plain so_far.even);
+    even = even_whole decryption mode r s u v held so_far;
+    written = Appends-trans u v w _ _ so_far.written written;
+  },
+  refl,
+)
+
+-- a prefix of them
+pub WithinFront-ended : (decryption : List ℕ → List ℕ) (mode : Mode) (padding : Padding) (limit : Option ℕ)
+    (r s u v w : Option (List ℕ))
+    (held : Option (List ℕ)) (plain put missing : List ℕ) → (so_far : HoldsLast decryption mode r s u v held)
+    → IsWithin limit (length so_far.q)
+    → IsAtEnd s → padded padding plain ≡ bytes_of held → put ++ missing ≡ plain → Appends v w put
+    → WithinFront decryption mode padding limit r s u w
+WithinFront-ended decryption mode padding limit r s u v w held plain put missing so_far within end is begins written =
+    let after = padding_after padding (length plain % 8) in
+    let front = sym (append_assoc put missing after) ∙ ap (λ l. l ++ after) begins ∙ is in
+    record {
+      front = DeciphersFront-ended decryption mode r s u v w held put (missing ++ after) so_far front written;
+      within = within;
+      held = inr record {
+        plain = so_far.put ++ plain;
+        missing = missing;
+        end = end;
+        all = refl;
+        whole = padded-append padding so_far.put plain so_far.even ∙ ap (λ l. so_far.put ++ l) is ∙ so_far.whole;
+        begins = append_assoc so_far.put put missing ∙ ap (λ l. so_far.put ++ l) begins;
+      };
+    }
+
+-- ---- wrong padding
+
+same_after : (front a b : List ℕ) → front ++ a ≡ front ++ b → a ≡ b
+same_after front a b same =
+    sym (drop_at front a (length front) refl) ∙ ap (drop (length front)) same ∙ drop_at front b (length front) refl
+
+-- what is not the last bytes with their padding is not the whole with its padding
+wrong_whole : (padding : Padding) (held : Option (List ℕ)) (front all : List ℕ) → IsBlockIfThere held
+    → length front % 8 ≡ 0 → front ++ bytes_of held ≡ all
+    → (held ≡ None → all ≡ []) → ((plain : List ℕ) → padded padding plain ≢ bytes_of held) → (plain : List ℕ)
+    → padded padding plain ≢ all
+wrong_whole Unpadded held front all size even is none wrong plain same = absurd
+    (wrong (bytes_of held) (append-nil (bytes_of held)))
+wrong_whole Pkcs7 None front all size even is none wrong plain same = absurd (wrong plain (same ∙ none refl))
+wrong_whole Iso7816 None front all size even is none wrong plain same = absurd (wrong plain (same ∙ none refl))
+wrong_whole Pkcs7 (Some block) front all size even is none wrong plain same =
+    let (rest, split) = last_block Pkcs7 plain front block (λ e. cc) size (same ∙ sym is) in
+    wrong rest (same_after front _ _ (sym (padded-append Pkcs7 front rest even) ∙ ap (padded Pkcs7) (sym split) ∙ same
+    ∙ sym is))
+wrong_whole Iso7816 (Some block) front all size even is none wrong plain same =
+    let (rest, split) = last_block Iso7816 plain front block (λ e. cc) size (same ∙ sym is) in
+    wrong rest (same_after front _ _ (sym (padded-append Iso7816 front rest even) ∙ ap (padded Iso7816) (sym split)
+    ∙ same ∙ sym is))
+
+-- all but a block that may be there
+all_but : (held : Option (List ℕ)) (front all : List ℕ) → IsBlockIfThere held → front ++ bytes_of held ≡ all
+    → (held ≡ None → all ≡ [])
+    → take (length all - 8) all ≡ front
+all_but None front all size is none =
+    let empty : all ≡ [] = none refl in
+    ap (λ l. take (length l - 8) l) empty ∙ sym empty ∙ sym is ∙ append-nil front
+all_but (Some block) front all size is none =
+    let count : length all - 8 ≡ length front = omega (arith, ap length (sym is) ∙ length-append front block, size) in
+    ap (λ n. take n all) count ∙ ap (take (length front)) (sym is) ∙ take_at front block (length front) refl
+
+pub IsWronglyPadded-ended : (decryption : List ℕ → List ℕ) (mode : Mode) (padding : Padding)
+    (r s u v w : Option (List ℕ)) (held : Option (List ℕ))
+    → (so_far : HoldsLast decryption mode r s u v held) → ((plain : List ℕ) → padded padding plain ≢ bytes_of held)
+    → w ≡ v
+    → IsAtEnd s → (wrong : IsWronglyPadded decryption mode padding r s u w) × (wrong.q ≡ so_far.q)
+IsWronglyPadded-ended decryption mode padding r s u v w held so_far wrong same end =
+    let none : held ≡ None → joined so_far.p ≡ [] = λ e. ap joined (so_far.none e) in (
+      record {
+        q = so_far.q;
+        p = so_far.p;
+        read = so_far.read;
+        end = end;
+        blocks = so_far.blocks;
+        deciphered = so_far.deciphered;
+        wrong = wrong_whole padding held so_far.put (joined so_far.p) so_far.size so_far.even so_far.whole none wrong;
+        written = subst (Appends u w) (sym (all_but held so_far.put (joined so_far.p) so_far.size so_far.whole none))
+            (subst (λ (x : Option (List ℕ)). Appends u x so_far.put) (sym same) so_far.written);
+      },
+      refl,
+    )
+
+-- ---- faults at the end
+
+-- what a fault at the end says
+pub FailsToDecrypt-ended : (fault : StreamError) (decryption : List ℕ → List ℕ) (mode : Mode) (padding : Padding)
+    (r s u v w : Option (List ℕ))
+    (held : Option (List ℕ)) → HoldsLast decryption mode r s u v held
+    → EndsStream padding (bytes_of held) v w (Err fault)
+    → IsAtEnd s → FailsToDecrypt fault decryption mode padding r s u w
+FailsToDecrypt-ended (Read error) decryption mode padding r s u v w held so_far ended end = absurd ended.0
+FailsToDecrypt-ended (Write error) decryption mode padding r s u v w held so_far ended end = ended.0
+FailsToDecrypt-ended (Length past) decryption mode padding r s u v w held so_far ended end = absurd ended.0
+FailsToDecrypt-ended Start decryption mode padding r s u v w held so_far ended end = absurd ended.0
+FailsToDecrypt-ended WrongPadding decryption mode padding r s u v w held so_far ended end =
+    (IsWronglyPadded-ended decryption mode padding r s u v w held so_far ended.0 ended.1 end).0
+
+-- and the prefix that was written before it
+pub WithinFront-fault : (fault : StreamError) (decryption : List ℕ → List ℕ) (mode : Mode) (padding : Padding)
+    (limit : Option ℕ)
+    (r s u v w : Option (List ℕ)) (held : Option (List ℕ)) → (so_far : HoldsLast decryption mode r s u v held)
+    → IsWithin limit (length so_far.q)
+    → EndsStream padding (bytes_of held) v w (Err fault) → IsAtEnd s → WithinFront decryption mode padding limit r s u w
+WithinFront-fault WrongPadding decryption mode padding limit r s u v w held so_far within ended end =
+    let holds = HoldsFront-read decryption mode limit r s s u v held [] so_far within (Consumes-nil s) in
+    subst (λ (x : Option (List ℕ)). WithinFront decryption mode padding limit r s u x) (sym ended.1)
+    (WithinFront-held decryption mode padding limit r s u v holds)
+WithinFront-fault (Read error) decryption mode padding limit r s u v w held so_far within ended end = absurd ended.0
+WithinFront-fault Start decryption mode padding limit r s u v w held so_far within ended end = absurd ended.0
+WithinFront-fault (Length past) decryption mode padding limit r s u v w held so_far within ended end = absurd ended.0
+WithinFront-fault (Write error) decryption mode padding limit r s u v w held so_far within ended end =
+    let (plain, k, is, written) = ended.1 in
+    WithinFront-ended decryption mode padding limit r s u v w held plain (take k plain)
+    (drop k plain) so_far within end is
+    (take-append-drop k plain) written

@@ -1,2 +1,0 @@
-pub mod AlikeAnswers
-pub mod BlockLists

@@ -1,0 +1,10 @@
+//! Tests of the libraries, and of their callers. There is nothing here but tests;
+//! `known_answers.txt` beside this folder has values for runs of programs and for tests in C.
+#![tactic(auto)]
+
+#[cfg(test)]
+mod callers;
+#[cfg(test)]
+mod libraries;
+#[cfg(test)]
+mod payment;

@@ -1,0 +1,7 @@
+//! What tests show of `des_payment` for callers in Rattle alone: the call and the texts that the
+//! exports for C do not reach, and the caller that `docs/CALLING.md` shows. All else is shown by
+//! `bindings/test` and by `crates/des_payment_tool/tests/run`.
+
+mod check_values;
+mod dukpt;
+mod pin;

@@ -1,0 +1,4 @@
+pub mod AlikeAnswers
+pub mod BlockLists
+pub mod ReversedSchedules
+pub mod JoinedParts

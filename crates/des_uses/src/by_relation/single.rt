@@ -1,0 +1,39 @@
+//! `Des` of `des`.
+
+ghost use Rattle.std.specs.Prelude.{◌≡◌, ◌↔◌, IsTrue};
+ghost use Rattle.des.specs.Relations.{IsTheOne};
+ghost use Rattle.des.specs.Enciphering.{Enciphers};
+
+use super::{answers_alike, relates};
+use des::Des;
+use des::cipher::{BlockCipherDecrypt, BlockCipherEncrypt, KeyInit};
+
+/// What a block becomes by encryption under the key, and what it becomes by decryption.
+pub fn answers_of_des(key: &[u8; 8], block: &[u8; 8]) -> ([u8; 8], [u8; 8])
+    ensures enciphers { IsTheOne (λ answer. Enciphers key.now block.now answer) result.0 }
+    ensures deciphers { IsTheOne (λ answer. Enciphers key.now answer block.now) result.1 }
+{
+    let cipher = Des::new(key);
+    let (mut encrypted, mut decrypted) = (*block, *block);
+    cipher.encrypt_block(&mut encrypted);
+    cipher.decrypt_block(&mut decrypted);
+    (encrypted, decrypted)
+}
+
+/// Whether the key takes a block to another: by encryption of the one, and by decryption of the
+/// other.
+pub fn relates_des(key: &[u8; 8], block: &[u8; 8], answer: &[u8; 8]) -> (bool, bool)
+    ensures there { IsTrue result.0 ↔ Enciphers key.now block.now answer.now }
+    ensures back { IsTrue result.1 ↔ Enciphers key.now block.now answer.now }
+{
+    let cipher = Des::new(key);
+    relates(&cipher, key, block, answer)
+}
+
+/// Whether the key makes one answer of two blocks: only where they are one block.
+pub fn answers_alike_des(key: &[u8; 8], block: &[u8; 8], other: &[u8; 8]) -> bool
+    ensures { IsTrue result ↔ (block.now ≡ other.now) }
+{
+    let cipher = Des::new(key);
+    answers_alike(&cipher, key, block, other)
+}

@@ -1,0 +1,43 @@
+//! Lists under `des_fast::Des`, which the calls name by its type: what a caller that writes
+//! `cipher.encrypt_many(blocks)` gets, by the relation of the key.
+
+ghost use Rattle.des.specs.Blocks.{AnswersEach};
+ghost use Rattle.des.specs.Cbc.{Chains};
+ghost use Rattle.des.specs.Enciphering.{Enciphers};
+ghost use Rattle.des.specs.Relations.{IsTheOneList};
+
+use des::cipher::{KeyInit, Relating};
+use des_fast::Des;
+use des_fast::many::ManyBlocks;
+
+/// Encrypts in place each block of a list under a key: each is related to the one at its place, and
+/// no other list is so related.
+pub fn encrypt_list_by_fast_des(key: &[u8; 8], blocks: &mut [[u8; 8]])
+    ensures { IsTheOneList
+        (λ answers. AnswersEach (λ x y. Enciphers key.now x y) blocks.old answers) blocks.new }
+{
+    let cipher = Des::new(key);
+    cipher.relate_lists();
+    cipher.encrypt_many(blocks);
+}
+
+/// Decrypts in place each block of a list under a key: the list is the one whose blocks the key
+/// relates to those that stood there.
+pub fn decrypt_list_by_fast_des(key: &[u8; 8], blocks: &mut [[u8; 8]])
+    ensures { IsTheOneList
+        (λ answers. AnswersEach (λ x y. Enciphers key.now x y) answers blocks.old) blocks.new }
+{
+    let cipher = Des::new(key);
+    cipher.relate_lists();
+    cipher.decrypt_many(blocks);
+}
+
+/// Decrypts in place a list that CBC under a key chained from the initialization vector: DES under
+/// the key takes each new block xor the block of the list before it, or for the first the vector,
+/// to the block of the list.
+pub fn unchain_by_fast_des(key: &[u8; 8], iv: &[u8; 8], blocks: &mut [[u8; 8]])
+    ensures { Chains (λ x y. Enciphers key.now x y) iv.now blocks.new blocks.old }
+{
+    let cipher = Des::new(key);
+    cipher.decrypt_cbc(iv, blocks);
+}

@@ -1,0 +1,26 @@
+//! What stands above the ciphers of `des` and `des_fast`, the MACs and the streams: callers that
+//! rest on their contracts and laws alone, and two ciphers that hide nothing. Nothing here is part
+//! of the product.
+#![tactic(auto)]
+
+pub mod both_libraries;
+pub mod by_relation;
+pub mod chaining;
+pub mod clones;
+pub mod complements;
+pub mod fast_lists;
+pub mod kept_macs;
+pub mod long_records;
+pub mod macs;
+pub mod macs_by_relation;
+pub mod macs_by_type;
+pub mod odd_ciphers;
+pub mod partners;
+pub mod records;
+pub mod related_lists;
+pub mod round_keys;
+pub mod sizes;
+pub mod spread_lists;
+pub mod streams;
+pub mod there_and_back;
+pub mod verdicts;

@@ -1,0 +1,45 @@
+//! The round keys of keys: what the clauses of `Des::round_keys`, `Des::distinct_round_keys` and
+//! `equal_but_parity` give to a caller.
+
+ghost use Rattle.std.specs.Prelude.{◌≡◌, ◌↔◌, ◌<◌, IsTrue, IfSome, nat_eq};
+ghost use Rattle.std.specs.Set.{distinct_count};
+ghost use Rattle.des.specs.Bits.{bits_of_bytes};
+ghost use Rattle.des.specs.KeyHalves.{HalvesRepeat, HasListedHalves};
+ghost use Rattle.des.specs.RoundKeyWords.{HoldRoundKeys};
+
+use des::Des;
+use des::cipher::KeyInit;
+use des::weak_key::equal_but_parity;
+
+/// The round keys K(1) to K(16) of a key, each in the first 48 bits of its word, and how many
+/// different words there are.
+pub fn counted_round_keys(key: &[u8; 8]) -> ([u64; 16], u8)
+    ensures held { HoldRoundKeys result.0 (bits_of_bytes key.now) }
+    ensures count { result.1 ≡ distinct_count nat_eq result.0 }
+{
+    let cipher = Des::new(key);
+    (*cipher.round_keys(), cipher.distinct_round_keys())
+}
+
+/// Whether a key has one round key, and whether it has more than four. The halves C and D of the
+/// one are constant, and those of the other neither repeat every four bits nor are of the listed
+/// class.
+pub fn has_one_or_many(key: &[u8; 8]) -> (bool, bool)
+    ensures one { IsTrue result.0 ↔ HalvesRepeat 1 key.now }
+    ensures unlisted { IsTrue result.1 → ¬ (HasListedHalves key.now) }
+    ensures unrepeated { IsTrue result.1 → ¬ (HalvesRepeat 4 key.now) }
+{
+    let count = Des::new(key).distinct_round_keys();
+    (count == 1, 4 < count)
+}
+
+/// The round keys of two keys that agree outside parity: those of the one are those of the other.
+pub fn shared_round_keys(first: &[u8; 8], second: &[u8; 8]) -> Option<[u64; 16]>
+    ensures first { IfSome result (λ words. HoldRoundKeys words (bits_of_bytes first.now)) }
+    ensures second { IfSome result (λ words. HoldRoundKeys words (bits_of_bytes second.now)) }
+{
+    if !equal_but_parity(first, second) {
+        return None;
+    }
+    Some(*Des::new(first).round_keys())
+}

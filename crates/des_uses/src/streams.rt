@@ -1,0 +1,191 @@
+//! Callers of the streams of `des_io`, over any cipher, reader and writer, with buffers of their own:
+//! what CBC and PKCS#7 make of what is read, a part of a list of chained blocks, and two parts that
+//! joined are the whole.
+
+ghost use Rattle.std.specs.Prelude.{◌≡◌, ◌*◌, ◌≤◌, ℕ, List, length, IfOk, IfErr};
+ghost use Rattle.std.specs.Prelude.{Some, None};
+ghost use Rattle.std.specs.Io.KnownBytes.{IsAtEnd};
+ghost use Rattle.des_io.specs.Streams.{Encrypts, EncryptsFront, Decrypts, DecryptsFront};
+ghost use Rattle.des_io.specs.Streams.{Skips, DecryptsPart, DecryptsPartFront};
+ghost use Rattle.des_io.specs.StreamFaults.{FailsToEncrypt, FailsToDecrypt, FailsToSkip};
+ghost use Rattle.des_io.specs.StreamFaults.{FailsInPart};
+ghost use Rattle.des_io.specs.declared.error.StreamError.TheVariants.{Start};
+ghost use Rattle.des_io.specs.declared.mode.Mode.TheVariants.{Cbc};
+ghost use Rattle.des_io.specs.declared.padding.Padding.TheVariants.{Pkcs7};
+
+use des_fast::many::ManyBlocks;
+use des_io::{
+    Mode, Padding, StreamError, decrypt_part, decrypt_stream, encrypt_stream, skip_blocks,
+};
+use std::io::{Read, Write};
+
+/// Encrypts by CBC what a reader gives, with the padding of PKCS#7.
+pub fn encrypt<R: Read, W: Write, C: ManyBlocks>(
+    cipher: &C,
+    iv: [u8; 8],
+    reader: &mut R,
+    writer: &mut W,
+) -> Result<(), StreamError>
+    ensures done { IfOk result (λ _. Encrypts (C.encrypted cipher.now) (Cbc iv) Pkcs7
+        (R.remaining reader.old) (R.remaining reader.new)
+        (W.contents writer.old) (W.contents writer.new)) }
+    ensures end { IfOk result (λ _. IsAtEnd (R.remaining reader.new)) }
+    ensures front { EncryptsFront (C.encrypted cipher.now) (Cbc iv) Pkcs7
+        (R.remaining reader.old) (R.remaining reader.new)
+        (W.contents writer.old) (W.contents writer.new) }
+    ensures fault { IfErr result (λ fault. FailsToEncrypt fault Pkcs7
+        (R.remaining reader.old) (R.remaining reader.new)) }
+{
+    let mode = Mode::Cbc(iv);
+    let mut bytes = [0; 4096];
+    let mut blocks = [[0; 8]; 512];
+    encrypt_stream(
+        cipher,
+        mode,
+        Padding::Pkcs7,
+        reader,
+        writer,
+        &mut bytes,
+        &mut blocks,
+    )
+}
+
+/// Decrypts what `encrypt` wrote.
+pub fn decrypt<R: Read, W: Write, C: ManyBlocks>(
+    cipher: &C,
+    iv: [u8; 8],
+    reader: &mut R,
+    writer: &mut W,
+) -> Result<(), StreamError>
+    ensures done { IfOk result (λ _. Decrypts (C.decrypted cipher.now) (Cbc iv) Pkcs7
+        (R.remaining reader.old) (R.remaining reader.new)
+        (W.contents writer.old) (W.contents writer.new)) }
+    ensures end { IfOk result (λ _. IsAtEnd (R.remaining reader.new)) }
+    ensures front { DecryptsFront (C.decrypted cipher.now) (Cbc iv) Pkcs7
+        (R.remaining reader.old) (R.remaining reader.new)
+        (W.contents writer.old) (W.contents writer.new) }
+    ensures fault { IfErr result (λ fault. FailsToDecrypt fault (C.decrypted cipher.now) (Cbc iv) Pkcs7
+        (R.remaining reader.old) (R.remaining reader.new)
+        (W.contents writer.old) (W.contents writer.new)) }
+{
+    let mode = Mode::Cbc(iv);
+    let mut bytes = [0; 4096];
+    let mut blocks = [[0; 8]; 512];
+    decrypt_stream(
+        cipher,
+        mode,
+        Padding::Pkcs7,
+        reader,
+        writer,
+        &mut bytes,
+        &mut blocks,
+    )
+}
+
+/// Reads the first `from` blocks of what `encrypt` wrote, and gives how the part goes on from them.
+pub fn begin_part<R: Read>(iv: [u8; 8], from: u64, reader: &mut R) -> Result<Mode, StreamError>
+    ensures skips { IfOk result (λ next. Skips (Cbc iv) next from
+        (R.remaining reader.old) (R.remaining reader.new)) }
+    ensures fault { IfErr result (λ fault. FailsToSkip fault from
+        (R.remaining reader.old) (R.remaining reader.new)) }
+{
+    let mut bytes = [0; 4096];
+    let mut blocks = [[0; 8]; 512];
+    skip_blocks(Mode::Cbc(iv), from, reader, &mut bytes, &mut blocks)
+}
+
+/// Decrypts a part of `count` blocks, or of fewer where the reader ends before.
+pub fn decrypt_blocks_of_part<R: Read, W: Write, C: ManyBlocks>(
+    cipher: &C,
+    mode: Mode,
+    count: u64,
+    reader: &mut R,
+    writer: &mut W,
+) -> Result<(), StreamError>
+    ensures done { IfOk result (λ _. DecryptsPart (C.decrypted cipher.now) mode Pkcs7 (Some count)
+        (R.remaining reader.old) (R.remaining reader.new)
+        (W.contents writer.old) (W.contents writer.new)) }
+    ensures front { DecryptsPartFront (C.decrypted cipher.now) mode Pkcs7 (Some count)
+        (R.remaining reader.old) (R.remaining reader.new)
+        (W.contents writer.old) (W.contents writer.new) }
+    ensures fault { IfErr result (λ fault. FailsInPart fault (C.decrypted cipher.now)
+        mode Pkcs7 (Some count)
+        (R.remaining reader.old) (R.remaining reader.new)
+        (W.contents writer.old) (W.contents writer.new)) }
+{
+    let padding = Padding::Pkcs7;
+    let mut bytes = [0; 4096];
+    let mut blocks = [[0; 8]; 512];
+    let limit = Some(count);
+    decrypt_part(
+        cipher,
+        mode,
+        padding,
+        limit,
+        reader,
+        writer,
+        &mut bytes,
+        &mut blocks,
+    )
+}
+
+/// Decrypts all that follows the blocks that `begin_part` read.
+pub fn decrypt_rest<R: Read, W: Write, C: ManyBlocks>(
+    cipher: &C,
+    mode: Mode,
+    reader: &mut R,
+    writer: &mut W,
+) -> Result<(), StreamError>
+    ensures done { IfOk result (λ _. DecryptsPart (C.decrypted cipher.now) mode Pkcs7 None
+        (R.remaining reader.old) (R.remaining reader.new)
+        (W.contents writer.old) (W.contents writer.new)) }
+    ensures front { DecryptsPartFront (C.decrypted cipher.now) mode Pkcs7 None
+        (R.remaining reader.old) (R.remaining reader.new)
+        (W.contents writer.old) (W.contents writer.new) }
+    ensures fault { IfErr result (λ fault. FailsInPart fault (C.decrypted cipher.now)
+        mode Pkcs7 None
+        (R.remaining reader.old) (R.remaining reader.new)
+        (W.contents writer.old) (W.contents writer.new)) }
+{
+    let padding = Padding::Pkcs7;
+    let mut bytes = [0; 4096];
+    let mut blocks = [[0; 8]; 512];
+    decrypt_part(
+        cipher,
+        mode,
+        padding,
+        None,
+        reader,
+        writer,
+        &mut bytes,
+        &mut blocks,
+    )
+}
+
+/// Decrypts what `encrypt` wrote, in two parts, each from a reader of its own over the same bytes:
+/// the first `from` blocks, and then those after them. What both wrote is what `decrypt` writes.
+///
+/// The error is `Start` only where there are no more than `from` blocks: the first part is then the
+/// whole, and there is no second one.
+pub fn decrypt_in_two_parts<R: Read, S: Read, W: Write, C: ManyBlocks>(
+    cipher: &C,
+    iv: [u8; 8],
+    from: u64,
+    first: &mut R,
+    second: &mut S,
+    writer: &mut W,
+) -> Result<(), StreamError>
+    ensures done { IfOk result (λ _. (bytes : List ℕ)
+        → R.remaining first.old ≡ Some bytes → S.remaining second.old ≡ Some bytes
+        → Decrypts (C.decrypted cipher.now) (Cbc iv) Pkcs7
+        (S.remaining second.old) (S.remaining second.new)
+        (W.contents writer.old) (W.contents writer.new)
+        × IsAtEnd (S.remaining second.new)) }
+    ensures start { IfErr result (λ fault. (bytes : List ℕ)
+        → R.remaining first.old ≡ Some bytes → S.remaining second.old ≡ Some bytes
+        → fault ≡ Start → length bytes ≤ 8 * from) }
+{
+    decrypt_blocks_of_part(cipher, Mode::Cbc(iv), from, first, writer)?;
+    let mode = begin_part(iv, from, second)?;
+    decrypt_rest(cipher, mode, second, writer)
+}
