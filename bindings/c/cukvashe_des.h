@@ -50,6 +50,9 @@
 #include <stddef.h>
 #include <stdint.h>
 
+/* The version of the library that this header belongs to. */
+#define CUKVASHE_VERSION "@VERSION@"
+
 #if defined(__x86_64__) && defined(__GNUC__) && !defined(CUKVASHE_NARROW)
 #define CUKVASHE_ASKS 1
 #include <cpuid.h>
