@@ -15,6 +15,7 @@ use Rattle.des.specs.Blocks.{IsKey}
 use Rattle.des.specs.Parity.{HasOddParity, AgreeOutsideParity}
 use Rattle.des.specs.Relations.{IsTheOne}
 use Rattle.des.specs.Laws.BitLists.{length-bits_of, bits_of_bytes-from_be}
+use Rattle.des.proofs.ByteArrays.{IsKey-array}
 use Rattle.des.proofs.BitParts.{IsPositionIn, get_or-bits_of, bit-bits_of, same_below}
 
 -- two bits are equal where their tests are
@@ -91,7 +92,7 @@ AgreeOutsideParity-upper_bits key other is_key is_other =
     (upper_bits_from_AgreeOutsideParity key other is_key is_other, AgreeOutsideParity_from_upper_bits key other is_key is_other)
 
 -- numbers with equal upper bits and odd numbers of ones are equal
-same_from_upper_bits : (x y : ℕ) → x / 2 ≡ y / 2 → count_ones x % 2 ≡ 1 → count_ones y % 2 ≡ 1 → x ≡ y
+pub same_from_upper_bits : (x y : ℕ) → x / 2 ≡ y / 2 → count_ones x % 2 ≡ 1 → count_ones y % 2 ≡ 1 → x ≡ y
 same_from_upper_bits x y upper x_odd y_odd = omega (arith, ones_step x, ones_step y, ap count_ones upper)
 
 -- the other lowest bit turns an even number of ones into an odd one
@@ -107,7 +108,7 @@ pub IsTheOne-odd_parity : (key result : List ℕ) → length key ≡ 8 → ((i :
     → ((i : ℕ) → i < 8 → (slice_index result i / 2 ≡ slice_index key i / 2) × (count_ones (slice_index result i) % 2 ≡ 1))
     → IsTheOne (λ other. IsKey 8 other × AgreeOutsideParity key other × HasOddParity other) result
 IsTheOne-odd_parity key result eight small result_eight each =
-    let is_key : IsKey 8 key = (eight, All-from_get_or (λ byte. byte < 256) key 0 (λ i within. small i)) in
+    let is_key = IsKey-array 8 key eight small in
     let is_result : IsKey 8 result = (
       result_eight,
       All-from_get_or (λ byte. byte < 256) result 0 (λ i within. omega (arith, (each i (omega arith)).0, small i)),

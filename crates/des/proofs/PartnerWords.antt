@@ -1,7 +1,6 @@
 -- Partners by words: the words that hold the halves C and D of two keys tell whether the keys are partners.
 use Rattle.std.proofs.Common.{◌≡◌, ◌↔◌, ℕ, ◌^◌, ◌<◌, List, ◌++◌, Bool, length, take, drop, slice_index, sym, ap, ap₂, ◌∙◌, arith, length-append, take_at, drop_at, take-append-drop}
 use Rattle.std.specs.Int.{w64, from_be_bytes}
-use Rattle.std.proofs.lemmas.List.Elements.{All-from_get_or}
 use Rattle.des.specs.Bits.{bits_of_word, bits_of_bytes, number_of, select, zeros}
 use Rattle.des.specs.Blocks.{IsKey}
 use Rattle.des.specs.Tables.{permuted_choice_1}
@@ -10,6 +9,7 @@ use Rattle.des.specs.KeyHalves.{ArePartners}
 use Rattle.des.specs.Laws.BitLists.{number_of-bits_of_word, bits_of_bytes-from_be}
 use Rattle.des.specs.Laws.BlockBits.{slice_index-lt}
 use Rattle.des.specs.Laws.ComplementRounds.{length-rotate}
+use Rattle.des.proofs.ByteArrays.{IsKey-array}
 use Rattle.des.proofs.Rotation.{rotate-rotate}
 use Rattle.des.proofs.RoundKeys.{length-c_half, length-d_half}
 
@@ -99,9 +99,8 @@ pub ArePartners-by_words : (key partner : List ℕ) (key_word partner_word halve
     → IsKey 8 key × IsKey 8 partner × (ArePartners key partner ↔ ((twice ≡ halves) × (other ≡ once)))
 ArePartners-by_words key partner key_word partner_word halves other once twice eight partner_eight small partner_small key_same partner_same
     halves_small once_small twice_small other_small halves_chosen other_chosen rotates_once rotates_twice =
-    let is_key : IsKey 8 key = (eight, All-from_get_or (λ byte. byte < 256) key 0 (λ i within. small i)) in
-    let partner_is_key : IsKey 8 partner =
-    (partner_eight, All-from_get_or (λ byte. byte < 256) partner 0 (λ i within. partner_small i)) in
+    let is_key = IsKey-array 8 key eight small in
+    let partner_is_key = IsKey-array 8 partner partner_eight partner_small in
     let c : List Bool = c_half (bits_of_bytes key) in
     let d : List Bool = d_half (bits_of_bytes key) in
     let c_size : length c ≡ 28 = length-c_half (bits_of_bytes key) in

@@ -4,7 +4,6 @@ use Rattle.std.specs.Int.{w64, from_be_bytes}
 use Rattle.std.specs.List.{range_with_len}
 use Rattle.std.proofs.lemmas.Nat.{or_shifted, shl_whole, shl_below, shl-shr}
 use Rattle.std.proofs.lemmas.List.{append-nil, take-append-le, take_at, length-map, length-drop, length-take-le, get_or-map, ext_get_or}
-use Rattle.std.proofs.lemmas.List.Elements.{All-from_get_or}
 use Rattle.std.proofs.lemmas.List.Sums.{sum_by_more, sum_by_more_le}
 use Rattle.std.proofs.lemmas.List.FromFn.{get_or-map-range_with_len}
 use Rattle.des.specs.Bits.{bits_of, bits_of_word, bits_of_bytes, select, zeros}
@@ -16,6 +15,7 @@ use Rattle.des.specs.Laws.BitLists.{bits_of-cat, bits_of_bytes-from_be}
 use Rattle.des.specs.Laws.Selections.{length-select}
 use Rattle.des.proofs.BitParts.{bits_of-and_mask, take-bits_of, drop-bits_of}
 use Rattle.des.proofs.Rotation.{rotate-rotate}
+use Rattle.des.proofs.ByteArrays.{IsKey-array}
 
 -- C has 28 bits
 pub length-c_half : (key : List Bool) → length (c_half key) ≡ 28
@@ -96,6 +96,6 @@ pub HoldRoundKeys-bytes : (words bytes : List ℕ) (word : ℕ) → length bytes
     → word ≡ from_be_bytes w64 bytes → HoldRoundKeys words (bits_of_word word)
     → IsKey 8 bytes × HoldRoundKeys words (bits_of_bytes bytes)
 HoldRoundKeys-bytes words bytes word eight small same held = (
-  (eight, All-from_get_or (λ byte. byte < 256) bytes 0 (λ i within. small i)),
+  IsKey-array 8 bytes eight small,
   rw (bits_of_bytes-from_be bytes eight small, ← same) held,
 )

@@ -4,14 +4,14 @@ use Rattle.std.specs.List.{All}
 use Rattle.std.proofs.lemmas.List.Elements.{All-nil, All-cons}
 use Rattle.des.specs.Blocks.{IsBlock, AnswersEach}
 use Rattle.des.specs.Cbc.{Chains, Cbc, Unchains}
-use Rattle.des.specs.Relations.{IsTheOneList, TakesBlock}
+use Rattle.des.specs.Relations.{IsTheOne, TakesBlock}
 use Rattle.des.proofs.ChainedBlocks.{Chains-weaker, Chains-from_Cbc, Chains-from_Unchains}
 
 -- each list of blocks is answered by the function as the relation gives
 abbrev pub AnswersLists : (List ℕ → List ℕ → Type 0) → (List ℕ → List ℕ) → Type 0
 AnswersLists Relates function =
     (blocks : List (List ℕ)) → All IsBlock blocks
-    → IsTheOneList (λ answers. AnswersEach Relates blocks answers) (map function blocks)
+    → IsTheOne (λ answers. AnswersEach Relates blocks answers) (map function blocks)
 
 -- so a block is related to its answer, as a list of one
 related : (Relates : List ℕ → List ℕ → Type 0) (function : List ℕ → List ℕ) → AnswersLists Relates function

@@ -13,8 +13,8 @@ ghost use Rattle.des_fast.specs.Des.{IsDesOf, encrypted as encrypted_by, decrypt
 use crate::halves::Halves;
 use crate::schedule::KeySchedule;
 use des::cipher::{
-    AlgorithmName, BlockCipher, BlockCipherDecrypt, BlockCipherEncrypt, BlockSizeUser,
-    Complementing, KeyInit, KeySizeUser, KeyedCipher, ParBlocksSizeUser, Relating,
+    AlgorithmName, BlockCipher, BlockCipherDecrypt, BlockCipherEncrypt, Complementing, KeyInit,
+    KeySizeUser, KeyedCipher, OneBlockAtATime, Relating,
 };
 use std::alloc::AllocError;
 use std::fmt;
@@ -60,25 +60,7 @@ impl KeyInit for Des {
     }
 }
 
-impl BlockSizeUser for Des {
-    ghost use Rattle.std.specs.Prelude.{refl};
-
-    const BLOCK_SIZE: usize = 8;
-
-    ghost BLOCK_SIZE = { 8 };
-
-    ghost block_size_is_eight = { refl };
-}
-
-impl ParBlocksSizeUser for Des {
-    ghost use Rattle.std.proofs.Common.{lit≤};
-
-    const PAR_BLOCKS: usize = 1;
-
-    ghost PAR_BLOCKS = { 1 };
-
-    ghost par_blocks_is_positive = { lit≤ tt };
-}
+impl OneBlockAtATime for Des {}
 
 impl AlgorithmName for Des {
     const NAME: &'static str = "Des";
