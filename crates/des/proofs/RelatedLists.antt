@@ -33,8 +33,8 @@ module _ (f : List ℕ → List ℕ) (Answers : List ℕ → List ℕ → Type 0
   )
 
 -- lists related block by block, read from the second to the first
-AnswersEach-turned : (Answers : List ℕ → List ℕ → Type 0) (blocks answers : List (List ℕ)) → AnswersEach Answers blocks answers
-    → AnswersEach (λ answer block. Answers block answer) answers blocks
+AnswersEach-turned : (Answers : List ℕ → List ℕ → Type 0) (blocks answers : List (List ℕ))
+    → AnswersEach Answers blocks answers → AnswersEach (λ answer block. Answers block answer) answers blocks
 AnswersEach-turned Answers [] [] each = tt
 AnswersEach-turned Answers [] (answer ∷ answers) each = absurd each
 AnswersEach-turned Answers (block ∷ blocks) [] each = absurd each
@@ -42,8 +42,10 @@ AnswersEach-turned Answers (block ∷ blocks) (answer ∷ answers) each =
     (each.0, AnswersEach-turned Answers blocks answers each.1)
 
 -- the same where the function undoes: it answers a list with the one list to which the list is the answer
-pub IsTheOne-map_turned : (f : List ℕ → List ℕ) (Answers : List ℕ → List ℕ → Type 0) → IsGraphOf f (λ answer block. Answers block answer)
-    → (answers : List (List ℕ)) → All IsBlock answers → IsTheOne (λ blocks. AnswersEach Answers blocks answers) (map f answers)
+pub IsTheOne-map_turned : (f : List ℕ → List ℕ) (Answers : List ℕ → List ℕ → Type 0)
+    → IsGraphOf f (λ answer block. Answers block answer)
+    → (answers : List (List ℕ)) → All IsBlock answers
+    → IsTheOne (λ blocks. AnswersEach Answers blocks answers) (map f answers)
 IsTheOne-map_turned f Answers graph answers are_blocks =
     let one = IsTheOne-map f (λ answer block. Answers block answer) graph answers are_blocks in (
       AnswersEach-turned (λ answer block. Answers block answer) answers (map f answers) one.0,
@@ -51,19 +53,24 @@ IsTheOne-map_turned f Answers graph answers are_blocks =
     )
 
 -- a function that answers blocks as another one does answers lists as it does
-map-agreeing : {f g : List ℕ → List ℕ} → Agree g f → (blocks : List (List ℕ)) → All IsBlock blocks → map g blocks ≡ map f blocks
+map-agreeing : {f g : List ℕ → List ℕ} → Agree g f → (blocks : List (List ℕ)) → All IsBlock blocks
+    → map g blocks ≡ map f blocks
 map-agreeing agree [] are_blocks = refl
 map-agreeing {f} {g} agree (block ∷ blocks) are_blocks =
     ap (λ (first : List ℕ). first ∷ map g blocks) (agree.at block (All-head IsBlock block blocks are_blocks))
-    ∙ ap (λ (rest : List (List ℕ)). f block ∷ rest) (map-agreeing agree blocks (All-tail IsBlock block blocks are_blocks))
+    ∙ ap (λ (rest : List (List ℕ)). f block ∷ rest)
+    (map-agreeing agree blocks (All-tail IsBlock block blocks are_blocks))
 
-pub IsTheOne-map_agreeing : {f g : List ℕ → List ℕ} (Answers : List ℕ → List ℕ → Type 0) → IsGraphOf f Answers → Agree g f
-    → (blocks : List (List ℕ)) → All IsBlock blocks → IsTheOne (λ answers. AnswersEach Answers blocks answers) (map g blocks)
+pub IsTheOne-map_agreeing : {f g : List ℕ → List ℕ} (Answers : List ℕ → List ℕ → Type 0) → IsGraphOf f Answers
+    → Agree g f
+    → (blocks : List (List ℕ)) → All IsBlock blocks
+    → IsTheOne (λ answers. AnswersEach Answers blocks answers) (map g blocks)
 IsTheOne-map_agreeing {f} Answers graph agree blocks are_blocks =
     rw (map-agreeing agree blocks are_blocks) (IsTheOne-map f Answers graph blocks are_blocks)
 
 pub IsTheOne-map_agreeing_turned : {f g : List ℕ → List ℕ} (Answers : List ℕ → List ℕ → Type 0)
     → IsGraphOf f (λ answer block. Answers block answer) → Agree g f
-    → (answers : List (List ℕ)) → All IsBlock answers → IsTheOne (λ blocks. AnswersEach Answers blocks answers) (map g answers)
+    → (answers : List (List ℕ)) → All IsBlock answers
+    → IsTheOne (λ blocks. AnswersEach Answers blocks answers) (map g answers)
 IsTheOne-map_agreeing_turned {f} Answers graph agree answers are_blocks =
     rw (map-agreeing agree answers are_blocks) (IsTheOne-map_turned f Answers graph answers are_blocks)

@@ -11,8 +11,8 @@ returns c =
     let a_key = IsKey-array 8 a c.told-first c.fits-first in
     let b_key = IsKey-array 8 b c.told-second c.fits-second in
     let agree =
-    AgreeOutsideParity-masked a b c.from_be_bytes.result c.from_be_bytes-2.result c.told-first c.told-second c.fits-first c.fits-second
-    c.from_be_bytes.ensures c.from_be_bytes-2.ensures in
+    AgreeOutsideParity-masked a b c.from_be_bytes.result c.from_be_bytes-2.result c.told-first c.told-second
+    c.fits-first c.fits-second c.from_be_bytes.ensures c.from_be_bytes-2.ensures in
     record {
       agree = agree;
       same_round_keys = (

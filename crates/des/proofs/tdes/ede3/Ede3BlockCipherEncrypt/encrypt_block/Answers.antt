@@ -11,5 +11,7 @@ pub returns-clause-enciphers : goal.returns-clause-enciphers
 returns-clause-enciphers g c key made =
     let block = c.args.block.now in
     let is_block = IsBlock-array block c.told-block c.fits-block in
-    IsTheOne-answer _ (λ x y. EnciphersEde3 key x y) block c.encrypt_ede.new.block (AnswerBy-Ede3 key made.0).encryption is_block
-    (c.encrypt_ede.ensures ∙ (Agree-ede3_encrypted g.met.D.SingleDes.answers_as_des c.args.self.now key made).at block is_block)
+    IsTheOne-answer _ (λ x y. EnciphersEde3 key x y) block c.encrypt_ede.new.block (AnswerBy-Ede3 key made.0).encryption
+    is_block
+    (c.encrypt_ede.ensures
+    ∙ (Agree-ede3_encrypted g.met.D.SingleDes.answers_as_des c.args.self.now key made).at block is_block)

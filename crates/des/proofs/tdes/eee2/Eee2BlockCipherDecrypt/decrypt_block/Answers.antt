@@ -11,5 +11,7 @@ pub returns-clause-deciphers : goal.returns-clause-deciphers
 returns-clause-deciphers g c key made =
     let block = c.args.block.now in
     let is_block = IsBlock-array block c.told-block c.fits-block in
-    IsTheOne-answer _ (λ y x. EnciphersEee2 key x y) block c.decrypt_eee.new.block (AnswerBy-Eee2 key made.0).decryption is_block
-    (c.decrypt_eee.ensures ∙ (Agree-eee2_decrypted g.met.D.SingleDes.answers_as_des c.args.self.now key made).at block is_block)
+    IsTheOne-answer _ (λ y x. EnciphersEee2 key x y) block c.decrypt_eee.new.block (AnswerBy-Eee2 key made.0).decryption
+    is_block
+    (c.decrypt_eee.ensures
+    ∙ (Agree-eee2_decrypted g.met.D.SingleDes.answers_as_des c.args.self.now key made).at block is_block)

@@ -11,5 +11,7 @@ pub returns-clause-enciphers : goal.returns-clause-enciphers
 returns-clause-enciphers g c key made =
     let block = c.args.block.now in
     let is_block = IsBlock-array block c.told-block c.fits-block in
-    IsTheOne-answer _ (λ x y. EnciphersEee3 key x y) block c.encrypt_eee.new.block (AnswerBy-Eee3 key made.0).encryption is_block
-    (c.encrypt_eee.ensures ∙ (Agree-eee3_encrypted g.met.D.SingleDes.answers_as_des c.args.self.now key made).at block is_block)
+    IsTheOne-answer _ (λ x y. EnciphersEee3 key x y) block c.encrypt_eee.new.block (AnswerBy-Eee3 key made.0).encryption
+    is_block
+    (c.encrypt_eee.ensures
+    ∙ (Agree-eee3_encrypted g.met.D.SingleDes.answers_as_des c.args.self.now key made).at block is_block)
