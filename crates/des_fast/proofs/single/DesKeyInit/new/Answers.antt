@@ -28,8 +28,10 @@ returns-clause-decryption c = IsGraphOf-decryption c.args.key.now (returns-claus
 
 pub returns-clause-encrypts_alike : goal.returns-clause-encrypts_alike
 returns-clause-encrypts_alike c other made =
-    AnswerAlike-Agree (Agree-encrypted (record { schedule = c.new.result }) c.args.key.now (returns-clause-made c)) (port.Agree-encrypted other c.args.key.now made)
+    AnswerAlike-Agree (Agree-encrypted (record { schedule = c.new.result }) c.args.key.now (returns-clause-made c))
+    (port.Agree-encrypted other c.args.key.now made)
 
 pub returns-clause-decrypts_alike : goal.returns-clause-decrypts_alike
 returns-clause-decrypts_alike c other made =
-    AnswerAlike-Agree (Agree-decrypted (record { schedule = c.new.result }) c.args.key.now (returns-clause-made c)) (port.Agree-decrypted other c.args.key.now made)
+    AnswerAlike-Agree (Agree-decrypted (record { schedule = c.new.result }) c.args.key.now (returns-clause-made c))
+    (port.Agree-decrypted other c.args.key.now made)
