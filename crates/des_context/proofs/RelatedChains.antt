@@ -20,8 +20,8 @@ related Relates function answers x y taken =
     subst (Relates x) taken.1 (answers (x ∷ []) (All-cons IsBlock x [] taken.0 (All-nil IsBlock))).0.0
 
 -- and so are the blocks of a chain
-pub Chains-related : (Relates : List ℕ → List ℕ → Type 0) (encryption : List ℕ → List ℕ) → AnswersLists Relates encryption
-    → (iv : List ℕ) (p q : List (List ℕ)) → IsBlock iv → All IsBlock p
+pub Chains-related : (Relates : List ℕ → List ℕ → Type 0) (encryption : List ℕ → List ℕ)
+    → AnswersLists Relates encryption → (iv : List ℕ) (p q : List (List ℕ)) → IsBlock iv → All IsBlock p
     → ((block : List ℕ) → IsBlock block → IsBlock (encryption block)) → Cbc encryption iv p q → Chains Relates iv p q
 Chains-related Relates encryption answers iv p q is_iv are_blocks makes_blocks cbc =
     Chains-weaker (TakesBlock encryption) Relates iv p q (related Relates encryption answers)
@@ -31,7 +31,8 @@ Chains-related Relates encryption answers iv p q is_iv are_blocks makes_blocks c
 pub Chains-related_back : (Relates : List ℕ → List ℕ → Type 0) (encryption decryption : List ℕ → List ℕ)
     → AnswersLists Relates encryption → (iv : List ℕ) (p q : List (List ℕ)) → IsBlock iv → All IsBlock q
     → ((block : List ℕ) → IsBlock block → IsBlock (decryption block))
-    → ((block : List ℕ) → IsBlock block → encryption (decryption block) ≡ block) → Unchains decryption iv q p → Chains Relates iv p q
+    → ((block : List ℕ) → IsBlock block → encryption (decryption block) ≡ block) → Unchains decryption iv q p
+    → Chains Relates iv p q
 Chains-related_back Relates encryption decryption answers iv p q is_iv are_blocks makes_blocks undoes unchains =
     Chains-weaker (TakesBlock encryption) Relates iv p q (related Relates encryption answers)
     (Chains-from_Unchains encryption decryption iv p q is_iv are_blocks makes_blocks undoes unchains)
