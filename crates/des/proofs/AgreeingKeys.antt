@@ -10,8 +10,8 @@ use Rattle.des.proofs.Graphs.{IsGraphOf-encryption, HasOneAnswerEachWay-key}
 use Rattle.des.proofs.KeySelections.{key_schedule-agreeing}
 
 -- what DES under a key relates, it relates under one that agrees outside parity
-Enciphers-from_agreeing : (key other x y : List ℕ) → IsKey 8 key → IsKey 8 other → AgreeOutsideParity key other → Enciphers key x y
-    → Enciphers other x y
+Enciphers-from_agreeing : (key other x y : List ℕ) → IsKey 8 key → IsKey 8 other → AgreeOutsideParity key other
+    → Enciphers key x y → Enciphers other x y
 Enciphers-from_agreeing key other x y is_key other_is_key agree enciphers =
     let made = (IsGraphOf-encryption key is_key x y).0 enciphers in
     let same = ap (λ keys. answer_by keys x) (key_schedule-agreeing key other is_key other_is_key agree) in
@@ -42,7 +42,8 @@ same_last key x y other first second =
     there.1.1 y first ∙ sym (there.1.1 other second)
 
 -- EDE whose first two parts agree outside parity is single DES under the third
-pub Ede3-first_parts_agree : (a b k x y : List ℕ) → IsKey 8 a → IsKey 8 b → AgreeOutsideParity a b → Ede3 a b k x y ↔ Enciphers k x y
+pub Ede3-first_parts_agree : (a b k x y : List ℕ) → IsKey 8 a → IsKey 8 b → AgreeOutsideParity a b
+    → Ede3 a b k x y ↔ Enciphers k x y
 Ede3-first_parts_agree a b k x y is_key other_is_key agree = (
   λ passes.
       let u = passes.0 in
@@ -56,7 +57,8 @@ Ede3-first_parts_agree a b k x y is_key other_is_key agree = (
 )
 
 -- EDE whose last two parts agree outside parity is single DES under the first
-pub Ede3-last_parts_agree : (k a b x y : List ℕ) → IsKey 8 a → IsKey 8 b → AgreeOutsideParity a b → Ede3 k a b x y ↔ Enciphers k x y
+pub Ede3-last_parts_agree : (k a b x y : List ℕ) → IsKey 8 a → IsKey 8 b → AgreeOutsideParity a b
+    → Ede3 k a b x y ↔ Enciphers k x y
 Ede3-last_parts_agree k a b x y is_key other_is_key agree = (
   λ passes.
       let u = passes.0 in

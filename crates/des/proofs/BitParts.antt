@@ -47,17 +47,20 @@ pub bits_of-and_mask : (n x : ℕ) → bits_of n (bit_and x (2 ^ n - 1)) ≡ bit
 bits_of-and_mask n x = rw and_mask (bits_of-mod n x)
 
 -- a number whose last n bits are zero is divisible by 2 ^ n
-pub mod-zeros : (m n x : ℕ) (front : List Bool) → length front ≡ m → bits_of (m + n) x ≡ front ++ zeros n → x % 2 ^ n ≡ 0
+pub mod-zeros : (m n x : ℕ) (front : List Bool) → length front ≡ m → bits_of (m + n) x ≡ front ++ zeros n
+    → x % 2 ^ n ≡ 0
 mod-zeros m n x front size same =
     let last : drop m (front ++ zeros n) ≡ zeros n = drop_at front (zeros n) m size in
-    rw (← number_of-bits_of n x, ← drop-bits_of m n x, same, last, ← bits_of-zero n, number_of-bits_of n 0) (omega (arith, pow_pos n))
+    rw (← number_of-bits_of n x, ← drop-bits_of m n x, same, last, ← bits_of-zero n, number_of-bits_of n 0)
+    (omega (arith, pow_pos n))
 
 -- a shift to the left by k places in j + k bits keeps the lowest j bits
 pub shl-mod : (j k x : ℕ) → x * 2 ^ k % 2 ^ (j + k) ≡ x % 2 ^ j * 2 ^ k
 shl-mod j k x = rw (mod-pow-add (x * 2 ^ k) j k, shl-shr x k, mul-mod_left x (2 ^ k)) (add-zero (x % 2 ^ j * 2 ^ k))
 
 -- a number of n bits put in the place that a shift to the left made
-pub bits_of-or_shl : (m n x low : ℕ) → low < 2 ^ n → bits_of (m + n) (bit_or (x * 2 ^ n % 2 ^ (m + n)) low) ≡ bits_of m x ++ bits_of n low
+pub bits_of-or_shl : (m n x low : ℕ) → low < 2 ^ n
+    → bits_of (m + n) (bit_or (x * 2 ^ n % 2 ^ (m + n)) low) ≡ bits_of m x ++ bits_of n low
 bits_of-or_shl m n x low fits =
     rw (shl-mod m n x, or_shifted (x % 2 ^ m) n low fits, bits_of-cat m n (x % 2 ^ m) low fits, bits_of-mod m x)
 
@@ -87,7 +90,8 @@ bits_of-xor (suc n) a b = ap₂ ◌∷◌ (bit_at-xor a b n) (bits_of-xor n a b)
 pub take-bits_of_xor : (m n a b : ℕ)
     → take m (bits_of (m + n) (bit_xor a b)) ≡ xor_bits (take m (bits_of (m + n) a)) (take m (bits_of (m + n) b))
 take-bits_of_xor m n a b =
-    rw (take-bits_of m n (bit_xor a b), take-bits_of m n a, take-bits_of m n b, xor_shr) (bits_of-xor m (a / 2 ^ n) (b / 2 ^ n))
+    rw (take-bits_of m n (bit_xor a b), take-bits_of m n a, take-bits_of m n b, xor_shr)
+    (bits_of-xor m (a / 2 ^ n) (b / 2 ^ n))
 
 -- ---- tests at numbers
 

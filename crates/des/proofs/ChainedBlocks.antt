@@ -8,16 +8,19 @@ use Rattle.des.specs.Relations.{TakesBlock}
 use Rattle.des.proofs.XoredBlocks.{length-xor_blocks, xor_blocks-undone, IsBlock-xor_blocks}
 
 -- each block of a list of blocks is one
-IsBlock-block_at : (blocks : List (List ℕ)) (n : ℕ) → 1 ≤ n → n ≤ length blocks → All IsBlock blocks → IsBlock (block_at blocks n)
+IsBlock-block_at : (blocks : List (List ℕ)) (n : ℕ) → 1 ≤ n → n ≤ length blocks → All IsBlock blocks
+    → IsBlock (block_at blocks n)
 IsBlock-block_at blocks n from to are_blocks = are_blocks (n - 1) [] (omega arith)
 
 -- so is the block before each
-IsBlock-block_before : (iv : List ℕ) (blocks : List (List ℕ)) (n : ℕ) → n ≤ length blocks → IsBlock iv → All IsBlock blocks
-    → IsBlock (block_before iv blocks n)
-IsBlock-block_before iv blocks n to is_iv are_blocks = All-cons IsBlock iv blocks is_iv are_blocks (n - 1) [] (omega arith)
+IsBlock-block_before : (iv : List ℕ) (blocks : List (List ℕ)) (n : ℕ) → n ≤ length blocks → IsBlock iv
+    → All IsBlock blocks → IsBlock (block_before iv blocks n)
+IsBlock-block_before iv blocks n to is_iv are_blocks =
+    All-cons IsBlock iv blocks is_iv are_blocks (n - 1) [] (omega arith)
 
 -- a block is the one before the next
-pub block_before-next : (iv : List ℕ) (blocks : List (List ℕ)) (n : ℕ) → 1 ≤ n → block_before iv blocks (n + 1) ≡ block_at blocks n
+pub block_before-next : (iv : List ℕ) (blocks : List (List ℕ)) (n : ℕ) → 1 ≤ n
+    → block_before iv blocks (n + 1) ≡ block_at blocks n
 block_before-next iv blocks zero from = absurd (omega arith)
 block_before-next iv blocks (suc m) from =
     let next : suc m + 1 - 1 ≡ suc m = omega arith in
@@ -25,8 +28,8 @@ block_before-next iv blocks (suc m) from =
     rw (next, this) refl
 
 -- what is chained under a relation is chained under a weaker one
-pub Chains-weaker : (P Q : List ℕ → List ℕ → Type 0) (iv : List ℕ) (p q : List (List ℕ)) → ((x y : List ℕ) → P x y → Q x y)
-    → Chains P iv p q → Chains Q iv p q
+pub Chains-weaker : (P Q : List ℕ → List ℕ → Type 0) (iv : List ℕ) (p q : List (List ℕ))
+    → ((x y : List ℕ) → P x y → Q x y) → Chains P iv p q → Chains Q iv p q
 Chains-weaker P Q iv p q weaker chains = record {
   count = chains.count;
   widths = chains.widths;
@@ -48,7 +51,8 @@ IsBlock-before_chained encryption iv p q is_iv are_blocks makes_blocks cbc (suc 
 
 -- what is encrypted in the chain of a list of blocks are blocks
 pub Chains-from_Cbc : (encryption : List ℕ → List ℕ) (iv : List ℕ) (p q : List (List ℕ)) → IsBlock iv → All IsBlock p
-    → ((block : List ℕ) → IsBlock block → IsBlock (encryption block)) → Cbc encryption iv p q → Chains (TakesBlock encryption) iv p q
+    → ((block : List ℕ) → IsBlock block → IsBlock (encryption block)) → Cbc encryption iv p q
+    → Chains (TakesBlock encryption) iv p q
 Chains-from_Cbc encryption iv p q is_iv are_blocks makes_blocks cbc = record {
   count = cbc.count;
   widths = cbc.widths;
@@ -58,9 +62,10 @@ Chains-from_Cbc encryption iv p q is_iv are_blocks makes_blocks cbc = record {
 }
 
 -- a chained list is unchained by what undoes the encryption
-pub Unchains-from_Cbc : (encryption decryption : List ℕ → List ℕ) (iv : List ℕ) (p q : List (List ℕ)) → IsBlock iv → All IsBlock p
-    → ((block : List ℕ) → IsBlock block → IsBlock (encryption block))
-    → ((block : List ℕ) → IsBlock block → decryption (encryption block) ≡ block) → Cbc encryption iv p q → Unchains decryption iv q p
+pub Unchains-from_Cbc : (encryption decryption : List ℕ → List ℕ) (iv : List ℕ) (p q : List (List ℕ)) → IsBlock iv
+    → All IsBlock p → ((block : List ℕ) → IsBlock block → IsBlock (encryption block))
+    → ((block : List ℕ) → IsBlock block → decryption (encryption block) ≡ block) → Cbc encryption iv p q
+    → Unchains decryption iv q p
 Unchains-from_Cbc encryption decryption iv p q is_iv are_blocks makes_blocks undoes cbc = record {
   count = sym cbc.count;
   unchained = λ n from to.
@@ -73,8 +78,8 @@ Unchains-from_Cbc encryption decryption iv p q is_iv are_blocks makes_blocks und
 }
 
 -- a list that decryption unchains is chained by what undoes it, and blocks are encrypted in the chain
-pub Chains-from_Unchains : (encryption decryption : List ℕ → List ℕ) (iv : List ℕ) (p q : List (List ℕ)) → IsBlock iv → All IsBlock q
-    → ((block : List ℕ) → IsBlock block → IsBlock (decryption block))
+pub Chains-from_Unchains : (encryption decryption : List ℕ → List ℕ) (iv : List ℕ) (p q : List (List ℕ)) → IsBlock iv
+    → All IsBlock q → ((block : List ℕ) → IsBlock block → IsBlock (decryption block))
     → ((block : List ℕ) → IsBlock block → encryption (decryption block) ≡ block) → Unchains decryption iv q p
     → Chains (TakesBlock encryption) iv p q
 Chains-from_Unchains encryption decryption iv p q is_iv are_blocks makes_blocks undoes unchains =
@@ -91,14 +96,18 @@ Chains-from_Unchains encryption decryption iv p q is_iv are_blocks makes_blocks 
           let within : n ≤ length q = omega (arith, unchains.count) in
           let is_block = makes_blocks (block_at q n) (each n from within) in
           let is_before = before n within in
-          rw (unchains.unchained n from within, xor_blocks-undone (decryption (block_at q n)) (block_before iv q n) (omega arith))
+          rw (
+            unchains.unchained n from within,
+            xor_blocks-undone (decryption (block_at q n)) (block_before iv q n) (omega arith),
+          )
           (is_block, undoes (block_at q n) (each n from within));
     }
 
 -- so it is one of CBC
-pub Cbc-from_Unchains : (encryption decryption : List ℕ → List ℕ) (iv : List ℕ) (p q : List (List ℕ)) → IsBlock iv → All IsBlock q
-    → ((block : List ℕ) → IsBlock block → IsBlock (decryption block))
-    → ((block : List ℕ) → IsBlock block → encryption (decryption block) ≡ block) → Unchains decryption iv q p → Cbc encryption iv p q
+pub Cbc-from_Unchains : (encryption decryption : List ℕ → List ℕ) (iv : List ℕ) (p q : List (List ℕ)) → IsBlock iv
+    → All IsBlock q → ((block : List ℕ) → IsBlock block → IsBlock (decryption block))
+    → ((block : List ℕ) → IsBlock block → encryption (decryption block) ≡ block) → Unchains decryption iv q p
+    → Cbc encryption iv p q
 Cbc-from_Unchains encryption decryption iv p q is_iv are_blocks makes_blocks undoes unchains =
     Chains-weaker (TakesBlock encryption) (λ block answer. answer ≡ encryption block) iv p q (λ x y taken. sym taken.1)
     (Chains-from_Unchains encryption decryption iv p q is_iv are_blocks makes_blocks undoes unchains)

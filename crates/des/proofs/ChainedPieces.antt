@@ -7,12 +7,14 @@ use Rattle.des.specs.Cbc.{block_at, block_before, next_vector, Chains, Unchains}
 -- ---- the vector of the next piece
 
 -- the vector after two lists, one after the other
-pub next_vector-append : (vector : List ℕ) (blocks more : List (List ℕ)) → next_vector vector (blocks ++ more) ≡ next_vector (next_vector vector blocks) more
+pub next_vector-append : (vector : List ℕ) (blocks more : List (List ℕ))
+    → next_vector vector (blocks ++ more) ≡ next_vector (next_vector vector blocks) more
 next_vector-append vector [] more = refl
 next_vector-append vector (block ∷ blocks) more = next_vector-append block blocks more
 
 -- where there are blocks, it is the last of them
-pub next_vector-last : (vector : List ℕ) (blocks : List (List ℕ)) (k : ℕ) → k + 1 ≡ length blocks → next_vector vector blocks ≡ get_or blocks k []
+pub next_vector-last : (vector : List ℕ) (blocks : List (List ℕ)) (k : ℕ) → k + 1 ≡ length blocks
+    → next_vector vector blocks ≡ get_or blocks k []
 next_vector-last vector [] k same = absurd (omega arith)
 next_vector-last vector (block ∷ []) zero same = refl
 next_vector-last vector (block ∷ []) (suc k) same = absurd (omega arith)
@@ -29,12 +31,14 @@ at_back a b n after =
     let same : n - 1 - length a ≡ n - length a - 1 = omega arith in
     get_or-append_right a b (length a) (n - 1) [] refl (omega arith) ∙ ap (λ k. get_or b k []) same
 
-before_front : (iv : List ℕ) (a b : List (List ℕ)) (n : ℕ) → 1 ≤ n → n ≤ length a → block_before iv (a ++ b) n ≡ block_before iv a n
+before_front : (iv : List ℕ) (a b : List (List ℕ)) (n : ℕ) → 1 ≤ n → n ≤ length a
+    → block_before iv (a ++ b) n ≡ block_before iv a n
 before_front iv a b n from to =
     let below : n - 1 < length (iv ∷ a) = omega arith in get_or-append (iv ∷ a) b [] (n - 1) below
 
 -- from the last block of the first list
-from_last : (iv : List ℕ) (a b : List (List ℕ)) (k : ℕ) → get_or (iv ∷ (a ++ b)) (k + length a) [] ≡ get_or (next_vector iv a ∷ b) k []
+from_last : (iv : List ℕ) (a b : List (List ℕ)) (k : ℕ)
+    → get_or (iv ∷ (a ++ b)) (k + length a) [] ≡ get_or (next_vector iv a ∷ b) k []
 from_last iv [] b k = ap (λ n. get_or (iv ∷ b) n []) (omega arith)
 from_last iv (block ∷ a) b k =
     let next : k + length (block ∷ a) ≡ suc (k + length a) = omega arith in
@@ -51,13 +55,15 @@ le_or_lt n m = search arith
 
 -- ---- chains
 
-pub Chains-append : (Relates : List ℕ → List ℕ → Type 0) (iv : List ℕ) (p q more answers : List (List ℕ)) → Chains Relates iv p q
+pub Chains-append : (Relates : List ℕ → List ℕ → Type 0) (iv : List ℕ) (p q more answers : List (List ℕ))
+    → Chains Relates iv p q
     → Chains Relates (next_vector iv q) more answers → Chains Relates iv (p ++ more) (q ++ answers)
 Chains-append Relates iv p q more answers first second = record {
   count = length-append q answers ∙ ap₂ ◌+◌ first.count second.count ∙ sym (length-append p more);
   widths = λ n from to. elim (le_or_lt n (length p)) [
     | inl front ↦ rw (at_front p more n from front) (first.widths n from front)
-    | inr back ↦ rw (at_back p more n back) (second.widths (n - length p) (omega arith) (omega (arith, length-append p more)))
+    | inr back ↦
+        rw (at_back p more n back) (second.widths (n - length p) (omega arith) (omega (arith, length-append p more)))
   ];
   chained = λ n from to. elim (le_or_lt n (length p)) [
     | inl front ↦
@@ -71,7 +77,8 @@ Chains-append Relates iv p q more answers first second = record {
   ];
 }
 
-pub Unchains-append : (decryption : List ℕ → List ℕ) (iv : List ℕ) (q p more answers : List (List ℕ)) → Unchains decryption iv q p
+pub Unchains-append : (decryption : List ℕ → List ℕ) (iv : List ℕ) (q p more answers : List (List ℕ))
+    → Unchains decryption iv q p
     → Unchains decryption (next_vector iv q) more answers → Unchains decryption iv (q ++ more) (p ++ answers)
 Unchains-append decryption iv q p more answers first second = record {
   count = length-append p answers ∙ ap₂ ◌+◌ first.count second.count ∙ sym (length-append q more);

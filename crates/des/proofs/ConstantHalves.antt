@@ -32,7 +32,8 @@ constant-placed : (round_key : List Bool) (value : ℕ → Bool)
     → AreConstant (map value c_places) (map value d_places)
 unfolding rotate
 constant-placed round_key value same =
-    let at : (n : ℕ) → slice_index_or (map (map value) schedule_places) n [] ≡ slice_index_or (replicate 16 round_key) n [] =
+    let at : (n : ℕ)
+    → slice_index_or (map (map value) schedule_places) n [] ≡ slice_index_or (replicate 16 round_key) n [] =
     λ n. ap (λ keys. slice_index_or keys n []) (sym (schedule-placed value) ∙ same) in
     let joined : IsSameAlong value links =
     All-append (λ link. value link.0 ≡ value link.1) (zip (places 0) (places 1)) (zip (places 7) (places 8))
@@ -43,7 +44,7 @@ constant-placed round_key value same =
     )
 
 -- halves whose round keys are copies of one are unchanged by rotation by one
-pub constant_halves : (round_key c d : List Bool) → length c ≡ 28 → length d ≡ 28 → schedule_of_halves c d ≡ replicate 16 round_key
-    → AreUnchanged 1 c d
+pub constant_halves : (round_key c d : List Bool) → length c ≡ 28 → length d ≡ 28
+    → schedule_of_halves c d ≡ replicate 16 round_key → AreUnchanged 1 c d
 constant_halves round_key =
     from_places (λ c d. schedule_of_halves c d ≡ replicate 16 round_key → AreConstant c d) (constant-placed round_key)

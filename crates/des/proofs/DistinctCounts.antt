@@ -8,11 +8,13 @@ use Rattle.std.specs.Set.{distinct_count, unique_keys, is_member}
 use Rattle.std.proofs.lemmas.Bool.{eqb-true, eq-eqb, or_cases, or_left, or_right, cases_Bool}
 
 -- a number that is in the list once more is not counted again
-count_known : (x : ℕ) (xs : List ℕ) → is_member nat_eq xs x ≡ true → distinct_count nat_eq (x ∷ xs) ≡ distinct_count nat_eq xs
+count_known : (x : ℕ) (xs : List ℕ) → is_member nat_eq xs x ≡ true
+    → distinct_count nat_eq (x ∷ xs) ≡ distinct_count nat_eq xs
 count_known x xs among = ap (λ b. length (cond b (unique_keys nat_eq xs) (x ∷ unique_keys nat_eq xs))) among
 
 -- a number that is not in the list counts one more
-count_new : (x : ℕ) (xs : List ℕ) → is_member nat_eq xs x ≡ false → distinct_count nat_eq (x ∷ xs) ≡ suc (distinct_count nat_eq xs)
+count_new : (x : ℕ) (xs : List ℕ) → is_member nat_eq xs x ≡ false
+    → distinct_count nat_eq (x ∷ xs) ≡ suc (distinct_count nat_eq xs)
 count_new x xs apart = ap (λ b. length (cond b (unique_keys nat_eq xs) (x ∷ unique_keys nat_eq xs))) apart
 
 -- a list that is not empty has a number
@@ -25,7 +27,8 @@ distinct_count-pos (x ∷ y ∷ xs) some = elim (cases_Bool (is_member nat_eq (y
 ]
 
 -- what a function makes of a number in a list is among what it makes of the list
-is_member-map : (f : ℕ → ℕ) (x : ℕ) (xs : List ℕ) → is_member nat_eq xs x ≡ true → is_member nat_eq (map f xs) (f x) ≡ true
+is_member-map : (f : ℕ → ℕ) (x : ℕ) (xs : List ℕ) → is_member nat_eq xs x ≡ true
+    → is_member nat_eq (map f xs) (f x) ≡ true
 is_member-map f x [] among = absurd (cc)
 is_member-map f x (y ∷ xs) among = elim (or_cases _ _ among) [
   | inl first ↦ or_left _ _ (eq-eqb (f x) (f y) (ap f (eqb-true x y first)))
@@ -87,6 +90,8 @@ pub distinct_count-drop : (xs : List ℕ) (i : ℕ) (found : Bool) → i < lengt
 distinct_count-drop xs i found within search =
     let x : ℕ = get_or xs i 0 in
     let rest : List ℕ = drop (i + 1) xs in
-    let whole : take (length xs - (i + 1)) rest ≡ rest = take_all (length xs - (i + 1)) rest (omega (arith, length-drop (i + 1) xs)) in
-    let among : found ≡ is_member nat_eq rest x = search ∙ ap (list_any (λ y. nat_eq y x)) whole ∙ list_any-is_member x rest in
+    let whole : take (length xs - (i + 1)) rest ≡ rest =
+    take_all (length xs - (i + 1)) rest (omega (arith, length-drop (i + 1) xs)) in
+    let among : found ≡ is_member nat_eq rest x =
+    search ∙ ap (list_any (λ y. nat_eq y x)) whole ∙ list_any-is_member x rest in
     ap (distinct_count nat_eq) (drop_more xs i 0 within) ∙ counted found x rest among

@@ -17,7 +17,8 @@ abbrev adds_up : (ℕ → ℕ) → ℕ → ℕ → ℕ → ℕ → ℕ → Bool
 adds_up step mask kept zero word image = step word == image && bit_and image kept == image
 adds_up step mask kept (suc n) word image =
     elim (bit_at mask n == 1) [
-      | true ↦ adds_up step mask kept n word image && adds_up step mask kept n (word + 2 ^ n) (bit_xor image (step (2 ^ n)))
+      | true ↦ adds_up step mask kept n word image
+          && adds_up step mask kept n (word + 2 ^ n) (bit_xor image (step (2 ^ n)))
       | false ↦ adds_up step mask kept n word image
     ]
 
@@ -35,7 +36,8 @@ images step zero word = 0
 images step (suc n) word = bit_xor (image_of (bit_at word n) (step (2 ^ n))) (images step n word)
 
 -- the images of two bits have the image of their sum modulo 2 as xor
-image_of-sum : (a b image : ℕ) → a < 2 → b < 2 → image_of ((a + b) % 2) image ≡ bit_xor (image_of a image) (image_of b image)
+image_of-sum : (a b image : ℕ) → a < 2 → b < 2
+    → image_of ((a + b) % 2) image ≡ bit_xor (image_of a image) (image_of b image)
 image_of-sum zero zero image p q = refl
 image_of-sum zero (suc zero) image p q = sym (xor_zero_l image)
 image_of-sum (suc zero) zero image p q = sym (xor_zero_r image)
@@ -50,7 +52,8 @@ images-sums step zero a b = refl
 images-sums step (suc n) a b =
     let image : ℕ = step (2 ^ n) in
     ap₂ bit_xor
-    (ap (λ c. image_of c image) (bit_at_xor a b n) ∙ image_of-sum (bit_at a n) (bit_at b n) image (bit_at-lt a n) (bit_at-lt b n))
+    (ap (λ c. image_of c image) (bit_at_xor a b n)
+    ∙ image_of-sum (bit_at a n) (bit_at b n) image (bit_at-lt a n) (bit_at-lt b n))
     (images-sums step n a b)
     ∙ xor-exchange (image_of (bit_at a n) image) (image_of (bit_at b n) image) (images step n a) (images step n b)
 
@@ -62,7 +65,8 @@ mod-next n y = ap (λ (k : ℕ). y % 2 ^ k) (omega arith) ∙ mod-pow-add y 1 n
 -- `kept`
 abbrev TakesToXor : (ℕ → ℕ) → ℕ → ℕ → ℕ → ℕ → ℕ → Type 0
 TakesToXor step kept n word image y =
-    (step (word + y % 2 ^ n) ≡ bit_xor image (images step n y)) × (bit_and (step (word + y % 2 ^ n)) kept ≡ step (word + y % 2 ^ n))
+    (step (word + y % 2 ^ n) ≡ bit_xor image (images step n y))
+    × (bit_and (step (word + y % 2 ^ n)) kept ≡ step (word + y % 2 ^ n))
 
 -- so it does with a next bit that is zero
 clear-next : (step : ℕ → ℕ) (kept n word image y : ℕ) → bit_at y n ≡ 0 → TakesToXor step kept n word image y
@@ -81,15 +85,16 @@ set-next step kept n word image y set rest =
     rw (same, set, ← xor_assoc image (step (2 ^ n)) (images step n y)) rest
 
 -- what the test says of each word under the mask
-adds_up-at : (step : ℕ → ℕ) (mask kept n word image y : ℕ) → bit_and y mask ≡ y → adds_up step mask kept n word image ≡ true
-    → TakesToXor step kept n word image y
+adds_up-at : (step : ℕ → ℕ) (mask kept n word image y : ℕ) → bit_and y mask ≡ y
+    → adds_up step mask kept n word image ≡ true → TakesToXor step kept n word image y
 unfolding images
 adds_up-at step mask kept zero word image y under test =
     let parts : (step word ≡ image) × (bit_and image kept ≡ image) = grind (arith, nat_tests) in
     let same : word + y % 1 ≡ word = omega arith in
     rw (same, parts.0, xor_zero_r image) (refl, parts.1)
 adds_up-at step mask kept (suc n) word image y under test =
-    let y_bit : min (bit_at y n) (bit_at mask n) ≡ bit_at y n = sym (bit_at_and y mask n) ∙ ap (λ z. bit_at z n) under in
+    let y_bit : min (bit_at y n) (bit_at mask n) ≡ bit_at y n =
+    sym (bit_at_and y mask n) ∙ ap (λ z. bit_at z n) under in
     let more : ℕ = bit_xor image (step (2 ^ n)) in
     elim (cases_lt (bit_at mask n) 1) [
       | inl none ↦
@@ -100,10 +105,12 @@ adds_up-at step mask kept (suc n) word image y under test =
           let mask_bit : bit_at mask n ≡ 1 = omega (arith, bit_at-lt mask n) in
           let both : (adds_up step mask kept n word image && adds_up step mask kept n (word + 2 ^ n) more) ≡ true =
           rw (adds_up, mask_bit) at test in
-          let parts : (adds_up step mask kept n word image ≡ true) × (adds_up step mask kept n (word + 2 ^ n) more ≡ true) =
+          let parts : (adds_up step mask kept n word image ≡ true)
+          × (adds_up step mask kept n (word + 2 ^ n) more ≡ true) =
           grind arith in
           elim (cases_lt (bit_at y n) 1) [
-            | inl low ↦ clear-next step kept n word image y (omega arith) (adds_up-at step mask kept n word image y under parts.0)
+            | inl low ↦ clear-next step kept n word image y (omega arith)
+                (adds_up-at step mask kept n word image y under parts.0)
             | inr high ↦
                 set-next step kept n word image y (omega (arith, bit_at-lt y n))
                 (adds_up-at step mask kept n (word + 2 ^ n) more y under parts.1)
@@ -115,8 +122,8 @@ abbrev IsXor : (ℕ → ℕ) → ℕ → ℕ → Type 0
 IsXor step kept y = (step y ≡ images step 64 y) × (bit_and (step y) kept ≡ step y)
 
 -- so it is for all words under the mask
-IsXor-test : (step : ℕ → ℕ) (mask kept y : ℕ) → bit_and y mask ≡ y → mask < 2 ^ 64 → adds_up step mask kept 64 0 0 ≡ true
-    → IsXor step kept y
+IsXor-test : (step : ℕ → ℕ) (mask kept y : ℕ) → bit_and y mask ≡ y → mask < 2 ^ 64
+    → adds_up step mask kept 64 0 0 ≡ true → IsXor step kept y
 IsXor-test step mask kept y under fits test =
     let same : 0 + y % 2 ^ 64 ≡ y = omega (arith, under, fits, and_le_r y mask) in
     rw (same, xor_zero_l (images step 64 y)) at (adds_up-at step mask kept 64 0 0 y under test)
@@ -125,7 +132,8 @@ IsXor-test step mask kept y under fits test =
 IsLinearUnder-test : {f : ℕ → ℕ} → (step : ℕ → ℕ) (mask kept : ℕ) → is_linear_under step mask kept ≡ true → IsLinear f
     → IsLinearUnder kept (λ x. step (bit_and (f x) mask))
 IsLinearUnder-test {f} step mask kept test map =
-    let parts : (bit_and mask 0xffffffffffffffff ≡ mask) × (adds_up step mask kept 64 0 0 ≡ true) = grind (arith, nat_tests) in
+    let parts : (bit_and mask 0xffffffffffffffff ≡ mask) × (adds_up step mask kept 64 0 0 ≡ true) =
+    grind (arith, nat_tests) in
     let fits : mask < 2 ^ 64 = omega (arith, parts.0, and_mask mask 64) in
     let masked = IsLinear-mask mask map in
     let taken : (x : ℕ) → IsXor step kept (bit_and (f x) mask) =

@@ -15,7 +15,8 @@ use Rattle.des.specs.Laws.HeldRoundKeys.{round_keys_of-HoldRoundKeys}
 use Rattle.des.proofs.OneAnswer.{IsDes-through_rounds, through_rounds-from_IsDes}
 
 -- DES takes a block to what the rounds of its key make of it
-Enciphers-answer_by : (key x : List ℕ) → IsKey 8 key → IsBlock x → Enciphers key x (answer_by (key_schedule (bits_of_bytes key)) x)
+Enciphers-answer_by : (key x : List ℕ) → IsKey 8 key → IsBlock x
+    → Enciphers key x (answer_by (key_schedule (bits_of_bytes key)) x)
 Enciphers-answer_by key x is_key is_block =
     let k : List Bool = bits_of_bytes key in
     let bits : List Bool = through_rounds (key_schedule k) (bits_of_bytes x) in
@@ -25,7 +26,8 @@ Enciphers-answer_by key x is_key is_block =
       last_is_block = IsBlock-block_of_bits bits;
       is_des =
           rw (bits_of_bytes-block_of_bits bits (length-through_rounds (key_schedule k) (bits_of_bytes x)))
-          (IsDes-through_rounds k (bits_of_bytes x) (length-bits_of_block key is_key) (length-bits_of_block x is_block));
+          (IsDes-through_rounds k (bits_of_bytes x) (length-bits_of_block key is_key)
+          (length-bits_of_block x is_block));
     }
 
 -- encryption under a key takes a block to the one that DES takes it to
@@ -33,7 +35,8 @@ pub IsGraphOf-encryption : (key : List ℕ) → IsKey 8 key → IsGraphOf (encry
 IsGraphOf-encryption key is_key = λ x y. (
   λ enciphers. (
     enciphers.first_is_block,
-    ap block_of_bits (through_rounds-from_IsDes (bits_of_bytes key) (bits_of_bytes x) (bits_of_bytes y) enciphers.is_des)
+    ap block_of_bits (through_rounds-from_IsDes (bits_of_bytes key) (bits_of_bytes x) (bits_of_bytes y)
+        enciphers.is_des)
         ∙ block_of_bits-bits_of_bytes y enciphers.last_is_block,
   ),
   λ made. let P : List ℕ → Type 0 = λ z. Enciphers key x z in subst P made.1 (Enciphers-answer_by key x is_key made.0),
@@ -52,23 +55,27 @@ HasOneAnswerEachWay-key key is_key =
     (IsPass-answer_by (key_schedule (bits_of_bytes key))) (IsGraphOf-encryption key is_key)
 
 -- a `Des` of a key encrypts as the key does
-pub IsGraphOf-encrypted : (cipher : Des) (key : List ℕ) → IsDesOf cipher key → IsGraphOf (encrypted cipher) (λ x y. Enciphers key x y)
+pub IsGraphOf-encrypted : (cipher : Des) (key : List ℕ) → IsDesOf cipher key
+    → IsGraphOf (encrypted cipher) (λ x y. Enciphers key x y)
 IsGraphOf-encrypted cipher key of_key =
     rw (round_keys_of-HoldRoundKeys cipher.round_keys (bits_of_bytes key) of_key.1) (IsGraphOf-encryption key of_key.0)
 
 -- and decrypts as it does
-pub IsGraphOf-decrypted : (cipher : Des) (key : List ℕ) → IsDesOf cipher key → IsGraphOf (decrypted cipher) (λ y x. Enciphers key x y)
+pub IsGraphOf-decrypted : (cipher : Des) (key : List ℕ) → IsDesOf cipher key
+    → IsGraphOf (decrypted cipher) (λ y x. Enciphers key x y)
 IsGraphOf-decrypted cipher key of_key =
     rw (round_keys_of-HoldRoundKeys cipher.round_keys (bits_of_bytes key) of_key.1) (IsGraphOf-decryption key of_key.0)
 
 -- what it makes of a block by encryption is the one block that DES takes the block to
-pub IsTheOne-encrypted : (cipher : Des) (key block answer : List ℕ) → IsDesOf cipher key → IsBlock block → answer ≡ encrypted cipher block
-    → IsTheOne (λ y. Enciphers key block y) answer
+pub IsTheOne-encrypted : (cipher : Des) (key block answer : List ℕ) → IsDesOf cipher key → IsBlock block
+    → answer ≡ encrypted cipher block → IsTheOne (λ y. Enciphers key block y) answer
 IsTheOne-encrypted cipher key block answer of_key is_block same =
-    rw same (IsTheOne-graph (encrypted cipher) (λ x y. Enciphers key x y) block (IsGraphOf-encrypted cipher key of_key) is_block)
+    rw same (IsTheOne-graph (encrypted cipher) (λ x y. Enciphers key x y) block (IsGraphOf-encrypted cipher key of_key)
+    is_block)
 
 -- and by decryption the one block that DES takes to it
-pub IsTheOne-decrypted : (cipher : Des) (key block answer : List ℕ) → IsDesOf cipher key → IsBlock block → answer ≡ decrypted cipher block
-    → IsTheOne (λ x. Enciphers key x block) answer
+pub IsTheOne-decrypted : (cipher : Des) (key block answer : List ℕ) → IsDesOf cipher key → IsBlock block
+    → answer ≡ decrypted cipher block → IsTheOne (λ x. Enciphers key x block) answer
 IsTheOne-decrypted cipher key block answer of_key is_block same =
-    rw same (IsTheOne-graph (decrypted cipher) (λ y x. Enciphers key x y) block (IsGraphOf-decrypted cipher key of_key) is_block)
+    rw same (IsTheOne-graph (decrypted cipher) (λ y x. Enciphers key x y) block (IsGraphOf-decrypted cipher key of_key)
+    is_block)

@@ -7,7 +7,8 @@ use Rattle.des.specs.Bits.{xor}
 use Rattle.des.specs.KeyHalves.{IsListedHalf}
 use Rattle.des.proofs.Repeating.{repeated, repeated_from_rotate}
 
--- the half of 28 bits that two bits give, each next two being the two before them, each the other one if the sign says so
+-- the half of 28 bits that two bits give, each next two being the two before them, each the other one if the sign says
+-- so
 abbrev half_pattern : Bool → List Bool → List Bool
 half_pattern sign front = repeated (xor sign) 14 front
 
@@ -28,7 +29,8 @@ half_patterns =
     half_pattern false (true ∷ true ∷ []) ∷ half_pattern true (true ∷ true ∷ []) ∷ []
 
 -- each choice of a sign and two bits gives one of them
-Contains-half_pattern : (sign : Bool) (front : List Bool) → length front ≡ 2 → Contains half_patterns (half_pattern sign front)
+Contains-half_pattern : (sign : Bool) (front : List Bool) → length front ≡ 2
+    → Contains half_patterns (half_pattern sign front)
 Contains-half_pattern false (false ∷ false ∷ []) size = (0, omega arith, refl)
 Contains-half_pattern true (false ∷ false ∷ []) size = (1, omega arith, refl)
 Contains-half_pattern false (false ∷ true ∷ []) size = (2, omega arith, refl)

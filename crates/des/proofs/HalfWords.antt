@@ -16,12 +16,14 @@ take-bits_of_word_shl x =
 pub bits_of_word-rotate_left : (word : ℕ) → word < 2 ^ 64
     → bits_of_word (rotate_left w64 word 32) ≡ drop 32 (bits_of_word word) ++ take 32 (bits_of_word word)
 bits_of_word-rotate_left word fits =
-    rw (take-bits_of 32 32 word, drop-bits_of 32 32 word) (bits_of-or_shl 32 32 word (word / 2 ^ 32) (shr_below word 32 32 fits))
+    rw (take-bits_of 32 32 word, drop-bits_of 32 32 word)
+    (bits_of-or_shl 32 32 word (word / 2 ^ 32) (shr_below word 32 32 fits))
 
 -- the first half of a word, kept by a mask, xor another word, and shifted to the end
 shr-xor_mask : (x y : ℕ) → x < 2 ^ 64 → bit_xor (bit_and x 0xffffffff00000000) y / 2 ^ 32 ≡ bit_xor x y / 2 ^ 32
 shr-xor_mask x y fits =
-    rw (xor_shr (bit_and x 0xffffffff00000000) y 32, xor_shr x y 32, and_high_mask 64 32 (omega arith) x fits) (rw shl-shr)
+    rw (xor_shr (bit_and x 0xffffffff00000000) y 32, xor_shr x y 32, and_high_mask 64 32 (omega arith) x fits)
+    (rw shl-shr)
 
 -- the last half of a word, and after it the first half xor the first half of another
 pub bits_of_word-swapped : (x y : ℕ) → x < 2 ^ 64 → y < 2 ^ 64

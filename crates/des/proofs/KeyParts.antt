@@ -1,5 +1,5 @@
--- The parts of a key: keys of eight bytes, a list of them that is searched place by place, and the keys that the weak key
--- test refuses.
+-- The parts of a key: keys of eight bytes, a list of them that is searched place by place, and the keys that the weak
+-- key test refuses.
 use Rattle.std.proofs.Common.{◌≡◌, ℕ, zero, suc, ◌+◌, ◌-◌, ◌*◌, ◌/◌, ◌<◌, ◌≤◌, List, [], length, take, drop, get_or, inl, inr, refl, sym, ap, ◌∙◌, subst, arith}
 use Rattle.std.specs.Simd.{first_chunks}
 use Rattle.std.proofs.lemmas.List.{get_or-take, get_or_default, drop-drop, length-take-le, length-drop}
@@ -36,10 +36,12 @@ module _ (key : List ℕ) (parts : List (List ℕ)) (cut : parts ≡ first_chunk
       ∙ ap (λ (n : ℕ). take 8 (drop (8 * n) key)) (omega arith)
 
   part_of : (n : ℕ) → IsPartOf key n → get_or parts (n - 1) [] ≡ part n key
-  part_of n is_part = part_at (n - 1) (omega (arith, is_part.0, is_part.1)) ∙ ap (λ (m : ℕ). part m key) (omega (arith, is_part.0))
+  part_of n is_part =
+      part_at (n - 1) (omega (arith, is_part.0, is_part.1)) ∙ ap (λ (m : ℕ). part m key) (omega (arith, is_part.0))
 
   -- a part that agrees with a listed key outside parity refuses the key
-  pub IsRefusedByList-listed : (i : ℕ) → i < length key / 8 → ContainsAgreeing listed_keys (get_or parts i []) → IsRefusedByList key
+  pub IsRefusedByList-listed : (i : ℕ) → i < length key / 8 → ContainsAgreeing listed_keys (get_or parts i [])
+      → IsRefusedByList key
   IsRefusedByList-listed i within listed =
       let P : List ℕ → Type 0 = ContainsAgreeing listed_keys in
       inl (i + 1, ((omega arith, omega arith), subst P (part_at i within) listed))
@@ -56,7 +58,8 @@ module _ (key : List ℕ) (parts : List (List ℕ)) (cut : parts ≡ first_chunk
       ∙ get_or_default parts k [] other (omega (arith, count))
       ∙ sym (get_or-take i parts k other before)
       ∙ found.1.0.2 in
-      let agree : AgreeOutsideParity (part (k + 1) key) (part (i + 1) key) = rw (earlier, ← part_at i within) found.1.1 in
+      let agree : AgreeOutsideParity (part (k + 1) key) (part (i + 1) key) =
+      rw (earlier, ← part_at i within) found.1.1 in
       inr (k + 1, (i + 1, ((omega arith, omega arith), (omega arith, omega arith), omega arith, agree)))
 
   -- where no part agrees with a listed key, and none with a part before it, the key is not refused
@@ -78,8 +81,10 @@ module _ (key : List ℕ) (parts : List (List ℕ)) (cut : parts ≡ first_chunk
         let less : m < n = agreeing.1.1.2 in
         let before : m - 1 < n - 1 = omega arith in
         let front : List (List ℕ) = take (n - 1) parts in
-        let earlier : get_or front (m - 1) [] ≡ part m key = get_or-take (n - 1) parts (m - 1) [] before ∙ part_of m m_part in
-        let contained = Contains-get_or front (m - 1) [] (omega (arith, length-take-le (n - 1) parts (omega (arith, count)))) in
+        let earlier : get_or front (m - 1) [] ≡ part m key =
+        get_or-take (n - 1) parts (m - 1) [] before ∙ part_of m m_part in
+        let contained =
+        Contains-get_or front (m - 1) [] (omega (arith, length-take-le (n - 1) parts (omega (arith, count)))) in
         let agree : AgreeOutsideParity (get_or front (m - 1) []) (get_or parts (n - 1) []) =
         rw (earlier, part_of n n_part) agreeing.1.1.3 in
         (each (n - 1) (omega arith)).1 (get_or front (m - 1) [], (contained, agree))

@@ -26,10 +26,12 @@ rotated positions n = drop n positions ++ take n positions
 abbrev round_key_positions : ℕ → List ℕ
 round_key_positions i =
     let shifts = sum (take i left_shifts) in
-    composed 65 permuted_choice_2 (rotated (take 28 permuted_choice_1) shifts ++ rotated (drop 28 permuted_choice_1) shifts)
+    composed 65 permuted_choice_2
+    (rotated (take 28 permuted_choice_1) shifts ++ rotated (drop 28 permuted_choice_1) shifts)
 
 -- a selection, rotated, is the selection by the positions, rotated
-pub rotate-select : (positions : List ℕ) (bits : List Bool) (n : ℕ) → rotate (select positions bits) n ≡ select (rotated positions n) bits
+pub rotate-select : (positions : List ℕ) (bits : List Bool) (n : ℕ)
+    → rotate (select positions bits) n ≡ select (rotated positions n) bits
 unfolding rotate select
 rotate-select positions bits n =
     ap₂ ◌++◌ (drop-map (bit bits) n positions) (take-map (bit bits) n positions)
@@ -46,7 +48,8 @@ unfolding d_half select
 d_half-select key = drop-map (bit key) 28 permuted_choice_1
 
 -- selections by two lists of positions, one after the other
-select-append : (positions more : List ℕ) (bits : List Bool) → select (positions ++ more) bits ≡ select positions bits ++ select more bits
+select-append : (positions more : List ℕ) (bits : List Bool)
+    → select (positions ++ more) bits ≡ select positions bits ++ select more bits
 unfolding select
 select-append positions more bits = map-append (bit bits) positions more
 
@@ -57,8 +60,10 @@ round_key-select key width i =
     let shifts : ℕ = sum (take i left_shifts) in
     let first : List ℕ = rotated (take 28 permuted_choice_1) shifts in
     let second : List ℕ = rotated (drop 28 permuted_choice_1) shifts in
-    let c_rotated = ap (λ half. rotate half shifts) (c_half-select key) ∙ rotate-select (take 28 permuted_choice_1) key shifts in
-    let d_rotated = ap (λ half. rotate half shifts) (d_half-select key) ∙ rotate-select (drop 28 permuted_choice_1) key shifts in
+    let c_rotated =
+    ap (λ half. rotate half shifts) (c_half-select key) ∙ rotate-select (take 28 permuted_choice_1) key shifts in
+    let d_rotated =
+    ap (λ half. rotate half shifts) (d_half-select key) ∙ rotate-select (drop 28 permuted_choice_1) key shifts in
     ap (select permuted_choice_2) (ap₂ ◌++◌ c_rotated d_rotated ∙ sym (select-append first second key))
     ∙ select-select 65 permuted_choice_2 (first ++ second) key (omega arith)
 
@@ -70,7 +75,8 @@ rounds = range_with_len 1 16
 
 -- whether each is a position outside parity
 abbrev are_outside_parity : List ℕ → Bool
-are_outside_parity positions = list_all (λ position. nat_le 1 position && nat_le position 64 && not (position % 8 == 0)) positions
+are_outside_parity positions =
+    list_all (λ position. nat_le 1 position && nat_le position 64 && not (position % 8 == 0)) positions
 
 -- keys that agree outside parity have the same bits at positions outside it
 select-agreeing : (key other positions : List ℕ) → AgreeOutsideParity key other → are_outside_parity positions ≡ true
@@ -84,7 +90,8 @@ select-agreeing key other (position ∷ positions) agree outside =
 
 -- they have the same halves C and D
 pub halves-agreeing : (key other : List ℕ) → AgreeOutsideParity key other
-    → (c_half (bits_of_bytes key) ≡ c_half (bits_of_bytes other)) × (d_half (bits_of_bytes key) ≡ d_half (bits_of_bytes other))
+    → (c_half (bits_of_bytes key) ≡ c_half (bits_of_bytes other))
+    × (d_half (bits_of_bytes key) ≡ d_half (bits_of_bytes other))
 halves-agreeing key other agree = (
   c_half-select (bits_of_bytes key)
       ∙ select-agreeing key other (take 28 permuted_choice_1) agree refl
@@ -95,8 +102,8 @@ halves-agreeing key other agree = (
 )
 
 -- they have the same round keys of rounds whose positions are outside parity
-round_keys-agreeing : (key other : List ℕ) → IsKey 8 key → IsKey 8 other → AgreeOutsideParity key other → (numbers : List ℕ)
-    → list_all (λ i. are_outside_parity (round_key_positions i)) numbers ≡ true
+round_keys-agreeing : (key other : List ℕ) → IsKey 8 key → IsKey 8 other → AgreeOutsideParity key other
+    → (numbers : List ℕ) → list_all (λ i. are_outside_parity (round_key_positions i)) numbers ≡ true
     → map (round_key (bits_of_bytes key)) numbers ≡ map (round_key (bits_of_bytes other)) numbers
 round_keys-agreeing key other is_key other_is_key agree [] outside = refl
 round_keys-agreeing key other is_key other_is_key agree (i ∷ numbers) outside =
@@ -112,7 +119,8 @@ round_keys-agreeing key other is_key other_is_key agree (i ∷ numbers) outside 
 pub key_schedule-agreeing : (key other : List ℕ) → IsKey 8 key → IsKey 8 other → AgreeOutsideParity key other
     → key_schedule (bits_of_bytes key) ≡ key_schedule (bits_of_bytes other)
 unfolding key_schedule
-key_schedule-agreeing key other is_key other_is_key agree = round_keys-agreeing key other is_key other_is_key agree rounds refl
+key_schedule-agreeing key other is_key other_is_key agree =
+    round_keys-agreeing key other is_key other_is_key agree rounds refl
 
 -- ---- keys with the same halves, and keys with the same round keys, agree outside parity
 
@@ -135,7 +143,8 @@ is_chosen position = is_among (take 28 permuted_choice_1) position || is_among (
 
 -- each position up to 64 is chosen just if eight does not divide it
 is_chosen-outside_parity : (position : ℕ) → position ≤ 64 → is_chosen position ≡ not (position % 8 == 0)
-is_chosen-outside_parity position within = agree_below_at is_chosen (λ n. not (n % 8 == 0)) 65 position refl (omega arith)
+is_chosen-outside_parity position within =
+    agree_below_at is_chosen (λ n. not (n % 8 == 0)) 65 position refl (omega arith)
 
 -- keys with the same halves C and D agree outside parity
 pub AgreeOutsideParity-halves : (key other : List ℕ) → c_half (bits_of_bytes key) ≡ c_half (bits_of_bytes other)
@@ -145,7 +154,8 @@ AgreeOutsideParity-halves key other same_c same_d position from within outside =
     let b : List Bool = bits_of_bytes other in
     let c : List ℕ = take 28 permuted_choice_1 in
     let d : List ℕ = drop 28 permuted_choice_1 in
-    let chosen = is_chosen-outside_parity position within ∙ not_from_false (position % 8 == 0) (ne_eqb (position % 8) 0 outside) in
+    let chosen = is_chosen-outside_parity position within
+    ∙ not_from_false (position % 8 == 0) (ne_eqb (position % 8) 0 outside) in
     elim (or_cases (is_among c position) (is_among d position) chosen) [
       | inl in_c ↦ bit-from_select a b c (sym (c_half-select a) ∙ same_c ∙ c_half-select b) position in_c
       | inr in_d ↦ bit-from_select a b d (sym (d_half-select a) ∙ same_d ∙ d_half-select b) position in_d
@@ -154,7 +164,8 @@ AgreeOutsideParity-halves key other same_c same_d position from within outside =
 -- equal round keys of some rounds have the same bit at each position that one of them takes
 bit-from_round_keys : (key other : List Bool) → length key ≡ 64 → length other ≡ 64 → (numbers : List ℕ)
     → map (round_key key) numbers ≡ map (round_key other) numbers
-    → (position : ℕ) → list_any (λ i. is_among (round_key_positions i) position) numbers ≡ true → bit key position ≡ bit other position
+    → (position : ℕ) → list_any (λ i. is_among (round_key_positions i) position) numbers ≡ true
+    → bit key position ≡ bit other position
 bit-from_round_keys key other width other_width [] same position taken = absurd (cc)
 bit-from_round_keys key other width other_width (i ∷ numbers) same position taken =
     let here : round_key key i ≡ round_key other i = cc in

@@ -15,12 +15,14 @@ use Rattle.des.proofs.OneAnswer.{IsDes-through_rounds}
 -- ---- the steps, each at the worked example's values
 
 -- `bits_of_bytes`
-bits_of_bytes-example : bits_of_bytes (0x13 ∷ 0x34 ∷ 0x57 ∷ 0x79 ∷ 0x9b ∷ 0xbc ∷ 0xdf ∷ 0xf1 ∷ []) ≡ bits_of_word 0x133457799bbcdff1
+bits_of_bytes-example : bits_of_bytes (0x13 ∷ 0x34 ∷ 0x57 ∷ 0x79 ∷ 0x9b ∷ 0xbc ∷ 0xdf ∷ 0xf1 ∷ [])
+    ≡ bits_of_word 0x133457799bbcdff1
 unfolding bits_of bits_of_bytes
 bits_of_bytes-example = refl
 
 -- `initial_permutation`
-initial_permutation-example : select initial_permutation (bits_of_word 0x0123456789abcdef) ≡ bits_of_word 0xcc00ccfff0aaf0aa
+initial_permutation-example : select initial_permutation (bits_of_word 0x0123456789abcdef)
+    ≡ bits_of_word 0xcc00ccfff0aaf0aa
 unfolding bits_of select
 initial_permutation-example = refl
 
@@ -30,7 +32,8 @@ unfolding bits_of select
 final_permutation-example = refl
 
 -- `permuted_choice_1`
-permuted_choice_1-example : select permuted_choice_1 (bits_of_word 0x133457799bbcdff1) ++ zeros 8 ≡ bits_of_word 0xf0ccaaf556678f00
+permuted_choice_1-example : select permuted_choice_1 (bits_of_word 0x133457799bbcdff1) ++ zeros 8
+    ≡ bits_of_word 0xf0ccaaf556678f00
 unfolding bits_of select
 permuted_choice_1-example = refl
 
@@ -51,17 +54,20 @@ unfolding bits_of select round_key c_half d_half rotate shifts_through
 round_key-last_example = refl
 
 -- `expansion`
-expansion-example : select expansion (take 32 (bits_of_word 0xf0aaf0aa00000000)) ++ zeros 16 ≡ bits_of_word 0x7a15557a15550000
+expansion-example : select expansion (take 32 (bits_of_word 0xf0aaf0aa00000000)) ++ zeros 16
+    ≡ bits_of_word 0x7a15557a15550000
 unfolding bits_of select
 expansion-example = refl
 
 -- `substitute`
-substitute-example : substitute (take 48 (bits_of_word 0x6117ba8665270000)) ++ zeros 32 ≡ bits_of_word 0x5c82b59700000000
+substitute-example : substitute (take 48 (bits_of_word 0x6117ba8665270000)) ++ zeros 32
+    ≡ bits_of_word 0x5c82b59700000000
 unfolding bits_of substitute_by box_entry number_of
 substitute-example = refl
 
 -- `permutation`
-permutation-example : select permutation (take 32 (bits_of_word 0x5c82b59700000000)) ++ zeros 32 ≡ bits_of_word 0x234aa9bb00000000
+permutation-example : select permutation (take 32 (bits_of_word 0x5c82b59700000000)) ++ zeros 32
+    ≡ bits_of_word 0x234aa9bb00000000
 unfolding bits_of select
 permutation-example = refl
 

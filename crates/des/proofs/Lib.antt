@@ -1,4 +1,5 @@
 mod KnownAnswers
+pub mod ByteArrays
 pub mod BitParts
 pub mod HalfWords
 pub mod Places

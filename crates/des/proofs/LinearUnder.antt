@@ -46,7 +46,8 @@ rotate_left-xor : (a b k : ℕ) → a < 2 ^ 64 → b < 2 ^ 64 → (nat_le 1 k &&
 rotate_left-xor a b k a_fits b_fits inside =
     let within : (1 ≤ k) × (k ≤ 63) = grind (arith, nat_tests) in
     let width : 64 ≡ k + (64 - k) = omega arith in
-    let below : (n : ℕ) → n < 2 ^ 64 → n / 2 ^ (64 - k) < 2 ^ k = λ n fits. shr_below n k (64 - k) (rw (sym width) fits) in
+    let below : (n : ℕ) → n < 2 ^ 64 → n / 2 ^ (64 - k) < 2 ^ k =
+    λ n fits. shr_below n k (64 - k) (rw (sym width) fits) in
     rw (
       rotate_left-sum (bit_xor a b) k inside (xor_lt 64 a b a_fits b_fits),
       rotate_left-sum a k inside a_fits,
@@ -54,7 +55,8 @@ rotate_left-xor a b k a_fits b_fits inside =
       xor_mod a b (64 - k),
       xor_shr a b (64 - k),
     )
-    (sym (xor_block k (a % 2 ^ (64 - k)) (b % 2 ^ (64 - k)) (a / 2 ^ (64 - k)) (b / 2 ^ (64 - k)) (below a a_fits) (below b b_fits)))
+    (sym (xor_block k (a % 2 ^ (64 - k)) (b % 2 ^ (64 - k)) (a / 2 ^ (64 - k)) (b / 2 ^ (64 - k)) (below a a_fits)
+    (below b b_fits)))
 
 -- a rotated word is a word
 rotate_left-lt : (n k : ℕ) → n < 2 ^ 64 → rotate_left w64 n k < 2 ^ 64
@@ -72,7 +74,8 @@ IsLinearUnder-rotate {mask} {f} k test map =
     let below : (x : ℕ) → f x < 2 ^ 64 = λ x. lt-of_under (f x) mask fits (map.under x) in
     record {
       linear = record {
-        sums = λ a b. ap (λ y. rotate_left w64 y k) (map.linear.sums a b) ∙ rotate_left-xor (f a) (f b) k (below a) (below b) inside;
+        sums = λ a b. ap (λ y. rotate_left w64 y k) (map.linear.sums a b)
+            ∙ rotate_left-xor (f a) (f b) k (below a) (below b) inside;
       };
       under = λ x. and_mask (rotate_left w64 (f x) k) 64 ∙ mod-eq_of_lt (rotate_left-lt (f x) k (below x));
     }

@@ -84,7 +84,8 @@ pub and-masked : (a b m n : ℕ) → bit_and m n ≡ 0 → bit_and (bit_and a m)
 and-masked a b m n apart =
     same_from_bits (bit_and (bit_and a m) (bit_and b n)) 0
     (λ i.
-    let none : min (bit_at m i) (bit_at n i) ≡ 0 = sym (bit_at_and m n i) ∙ ap (λ y. bit_at y i) apart ∙ bit_at-zero i in
+    let none : min (bit_at m i) (bit_at n i) ≡ 0 =
+    sym (bit_at_and m n i) ∙ ap (λ y. bit_at y i) apart ∙ bit_at-zero i in
     simp (bit_at_and, bit_at-zero) (omega (arith, none)))
 
 -- ---- the bits that a linear map selects
@@ -117,7 +118,8 @@ same_from_units (suc n) g h g_sums h_sums none each x below =
       | inr high ↦
           let y : ℕ = x - 2 ^ n in
           let small : y < 2 ^ n = omega (arith, pow-suc 2 n) in
-          let sum : bit_xor (2 ^ n) y ≡ 1 * 2 ^ n + y = ap (λ b. bit_xor b y) (sym (one-mul (2 ^ n))) ∙ xor_shifted 1 n y small in
+          let sum : bit_xor (2 ^ n) y ≡ 1 * 2 ^ n + y =
+          ap (λ b. bit_xor b y) (sym (one-mul (2 ^ n))) ∙ xor_shifted 1 n y small in
           let split : x ≡ bit_xor (2 ^ n) y = omega (arith, sum) in
           ap g split ∙ g_sums (2 ^ n) y ∙ ap₂ xor_bits (each n (omega arith)) (rest y small)
           ∙ sym (ap h split ∙ h_sums (2 ^ n) y)
@@ -160,7 +162,8 @@ selection-sums positions m a b =
     let widths : length x ≡ length y = length-bits_of 64 a ∙ sym (length-bits_of 64 b) in
     ap (λ bits. select positions bits ++ zeros m) (bits_of-xor 64 a b)
     ∙ ap (λ bits. bits ++ zeros m) (select-xor_bits positions x y widths)
-    ∙ sym (xor_bits-zeros m (select positions x) (select positions y) (length-select positions x ∙ sym (length-select positions y)))
+    ∙ sym (xor_bits-zeros m (select positions x) (select positions y)
+    (length-select positions x ∙ sym (length-select positions y)))
 
 -- a linear map whose selection of bits is right for zero and for the words with one bit, with m zeros after it, is that
 -- selection for all words

@@ -1,5 +1,6 @@
--- The keys that agree with a listed key outside parity are exactly those of the listed class: the halves of each key of the
--- list pass a test of the class, and the halves of a key of the class are two of eight patterns, which are those of a listed key.
+-- The keys that agree with a listed key outside parity are exactly those of the listed class: the halves of each key of
+-- the list pass a test of the class, and the halves of a key of the class are two of eight patterns, which are those of
+-- a listed key.
 use Rattle.std.proofs.Common.{◌≡◌, ◌↔◌, ℕ, ◌&&◌, ◌||◌, List, Bool, true, length, inl, inr, refl, subst}
 use Rattle.std.specs.List.{list_all, list_any}
 use Rattle.std.specs.Cmp.{booleans_Decides}
@@ -54,8 +55,13 @@ IsListed-from_agreeing key is_key found =
     let each = AllPass-from_list_all has_listed_halves listed_keys listed_keys_pass in
     let passes = All-contains (λ other. has_listed_halves other ≡ true) listed_keys listed each found.1.0 in
     let tests = and_parts (is_listed_half c) (is_listed_half d) passes in
-    let same = halves-agreeing listed key found.1.1 in
-    (is_key, (subst IsListedHalf same.0 (IsListedHalf-from_test c tests.0), subst IsListedHalf same.1 (IsListedHalf-from_test d tests.1)))
+    let same = halves-agreeing listed key found.1.1 in (
+      is_key,
+      (
+        subst IsListedHalf same.0 (IsListedHalf-from_test c tests.0),
+        subst IsListedHalf same.1 (IsListedHalf-from_test d tests.1),
+      ),
+    )
 
 -- ---- from the class to the list
 
@@ -97,7 +103,8 @@ ContainsAgreeing-listed key listed =
 -- ---- refused keys
 
 -- what is so exactly where a key is refused by the list is so exactly where it is refused by the class
-pub refused_by_class : (key : List ℕ) (Verdict : Type 0) → AreBytes key → Verdict ↔ IsRefusedByList key → Verdict ↔ IsRefused key
+pub refused_by_class : (key : List ℕ) (Verdict : Type 0) → AreBytes key → Verdict ↔ IsRefusedByList key
+    → Verdict ↔ IsRefused key
 refused_by_class key Verdict bytes by_list = (
   λ verdict. elim (by_list.0 verdict) [
     | inl listed ↦

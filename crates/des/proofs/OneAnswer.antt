@@ -31,8 +31,8 @@ half_block-trace_17 key left right =
     ∙ half_block-trace_last (key_schedule key) left right
 
 -- DES relates two blocks that the rounds of the key join
-IsDes-from_AreJoined : (key x y left right : List Bool) → length key ≡ 64 → length x ≡ 64 → length y ≡ 64 → AreJoined key x y left right
-    → IsDes key x y
+IsDes-from_AreJoined : (key x y left right : List Bool) → length key ≡ 64 → length x ≡ 64 → length y ≡ 64
+    → AreJoined key x y left right → IsDes key x y
 IsDes-from_AreJoined key x y left right key_width first_width last_width joined = record {
   key_width = key_width;
   first_width = first_width;
@@ -41,12 +41,14 @@ IsDes-from_AreJoined key x y left right key_width first_width last_width joined 
   is_trace = IsTrace-trace key left right joined.widths.0 joined.widths.1;
   begins =
       joined.begins
-      ∙ sym (ap₂ ◌++◌ (half_block-trace_first (key_schedule key) left right) (half_block-trace_second (key_schedule key) left right));
+      ∙ sym (ap₂ ◌++◌ (half_block-trace_first (key_schedule key) left right)
+      (half_block-trace_second (key_schedule key) left right));
   ends = joined.ends ∙ sym (ap₂ ◌++◌ (half_block-trace_17 key left right) (half_block-trace_16 key left right));
 }
 
 -- where DES relates two blocks, the rounds of the key join them, from the first two half blocks of its trace
-AreJoined-from_IsDes : (key x y : List Bool) → (des : IsDes key x y) → AreJoined key x y (half_block des.trace 0) (half_block des.trace 1)
+AreJoined-from_IsDes : (key x y : List Bool) → (des : IsDes key x y)
+    → AreJoined key x y (half_block des.trace 0) (half_block des.trace 1)
 AreJoined-from_IsDes key x y des =
     let left : List Bool = half_block des.trace 0 in
     let right : List Bool = half_block des.trace 1 in
@@ -62,7 +64,8 @@ AreJoined-from_IsDes key x y des =
     }
 
 -- DES takes a block to what the rounds of its key make of it
-pub IsDes-through_rounds : (key x : List Bool) → length key ≡ 64 → length x ≡ 64 → IsDes key x (through_rounds (key_schedule key) x)
+pub IsDes-through_rounds : (key x : List Bool) → length key ≡ 64 → length x ≡ 64
+    → IsDes key x (through_rounds (key_schedule key) x)
 unfolding through_rounds
 IsDes-through_rounds key x key_width width =
     let left : List Bool = take 32 (select initial_permutation x) in

@@ -1,5 +1,6 @@
 -- The parity bits of bytes and of words, the lowest bit of each byte: keys of eight bytes agree outside parity exactly
--- where the upper bits of their bytes are equal, and exactly where their words are equal under the mask of the other bits.
+-- where the upper bits of their bytes are equal, and exactly where their words are equal under the mask of the other
+-- bits.
 use Rattle.std.proofs.Common.{◌≡◌, ◌↔◌, ℕ, zero, suc, ◌+◌, ◌-◌, ◌*◌, ◌/◌, ◌%◌, ◌<◌, ◌==◌, min, false, List, [], ◌∷◌, ◌++◌, length, get_or, slice_index, bit_and, bit_xor, count_ones, IsTrue, refl, ap, ap₂, sym, ◌∙◌, arith}
 use Rattle.std.specs.Int.{bit_at, w64, from_be_bytes}
 use Rattle.std.specs.Int.Bits.{xor_zero_r}
@@ -15,6 +16,7 @@ use Rattle.des.specs.Blocks.{IsKey}
 use Rattle.des.specs.Parity.{HasOddParity, AgreeOutsideParity}
 use Rattle.des.specs.Relations.{IsTheOne}
 use Rattle.des.specs.Laws.BitLists.{length-bits_of, bits_of_bytes-from_be}
+use Rattle.des.proofs.ByteArrays.{IsKey-array}
 use Rattle.des.proofs.BitParts.{IsPositionIn, get_or-bits_of, bit-bits_of, same_below}
 
 -- two bits are equal where their tests are
@@ -33,7 +35,8 @@ get_or-bits_of_bytes (byte ∷ bytes) zero j within below =
     ∙ get_or_append_left (bits_of 8 byte) (bits_of_bytes bytes) false j (omega (arith, length-bits_of 8 byte))
     ∙ get_or-bits_of 8 byte j below
 get_or-bits_of_bytes (byte ∷ bytes) (suc i) j within below =
-    get_or-append_right (bits_of 8 byte) (bits_of_bytes bytes) 8 (8 * suc i + j) false (length-bits_of 8 byte) (omega arith)
+    get_or-append_right (bits_of 8 byte) (bits_of_bytes bytes) 8 (8 * suc i + j) false (length-bits_of 8 byte)
+    (omega arith)
     ∙ ap (λ (k : ℕ). get_or (bits_of_bytes bytes) k false) (omega arith)
     ∙ get_or-bits_of_bytes bytes i j (omega arith) below
 
@@ -79,7 +82,8 @@ AgreeOutsideParity_from_upper_bits key other is_key is_other upper position low 
     let x : ℕ = get_or key i 0 in
     let y : ℕ = get_or other i 0 in
     let same : bit_at x (7 - j) ≡ bit_at y (7 - j) =
-    rw place (bit_at-suc x (6 - j) ∙ ap (λ (upper : ℕ). bit_at upper (6 - j)) (upper i (omega arith)) ∙ sym (bit_at-suc y (6 - j))) in
+    rw place (bit_at-suc x (6 - j) ∙ ap (λ (upper : ℕ). bit_at upper (6 - j)) (upper i (omega arith))
+    ∙ sym (bit_at-suc y (6 - j))) in
     bit-bits_of_bytes key position i j (omega arith) (omega arith) (omega arith)
     ∙ ap (λ (b : ℕ). b == 1) same
     ∙ sym (bit-bits_of_bytes other position i j (omega arith) (omega arith) (omega arith))
@@ -87,27 +91,32 @@ AgreeOutsideParity_from_upper_bits key other is_key is_other upper position low 
 -- keys of eight bytes agree outside parity exactly where the upper bits of their bytes are equal
 AgreeOutsideParity-upper_bits : (key other : List ℕ) → IsKey 8 key → IsKey 8 other
     → AgreeOutsideParity key other ↔ HaveEqualUpperBits key other
-AgreeOutsideParity-upper_bits key other is_key is_other =
-    (upper_bits_from_AgreeOutsideParity key other is_key is_other, AgreeOutsideParity_from_upper_bits key other is_key is_other)
+AgreeOutsideParity-upper_bits key other is_key is_other = (
+  upper_bits_from_AgreeOutsideParity key other is_key is_other,
+  AgreeOutsideParity_from_upper_bits key other is_key is_other,
+)
 
 -- numbers with equal upper bits and odd numbers of ones are equal
-same_from_upper_bits : (x y : ℕ) → x / 2 ≡ y / 2 → count_ones x % 2 ≡ 1 → count_ones y % 2 ≡ 1 → x ≡ y
+pub same_from_upper_bits : (x y : ℕ) → x / 2 ≡ y / 2 → count_ones x % 2 ≡ 1 → count_ones y % 2 ≡ 1 → x ≡ y
 same_from_upper_bits x y upper x_odd y_odd = omega (arith, ones_step x, ones_step y, ap count_ones upper)
 
 -- the other lowest bit turns an even number of ones into an odd one
 pub count_ones-xor_one : (x : ℕ) → count_ones x % 2 ≡ 0 → count_ones (bit_xor x 1) % 2 ≡ 1
 count_ones-xor_one x even =
     let upper : bit_xor x 1 / 2 ≡ x / 2 = xor_shr x 1 1 ∙ xor_zero_r (x / 2) in
-    let lowest : bit_xor x 1 % 2 ≡ (x % 2 + 1) % 2 = sym (bit_at_lowest (bit_xor x 1)) ∙ bit_at_xor x 1 0 ∙ rw (bit_at_lowest x) in
+    let lowest : bit_xor x 1 % 2 ≡ (x % 2 + 1) % 2 =
+    sym (bit_at_lowest (bit_xor x 1)) ∙ bit_at_xor x 1 0 ∙ rw (bit_at_lowest x) in
     omega (arith, ones_step (bit_xor x 1), ones_step x, ap count_ones upper)
 
--- eight bytes, each with the upper bits of the key's and an odd number of ones, are the one key that agrees with it outside
--- parity and has odd parity
-pub IsTheOne-odd_parity : (key result : List ℕ) → length key ≡ 8 → ((i : ℕ) → slice_index key i < 256) → length result ≡ 8
-    → ((i : ℕ) → i < 8 → (slice_index result i / 2 ≡ slice_index key i / 2) × (count_ones (slice_index result i) % 2 ≡ 1))
+-- eight bytes, each with the upper bits of the key's and an odd number of ones, are the one key that agrees with it
+-- outside parity and has odd parity
+pub IsTheOne-odd_parity : (key result : List ℕ) → length key ≡ 8 → ((i : ℕ) → slice_index key i < 256)
+    → length result ≡ 8
+    → ((i : ℕ) → i < 8
+    → (slice_index result i / 2 ≡ slice_index key i / 2) × (count_ones (slice_index result i) % 2 ≡ 1))
     → IsTheOne (λ other. IsKey 8 other × AgreeOutsideParity key other × HasOddParity other) result
 IsTheOne-odd_parity key result eight small result_eight each =
-    let is_key : IsKey 8 key = (eight, All-from_get_or (λ byte. byte < 256) key 0 (λ i within. small i)) in
+    let is_key = IsKey-array 8 key eight small in
     let is_result : IsKey 8 result = (
       result_eight,
       All-from_get_or (λ byte. byte < 256) result 0 (λ i within. omega (arith, (each i (omega arith)).0, small i)),
@@ -116,7 +125,8 @@ IsTheOne-odd_parity key result eight small result_eight each =
     All-from_get_or (λ byte. count_ones byte % 2 ≡ 1) result 0 (λ i within. (each i (omega arith)).1) in (
       (is_result, (AgreeOutsideParity-upper_bits key result is_key is_result).1 (λ i below. sym (each i below).0), odd),
       λ other given.
-          let upper : HaveEqualUpperBits key other = (AgreeOutsideParity-upper_bits key other is_key given.0).0 given.1 in
+          let upper : HaveEqualUpperBits key other =
+          (AgreeOutsideParity-upper_bits key other is_key given.0).0 given.1 in
           ext_get_or 0 other result (omega arith)
           (λ i within.
           let below : i < 8 = omega arith in
@@ -141,13 +151,15 @@ bit_at-masked a b k below =
     bit_at_and (bit_xor a b) outside_parity k ∙ ap₂ min (bit_at_xor a b k) (bit_at-outside_parity k below)
 
 -- the masked sum modulo 2 of two words is zero exactly where their bits outside parity are equal
-masked-zero : (a b : ℕ) → (bit_and (bit_xor a b) outside_parity ≡ 0) ↔ ((k : ℕ) → k < 64 → ¬ (k % 8 ≡ 0) → bit_at a k ≡ bit_at b k)
+masked-zero : (a b : ℕ)
+    → (bit_and (bit_xor a b) outside_parity ≡ 0) ↔ ((k : ℕ) → k < 64 → ¬ (k % 8 ≡ 0) → bit_at a k ≡ bit_at b k)
 masked-zero a b = (
   λ none k below apart.
       let clear = sym (bit_at-masked a b k below) ∙ ap (λ (x : ℕ). bit_at x k) none ∙ bit_at-zero k in
       omega (arith, bit_at-lt a k, bit_at-lt b k),
   λ same.
-      same_from_bits_below 64 (bit_and (bit_xor a b) outside_parity) 0 (omega (arith, and_le_r (bit_xor a b) outside_parity)) (omega arith)
+      same_from_bits_below 64 (bit_and (bit_xor a b) outside_parity) 0
+      (omega (arith, and_le_r (bit_xor a b) outside_parity)) (omega arith)
       (λ k below. rw (bit_at-masked a b k below, bit_at-zero k) (grind (arith, same k below))),
 )
 
@@ -167,7 +179,8 @@ AgreeOutsideParity-masked key other a b key_eight other_eight key_small other_sm
   λ none position low high apart.
       let zero_sum = eqb-true (bit_and (bit_xor a b) outside_parity) 0 none in
       bit-word key a position key_eight key_small key_word (low, high)
-      ∙ ap (λ (x : ℕ). x == 1) ((masked-zero a b).0 zero_sum (64 - position) (omega arith) (λ divides. apart (omega arith)))
+      ∙ ap (λ (x : ℕ). x == 1) ((masked-zero a b).0 zero_sum (64 - position) (omega arith)
+      (λ divides. apart (omega arith)))
       ∙ sym (bit-word other b position other_eight other_small other_word (low, high)),
   λ agree.
       eq-eqb (bit_and (bit_xor a b) outside_parity) 0

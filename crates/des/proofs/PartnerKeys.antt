@@ -1,4 +1,5 @@
--- Partner keys: the one's round keys are the other's in the opposite order, so the one enciphers as the other deciphers.
+-- Partner keys: the one's round keys are the other's in the opposite order, so the one enciphers as the other
+-- deciphers.
 use Rattle.std.proofs.Common.{◌≡◌, ◌↔◌, ℕ, suc, ◌-◌, ◌<◌, ◌≤◌, List, [], Bool, length, reverse, IsTrue, sym, ap, ◌∙◌, subst, arith}
 use Rattle.std.proofs.lemmas.List.{reverse-reverse, length-reverse, get_or-reverse, ext_get_or}
 use Rattle.des.specs.Bits.{bits_of_bytes}
@@ -30,7 +31,8 @@ reversed_round_keys key partner is_key partner_is_key = (
       (length-d_half (bits_of_bytes key))
       (length-c_half (bits_of_bytes partner))
       (length-d_half (bits_of_bytes partner))
-      (sym (key_schedule-halves (bits_of_bytes partner)) ∙ reversed ∙ ap reverse (key_schedule-halves (bits_of_bytes key))) in
+      (sym (key_schedule-halves (bits_of_bytes partner)) ∙ reversed
+      ∙ ap reverse (key_schedule-halves (bits_of_bytes key))) in
       record { repeats = (turned.0, turned.1); c_rotated = turned.2; d_rotated = turned.3 },
 )
 
@@ -59,7 +61,8 @@ reversed_by_number key partner =
           (omega (arith, count, length-key_schedule partner, length-reverse (key_schedule key)))
           (λ j below.
           let within : j < 16 = omega (arith, length-key_schedule partner) in
-          half_block-key_schedule partner j within ∙ each (suc j) (omega arith) (omega arith) ∙ sym (from_end j within)),
+          half_block-key_schedule partner j within ∙ each (suc j) (omega arith) (omega arith)
+          ∙ sym (from_end j within)),
     )
 
 -- the same of partners
@@ -75,13 +78,15 @@ decryption-partner : (key partner : List ℕ) → IsKey 8 key → IsKey 8 partne
     → decryption partner block ≡ encryption key block
 decryption-partner key partner is_key partner_is_key partners block =
     ap (λ keys. answer_by keys block)
-    (ap reverse ((reversed_round_keys key partner is_key partner_is_key).0 partners) ∙ reverse-reverse (key_schedule (bits_of_bytes key)))
+    (ap reverse ((reversed_round_keys key partner is_key partner_is_key).0 partners)
+    ∙ reverse-reverse (key_schedule (bits_of_bytes key)))
 
 -- DES under a key takes a block to another exactly where DES under its partner takes the other to the first
 Enciphers-partners : (key partner : List ℕ) → IsKey 8 key → IsKey 8 partner → ArePartners key partner → (x y : List ℕ)
     → Enciphers key x y ↔ Enciphers partner y x
 Enciphers-partners key partner is_key partner_is_key partners x y =
-    let same : decryption partner x ≡ encryption key x = decryption-partner key partner is_key partner_is_key partners x in
+    let same : decryption partner x ≡ encryption key x =
+    decryption-partner key partner is_key partner_is_key partners x in
     let forth = IsGraphOf-encryption key is_key x y in
     let back = IsGraphOf-decryption partner partner_is_key x y in (
       λ enciphers. let made = forth.0 enciphers in back.1 (made.0, same ∙ made.1),
@@ -89,16 +94,19 @@ Enciphers-partners key partner is_key partner_is_key partners x y =
     )
 
 -- DES twice under a key that is its own partner takes each block to itself
-Enciphers-own_partner : (key : List ℕ) → IsKey 8 key → ArePartners key key → (x y z : List ℕ) → Enciphers key x y → Enciphers key y z
-    → z ≡ x
+Enciphers-own_partner : (key : List ℕ) → IsKey 8 key → ArePartners key key → (x y z : List ℕ) → Enciphers key x y
+    → Enciphers key y z → z ≡ x
 Enciphers-own_partner key is_key partners x y z first second =
-    let back = (IsGraphOf-encryption key is_key y x).0 ((Enciphers-partners key key is_key is_key partners x y).0 first) in
+    let back = (IsGraphOf-encryption key is_key y x).0
+    ((Enciphers-partners key key is_key is_key partners x y).0 first) in
     let forth = (IsGraphOf-encryption key is_key y z).0 second in
     sym forth.1 ∙ back.1
 
 -- what a test that tells partners says besides
-pub told_by_partners : (result : Bool) (key partner : List ℕ) → IsKey 8 key → IsKey 8 partner → IsTrue result ↔ ArePartners key partner
-    → (IsTrue result ↔ ((i : ℕ) → 1 ≤ i → i ≤ 16 → round_key (bits_of_bytes partner) i ≡ round_key (bits_of_bytes key) (17 - i)))
+pub told_by_partners : (result : Bool) (key partner : List ℕ) → IsKey 8 key → IsKey 8 partner
+    → IsTrue result ↔ ArePartners key partner
+    → (IsTrue result
+    ↔ ((i : ℕ) → 1 ≤ i → i ≤ 16 → round_key (bits_of_bytes partner) i ≡ round_key (bits_of_bytes key) (17 - i)))
     × (IsTrue result → (x y : List ℕ) → Enciphers key x y ↔ Enciphers partner y x)
     × (IsTrue result → key ≡ partner → (x y z : List ℕ) → Enciphers key x y → Enciphers key y z → z ≡ x)
 told_by_partners result key partner is_key partner_is_key told =

@@ -1,4 +1,5 @@
--- Relations whose graph is known for passes, and what they are for a pass turned round and for three, one after another.
+-- Relations whose graph is known for passes, and what they are for a pass turned round and for three, one after
+-- another.
 use Rattle.std.proofs.Common.{◌≡◌, ℕ, List, refl, sym, ap, ◌∙◌, subst}
 use Rattle.des.specs.Blocks.{IsBlock}
 use Rattle.des.specs.Relations.{IsTheOne, HasOneAnswerEachWay, IsGraphOf, AnswerAlike}
@@ -22,16 +23,17 @@ IsGraphOf-turned forth back Answers pass graph = λ y x. (
 )
 
 -- a block is answered by what the function answers to it, and by nothing else
-pub IsTheOne-graph : (answer : List ℕ → List ℕ) (Answers : List ℕ → List ℕ → Type 0) (block : List ℕ) → IsGraphOf answer Answers
-    → IsBlock block → IsTheOne (Answers block) (answer block)
+pub IsTheOne-graph : (answer : List ℕ → List ℕ) (Answers : List ℕ → List ℕ → Type 0) (block : List ℕ)
+    → IsGraphOf answer Answers → IsBlock block → IsTheOne (Answers block) (answer block)
 IsTheOne-graph answer Answers block graph is_block = (
   (graph block (answer block)).1 (is_block, refl),
   λ other related. sym ((graph block other).0 related).1,
 )
 
-pub IsTheOne-answer : (answer : List ℕ → List ℕ) (Answers : List ℕ → List ℕ → Type 0) (block found : List ℕ) → IsGraphOf answer Answers
-    → IsBlock block → found ≡ answer block → IsTheOne (λ other. Answers block other) found
-IsTheOne-answer answer Answers block found graph is_block same = rw same (IsTheOne-graph answer Answers block graph is_block)
+pub IsTheOne-answer : (answer : List ℕ → List ℕ) (Answers : List ℕ → List ℕ → Type 0) (block found : List ℕ)
+    → IsGraphOf answer Answers → IsBlock block → found ≡ answer block → IsTheOne (λ other. Answers block other) found
+IsTheOne-answer answer Answers block found graph is_block same =
+    rw same (IsTheOne-graph answer Answers block graph is_block)
 
 -- two functions that answer blocks as a third one does answer them alike
 pub AnswerAlike-Agree : {answer other_answer third : List ℕ → List ℕ} → Agree answer third → Agree other_answer third
@@ -52,8 +54,10 @@ abbrev Joined : (First Second Third : List ℕ → List ℕ → Type 0) → List
 Joined First Second Third x y = (u : List ℕ) × ((v : List ℕ) × (First x u × Second u v × Third v y))
 
 -- the graph of three passes is the relations joined
-pub IsGraphOf-through : (f1 b1 f2 b2 f3 : List ℕ → List ℕ) (First Second Third : List ℕ → List ℕ → Type 0) → IsPass f1 b1 → IsPass f2 b2
-    → IsGraphOf f1 First → IsGraphOf f2 Second → IsGraphOf f3 Third → IsGraphOf (through f1 f2 f3) (Joined First Second Third)
+pub IsGraphOf-through : (f1 b1 f2 b2 f3 : List ℕ → List ℕ) (First Second Third : List ℕ → List ℕ → Type 0)
+    → IsPass f1 b1 → IsPass f2 b2
+    → IsGraphOf f1 First → IsGraphOf f2 Second → IsGraphOf f3 Third
+    → IsGraphOf (through f1 f2 f3) (Joined First Second Third)
 IsGraphOf-through f1 b1 f2 b2 f3 First Second Third p1 p2 g1 g2 g3 = λ x y. (
   λ joined.
       let u = joined.0 in
@@ -70,7 +74,11 @@ IsGraphOf-through f1 b1 f2 b2 f3 First Second Third p1 p2 g1 g2 g3 = λ x y. (
         f1 x,
         (
           f2 (f1 x),
-          ((g1 x (f1 x)).1 (made.0, refl), (g2 (f1 x) (f2 (f1 x))).1 (u_block, refl), (g3 (f2 (f1 x)) y).1 (v_block, made.1)),
+          (
+            (g1 x (f1 x)).1 (made.0, refl),
+            (g2 (f1 x) (f2 (f1 x))).1 (u_block, refl),
+            (g3 (f2 (f1 x)) y).1 (v_block, made.1),
+          ),
         ),
       ),
 )
@@ -79,7 +87,9 @@ IsGraphOf-through f1 b1 f2 b2 f3 First Second Third p1 p2 g1 g2 g3 = λ x y. (
 module _ (Fact : Type 0) (fact : Fact) where
   pub IsGraphOf-beside : (answer : List ℕ → List ℕ) (Answers : List ℕ → List ℕ → Type 0) → IsGraphOf answer Answers
       → IsGraphOf answer (λ x y. Fact × Answers x y)
-  IsGraphOf-beside answer Answers graph = λ x y. (λ related. (graph x y).0 related.1, λ made. (fact, (graph x y).1 made))
+  IsGraphOf-beside answer Answers graph =
+      λ x y. (λ related. (graph x y).0 related.1, λ made. (fact, (graph x y).1 made))
 
-  pub IsTheOne-beside : (P : List ℕ → Type 0) (block : List ℕ) → IsTheOne P block → IsTheOne (λ other. Fact × P other) block
+  pub IsTheOne-beside : (P : List ℕ → Type 0) (block : List ℕ) → IsTheOne P block
+      → IsTheOne (λ other. Fact × P other) block
   IsTheOne-beside P block one = ((fact, one.0), λ other related. one.1 other related.1)

@@ -3,7 +3,7 @@ use Rattle.std.proofs.Common.{◌≡◌, ℕ, List, [], ◌∷◌, map, refl, sy
 use Rattle.std.specs.List.{All}
 use Rattle.std.proofs.lemmas.List.Elements.{All-head, All-tail}
 use Rattle.des.specs.Blocks.{IsBlock, AnswersEach}
-use Rattle.des.specs.Relations.{IsTheOneList, IsGraphOf}
+use Rattle.des.specs.Relations.{IsTheOne, IsGraphOf}
 use Rattle.des.specs.Laws.Passes.{Agree}
 
 module _ (f : List ℕ → List ℕ) (Answers : List ℕ → List ℕ → Type 0) (graph : IsGraphOf f Answers) where
@@ -25,16 +25,16 @@ module _ (f : List ℕ → List ℕ) (Answers : List ℕ → List ℕ → Type 0
       ∙ ap (λ (rest : List (List ℕ)). f block ∷ rest) (map-from_AnswersEach blocks answers each.1)
 
   -- so what it answers to a list is the one list
-  pub IsTheOneList-graph : (blocks : List (List ℕ)) → All IsBlock blocks
-      → IsTheOneList (λ answers. AnswersEach Answers blocks answers) (map f blocks)
-  IsTheOneList-graph blocks are_blocks = (
+  pub IsTheOne-map : (blocks : List (List ℕ)) → All IsBlock blocks
+      → IsTheOne (λ answers. AnswersEach Answers blocks answers) (map f blocks)
+  IsTheOne-map blocks are_blocks = (
     AnswersEach-graph blocks are_blocks,
     λ other related. map-from_AnswersEach blocks other related,
   )
 
 -- lists related block by block, read from the second to the first
-AnswersEach-turned : (Answers : List ℕ → List ℕ → Type 0) (blocks answers : List (List ℕ)) → AnswersEach Answers blocks answers
-    → AnswersEach (λ answer block. Answers block answer) answers blocks
+AnswersEach-turned : (Answers : List ℕ → List ℕ → Type 0) (blocks answers : List (List ℕ))
+    → AnswersEach Answers blocks answers → AnswersEach (λ answer block. Answers block answer) answers blocks
 AnswersEach-turned Answers [] [] each = tt
 AnswersEach-turned Answers [] (answer ∷ answers) each = absurd each
 AnswersEach-turned Answers (block ∷ blocks) [] each = absurd each
@@ -42,28 +42,35 @@ AnswersEach-turned Answers (block ∷ blocks) (answer ∷ answers) each =
     (each.0, AnswersEach-turned Answers blocks answers each.1)
 
 -- the same where the function undoes: it answers a list with the one list to which the list is the answer
-pub IsTheOneList-turned : (f : List ℕ → List ℕ) (Answers : List ℕ → List ℕ → Type 0) → IsGraphOf f (λ answer block. Answers block answer)
-    → (answers : List (List ℕ)) → All IsBlock answers → IsTheOneList (λ blocks. AnswersEach Answers blocks answers) (map f answers)
-IsTheOneList-turned f Answers graph answers are_blocks =
-    let one = IsTheOneList-graph f (λ answer block. Answers block answer) graph answers are_blocks in (
+pub IsTheOne-map_turned : (f : List ℕ → List ℕ) (Answers : List ℕ → List ℕ → Type 0)
+    → IsGraphOf f (λ answer block. Answers block answer)
+    → (answers : List (List ℕ)) → All IsBlock answers
+    → IsTheOne (λ blocks. AnswersEach Answers blocks answers) (map f answers)
+IsTheOne-map_turned f Answers graph answers are_blocks =
+    let one = IsTheOne-map f (λ answer block. Answers block answer) graph answers are_blocks in (
       AnswersEach-turned (λ answer block. Answers block answer) answers (map f answers) one.0,
       λ other related. one.1 other (AnswersEach-turned Answers other answers related),
     )
 
 -- a function that answers blocks as another one does answers lists as it does
-map-agreeing : {f g : List ℕ → List ℕ} → Agree g f → (blocks : List (List ℕ)) → All IsBlock blocks → map g blocks ≡ map f blocks
+map-agreeing : {f g : List ℕ → List ℕ} → Agree g f → (blocks : List (List ℕ)) → All IsBlock blocks
+    → map g blocks ≡ map f blocks
 map-agreeing agree [] are_blocks = refl
 map-agreeing {f} {g} agree (block ∷ blocks) are_blocks =
     ap (λ (first : List ℕ). first ∷ map g blocks) (agree.at block (All-head IsBlock block blocks are_blocks))
-    ∙ ap (λ (rest : List (List ℕ)). f block ∷ rest) (map-agreeing agree blocks (All-tail IsBlock block blocks are_blocks))
+    ∙ ap (λ (rest : List (List ℕ)). f block ∷ rest)
+    (map-agreeing agree blocks (All-tail IsBlock block blocks are_blocks))
 
-pub IsTheOneList-agreeing : {f g : List ℕ → List ℕ} (Answers : List ℕ → List ℕ → Type 0) → IsGraphOf f Answers → Agree g f
-    → (blocks : List (List ℕ)) → All IsBlock blocks → IsTheOneList (λ answers. AnswersEach Answers blocks answers) (map g blocks)
-IsTheOneList-agreeing {f} Answers graph agree blocks are_blocks =
-    rw (map-agreeing agree blocks are_blocks) (IsTheOneList-graph f Answers graph blocks are_blocks)
+pub IsTheOne-map_agreeing : {f g : List ℕ → List ℕ} (Answers : List ℕ → List ℕ → Type 0) → IsGraphOf f Answers
+    → Agree g f
+    → (blocks : List (List ℕ)) → All IsBlock blocks
+    → IsTheOne (λ answers. AnswersEach Answers blocks answers) (map g blocks)
+IsTheOne-map_agreeing {f} Answers graph agree blocks are_blocks =
+    rw (map-agreeing agree blocks are_blocks) (IsTheOne-map f Answers graph blocks are_blocks)
 
-pub IsTheOneList-agreeing_turned : {f g : List ℕ → List ℕ} (Answers : List ℕ → List ℕ → Type 0)
+pub IsTheOne-map_agreeing_turned : {f g : List ℕ → List ℕ} (Answers : List ℕ → List ℕ → Type 0)
     → IsGraphOf f (λ answer block. Answers block answer) → Agree g f
-    → (answers : List (List ℕ)) → All IsBlock answers → IsTheOneList (λ blocks. AnswersEach Answers blocks answers) (map g answers)
-IsTheOneList-agreeing_turned {f} Answers graph agree answers are_blocks =
-    rw (map-agreeing agree answers are_blocks) (IsTheOneList-turned f Answers graph answers are_blocks)
+    → (answers : List (List ℕ)) → All IsBlock answers
+    → IsTheOne (λ blocks. AnswersEach Answers blocks answers) (map g answers)
+IsTheOne-map_agreeing_turned {f} Answers graph agree answers are_blocks =
+    rw (map-agreeing agree answers are_blocks) (IsTheOne-map_turned f Answers graph answers are_blocks)

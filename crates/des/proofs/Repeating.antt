@@ -5,7 +5,8 @@ use Rattle.std.proofs.lemmas.Bool.{and_parts}
 use Rattle.des.specs.KeySchedule.{rotate}
 use Rattle.des.proofs.Rotation.{rotate-rotate}
 
--- bits, and after them the same bits, and so on, so many times in all, with a step taken at each bit from each time to the next
+-- bits, and after them the same bits, and so on, so many times in all, with a step taken at each bit from each time to
+-- the next
 abbrev pub repeated : (Bool → Bool) → ℕ → List Bool → List Bool
 repeated step zero front = []
 repeated step (suc count) front = front ++ repeated step count (map step front)
@@ -25,7 +26,8 @@ goes_on step n (suc count) front rest last front_size rest_size same =
     sym (take-append-le n rest last (omega arith)) ∙ ap (take n) split ∙ take_at next (map step rest) n next_size in
     let whole : rest ≡ next ++ later = sym (take-append-drop n rest) ∙ ap (λ bits. bits ++ later) first in
     let after : later ++ last ≡ map step (next ++ later) =
-    sym (drop-append-le n rest last (omega arith)) ∙ ap (drop n) split ∙ drop_at next (map step rest) n next_size ∙ ap (map step) whole in
+    sym (drop-append-le n rest last (omega arith)) ∙ ap (drop n) split ∙ drop_at next (map step rest) n next_size
+    ∙ ap (map step) whole in
     whole
     ∙ ap (λ bits. next ++ bits)
     (goes_on step n count next later last next_size (omega (arith, length-drop n rest)) after)
@@ -43,7 +45,8 @@ repeated_from_rotate step n count bits size same =
     (same ∙ ap (map step) (sym (take-append-drop n bits))))
 
 -- where rotation by n places changes nothing, rotation by more is rotation by the rest
-rotate_on : (n q r : ℕ) (bits : List Bool) → rotate bits n ≡ bits → n * q + r ≤ length bits → rotate bits (n * q + r) ≡ rotate bits r
+rotate_on : (n q r : ℕ) (bits : List Bool) → rotate bits n ≡ bits → n * q + r ≤ length bits
+    → rotate bits (n * q + r) ≡ rotate bits r
 rotate_on n zero r bits same within = ap (rotate bits) (omega arith)
 rotate_on n (suc q) r bits same within =
     let whole : n * suc q + r ≡ n + (n * q + r) = omega (arith, mul-suc n q) in
@@ -53,7 +56,8 @@ rotate_on n (suc q) r bits same within =
     ∙ rotate_on n q r bits same (omega arith)
 
 -- and so any rotation is one by the remainder
-pub rotate_remainder : (n m : ℕ) (bits : List Bool) → 0 < n → rotate bits n ≡ bits → m ≤ length bits → rotate bits m ≡ rotate bits (m % n)
+pub rotate_remainder : (n m : ℕ) (bits : List Bool) → 0 < n → rotate bits n ≡ bits → m ≤ length bits
+    → rotate bits m ≡ rotate bits (m % n)
 rotate_remainder n m bits positive same within =
     let parts : n * (m / n) + m % n ≡ m = omega arith in
     ap (rotate bits) (sym parts) ∙ rotate_on n (m / n) (m % n) bits same (omega arith)
@@ -64,7 +68,8 @@ at_all_bits zero test = test []
 at_all_bits (suc n) test = at_all_bits n (λ bits. test (true ∷ bits)) && at_all_bits n (λ bits. test (false ∷ bits))
 
 -- the test is true at a list of n bits then
-pub at_bits : (n : ℕ) (test : List Bool → Bool) (bits : List Bool) → at_all_bits n test ≡ true → length bits ≡ n → test bits ≡ true
+pub at_bits : (n : ℕ) (test : List Bool → Bool) (bits : List Bool) → at_all_bits n test ≡ true → length bits ≡ n
+    → test bits ≡ true
 at_bits zero test [] each size = each
 at_bits zero test (bit ∷ bits) each size = absurd (omega arith)
 at_bits (suc n) test [] each size = absurd (omega arith)

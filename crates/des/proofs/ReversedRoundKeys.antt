@@ -35,12 +35,13 @@ pairs_of : (half : List Bool) → length half ≡ 28 → rotate half 2 ≡ half 
 pairs_of half size same = repeated_from_rotate (λ b. b) 2 13 half size (same ∙ sym (map-id half))
 
 -- halves that are turned give the round keys in the opposite order
-pub reversed_from_turned : (c d c_other d_other : List Bool) → length c ≡ 28 → length d ≡ 28 → AreTurned c d c_other d_other
-    → AreReversed c d c_other d_other
+pub reversed_from_turned : (c d c_other d_other : List Bool) → length c ≡ 28 → length d ≡ 28
+    → AreTurned c d c_other d_other → AreReversed c d c_other d_other
 reversed_from_turned c d c_other d_other c_size d_size turned =
     let c_pairs : c ≡ pairs (take 2 c) = pairs_of c c_size turned.0 in
     let d_pairs : d ≡ pairs (take 2 d) = pairs_of d d_size turned.1 in
-    ap₂ schedule_of_halves (turned.2 ∙ ap (λ half. rotate half 1) c_pairs) (turned.3 ∙ ap (λ half. rotate half 1) d_pairs)
+    ap₂ schedule_of_halves (turned.2 ∙ ap (λ half. rotate half 1) c_pairs)
+    (turned.3 ∙ ap (λ half. rotate half 1) d_pairs)
     ∙ reversed_pairs (take 2 c) (take 2 d) (length-take-le 2 c (omega arith)) (length-take-le 2 d (omega arith))
     ∙ ap reverse (sym (ap₂ schedule_of_halves c_pairs d_pairs))
 
@@ -94,13 +95,13 @@ turned-placed value other reversed =
     )
 
 -- halves that give the round keys in the opposite order are turned
-pub turned_from_reversed : (c d c_other d_other : List Bool) → length c ≡ 28 → length d ≡ 28 → length c_other ≡ 28 → length d_other ≡ 28
-    → AreReversed c d c_other d_other → AreTurned c d c_other d_other
+pub turned_from_reversed : (c d c_other d_other : List Bool) → length c ≡ 28 → length d ≡ 28 → length c_other ≡ 28
+    → length d_other ≡ 28 → AreReversed c d c_other d_other → AreTurned c d c_other d_other
 turned_from_reversed c d c_other d_other c_size d_size c_other_size d_other_size =
     let Turns : List Bool → List Bool → List Bool → List Bool → Type 0 =
     λ c d c_other d_other. AreReversed c d c_other d_other → AreTurned c d c_other d_other in
     from_places (λ c d. Turns c d c_other d_other)
     (λ value.
-    from_places (λ c_other d_other. Turns (map value c_places) (map value d_places) c_other d_other) (turned-placed value)
-    c_other d_other c_other_size d_other_size)
+    from_places (λ c_other d_other. Turns (map value c_places) (map value d_places) c_other d_other)
+    (turned-placed value) c_other d_other c_other_size d_other_size)
     c d c_size d_size

@@ -20,7 +20,8 @@ and_mask-shl m k w x room within =
     rw (shl_whole x k m w within room) (and_mask (x * 2 ^ m) k)
 
 -- the shifts both ways give a number of k bits again
-pub or_shifts-lt : (m n k w x : ℕ) → k + m ≤ w → x < 2 ^ k → bit_or (bit_and (x * 2 ^ m % 2 ^ w) (2 ^ k - 1)) (x / 2 ^ n) < 2 ^ k
+pub or_shifts-lt : (m n k w x : ℕ) → k + m ≤ w → x < 2 ^ k
+    → bit_or (bit_and (x * 2 ^ m % 2 ^ w) (2 ^ k - 1)) (x / 2 ^ n) < 2 ^ k
 or_shifts-lt m n k w x room within =
     rw (and_mask-shl m k w x room within)
     (or_lt k (x * 2 ^ m % 2 ^ k) (x / 2 ^ n) (mod_below (x * 2 ^ m) (2 ^ k) (pow_pos k)) (omega (arith, shr_le x n)))

@@ -12,7 +12,8 @@ use Rattle.des.specs.Laws.Selections.{select-range_with_len}
 abbrev pub key_at : List Bool → List Bool → ℕ → List Bool
 key_at c d n = select permuted_choice_2 (rotate c n ++ rotate d n)
 
--- the left shifts before each round key, together, written out so that places compute; `key_schedule-halves` compares them
+-- the left shifts before each round key, together, written out so that places compute; `key_schedule-halves` compares
+-- them
 abbrev pub shifts : List ℕ
 shifts = 1 ∷ 2 ∷ 4 ∷ 6 ∷ 8 ∷ 10 ∷ 12 ∷ 14 ∷ 15 ∷ 17 ∷ 19 ∷ 21 ∷ 23 ∷ 25 ∷ 27 ∷ 28 ∷ []
 
@@ -62,7 +63,8 @@ d_placed c d c_size d_size =
     ∙ take_all 28 d (omega arith)
 
 -- what holds of halves with any value at each place holds of all halves
-pub from_places : (P : List Bool → List Bool → Type 0) → ((value : ℕ → Bool) → P (map value c_places) (map value d_places))
+pub from_places : (P : List Bool → List Bool → Type 0)
+    → ((value : ℕ → Bool) → P (map value c_places) (map value d_places))
     → (c d : List Bool) → length c ≡ 28 → length d ≡ 28 → P c d
 from_places P each c d c_size d_size =
     subst (λ h. P h d) (c_placed c d c_size)

@@ -25,13 +25,15 @@ IsRound word key next =
     bits_of_word next ≡ halves.1 ++ xor_bits halves.0 (cipher_function halves.1 (take 48 (bits_of_word key)))
 
 -- the halves after one round
-halves_of-round : (word key next : ℕ) → IsRound word key next → halves_of next ≡ halves_after (key ∷ []) (halves_of word)
+halves_of-round : (word key next : ℕ) → IsRound word key next
+    → halves_of next ≡ halves_after (key ∷ []) (halves_of word)
 unfolding after_rounds round_keys_of
 halves_of-round word key next round =
     let left : List Bool = take 32 (bits_of_word word) in
     let right : List Bool = drop 32 (bits_of_word word) in
     let new : List Bool = xor_bits left (cipher_function right (take 48 (bits_of_word key))) in
-    let width : length right ≡ 32 = length-drop 32 (bits_of_word word) ∙ ap (λ (n : ℕ). n - 32) (length-bits_of 64 word) in
+    let width : length right ≡ 32 =
+    length-drop 32 (bits_of_word word) ∙ ap (λ (n : ℕ). n - 32) (length-bits_of 64 word) in
     ap₂ (λ (l r : List Bool). (l, r))
     (ap (take 32) round ∙ take_at right new 32 width)
     (ap (drop 32) round ∙ drop_at right new 32 width)
@@ -45,7 +47,8 @@ halves_after-append words more halves =
     ∙ after_rounds-append (round_keys_of words) (round_keys_of more) halves.0 halves.1
 
 -- the halves after the rounds of some words, and after one round more
-pub halves_of-round_more : (words : List ℕ) (first word key next : ℕ) → halves_of word ≡ halves_after words (halves_of first)
+pub halves_of-round_more : (words : List ℕ) (first word key next : ℕ)
+    → halves_of word ≡ halves_after words (halves_of first)
     → IsRound word key next → halves_of next ≡ halves_after (words ++ key ∷ []) (halves_of first)
 halves_of-round_more words first word key next so_far round =
     halves_of-round word key next round
@@ -63,7 +66,8 @@ unfolding through_rounds
 through_rounds-halves words first last block answer begins rounds ends =
     ends
     ∙ ap (λ (h : List Bool × List Bool). select final_permutation (swapped h)) rounds
-    ∙ ap (λ (bits : List Bool). select final_permutation (swapped (halves_after words (take 32 bits, drop 32 bits)))) begins
+    ∙ ap (λ (bits : List Bool). select final_permutation (swapped (halves_after words (take 32 bits, drop 32 bits))))
+    begins
 
 -- the words from the last to the first hold the round keys from the last to the first
 pub round_keys_of-reverse : (words : List ℕ) → round_keys_of (reverse words) ≡ reverse (round_keys_of words)

@@ -12,7 +12,8 @@ use Rattle.des.specs.Laws.BitLists.{bits_of-cat}
 use Rattle.des.proofs.BitParts.{bits_of-and_mask, take-bits_of, drop-bits_of}
 
 -- the group of six bits of a word that box i replaces
-take-drop-bits_of_word : (i x : ℕ) → i < 8 → take 6 (drop (6 * i) (take 48 (bits_of_word x))) ≡ bits_of 6 (x / 2 ^ (58 - 6 * i))
+take-drop-bits_of_word : (i x : ℕ) → i < 8
+    → take 6 (drop (6 * i) (take 48 (bits_of_word x))) ≡ bits_of 6 (x / 2 ^ (58 - 6 * i))
 take-drop-bits_of_word i x below =
     let width : 64 ≡ 6 * i + (6 + (58 - 6 * i)) = omega arith in
     rw (
@@ -48,7 +49,8 @@ listed_entry-box_entry : (i x : ℕ) → i < 8
     → box_entry (slice_index_or selection_functions i []) (bits_of 6 x) ≡ listed_entry i (group_of x)
 unfolding box_entry bits_of number_of
 listed_entry-box_entry i x below =
-    let agrees : ℕ → ℕ → Bool = λ j group. box_entry (slice_index_or selection_functions j []) (bits_of 6 group) == listed_entry j group in
+    let agrees : ℕ → ℕ → Bool =
+    λ j group. box_entry (slice_index_or selection_functions j []) (bits_of 6 group) == listed_entry j group in
     let box_agrees : ℕ → Bool = λ j. agree_below (agrees j) (λ group. true) 64 in
     let each : box_agrees i ≡ true = agree_below_at box_agrees (λ j. true) 8 i refl below in
     ap (box_entry (slice_index_or selection_functions i [])) (sym (bits_of-and_mask 6 x))
@@ -66,19 +68,22 @@ entry_for-lt i x below =
     let small_box : ℕ → Bool = λ j. agree_below (small j) (λ group. true) 64 in
     let each : small_box i ≡ true = agree_below_at small_box (λ j. true) 8 i refl below in
     let shifted : ℕ = x / 2 ^ (58 - 6 * i) in
-    ltb-true (entry_for i x) 16 (agree_below_at (small i) (λ group. true) 64 (group_of shifted) each (mask_lt shifted 6))
+    ltb-true (entry_for i x) 16
+    (agree_below_at (small i) (λ group. true) 64 (group_of shifted) each (mask_lt shifted 6))
 
 -- a number with an entry of four bits after it, in 64 bits
 abbrev with_entry : ℕ → ℕ → ℕ
 with_entry output entry = bit_or (output * 16 % 2 ^ 64) entry
 
 -- the entry takes four places of its own
-with_entry-sum : (i output entry : ℕ) → i < 8 → output < 2 ^ (4 * i) → entry < 16 → with_entry output entry ≡ output * 2 ^ 4 + entry
+with_entry-sum : (i output entry : ℕ) → i < 8 → output < 2 ^ (4 * i) → entry < 16
+    → with_entry output entry ≡ output * 2 ^ 4 + entry
 with_entry-sum i output entry within below small =
     rw (shl_whole output (4 * i) 4 64 below (omega arith)) (or_shifted output 4 entry small)
 
 -- the next entry makes the number four bits longer
-pub with_entry-lt : (i x output : ℕ) → i < 8 → output < 2 ^ (4 * i) → with_entry output (entry_for i x) < 2 ^ (4 * (i + 1))
+pub with_entry-lt : (i x output : ℕ) → i < 8 → output < 2 ^ (4 * i)
+    → with_entry output (entry_for i x) < 2 ^ (4 * (i + 1))
 with_entry-lt i x output within below =
     let small : entry_for i x < 2 ^ 4 = entry_for-lt i x within in
     let count : 4 * (i + 1) ≡ 4 * i + 4 = omega arith in
@@ -86,7 +91,8 @@ with_entry-lt i x output within below =
 
 -- the next entry is what the next box adds to the output
 pub bits_of-with_entry : (i x output : ℕ) (whole : List Bool) → i < 8 → output < 2 ^ (4 * i)
-    → bits_of (4 * i) output ++ substitute_by (drop i selection_functions) (drop (6 * i) (take 48 (bits_of_word x))) ≡ whole
+    → bits_of (4 * i) output ++ substitute_by (drop i selection_functions) (drop (6 * i) (take 48 (bits_of_word x)))
+    ≡ whole
     → bits_of (4 * (i + 1)) (with_entry output (entry_for i x))
     ++ substitute_by (drop (i + 1) selection_functions) (drop (6 * (i + 1)) (take 48 (bits_of_word x))) ≡ whole
 bits_of-with_entry i x output whole within below so_far =

@@ -22,21 +22,24 @@ IsLinear-after_steps [] = IsLinear-id
 IsLinear-after_steps (step ∷ steps) = IsLinear-then (IsLinear-delta_swapped step.0 step.1) (IsLinear-after_steps steps)
 
 -- the steps of IP make its selection
-pub bits_of_word-swap_form_of_ip : (x : ℕ) → x < 2 ^ 64 → bits_of_word (swap_form_of_ip x) ≡ select initial_permutation (bits_of_word x)
+pub bits_of_word-swap_form_of_ip : (x : ℕ) → x < 2 ^ 64
+    → bits_of_word (swap_form_of_ip x) ≡ select initial_permutation (bits_of_word x)
 unfolding bits_of select delta_swapped
 bits_of_word-swap_form_of_ip x below =
     select-from_units swap_form_of_ip initial_permutation 0 (IsLinear-after_steps initial_swaps) refl x below
     ∙ append-nil (select initial_permutation (bits_of_word x))
 
 -- the same steps, the last first, make the selection of IP^-1
-bits_of_word-swap_form_of_fp : (x : ℕ) → x < 2 ^ 64 → bits_of_word (swap_form_of_fp x) ≡ select final_permutation (bits_of_word x)
+bits_of_word-swap_form_of_fp : (x : ℕ) → x < 2 ^ 64
+    → bits_of_word (swap_form_of_fp x) ≡ select final_permutation (bits_of_word x)
 unfolding bits_of select delta_swapped
 bits_of_word-swap_form_of_fp x below =
     select-from_units swap_form_of_fp final_permutation 0 (IsLinear-after_steps (reverse initial_swaps)) refl x below
     ∙ append-nil (select final_permutation (bits_of_word x))
 
 -- so IP undoes them
-pub select-swap_form_of_fp : (x : ℕ) → x < 2 ^ 64 → select initial_permutation (bits_of_word (swap_form_of_fp x)) ≡ bits_of_word x
+pub select-swap_form_of_fp : (x : ℕ) → x < 2 ^ 64
+    → select initial_permutation (bits_of_word (swap_form_of_fp x)) ≡ bits_of_word x
 select-swap_form_of_fp x below =
     rw (bits_of_word-swap_form_of_fp x below) (select-initial_permutation (bits_of_word x) (length-bits_of 64 x))
 
@@ -45,4 +48,5 @@ pub bits_of_word-swap_form_of_pc1 : (x : ℕ) → x < 2 ^ 64
     → bits_of_word (swap_form_of_pc1 x) ≡ select permuted_choice_1 (bits_of_word x) ++ zeros 8
 unfolding bits_of select delta_swapped
 bits_of_word-swap_form_of_pc1 =
-    select-from_units swap_form_of_pc1 permuted_choice_1 8 (IsLinear-mask 0xffffffffffffff00 (IsLinear-after_steps choice_swaps)) refl
+    select-from_units swap_form_of_pc1 permuted_choice_1 8
+    (IsLinear-mask 0xffffffffffffff00 (IsLinear-after_steps choice_swaps)) refl

@@ -50,12 +50,17 @@ linear-pc2 =
     (IsLinearUnder-shifted_left 0x0008020010080000 1 refl word) refl)
     (IsLinearUnder-mask 0x0002200000000000 word.linear) refl)
     (IsLinearUnder-shifted_left 0x0000000000100020 19 refl word) refl)
-    (IsLinearUnder-gathered 0x0005312400000011 0x0000000094200201 0xea40100880000000 refl (IsLinearUnder-rotate 54 refl word)) refl)
-    (IsLinearUnder-gathered 0x0022110000012001 0x0001000000610006 0x1185004400000000 refl (IsLinearUnder-rotate 7 refl word)) refl)
-    (IsLinearUnder-gathered 0x0000520040200002 0x00000080000000c1 0x0028811000200000 refl (IsLinearUnder-rotate 6 refl word)) refl)
+    (IsLinearUnder-gathered 0x0005312400000011 0x0000000094200201 0xea40100880000000 refl
+    (IsLinearUnder-rotate 54 refl word)) refl)
+    (IsLinearUnder-gathered 0x0022110000012001 0x0001000000610006 0x1185004400000000 refl
+    (IsLinearUnder-rotate 7 refl word)) refl)
+    (IsLinearUnder-gathered 0x0000520040200002 0x00000080000000c1 0x0028811000200000 refl
+    (IsLinearUnder-rotate 6 refl word)) refl)
     (IsLinearUnder-gathered 0x01000004c0011100 0x0000000000004284 0x0400082244400000 refl word) refl)
-    (IsLinearUnder-gathered 0x0000000000820280 0x0000000000089001 0x0000000110880000 refl (IsLinearUnder-rotate 60 refl word)) refl)
-    (IsLinearUnder-gathered 0x0000000000024084 0x0000000002040005 0x000000000a030000 refl (IsLinearUnder-rotate 49 refl word)) refl
+    (IsLinearUnder-gathered 0x0000000000820280 0x0000000000089001 0x0000000110880000 refl
+    (IsLinearUnder-rotate 60 refl word)) refl)
+    (IsLinearUnder-gathered 0x0000000000024084 0x0000000002040005 0x000000000a030000 refl
+    (IsLinearUnder-rotate 49 refl word)) refl
 
 -- the terms of a word whose last 8 bits are zero are permuted choice 2
 pub term_form_of_pc2-select : (halves : ℕ) → halves < 2 ^ 64 → halves % 2 ^ 8 ≡ 0
@@ -63,7 +68,8 @@ pub term_form_of_pc2-select : (halves : ℕ) → halves < 2 ^ 64 → halves % 2 
 unfolding term_form_of_pc2 bits_of select
 term_form_of_pc2-select halves fits clear =
     ap (λ x. bits_of_word (term_form_of_pc2 x)) (sym (high_mask-same 8 halves (omega arith) fits clear))
-    ∙ select-from_units (λ x. term_form_of_pc2 (bit_and x 0xffffffffffffff00)) permuted_choice_2 16 linear-pc2.linear refl halves fits
+    ∙ select-from_units (λ x. term_form_of_pc2 (bit_and x 0xffffffffffffff00)) permuted_choice_2 16 linear-pc2.linear
+    refl halves fits
     ∙ ap (λ bits. bits ++ zeros 16) (sym (select-take 56 permuted_choice_2 (bits_of_word halves) refl))
 
 -- the terms of the permutation P are a linear map of the first 32 bits of a word
@@ -81,7 +87,8 @@ linear-p =
     (IsLinearUnder-shifted_left 0x0000000001800000 37 refl word) refl)
     (IsLinearUnder-shifted_left 0x0000000004000000 24 refl word) refl)
     (IsLinearUnder-gathered 0x0000020280015000 0x0000020080800083 0x02000a6400000000 refl word) refl)
-    (IsLinearUnder-gathered 0x01001400000000aa 0x0000210210008081 0x0902c01200000000 refl (IsLinearUnder-rotate 29 refl word)) refl)
+    (IsLinearUnder-gathered 0x01001400000000aa 0x0000210210008081 0x0902c01200000000 refl
+    (IsLinearUnder-rotate 29 refl word)) refl)
     (IsLinearUnder-gathered 0x0000000910040000 0x0000000c04000020 0x8410010000000000 refl word) refl
 
 -- the terms of a word whose last 32 bits are zero are the permutation P
@@ -90,5 +97,6 @@ pub term_form_of_p-select : (input : ℕ) → input < 2 ^ 64 → input % 2 ^ 32 
 unfolding term_form_of_p bits_of select
 term_form_of_p-select input fits clear =
     ap (λ x. bits_of_word (term_form_of_p x)) (sym (high_mask-same 32 input (omega arith) fits clear))
-    ∙ select-from_units (λ x. term_form_of_p (bit_and x 0xffffffff00000000)) permutation 32 linear-p.linear refl input fits
+    ∙ select-from_units (λ x. term_form_of_p (bit_and x 0xffffffff00000000)) permutation 32 linear-p.linear refl input
+    fits
     ∙ ap (λ bits. bits ++ zeros 32) (sym (select-take 32 permutation (bits_of_word input) refl))

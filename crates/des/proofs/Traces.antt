@@ -21,18 +21,21 @@ IsRun keys h = (i : ℕ) → i < length keys
     → half_block h (suc (suc i)) ≡ next_half (half_block h i) (half_block h (suc i)) (half_block keys i)
 
 -- a trace has two half blocks more than rounds
-length-trace : (keys : List (List Bool)) (left right : List Bool) → length (trace keys left right) ≡ suc (suc (length keys))
+length-trace : (keys : List (List Bool)) (left right : List Bool)
+    → length (trace keys left right) ≡ suc (suc (length keys))
 unfolding trace following
 length-trace [] left right = refl
 length-trace (key ∷ keys) left right = ap suc (length-trace keys right (next_half left right key))
 
 -- its first is the first half that it begins with
-pub half_block-trace_first : (keys : List (List Bool)) (left right : List Bool) → half_block (trace keys left right) 0 ≡ left
+pub half_block-trace_first : (keys : List (List Bool)) (left right : List Bool)
+    → half_block (trace keys left right) 0 ≡ left
 unfolding trace
 half_block-trace_first keys left right = refl
 
 -- its second is the other half
-pub half_block-trace_second : (keys : List (List Bool)) (left right : List Bool) → half_block (trace keys left right) 1 ≡ right
+pub half_block-trace_second : (keys : List (List Bool)) (left right : List Bool)
+    → half_block (trace keys left right) 1 ≡ right
 unfolding trace
 half_block-trace_second keys left right = refl
 
@@ -41,7 +44,8 @@ pub half_block-trace_before_last : (keys : List (List Bool)) (left right : List 
     → half_block (trace keys left right) (length keys) ≡ (after_rounds keys left right).0
 unfolding trace following after_rounds
 half_block-trace_before_last [] left right = refl
-half_block-trace_before_last (key ∷ keys) left right = half_block-trace_before_last keys right (next_half left right key)
+half_block-trace_before_last (key ∷ keys) left right =
+    half_block-trace_before_last keys right (next_half left right key)
 
 -- its last is the other half after the rounds
 pub half_block-trace_last : (keys : List (List Bool)) (left right : List Bool)
@@ -51,8 +55,8 @@ half_block-trace_last [] left right = refl
 half_block-trace_last (key ∷ keys) left right = half_block-trace_last keys right (next_half left right key)
 
 -- each half block of a trace has 32 bits
-length-half_block-trace : (keys : List (List Bool)) (left right : List Bool) → length left ≡ 32 → length right ≡ 32 → (i : ℕ)
-    → i < suc (suc (length keys)) → length (half_block (trace keys left right) i) ≡ 32
+length-half_block-trace : (keys : List (List Bool)) (left right : List Bool) → length left ≡ 32 → length right ≡ 32
+    → (i : ℕ) → i < suc (suc (length keys)) → length (half_block (trace keys left right) i) ≡ 32
 unfolding trace following
 length-half_block-trace keys left right left_width right_width zero below = left_width
 length-half_block-trace keys left right left_width right_width (suc zero) below = right_width
@@ -80,7 +84,8 @@ trace_from_run (key ∷ keys) (left ∷ right ∷ next ∷ h) size run =
 trace_from_run keys h size run = absurd (omega arith)
 
 -- round key i + 1 is at place i of the key schedule
-pub half_block-key_schedule : (key : List Bool) (i : ℕ) → i < 16 → half_block (key_schedule key) i ≡ round_key key (suc i)
+pub half_block-key_schedule : (key : List Bool) (i : ℕ) → i < 16
+    → half_block (key_schedule key) i ≡ round_key key (suc i)
 unfolding key_schedule
 half_block-key_schedule key i below = get_or-map-range_with_len (round_key key) 1 16 i (suc i) [] below (one-add i)
 
@@ -99,10 +104,12 @@ round_of_run key h run (suc i) from to =
     rw (add-one (suc i), sub-one (suc i), ← its_key) here
 
 -- the trace of the key schedule from two half blocks is a trace of the key
-pub IsTrace-trace : (key left right : List Bool) → length left ≡ 32 → length right ≡ 32 → IsTrace key (trace (key_schedule key) left right)
+pub IsTrace-trace : (key left right : List Bool) → length left ≡ 32 → length right ≡ 32
+    → IsTrace key (trace (key_schedule key) left right)
 IsTrace-trace key left right left_width right_width = record {
   count = omega (arith, length-trace (key_schedule key) left right, length-key_schedule key);
-  widths = λ i below. length-half_block-trace _ left right left_width right_width i (omega (arith, length-key_schedule key));
+  widths = λ i below.
+      length-half_block-trace _ left right left_width right_width i (omega (arith, length-key_schedule key));
   rounds = round_of_run key (trace (key_schedule key) left right) (IsRun-trace (key_schedule key) left right);
 }
 

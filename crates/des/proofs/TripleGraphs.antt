@@ -19,8 +19,8 @@ pub record AnswerBy (forth back : List ℕ → List ℕ) (Answers : List ℕ →
   pub decryption : IsGraphOf back (λ y x. Answers x y)
 
 -- those of a pass do whose graph is the relation
-AnswerBy-graph : (forth back : List ℕ → List ℕ) (Answers : List ℕ → List ℕ → Type 0) → IsPass forth back → IsGraphOf forth Answers
-    → AnswerBy forth back Answers
+AnswerBy-graph : (forth back : List ℕ → List ℕ) (Answers : List ℕ → List ℕ → Type 0) → IsPass forth back
+    → IsGraphOf forth Answers → AnswerBy forth back Answers
 AnswerBy-graph forth back Answers pass graph = record {
   one_answer_each_way = HasOneAnswerEachWay-graph forth back Answers pass graph;
   encryption = graph;
@@ -42,20 +42,25 @@ module _ (k1 k2 k3 : List ℕ) where
   eee_back = through (decryption k3) (decryption k2) (decryption k1)
 
   -- where each key answers by the DES relation, the three answer by the relation of the form
-  pub AnswerBy-ede : IsGraphOf (encryption k1) (λ x y. Enciphers k1 x y) → IsGraphOf (decryption k2) (λ y x. Enciphers k2 x y)
+  pub AnswerBy-ede : IsGraphOf (encryption k1) (λ x y. Enciphers k1 x y)
+      → IsGraphOf (decryption k2) (λ y x. Enciphers k2 x y)
       → IsGraphOf (encryption k3) (λ x y. Enciphers k3 x y) → AnswerBy ede ede_back (λ x y. Ede3 k1 k2 k3 x y)
   AnswerBy-ede first second third =
       let middle = IsPass-turned (IsPass-key k2) in
       AnswerBy-graph ede ede_back (λ x y. Ede3 k1 k2 k3 x y) (IsPass-through (IsPass-key k1) middle (IsPass-key k3))
       (IsGraphOf-through (encryption k1) (decryption k1) (decryption k2) (encryption k2) (encryption k3)
-      (λ x u. Enciphers k1 x u) (λ u v. Enciphers k2 v u) (λ v y. Enciphers k3 v y) (IsPass-key k1) middle first second third)
+      (λ x u. Enciphers k1 x u) (λ u v. Enciphers k2 v u) (λ v y. Enciphers k3 v y) (IsPass-key k1) middle first second
+      third)
 
-  pub AnswerBy-eee : IsGraphOf (encryption k1) (λ x y. Enciphers k1 x y) → IsGraphOf (encryption k2) (λ x y. Enciphers k2 x y)
+  pub AnswerBy-eee : IsGraphOf (encryption k1) (λ x y. Enciphers k1 x y)
+      → IsGraphOf (encryption k2) (λ x y. Enciphers k2 x y)
       → IsGraphOf (encryption k3) (λ x y. Enciphers k3 x y) → AnswerBy eee eee_back (λ x y. Eee3 k1 k2 k3 x y)
   AnswerBy-eee first second third =
-      AnswerBy-graph eee eee_back (λ x y. Eee3 k1 k2 k3 x y) (IsPass-through (IsPass-key k1) (IsPass-key k2) (IsPass-key k3))
+      AnswerBy-graph eee eee_back (λ x y. Eee3 k1 k2 k3 x y)
+      (IsPass-through (IsPass-key k1) (IsPass-key k2) (IsPass-key k3))
       (IsGraphOf-through (encryption k1) (decryption k1) (encryption k2) (decryption k2) (encryption k3)
-      (λ x u. Enciphers k1 x u) (λ u v. Enciphers k2 u v) (λ v y. Enciphers k3 v y) (IsPass-key k1) (IsPass-key k2) first second third)
+      (λ x u. Enciphers k1 x u) (λ u v. Enciphers k2 u v) (λ v y. Enciphers k3 v y) (IsPass-key k1) (IsPass-key k2)
+      first second third)
 
 -- where a fact holds, so do they by the relation with the fact beside it
 AnswerBy-beside : (Fact : Type 0) (forth back : List ℕ → List ℕ) (Answers : List ℕ → List ℕ → Type 0) → Fact

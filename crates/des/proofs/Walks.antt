@@ -30,18 +30,21 @@ share_walks walks (here ∷ heres) (there ∷ theres) =
     list_any (λ walk. is_among walk here && is_among walk there) walks && share_walks walks heres theres
 share_walks walks heres theres = false
 
--- where values of two lists of positions are equal, so are those at the ends of the links from the one list to the other
-pub IsSameAlong-zip : (value : ℕ → Bool) (heres theres : List ℕ) → map value heres ≡ map value theres → IsSameAlong value (zip heres theres)
+-- where values of two lists of positions are equal, so are those at the ends of the links from the one list to the
+-- other
+pub IsSameAlong-zip : (value : ℕ → Bool) (heres theres : List ℕ) → map value heres ≡ map value theres
+    → IsSameAlong value (zip heres theres)
 IsSameAlong-zip value [] theres same = All-nil (λ link. value link.0 ≡ value link.1)
 IsSameAlong-zip value (here ∷ heres) [] same = All-nil (λ link. value link.0 ≡ value link.1)
 IsSameAlong-zip value (here ∷ heres) (there ∷ theres) same =
     let first : value here ≡ value there = cc in
     let rest : map value heres ≡ map value theres = cc in
-    All-cons (λ link. value link.0 ≡ value link.1) (here, there) (zip heres theres) first (IsSameAlong-zip value heres theres rest)
+    All-cons (λ link. value link.0 ≡ value link.1) (here, there) (zip heres theres) first
+    (IsSameAlong-zip value heres theres rest)
 
 -- a link between two positions makes their values equal
-value_at_link : (value : ℕ → Bool) (here there : ℕ) (link : Link) → value link.0 ≡ value link.1 → joins here there link ≡ true
-    → value here ≡ value there
+value_at_link : (value : ℕ → Bool) (here there : ℕ) (link : Link) → value link.0 ≡ value link.1
+    → joins here there link ≡ true → value here ≡ value there
 value_at_link value here there link same joined = elim (or_cases _ _ joined) [
   | inl forth ↦
       let ends = and_parts _ _ forth in
@@ -61,7 +64,8 @@ value_at_links value here there (link ∷ links) same joined = elim (or_cases _ 
 ]
 
 -- each position of a walk has the value of the first
-value_on_walk : (value : ℕ → Bool) (links : List Link) (here : ℕ) (walk : List ℕ) (position : ℕ) → IsSameAlong value links
+value_on_walk : (value : ℕ → Bool) (links : List Link) (here : ℕ) (walk : List ℕ) (position : ℕ)
+    → IsSameAlong value links
     → is_walk links (here ∷ walk) ≡ true → is_among (here ∷ walk) position ≡ true → value position ≡ value here
 value_on_walk value links here [] position same walked among = elim (or_cases _ _ among) [
   | inl first ↦ ap value (sym (eqb-true here position first))
@@ -71,7 +75,8 @@ value_on_walk value links here (there ∷ walk) position same walked among = eli
   | inl first ↦ ap value (sym (eqb-true here position first))
   | inr later ↦
       let parts = and_parts _ _ walked in
-      value_on_walk value links there walk position same parts.1 later ∙ sym (value_at_links value here there links same parts.0)
+      value_on_walk value links there walk position same parts.1 later
+      ∙ sym (value_at_links value here there links same parts.0)
 ]
 
 -- a value that is the same at both ends of each link is the same at all positions of a walk
@@ -102,5 +107,6 @@ pub walks_same : (value : ℕ → Bool) (links : List Link) (walks : List (List 
 walks_same value links walks same walked [] [] shared = refl
 walks_same value links walks same walked (here ∷ heres) (there ∷ theres) shared =
     let parts = and_parts _ _ shared in
-    ap₂ ◌∷◌ (one_walk_same value links walks same walked here there parts.0) (walks_same value links walks same walked heres theres parts.1)
+    ap₂ ◌∷◌ (one_walk_same value links walks same walked here there parts.0)
+    (walks_same value links walks same walked heres theres parts.1)
 walks_same value links walks same walked heres theres shared = absurd (cc)

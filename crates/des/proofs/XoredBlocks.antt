@@ -9,7 +9,8 @@ use Rattle.des.specs.Blocks.{IsBlock}
 use Rattle.des.specs.Cbc.{xor_blocks}
 
 -- it is as long as the two
-pub length-xor_blocks : (block other : List ℕ) → length block ≡ length other → length (xor_blocks block other) ≡ length block
+pub length-xor_blocks : (block other : List ℕ) → length block ≡ length other
+    → length (xor_blocks block other) ≡ length block
 unfolding xor_blocks
 length-xor_blocks block other same = length-zip2 bit_xor block other same
 
@@ -30,7 +31,8 @@ xor_blocks-from_bytes xored block other long same bytes =
     rw (get_or-xor_blocks block other k inside (omega arith)) (bytes k inside))
 
 -- a block xor another, xor the other again, is the block
-pub xor_blocks-undone : (block other : List ℕ) → length block ≡ length other → xor_blocks (xor_blocks block other) other ≡ block
+pub xor_blocks-undone : (block other : List ℕ) → length block ≡ length other
+    → xor_blocks (xor_blocks block other) other ≡ block
 unfolding xor_blocks
 xor_blocks-undone [] others same = refl
 xor_blocks-undone (byte ∷ bytes) [] same = absurd (omega arith)
@@ -45,5 +47,6 @@ IsBlock-xor_blocks block other is_block is_other =
       count,
       All-from_get_or (λ byte. byte < 256) (xor_blocks block other) 0 (λ k within.
           rw (get_or-xor_blocks block other k (omega arith) (omega arith))
-          (xor_lt 8 (get_or block k 0) (get_or other k 0) (is_block.1 k 0 (omega arith)) (is_other.1 k 0 (omega arith)))),
+          (xor_lt 8 (get_or block k 0) (get_or other k 0) (is_block.1 k 0 (omega arith))
+          (is_other.1 k 0 (omega arith)))),
     )

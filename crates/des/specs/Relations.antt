@@ -2,13 +2,9 @@
 use Rattle.std.specs.Prelude.{◌≡◌, ◌↔◌, ℕ, List}
 use Rattle.des.specs.Blocks.{IsBlock}
 
--- the relation that P is at one end holds of this block, and of no other
-abbrev pub IsTheOne : (List ℕ → Type 0) → List ℕ → Type 0
-IsTheOne P block = P block × ((other : List ℕ) → P other → other ≡ block)
-
--- the same of lists of blocks
-abbrev pub IsTheOneList : (List (List ℕ) → Type 0) → List (List ℕ) → Type 0
-IsTheOneList P list = P list × ((other : List (List ℕ)) → P other → other ≡ list)
+-- P holds of this, and of no other: where P is a relation at one end, of one block or list of blocks
+abbrev pub IsTheOne : {A : Type 0} → (A → Type 0) → A → Type 0
+IsTheOne {A} P it = P it × ((other : A) → P other → other ≡ it)
 
 -- the relation takes each block to exactly one, and takes exactly one to each
 pub record HasOneAnswerEachWay (Answers : List ℕ → List ℕ → Type 0) : Type 0 where

@@ -7,7 +7,7 @@
 ghost use Rattle.std.specs.Prelude.{◌≡◌, ◌↔◌, ◌≤◌, ℕ, List, length, map, codes, Some, IsSome, IfSome, IsOk, IfOk, OnOk, OnErr};
 ghost use Rattle.std.specs.List.{All};
 ghost use Rattle.des.specs.Blocks.{AreBytes, IsKey, IsBlock, AnswersEach};
-ghost use Rattle.des.specs.Relations.{IsTheOneList};
+ghost use Rattle.des.specs.Relations.{IsTheOne};
 ghost use Rattle.des.specs.Complement.{complement};
 
 use std::error::Error;
@@ -211,8 +211,9 @@ pub trait AlgorithmName {
     const NAME: &'static str;
 }
 
-// The numbers of a slice of bytes are bytes.
-fn are_bytes(bytes: &[u8])
+/// The numbers of a slice of bytes are bytes. It does nothing: generic code learns by this clause
+/// what the laws ask of a key or a block.
+pub fn are_bytes(bytes: &[u8])
     ensures { AreBytes bytes.now }
 {}
 
@@ -378,11 +379,11 @@ pub trait Relating: KeyedCipher {
     fn relate_lists(&self)
         ensures encrypted { (key : List ℕ) → Self.is_made_from self.now key
             → (blocks : List (List ℕ)) → All IsBlock blocks
-            → IsTheOneList (λ answers. AnswersEach (relation key) blocks answers)
+            → IsTheOne (λ answers. AnswersEach (relation key) blocks answers)
             (map (Self.encrypted self.now) blocks) }
         ensures decrypted { (key : List ℕ) → Self.is_made_from self.now key
             → (blocks : List (List ℕ)) → All IsBlock blocks
-            → IsTheOneList (λ answers. AnswersEach (relation key) answers blocks)
+            → IsTheOne (λ answers. AnswersEach (relation key) answers blocks)
             (map (Self.decrypted self.now) blocks) };
 }
 

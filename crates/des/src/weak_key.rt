@@ -133,8 +133,8 @@ pub fn weak_key_test(key: &[u8]) -> Result<(), WeakKeyError>
     Ok(())
 }
 
-// The byte with its lowest bit such that the number of its ones is odd.
-fn byte_with_odd_parity(byte: u8) -> u8
+/// The byte with its lowest bit such that the number of its ones is odd (FIPS 46-3, key schedule).
+pub fn byte_with_odd_parity(byte: u8) -> u8
     ensures upper_bits { result / 2 ≡ byte / 2 }
     ensures odd { count_ones result % 2 ≡ 1 }
 {

@@ -4,7 +4,7 @@ ghost use Rattle.std.specs.Prelude.{◌≡◌, ◌≢◌, ◌↔◌, ℕ, List, 
 ghost use Rattle.des.specs.Blocks.{AnswersEach};
 ghost use Rattle.des.specs.Cbc.{Chains, next_vector};
 ghost use Rattle.des.specs.Enciphering.{Enciphers};
-ghost use Rattle.des.specs.Relations.{IsTheOneList};
+ghost use Rattle.des.specs.Relations.{IsTheOne};
 ghost use Rattle.des_context.specs.Contexts.{IsDesContextOf};
 
 use des_context::calls;
@@ -16,7 +16,7 @@ use std::simd::prelude::*;
 pub extern "C" fn cukvashe_wide_des_encrypt_many(context: &DesContext, blocks: &mut [[u8; 8]])
     requires { (key : List ℕ) × IsDesContextOf context.now key }
     ensures { (key : List ℕ) → IsDesContextOf context.now key
-        → IsTheOneList (λ answers. AnswersEach (λ x y. Enciphers key x y) blocks.old answers)
+        → IsTheOne (λ answers. AnswersEach (λ x y. Enciphers key x y) blocks.old answers)
         blocks.new }
 {
     calls::encrypt_many::<u64x4, _>(context, blocks);
@@ -27,7 +27,7 @@ pub extern "C" fn cukvashe_wide_des_encrypt_many(context: &DesContext, blocks: &
 pub extern "C" fn cukvashe_wide_des_decrypt_many(context: &DesContext, blocks: &mut [[u8; 8]])
     requires { (key : List ℕ) × IsDesContextOf context.now key }
     ensures { (key : List ℕ) → IsDesContextOf context.now key
-        → IsTheOneList (λ answers. AnswersEach (λ x y. Enciphers key x y) answers blocks.old)
+        → IsTheOne (λ answers. AnswersEach (λ x y. Enciphers key x y) answers blocks.old)
         blocks.new }
 {
     calls::decrypt_many::<u64x4, _>(context, blocks);
@@ -46,7 +46,7 @@ pub extern "C" fn cukvashe_wide_des_encrypt_many_b2b(
     ensures refused { (result ≡ pos 2) ↔ (length input.now ≢ length output.old) }
     ensures answered { length input.now ≡ length output.old
         → (key : List ℕ) → IsDesContextOf context.now key
-        → IsTheOneList (λ answers. AnswersEach (λ x y. Enciphers key x y) input.now answers)
+        → IsTheOne (λ answers. AnswersEach (λ x y. Enciphers key x y) input.now answers)
         output.new }
     ensures kept { length input.now ≢ length output.old → output.new ≡ output.old }
 {
@@ -66,7 +66,7 @@ pub extern "C" fn cukvashe_wide_des_decrypt_many_b2b(
     ensures refused { (result ≡ pos 2) ↔ (length input.now ≢ length output.old) }
     ensures answered { length input.now ≡ length output.old
         → (key : List ℕ) → IsDesContextOf context.now key
-        → IsTheOneList (λ answers. AnswersEach (λ x y. Enciphers key x y) answers input.now)
+        → IsTheOne (λ answers. AnswersEach (λ x y. Enciphers key x y) answers input.now)
         output.new }
     ensures kept { length input.now ≢ length output.old → output.new ≡ output.old }
 {

@@ -4,7 +4,7 @@ ghost use Rattle.std.specs.Prelude.{◌≡◌, ◌≢◌, ◌↔◌, ℕ, List, 
 ghost use Rattle.des.specs.Blocks.{AnswersEach};
 ghost use Rattle.des.specs.Cbc.{Chains, next_vector};
 ghost use Rattle.des.specs.Triple.{EnciphersEee3};
-ghost use Rattle.des.specs.Relations.{IsTheOneList};
+ghost use Rattle.des.specs.Relations.{IsTheOne};
 ghost use Rattle.des_context.specs.Contexts.{IsEee3ContextOf};
 
 use des_context::calls;
@@ -19,7 +19,7 @@ pub extern "C" fn cukvashe_wide_tdes_eee3_encrypt_many(
 )
     requires { (key : List ℕ) × IsEee3ContextOf context.now key }
     ensures { (key : List ℕ) → IsEee3ContextOf context.now key
-        → IsTheOneList (λ answers. AnswersEach (λ x y. EnciphersEee3 key x y) blocks.old answers)
+        → IsTheOne (λ answers. AnswersEach (λ x y. EnciphersEee3 key x y) blocks.old answers)
         blocks.new }
 {
     calls::encrypt_many::<u64x4, _>(context, blocks);
@@ -33,7 +33,7 @@ pub extern "C" fn cukvashe_wide_tdes_eee3_decrypt_many(
 )
     requires { (key : List ℕ) × IsEee3ContextOf context.now key }
     ensures { (key : List ℕ) → IsEee3ContextOf context.now key
-        → IsTheOneList (λ answers. AnswersEach (λ x y. EnciphersEee3 key x y) answers blocks.old)
+        → IsTheOne (λ answers. AnswersEach (λ x y. EnciphersEee3 key x y) answers blocks.old)
         blocks.new }
 {
     calls::decrypt_many::<u64x4, _>(context, blocks);
@@ -52,7 +52,7 @@ pub extern "C" fn cukvashe_wide_tdes_eee3_encrypt_many_b2b(
     ensures refused { (result ≡ pos 2) ↔ (length input.now ≢ length output.old) }
     ensures answered { length input.now ≡ length output.old
         → (key : List ℕ) → IsEee3ContextOf context.now key
-        → IsTheOneList (λ answers. AnswersEach (λ x y. EnciphersEee3 key x y) input.now answers)
+        → IsTheOne (λ answers. AnswersEach (λ x y. EnciphersEee3 key x y) input.now answers)
         output.new }
     ensures kept { length input.now ≢ length output.old → output.new ≡ output.old }
 {
@@ -72,7 +72,7 @@ pub extern "C" fn cukvashe_wide_tdes_eee3_decrypt_many_b2b(
     ensures refused { (result ≡ pos 2) ↔ (length input.now ≢ length output.old) }
     ensures answered { length input.now ≡ length output.old
         → (key : List ℕ) → IsEee3ContextOf context.now key
-        → IsTheOneList (λ answers. AnswersEach (λ x y. EnciphersEee3 key x y) answers input.now)
+        → IsTheOne (λ answers. AnswersEach (λ x y. EnciphersEee3 key x y) answers input.now)
         output.new }
     ensures kept { length input.now ≢ length output.old → output.new ≡ output.old }
 {

@@ -4,7 +4,7 @@
 ghost use Rattle.std.specs.Prelude.{◌≡◌, ◌≢◌, ◌↔◌, ℕ, List, length, pos};
 ghost use Rattle.des.specs.Blocks.{AnswersEach};
 ghost use Rattle.des.specs.Cbc.{Chains, next_vector};
-ghost use Rattle.des.specs.Relations.{IsTheOneList};
+ghost use Rattle.des.specs.Relations.{IsTheOne};
 
 use crate::contexts::Context;
 use crate::lists;
@@ -44,7 +44,7 @@ pub fn init<K: KeyInit + Drop>(context: &mut K, key: &[u8]) -> i32
 pub fn encrypt_blocks<K: Context>(context: &K, blocks: &mut [[u8; 8]])
     requires { (key : List ℕ) × K.is_made_from context.now key }
     ensures { (key : List ℕ) → K.is_made_from context.now key
-        → IsTheOneList (λ answers. AnswersEach (K.Cipher.relation key) blocks.old answers)
+        → IsTheOne (λ answers. AnswersEach (K.Cipher.relation key) blocks.old answers)
         blocks.new }
 {
     lists::encrypt_blocks(&context.to_cipher(), blocks);
@@ -54,7 +54,7 @@ pub fn encrypt_blocks<K: Context>(context: &K, blocks: &mut [[u8; 8]])
 pub fn decrypt_blocks<K: Context>(context: &K, blocks: &mut [[u8; 8]])
     requires { (key : List ℕ) × K.is_made_from context.now key }
     ensures { (key : List ℕ) → K.is_made_from context.now key
-        → IsTheOneList (λ answers. AnswersEach (K.Cipher.relation key) answers blocks.old)
+        → IsTheOne (λ answers. AnswersEach (K.Cipher.relation key) answers blocks.old)
         blocks.new }
 {
     lists::decrypt_blocks(&context.to_cipher(), blocks);
@@ -64,7 +64,7 @@ pub fn decrypt_blocks<K: Context>(context: &K, blocks: &mut [[u8; 8]])
 pub fn encrypt_many<S: Slice, K: Context>(context: &K, blocks: &mut [[u8; 8]])
     requires { (key : List ℕ) × K.is_made_from context.now key }
     ensures { (key : List ℕ) → K.is_made_from context.now key
-        → IsTheOneList (λ answers. AnswersEach (K.Cipher.relation key) blocks.old answers)
+        → IsTheOne (λ answers. AnswersEach (K.Cipher.relation key) blocks.old answers)
         blocks.new }
 {
     lists::encrypt_many::<S, _>(&context.to_cipher(), blocks);
@@ -74,7 +74,7 @@ pub fn encrypt_many<S: Slice, K: Context>(context: &K, blocks: &mut [[u8; 8]])
 pub fn decrypt_many<S: Slice, K: Context>(context: &K, blocks: &mut [[u8; 8]])
     requires { (key : List ℕ) × K.is_made_from context.now key }
     ensures { (key : List ℕ) → K.is_made_from context.now key
-        → IsTheOneList (λ answers. AnswersEach (K.Cipher.relation key) answers blocks.old)
+        → IsTheOne (λ answers. AnswersEach (K.Cipher.relation key) answers blocks.old)
         blocks.new }
 {
     lists::decrypt_many::<S, _>(&context.to_cipher(), blocks);
@@ -92,7 +92,7 @@ pub fn encrypt_many_b2b<S: Slice, K: Context>(
     ensures refused { (result ≡ pos 2) ↔ (length input.now ≢ length output.old) }
     ensures answered { length input.now ≡ length output.old
         → (key : List ℕ) → K.is_made_from context.now key
-        → IsTheOneList (λ answers. AnswersEach (K.Cipher.relation key) input.now answers)
+        → IsTheOne (λ answers. AnswersEach (K.Cipher.relation key) input.now answers)
         output.new }
     ensures kept { length input.now ≢ length output.old → output.new ≡ output.old }
 {
@@ -116,7 +116,7 @@ pub fn decrypt_many_b2b<S: Slice, K: Context>(
     ensures refused { (result ≡ pos 2) ↔ (length input.now ≢ length output.old) }
     ensures answered { length input.now ≡ length output.old
         → (key : List ℕ) → K.is_made_from context.now key
-        → IsTheOneList (λ answers. AnswersEach (K.Cipher.relation key) answers input.now)
+        → IsTheOne (λ answers. AnswersEach (K.Cipher.relation key) answers input.now)
         output.new }
     ensures kept { length input.now ≢ length output.old → output.new ≡ output.old }
 {

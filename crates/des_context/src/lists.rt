@@ -4,7 +4,7 @@
 ghost use Rattle.std.specs.Prelude.{◌≡◌, ℕ, List};
 ghost use Rattle.des.specs.Blocks.{AnswersEach};
 ghost use Rattle.des.specs.Cbc.{Chains, next_vector};
-ghost use Rattle.des.specs.Relations.{IsTheOneList};
+ghost use Rattle.des.specs.Relations.{IsTheOne};
 
 use des::cbc;
 use des::cipher::{BlockCipherDecrypt, BlockCipherEncrypt, Relating};
@@ -13,7 +13,7 @@ use des_fast::many::{ManyBlocks, Slice};
 /// Encrypts each block, one by one.
 pub fn encrypt_blocks<C: Relating + ManyBlocks>(cipher: &C, blocks: &mut [[u8; 8]])
     ensures { (key : List ℕ) → C.is_made_from cipher.now key
-        → IsTheOneList (λ answers. AnswersEach (C.relation key) blocks.old answers) blocks.new }
+        → IsTheOne (λ answers. AnswersEach (C.relation key) blocks.old answers) blocks.new }
 {
     cipher.relate_lists();
     cipher.encrypt_blocks(blocks);
@@ -22,7 +22,7 @@ pub fn encrypt_blocks<C: Relating + ManyBlocks>(cipher: &C, blocks: &mut [[u8; 8
 /// Decrypts each block, one by one.
 pub fn decrypt_blocks<C: Relating + ManyBlocks>(cipher: &C, blocks: &mut [[u8; 8]])
     ensures { (key : List ℕ) → C.is_made_from cipher.now key
-        → IsTheOneList (λ answers. AnswersEach (C.relation key) answers blocks.old) blocks.new }
+        → IsTheOne (λ answers. AnswersEach (C.relation key) answers blocks.old) blocks.new }
 {
     cipher.relate_lists();
     cipher.decrypt_blocks(blocks);
@@ -31,7 +31,7 @@ pub fn decrypt_blocks<C: Relating + ManyBlocks>(cipher: &C, blocks: &mut [[u8; 8
 /// Encrypts each block, `S::BATCH` at a time.
 pub fn encrypt_many<S: Slice, C: Relating + ManyBlocks>(cipher: &C, blocks: &mut [[u8; 8]])
     ensures { (key : List ℕ) → C.is_made_from cipher.now key
-        → IsTheOneList (λ answers. AnswersEach (C.relation key) blocks.old answers) blocks.new }
+        → IsTheOne (λ answers. AnswersEach (C.relation key) blocks.old answers) blocks.new }
 {
     cipher.relate_lists();
     cipher.encrypt_many_by::<S>(blocks);
@@ -40,7 +40,7 @@ pub fn encrypt_many<S: Slice, C: Relating + ManyBlocks>(cipher: &C, blocks: &mut
 /// Decrypts each block, `S::BATCH` at a time.
 pub fn decrypt_many<S: Slice, C: Relating + ManyBlocks>(cipher: &C, blocks: &mut [[u8; 8]])
     ensures { (key : List ℕ) → C.is_made_from cipher.now key
-        → IsTheOneList (λ answers. AnswersEach (C.relation key) answers blocks.old) blocks.new }
+        → IsTheOne (λ answers. AnswersEach (C.relation key) answers blocks.old) blocks.new }
 {
     cipher.relate_lists();
     cipher.decrypt_many_by::<S>(blocks);

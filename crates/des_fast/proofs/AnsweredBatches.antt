@@ -9,13 +9,16 @@ use Rattle.des_fast.specs.RoundKeySlices.{round_keys_in}
 use Rattle.des_fast.specs.Passes.{through_passes, HoldPasses, block_through_passes}
 
 -- slices that went through passes are those of the answers
-pub answers-from_slices : {A : Type 0} (batch : ℕ) (bit : ℕ → A → Bool) (old new : List (List ℕ)) (slices answered : List A)
+pub answers-from_slices : {A : Type 0} (batch : ℕ) (bit : ℕ → A → Bool) (old new : List (List ℕ))
+    (slices answered : List A)
     (passes : List (PassSlices A)) (keys : List (List (List Bool))) → length old ≡ batch → length new ≡ batch
     → AreSlicesOf batch bit old slices
-    → InEachBlock batch (λ b. map (bit b) answered ≡ through_passes (map (round_keys_in (bit b)) passes) (map (bit b) slices))
+    → InEachBlock batch (λ b.
+    map (bit b) answered ≡ through_passes (map (round_keys_in (bit b)) passes) (map (bit b) slices))
     → AreBlocksOf batch bit answered new → HoldPasses batch bit passes keys → new ≡ map (block_through_passes keys) old
 answers-from_slices batch bit old new slices answered passes keys many same are through made hold =
-    ext_get_or [] new (map (block_through_passes keys) old) (same ∙ sym (length-map old (block_through_passes keys) ∙ many))
+    ext_get_or [] new (map (block_through_passes keys) old)
+    (same ∙ sym (length-map old (block_through_passes keys) ∙ many))
     (λ k below.
     let inside : k < batch = omega arith in
     made k inside
@@ -41,9 +44,11 @@ answered-more f m n old now part within so_far made =
     (sym (ap (map f) (take-add m n old) ∙ map-append f (take m old) (take n (drop m old))))
 
 -- a list of which all are answered
-pub answered-all : (f : List ℕ → List ℕ) (m : ℕ) (old : List (List ℕ)) → length old ≤ m → map f (take m old) ++ drop m old ≡ map f old
+pub answered-all : (f : List ℕ → List ℕ) (m : ℕ) (old : List (List ℕ)) → length old ≤ m
+    → map f (take m old) ++ drop m old ≡ map f old
 answered-all f m old all =
-    ap₂ (λ (front back : List (List ℕ)). map f front ++ back) (take_all m old all) (drop_all m old all) ∙ append-nil (map f old)
+    ap₂ (λ (front back : List (List ℕ)). map f front ++ back) (take_all m old all) (drop_all m old all)
+    ∙ append-nil (map f old)
 
 -- a list written over the front of a longer one leaves room for a batch
 pub batch-le_filled : {n : ℕ} (batch : ℕ) (part filling : List (List ℕ)) → length part ≤ batch → batch ≤ 256
@@ -58,7 +63,8 @@ length-filled {n} batch part filling fits most in_part long =
     length-take-le batch (part ++ drop n filling) (batch-le_filled batch part filling fits most in_part long)
 
 -- the answers to a list that was written over the front of a longer one
-pub answered-front : (f : List ℕ → List ℕ) (n batch : ℕ) (old part filling answers back : List (List ℕ)) → length old ≡ n → n ≤ batch
+pub answered-front : (f : List ℕ → List ℕ) (n batch : ℕ) (old part filling answers back : List (List ℕ))
+    → length old ≡ n → n ≤ batch
     → batch ≤ 256 → length filling ≡ 256 → part ≡ old → answers ≡ map f (take batch (part ++ drop n filling))
     → take n (answers ++ back) ≡ map f old
 answered-front f n batch old part filling answers back size fits most long same made =

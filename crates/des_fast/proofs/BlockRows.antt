@@ -13,13 +13,15 @@ use Rattle.des_fast.specs.Transposition.{bits_of_lane, bits_of_row, AreRowsOf, A
 use Rattle.des_fast.proofs.WordPlaces.{bit_of_block-at, bit_in}
 
 -- two functions that agree below n give the same lists
-pub map-same : (f g : ℕ → Bool) (n : ℕ) → ((m : ℕ) → m < n → f m ≡ g m) → map f (range_with_len 0 n) ≡ map g (range_with_len 0 n)
+pub map-same : (f g : ℕ → Bool) (n : ℕ) → ((m : ℕ) → m < n → f m ≡ g m)
+    → map f (range_with_len 0 n) ≡ map g (range_with_len 0 n)
 map-same f g n each =
     fill_by_all g (map f (range_with_len 0 n)) n false (length-map-range_with_len f 0 n)
     (λ m below. get_or-map-range_with_len f 0 n m m false below (zero-add m) ∙ each m below)
 
 -- the bits of a word of a vector
-pub bits_of_word-lane : (words : List ℕ) (lane : ℕ) → bits_of_word (get_or words lane 0) ≡ bits_of_lane bit_of_block words lane
+pub bits_of_word-lane : (words : List ℕ) (lane : ℕ)
+    → bits_of_word (get_or words lane 0) ≡ bits_of_lane bit_of_block words lane
 bits_of_word-lane words lane =
     let word : ℕ = get_or words lane 0 in
     fill_by_all (λ (p : ℕ). bit_of_block (64 * lane + p) words) (bits_of_word word) 64 false (length-bits_of 64 word)
@@ -31,7 +33,8 @@ bits_of_word-lane words lane =
     ∙ ap (bit_in word) place))
 
 -- what holds of two words holds of each
-pub each_of_two : (P : ℕ → ℕ → Type 0) (x y : ℕ) → P 0 x → P 1 y → (lane : ℕ) → lane < 2 → P lane (get_or (x ∷ y ∷ []) lane 0)
+pub each_of_two : (P : ℕ → ℕ → Type 0) (x y : ℕ) → P 0 x → P 1 y → (lane : ℕ) → lane < 2
+    → P lane (get_or (x ∷ y ∷ []) lane 0)
 each_of_two P x y p q zero below = p
 each_of_two P x y p q (suc zero) below = q
 each_of_two P x y p q (suc (suc lane)) below = absurd (omega arith)
@@ -54,19 +57,22 @@ abbrev pub row_lane : {A : Type 0} → (ℕ → A → Bool) → List A → ℕ �
 row_lane bit rows m lane = map (λ p. get_or (map (bit (64 * lane + p)) rows) m false) (range_with_len 0 64)
 
 -- what holds of the words of the rows below i holds below i + 1 of those with row i written
-pub row_written_below : {A : Type 0} (bit : ℕ → A → Bool) (P : ℕ → List Bool → Type 0) (rows : List A) (i lane : ℕ) (row : A) → i < length rows
+pub row_written_below : {A : Type 0} (bit : ℕ → A → Bool) (P : ℕ → List Bool → Type 0) (rows : List A) (i lane : ℕ)
+    (row : A) → i < length rows
     → ((m : ℕ) → m < i → P m (row_lane bit rows m lane)) → P i (bits_of_lane bit row lane)
     → (m : ℕ) → m < i + 1 → P m (row_lane bit (set rows i row) m lane)
 row_written_below bit P rows i lane row inside each here m below =
     let read : ℕ → Bool = λ p. get_or (map (bit (64 * lane + p)) (set rows i row)) m false in
-    let written : (p : ℕ) → map (bit (64 * lane + p)) (set rows i row) ≡ set (map (bit (64 * lane + p)) rows) i (bit (64 * lane + p) row) =
+    let written : (p : ℕ) → map (bit (64 * lane + p)) (set rows i row)
+    ≡ set (map (bit (64 * lane + p)) rows) i (bit (64 * lane + p) row) =
     λ p. map-set (bit (64 * lane + p)) rows i row in
     elim (cases_eq m i) [
       | inl same ↦
           let whole : row_lane bit (set rows i row) m lane ≡ bits_of_lane bit row lane =
           map-same read (λ p. bit (64 * lane + p) row) 64
           (λ p under.
-          let in_bits : i < length (map (bit (64 * lane + p)) rows) = rw (length-map rows (bit (64 * lane + p))) inside in
+          let in_bits : i < length (map (bit (64 * lane + p)) rows) =
+          rw (length-map rows (bit (64 * lane + p))) inside in
           ap₂ (λ (bits : List Bool) (k : ℕ). get_or bits k false) (written p) same
           ∙ get_or-set_same (map (bit (64 * lane + p)) rows) i (bit (64 * lane + p) row) false in_bits) in
           subst (P m) (sym whole) (subst (λ (k : ℕ). P k (bits_of_lane bit row lane)) (sym same) here)
@@ -95,12 +101,15 @@ AreWordsWritten bit row n old new count =
     × (length new ≡ length old))
 
 -- none is
-pub AreWordsWritten-none : {A : Type 0} (bit : ℕ → A → Bool) (row : A) (n : ℕ) (old : List (List ℕ)) → AreWordsWritten bit row n old old 0
+pub AreWordsWritten-none : {A : Type 0} (bit : ℕ → A → Bool) (row : A) (n : ℕ) (old : List (List ℕ))
+    → AreWordsWritten bit row n old old 0
 AreWordsWritten-none bit row n old = (λ lane below. absurd (omega arith), (λ k other. refl, refl))
 
 -- one more
-pub AreWordsWritten-more : {A : Type 0} (bit : ℕ → A → Bool) (row : A) (n : ℕ) (old new : List (List ℕ)) (count i : ℕ) (block : List ℕ) (word : ℕ)
-    → i ≡ 64 * count + n → n < 64 → i < length old → bits_of_word word ≡ bits_of_lane bit row count → block ≡ block_of_bits (bits_of_word word)
+pub AreWordsWritten-more : {A : Type 0} (bit : ℕ → A → Bool) (row : A) (n : ℕ) (old new : List (List ℕ)) (count i : ℕ)
+    (block : List ℕ) (word : ℕ)
+    → i ≡ 64 * count + n → n < 64 → i < length old → bits_of_word word ≡ bits_of_lane bit row count
+    → block ≡ block_of_bits (bits_of_word word)
     → AreWordsWritten bit row n old new count → AreWordsWritten bit row n old (set new i block) (count + 1)
 AreWordsWritten-more bit row n old new count i block word at low inside bits made are =
     let room : i < length new = omega (arith, are.1.1) in (
@@ -125,7 +134,8 @@ AreWordsWritten-more bit row n old new count i block word at low inside bits mad
     )
 
 -- the slices of blocks, from their rows
-pub AreSlicesOf-rows : {A : Type 0} (batch : ℕ) (bit : ℕ → A → Bool) (blocks : List (List ℕ)) (rows slices : List A) → length slices ≡ 64
+pub AreSlicesOf-rows : {A : Type 0} (batch : ℕ) (bit : ℕ → A → Bool) (blocks : List (List ℕ)) (rows slices : List A)
+    → length slices ≡ 64
     → AreRowsOf batch bit blocks rows → AreTransposed batch bit rows slices → AreSlicesOf batch bit blocks slices
 AreSlicesOf-rows batch bit blocks rows slices size are transposed k within =
     fill_by_all (λ (m : ℕ). get_or (map (bit (64 * (k / 64) + m)) rows) (k % 64) false) (map (bit k) slices) 64 false
@@ -139,7 +149,8 @@ pub AreBlocksOf-rows : {A : Type 0} (batch : ℕ) (bit : ℕ → A → Bool) (sl
     → AreTransposed batch bit slices rows → AreBlocksOfRows batch bit rows blocks → AreBlocksOf batch bit slices blocks
 AreBlocksOf-rows batch bit slices rows blocks whole size transposed are k within =
     let here : bits_of_row bit rows k ≡ map (bit k) slices =
-    map-same (λ p. get_or (map (bit (64 * (k / 64) + p)) rows) (k % 64) false) (λ p. get_or (map (bit k) slices) p false) 64
+    map-same (λ p. get_or (map (bit (64 * (k / 64) + p)) rows) (k % 64) false)
+    (λ p. get_or (map (bit k) slices) p false) 64
     (λ p below.
     let c : ℕ = 64 * (k / 64) + p in
     let row : c % 64 ≡ p = omega arith in

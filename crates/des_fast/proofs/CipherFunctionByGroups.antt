@@ -32,7 +32,8 @@ get_or-select_expansion half n k group within =
 
 -- six bits that are xors of those of a group are the group of the xor
 pub group-xor_bits : (n : ℕ) (group half key : List Bool) → n < 8 → length group ≡ 6 → length key ≡ 48
-    → ((k : ℕ) → k < 6 → get_or group k false ≡ xor (get_or half ((4 * n + k + 31) % 32) false) (get_or key (6 * n + k) false))
+    → ((k : ℕ) → k < 6
+    → get_or group k false ≡ xor (get_or half ((4 * n + k + 31) % 32) false) (get_or key (6 * n + k) false))
     → group ≡ take 6 (drop (6 * n) (xor_bits (select expansion half) key))
 group-xor_bits n group half key within six size each =
     let expanded : List Bool = select expansion half in
@@ -44,7 +45,8 @@ group-xor_bits n group half key within six size each =
     ext_get_or false group (take 6 rest) (six ∙ sym last) (λ k below.
     let k_below : k < 6 = omega arith in
     each k k_below
-    ∙ ap (λ (bit : Bool). xor bit (get_or key (6 * n + k) false)) (sym (get_or-select_expansion half n k within k_below))
+    ∙ ap (λ (bit : Bool). xor bit (get_or key (6 * n + k) false))
+    (sym (get_or-select_expansion half n k within k_below))
     ∙ sym (bit-xor_bits expanded key (6 * n + k) same)
     ∙ sym (get_or-drop (6 * n) mixed k false)
     ∙ sym (get_or-take 6 rest k false k_below))
@@ -52,14 +54,15 @@ group-xor_bits n group half key within six size each =
 -- ---- the place of an entry
 
 -- one more bit xored
-pub xor_at-more : (bits : List Bool) (indexes : List ℕ) (changes : List Bool) (i : ℕ) → i < length indexes → i < length changes
-    → xor_at bits (take (suc i) indexes) (take (suc i) changes)
+pub xor_at-more : (bits : List Bool) (indexes : List ℕ) (changes : List Bool) (i : ℕ) → i < length indexes
+    → i < length changes → xor_at bits (take (suc i) indexes) (take (suc i) changes)
     ≡ xor_at (xor_at bits (take i indexes) (take i changes)) (get_or indexes i 0 ∷ []) (get_or changes i false ∷ [])
 xor_at-more bits [] changes i within inside = absurd (omega arith)
 xor_at-more bits (index ∷ indexes) [] i within inside = absurd (omega arith)
 xor_at-more bits (index ∷ indexes) (change ∷ changes) zero within inside = refl
 xor_at-more bits (index ∷ indexes) (change ∷ changes) (suc i) within inside =
-    xor_at-more (slice_set bits index (xor (slice_index_or bits index false) change)) indexes changes i (omega arith) (omega arith)
+    xor_at-more (slice_set bits index (xor (slice_index_or bits index false) change)) indexes changes i (omega arith)
+    (omega arith)
 
 -- the entry of a box for its group
 abbrev pub entry : Box → ℕ → List Bool → ℕ
@@ -71,13 +74,15 @@ entries_from [] n bits = []
 entries_from (box ∷ boxes) n bits = bits_of 4 (entry box n bits) ++ entries_from boxes (n + 1) bits
 
 -- they are the substitution by these boxes
-substitute_by-groups : (boxes : List Box) (n : ℕ) (bits : List Bool) → substitute_by boxes (drop (6 * n) bits) ≡ entries_from boxes n bits
+substitute_by-groups : (boxes : List Box) (n : ℕ) (bits : List Bool)
+    → substitute_by boxes (drop (6 * n) bits) ≡ entries_from boxes n bits
 unfolding substitute_by
 substitute_by-groups [] n bits = refl
 substitute_by-groups (box ∷ boxes) n bits =
     let next : drop 6 (drop (6 * n) bits) ≡ drop (6 * (n + 1)) bits =
     drop-drop 6 (6 * n) bits ∙ ap (λ (k : ℕ). drop k bits) (omega arith) in
-    ap (λ rest. bits_of 4 (entry box n bits) ++ rest) (ap (substitute_by boxes) next ∙ substitute_by-groups boxes (n + 1) bits)
+    ap (λ rest. bits_of 4 (entry box n bits) ++ rest)
+    (ap (substitute_by boxes) next ∙ substitute_by-groups boxes (n + 1) bits)
 
 -- eight entries, xored in where P puts their bits
 abbrev xor_entries : List Bool → (x1 x2 x3 x4 x5 x6 x7 x8 : ℕ) → List Bool

@@ -52,7 +52,8 @@ run-makes _ _ _ (next {gate} {gates} {bits} {all} {made} is rest) =
 -- whether a circuit makes the entry of a box of each of the 64 groups of six bits
 abbrev pub is_circuit_of : Box → Circuit → Bool
 is_circuit_of box circuit =
-    agree_below (λ group. number_of (output_bits circuit (bits_of 6 group)) == box_entry box (bits_of 6 group)) (λ group. true) 64
+    agree_below (λ group. number_of (output_bits circuit (bits_of 6 group)) == box_entry box (bits_of 6 group))
+    (λ group. true) 64
 
 -- n bits are those of the number that they write
 bits_of-number_of_n : (n : ℕ) (bits : List Bool) → length bits ≡ n → bits_of n (number_of bits) ≡ bits
@@ -64,8 +65,10 @@ output_bits-entry : (box : Box) (circuit : Circuit) (group : List Bool) → is_c
 output_bits-entry box circuit group each four six =
     let agrees : List Bool → Bool = λ bits. number_of (output_bits circuit bits) == box_entry box bits in
     let below : number_of group < 64 = subst (λ (n : ℕ). number_of group < 2 ^ n) six (number_of-lt group) in
-    let listed : agrees (bits_of 6 (number_of group)) ≡ true = agree_below_at (λ n. agrees (bits_of 6 n)) (λ n. true) 64 _ each below in
-    let agreed : agrees group ≡ true = subst (λ (bits : List Bool). agrees bits ≡ true) (bits_of-number_of_n 6 group six) listed in
+    let listed : agrees (bits_of 6 (number_of group)) ≡ true =
+    agree_below_at (λ n. agrees (bits_of 6 n)) (λ n. true) 64 _ each below in
+    let agreed : agrees group ≡ true =
+    subst (λ (bits : List Bool). agrees bits ≡ true) (bits_of-number_of_n 6 group six) listed in
     sym (bits_of-number_of_n 4 (output_bits circuit group) (length-select _ _ ∙ four))
     ∙ ap (bits_of 4) (eqb-true _ _ agreed)
 
@@ -82,14 +85,17 @@ six_listed (x0 ∷ x1 ∷ x2 ∷ x3 ∷ x4 ∷ x5 ∷ []) d0 d1 d2 d3 d4 d5 six 
 six_listed (x0 ∷ x1 ∷ x2 ∷ x3 ∷ x4 ∷ x5 ∷ x6 ∷ xs) d0 d1 d2 d3 d4 d5 six = absurd (omega arith)
 
 -- so do bits that its gates make of the six of a group
-pub made-entry : {A : Type 0} (bit : A → Bool) (box : Box) (circuit : Circuit) (group : List A) (d0 d1 d2 d3 d4 d5 : A) (all : List Bool)
+pub made-entry : {A : Type 0} (bit : A → Bool) (box : Box) (circuit : Circuit) (group : List A) (d0 d1 d2 d3 d4 d5 : A)
+    (all : List Bool)
     → is_circuit_of box circuit ≡ true → length circuit.outputs ≡ 4 → length group ≡ 6
     → Makes circuit.gates (map bit
-    (get_or group 0 d0 ∷ get_or group 1 d1 ∷ get_or group 2 d2 ∷ get_or group 3 d3 ∷ get_or group 4 d4 ∷ get_or group 5 d5 ∷ [])) all
+    (get_or group 0 d0 ∷ get_or group 1 d1 ∷ get_or group 2 d2 ∷ get_or group 3 d3 ∷ get_or group 4 d4
+    ∷ get_or group 5 d5 ∷ [])) all
     → select circuit.outputs all ≡ bits_of 4 (box_entry box (map bit group))
 made-entry {A = A} bit box circuit group d0 d1 d2 d3 d4 d5 all each four six made =
     let listed : List Bool = map bit
-    (get_or group 0 d0 ∷ get_or group 1 d1 ∷ get_or group 2 d2 ∷ get_or group 3 d3 ∷ get_or group 4 d4 ∷ get_or group 5 d5 ∷ []) in
+    (get_or group 0 d0 ∷ get_or group 1 d1 ∷ get_or group 2 d2 ∷ get_or group 3 d3 ∷ get_or group 4 d4
+    ∷ get_or group 5 d5 ∷ []) in
     ap (select circuit.outputs) (run-makes circuit.gates listed all made)
     ∙ output_bits-entry box circuit listed each four refl
     ∙ ap (λ (elements : List A). bits_of 4 (box_entry box (map bit elements))) (six_listed group d0 d1 d2 d3 d4 d5 six)

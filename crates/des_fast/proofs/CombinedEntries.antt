@@ -40,11 +40,14 @@ abbrev entry : ℕ → ℕ → ℕ
 entry i group = slice_index_or (slice_index_or TABLES i []) group 0
 
 -- it is the entry of the definition
-entry-combined : (i group : ℕ) → i < 8 → group < 64 → entry i group ≡ combined_entry (1 + i) (slice_index_or selection_functions i []) group
+entry-combined : (i group : ℕ) → i < 8 → group < 64
+    → entry i group ≡ combined_entry (1 + i) (slice_index_or selection_functions i []) group
 entry-combined i group box_below below =
     ap (λ (tables : List (List ℕ)). slice_index_or (slice_index_or tables i []) group 0) TABLES-combined
-    ∙ ap (λ (table : List ℕ). slice_index_or table group 0) (slice_index_or-combined_tables_from 1 selection_functions i box_below)
-    ∙ get_or-map-range_with_len (combined_entry (1 + i) (slice_index_or selection_functions i [])) 0 64 group group 0 below (zero-add group)
+    ∙ ap (λ (table : List ℕ). slice_index_or table group 0)
+    (slice_index_or-combined_tables_from 1 selection_functions i box_below)
+    ∙ get_or-map-range_with_len (combined_entry (1 + i) (slice_index_or selection_functions i [])) 0 64 group group 0
+    below (zero-add group)
 
 -- the four bits that box i, from 0, has for a group
 abbrev box_bits : ℕ → List Bool → List Bool
@@ -70,7 +73,8 @@ abbrev rest_from : ℕ → List Bool → List Bool
 rest_from i bits = substitute_by (drop i selection_functions) (drop (6 * i) bits)
 
 -- the bits of box i come before those of the boxes after it
-rest_from-box : (i : ℕ) (bits : List Bool) → i < 8 → rest_from i bits ≡ box_bits i (group_of i bits) ++ rest_from (i + 1) bits
+rest_from-box : (i : ℕ) (bits : List Bool) → i < 8
+    → rest_from i bits ≡ box_bits i (group_of i bits) ++ rest_from (i + 1) bits
 unfolding substitute_by
 rest_from-box i bits below =
     let next : 6 * i + 6 ≡ 6 * (i + 1) = omega arith in
@@ -87,7 +91,8 @@ length-substitute_by (box ∷ boxes) bits =
 
 length-rest_from : (i : ℕ) (bits : List Bool) → length (rest_from i bits) ≡ 4 * (8 - i)
 length-rest_from i bits =
-    length-substitute_by (drop i selection_functions) (drop (6 * i) bits) ∙ ap (λ n. 4 * n) (length-drop i selection_functions)
+    length-substitute_by (drop i selection_functions) (drop (6 * i) bits)
+    ∙ ap (λ n. 4 * n) (length-drop i selection_functions)
 
 -- the word is the expansion of P of what the boxes from box i on give, with zeros before it
 abbrev IsXorFrom : ℕ → List Bool → ℕ → Type 0
@@ -149,13 +154,15 @@ or-apart a b m n apart a_under b_under =
 
 -- the bits that the entries of a box, from 0, and of its neighbour have
 abbrev pair_mask : ℕ → ℕ
-pair_mask i = slice_index_or (0x0811180201110424 ∷ 0x1008222808022209 ∷ 0x0624041122080110 ∷ 0x2102010414241802 ∷ []) (i / 2) 0
+pair_mask i =
+    slice_index_or (0x0811180201110424 ∷ 0x1008222808022209 ∷ 0x0624041122080110 ∷ 0x2102010414241802 ∷ []) (i / 2) 0
 
 entry-under : (i group : ℕ) → i < 8 → group < 64 → IsUnder (entry i group) (pair_mask i)
 entry-under i group box_below below =
     let test : ℕ → ℕ → Bool = λ j g. bit_and (entry j g) (pair_mask j) == entry j g in
     let box_test : ℕ → Bool = λ j. agree_below (test j) (λ g. true) 64 in
-    eqb-true _ _ (agree_below_at (test i) (λ g. true) 64 group (agree_below_at box_test (λ j. true) 8 i refl box_below) below)
+    eqb-true _ _ (agree_below_at (test i) (λ g. true) 64 group (agree_below_at box_test (λ j. true) 8 i refl box_below)
+    below)
 
 -- the xor of the entries of all boxes is the expansion of P of the substitution
 module _ (bits : List Bool) (groups : List ℕ) (within : All (λ group. group < 64) groups) (eight : length groups ≡ 8)
@@ -170,26 +177,31 @@ module _ (bits : List Bool) (groups : List ℕ) (within : All (λ group. group <
 
   IsExpansionOf-row : let e : ℕ → ℕ = λ i. entry i (slice_index groups i) in
       IsExpansionOf
-      (bit_xor (bit_xor (bit_xor (bit_xor (bit_xor (bit_xor (bit_xor (e 7) (e 6)) (e 5)) (e 4)) (e 3)) (e 2)) (e 1)) (e 0))
-      (select permutation (substitute bits))
+      (bit_xor (bit_xor (bit_xor (bit_xor (bit_xor (bit_xor (bit_xor (e 7) (e 6)) (e 5)) (e 4)) (e 3)) (e 2)) (e 1))
+      (e 0)) (select permutation (substitute bits))
   unfolding entry_of
   IsExpansionOf-row =
       with_box 0 _ (lit≤ tt) (with_box 1 _ (lit≤ tt) (with_box 2 _ (lit≤ tt) (with_box 3 _ (lit≤ tt)
-      (with_box 4 _ (lit≤ tt) (with_box 5 _ (lit≤ tt) (with_box 6 _ (lit≤ tt) (with_box 7 0 (lit≤ tt) (IsXorFrom-none bits))))))))
+      (with_box 4 _ (lit≤ tt) (with_box 5 _ (lit≤ tt)
+      (with_box 6 _ (lit≤ tt) (with_box 7 0 (lit≤ tt) (IsXorFrom-none bits))))))))
 
   -- and so is their tree
   pub IsExpansionOf-entries : let e : ℕ → ℕ = λ i. entry i (slice_index groups i) in
       IsExpansionOf
-      (bit_xor (bit_or (bit_xor (e 0) (e 1)) (bit_xor (e 2) (e 3))) (bit_or (bit_xor (e 4) (e 5)) (bit_xor (e 6) (e 7))))
+      (bit_xor (bit_or (bit_xor (e 0) (e 1)) (bit_xor (e 2) (e 3)))
+      (bit_or (bit_xor (e 4) (e 5)) (bit_xor (e 6) (e 7))))
       (select permutation (substitute bits))
   IsExpansionOf-entries =
       let e : ℕ → ℕ = λ i. entry i (slice_index groups i) in
       let under : (i : ℕ) → i < 8 → IsUnder (e i) (pair_mask i) =
       λ i below. entry-under i (slice_index groups i) below (within i 0 (omega arith)) in
-      let pair : (i : ℕ) → i + 1 < 8 → pair_mask i ≡ pair_mask (i + 1) → IsUnder (bit_xor (e i) (e (i + 1))) (pair_mask i) =
+      let pair : (i : ℕ) → i + 1 < 8 → pair_mask i ≡ pair_mask (i + 1)
+      → IsUnder (bit_xor (e i) (e (i + 1))) (pair_mask i) =
       λ i below same. and-xor (e i) (e (i + 1)) (pair_mask i)
       ∙ ap₂ bit_xor (under i (omega arith)) (ap (bit_and (e (i + 1))) same ∙ under (i + 1) below) in
-      let first = or-apart (bit_xor (e 0) (e 1)) (bit_xor (e 2) (e 3)) (pair_mask 0) (pair_mask 2) refl (pair 0 (lit≤ tt) refl) (pair 2 (lit≤ tt) refl) in
-      let last = or-apart (bit_xor (e 4) (e 5)) (bit_xor (e 6) (e 7)) (pair_mask 4) (pair_mask 6) refl (pair 4 (lit≤ tt) refl) (pair 6 (lit≤ tt) refl) in
+      let first = or-apart (bit_xor (e 0) (e 1)) (bit_xor (e 2) (e 3)) (pair_mask 0) (pair_mask 2) refl
+      (pair 0 (lit≤ tt) refl) (pair 2 (lit≤ tt) refl) in
+      let last = or-apart (bit_xor (e 4) (e 5)) (bit_xor (e 6) (e 7)) (pair_mask 4) (pair_mask 6) refl
+      (pair 4 (lit≤ tt) refl) (pair 6 (lit≤ tt) refl) in
       let tree = ap₂ bit_xor first last ∙ xor-tree (e 0) (e 1) (e 2) (e 3) (e 4) (e 5) (e 6) (e 7) in
       rw tree IsExpansionOf-row

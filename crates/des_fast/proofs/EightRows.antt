@@ -8,7 +8,8 @@ use Rattle.des_fast.proofs.ExchangedRows.{mod-lt_two}
 
 -- the bit of one of a pair of rows is that of the row of all
 bit-of_pair : {A : Type 0} (read : A → Bool) (rows : List A) (i t : ℕ) (d0 d1 : A) → t < 2 → 4 + i < length rows
-    → get_or (map read (get_or rows i d0 ∷ get_or rows (4 + i) d1 ∷ [])) (1 * t + 0) false ≡ get_or (map read rows) (4 * t + i) false
+    → get_or (map read (get_or rows i d0 ∷ get_or rows (4 + i) d1 ∷ [])) (1 * t + 0) false
+    ≡ get_or (map read rows) (4 * t + i) false
 bit-of_pair read rows i zero d0 d1 below inside =
     sym (get_or-map read rows i d0 false (omega arith)) ∙ ap (λ (k : ℕ). get_or (map read rows) k false) (omega arith)
 bit-of_pair read rows i (suc zero) d0 d1 below inside =
@@ -40,53 +41,73 @@ pub ArePairwiseExchanged-pairs : {A : Type 0} (batch : ℕ) (bit : ℕ → A →
     → ArePairwiseExchanged batch bit 1 d (get_or rows 2 a2 ∷ get_or rows 6 a6 ∷ []) r
     → ArePairwiseExchanged batch bit 1 d (get_or rows 3 a3 ∷ get_or rows 7 a7 ∷ []) s
     → ArePairwiseExchanged batch bit 4 d rows
-    (get_or p 0 e0 ∷ get_or p 1 e1 ∷ get_or q 0 e2 ∷ get_or q 1 e3 ∷ get_or r 0 e4 ∷ get_or r 1 e5 ∷ get_or s 0 e6 ∷ get_or s 1 e7 ∷ [])
-ArePairwiseExchanged-pairs batch bit d rows p q r s a0 a1 a2 a3 a4 a5 a6 a7 e0 e1 e2 e3 e4 e5 e6 e7 eight lp lq lr ls is_p is_q is_r is_s m below b within =
-    elim m as (λ k. k < 8 → get_or (map (bit b) (get_or p 0 e0 ∷ get_or p 1 e1 ∷ get_or q 0 e2 ∷ get_or q 1 e3 ∷ get_or r 0 e4 ∷ get_or r 1 e5 ∷ get_or s 0 e6 ∷ get_or s 1 e7 ∷ [])) k false
+    (get_or p 0 e0 ∷ get_or p 1 e1 ∷ get_or q 0 e2 ∷ get_or q 1 e3 ∷ get_or r 0 e4 ∷ get_or r 1 e5 ∷ get_or s 0 e6
+    ∷ get_or s 1 e7 ∷ [])
+ArePairwiseExchanged-pairs batch bit d rows p q r s a0 a1 a2 a3 a4 a5 a6 a7 e0 e1 e2 e3 e4 e5 e6 e7 eight lp lq lr ls
+    is_p is_q is_r is_s m below b within =
+    elim m as (λ k. k < 8 → get_or (map (bit b) (get_or p 0 e0 ∷ get_or p 1 e1 ∷ get_or q 0 e2 ∷ get_or q 1 e3
+    ∷ get_or r 0 e4 ∷ get_or r 1 e5 ∷ get_or s 0 e6 ∷ get_or s 1 e7 ∷ [])) k false
     ≡ get_or (map (bit (b - d * second d b + d * (k % 2))) rows) (4 * second d b + k / 2) false) [
       | zero ↦ λ under. at_pair batch bit d rows p 0 0 a0 a4 e0 (omega arith) (omega arith) lp is_p b within
       | suc zero ↦ λ under. at_pair batch bit d rows p 0 1 a0 a4 e1 (omega arith) (omega arith) lp is_p b within
       | suc (suc zero) ↦ λ under. at_pair batch bit d rows q 1 0 a1 a5 e2 (omega arith) (omega arith) lq is_q b within
-      | suc (suc (suc zero)) ↦ λ under. at_pair batch bit d rows q 1 1 a1 a5 e3 (omega arith) (omega arith) lq is_q b within
-      | suc (suc (suc (suc zero))) ↦ λ under. at_pair batch bit d rows r 2 0 a2 a6 e4 (omega arith) (omega arith) lr is_r b within
-      | suc (suc (suc (suc (suc zero)))) ↦ λ under. at_pair batch bit d rows r 2 1 a2 a6 e5 (omega arith) (omega arith) lr is_r b within
-      | suc (suc (suc (suc (suc (suc zero))))) ↦ λ under. at_pair batch bit d rows s 3 0 a3 a7 e6 (omega arith) (omega arith) ls is_s b within
-      | suc (suc (suc (suc (suc (suc (suc zero)))))) ↦ λ under. at_pair batch bit d rows s 3 1 a3 a7 e7 (omega arith) (omega arith) ls is_s b within
+      | suc (suc (suc zero)) ↦
+          λ under. at_pair batch bit d rows q 1 1 a1 a5 e3 (omega arith) (omega arith) lq is_q b within
+      | suc (suc (suc (suc zero))) ↦
+          λ under. at_pair batch bit d rows r 2 0 a2 a6 e4 (omega arith) (omega arith) lr is_r b within
+      | suc (suc (suc (suc (suc zero)))) ↦
+          λ under. at_pair batch bit d rows r 2 1 a2 a6 e5 (omega arith) (omega arith) lr is_r b within
+      | suc (suc (suc (suc (suc (suc zero))))) ↦
+          λ under. at_pair batch bit d rows s 3 0 a3 a7 e6 (omega arith) (omega arith) ls is_s b within
+      | suc (suc (suc (suc (suc (suc (suc zero)))))) ↦
+          λ under. at_pair batch bit d rows s 3 1 a3 a7 e7 (omega arith) (omega arith) ls is_s b within
       | suc (suc (suc (suc (suc (suc (suc (suc n))))))) ↦ λ under. absurd (omega arith)
     ] below
 
 -- every eighth row, from row i on
-pub bits-every_eighth : {A : Type 0} (read : A → Bool) (rows : List A) (i : ℕ) (d0 d1 d2 d3 d4 d5 d6 d7 : A) → length rows ≡ 64 → i < 8
-    → (j : ℕ) → j < 8
+pub bits-every_eighth : {A : Type 0} (read : A → Bool) (rows : List A) (i : ℕ) (d0 d1 d2 d3 d4 d5 d6 d7 : A)
+    → length rows ≡ 64 → i < 8 → (j : ℕ) → j < 8
     → get_or (map read (get_or rows i d0 ∷ get_or rows (8 + i) d1 ∷ get_or rows (16 + i) d2 ∷ get_or rows (24 + i) d3
-    ∷ get_or rows (32 + i) d4 ∷ get_or rows (40 + i) d5 ∷ get_or rows (48 + i) d6 ∷ get_or rows (56 + i) d7 ∷ [])) j false
+    ∷ get_or rows (32 + i) d4 ∷ get_or rows (40 + i) d5 ∷ get_or rows (48 + i) d6 ∷ get_or rows (56 + i) d7
+    ∷ [])) j false
     ≡ get_or (map read rows) (8 * j + i) false
 bits-every_eighth read rows i d0 d1 d2 d3 d4 d5 d6 d7 size within zero below =
     sym (get_or-map read rows i d0 false (omega arith)) ∙ ap (λ (k : ℕ). get_or (map read rows) k false) (omega arith)
 bits-every_eighth read rows i d0 d1 d2 d3 d4 d5 d6 d7 size within (suc zero) below =
-    sym (get_or-map read rows (8 + i) d1 false (omega arith)) ∙ ap (λ (k : ℕ). get_or (map read rows) k false) (omega arith)
+    sym (get_or-map read rows (8 + i) d1 false (omega arith))
+    ∙ ap (λ (k : ℕ). get_or (map read rows) k false) (omega arith)
 bits-every_eighth read rows i d0 d1 d2 d3 d4 d5 d6 d7 size within (suc (suc zero)) below =
-    sym (get_or-map read rows (16 + i) d2 false (omega arith)) ∙ ap (λ (k : ℕ). get_or (map read rows) k false) (omega arith)
+    sym (get_or-map read rows (16 + i) d2 false (omega arith))
+    ∙ ap (λ (k : ℕ). get_or (map read rows) k false) (omega arith)
 bits-every_eighth read rows i d0 d1 d2 d3 d4 d5 d6 d7 size within (suc (suc (suc zero))) below =
-    sym (get_or-map read rows (24 + i) d3 false (omega arith)) ∙ ap (λ (k : ℕ). get_or (map read rows) k false) (omega arith)
+    sym (get_or-map read rows (24 + i) d3 false (omega arith))
+    ∙ ap (λ (k : ℕ). get_or (map read rows) k false) (omega arith)
 bits-every_eighth read rows i d0 d1 d2 d3 d4 d5 d6 d7 size within (suc (suc (suc (suc zero)))) below =
-    sym (get_or-map read rows (32 + i) d4 false (omega arith)) ∙ ap (λ (k : ℕ). get_or (map read rows) k false) (omega arith)
+    sym (get_or-map read rows (32 + i) d4 false (omega arith))
+    ∙ ap (λ (k : ℕ). get_or (map read rows) k false) (omega arith)
 bits-every_eighth read rows i d0 d1 d2 d3 d4 d5 d6 d7 size within (suc (suc (suc (suc (suc zero))))) below =
-    sym (get_or-map read rows (40 + i) d5 false (omega arith)) ∙ ap (λ (k : ℕ). get_or (map read rows) k false) (omega arith)
+    sym (get_or-map read rows (40 + i) d5 false (omega arith))
+    ∙ ap (λ (k : ℕ). get_or (map read rows) k false) (omega arith)
 bits-every_eighth read rows i d0 d1 d2 d3 d4 d5 d6 d7 size within (suc (suc (suc (suc (suc (suc zero)))))) below =
-    sym (get_or-map read rows (48 + i) d6 false (omega arith)) ∙ ap (λ (k : ℕ). get_or (map read rows) k false) (omega arith)
+    sym (get_or-map read rows (48 + i) d6 false (omega arith))
+    ∙ ap (λ (k : ℕ). get_or (map read rows) k false) (omega arith)
 bits-every_eighth read rows i d0 d1 d2 d3 d4 d5 d6 d7 size within (suc (suc (suc (suc (suc (suc (suc zero))))))) below =
-    sym (get_or-map read rows (56 + i) d7 false (omega arith)) ∙ ap (λ (k : ℕ). get_or (map read rows) k false) (omega arith)
-bits-every_eighth read rows i d0 d1 d2 d3 d4 d5 d6 d7 size within (suc (suc (suc (suc (suc (suc (suc (suc j)))))))) below = absurd (omega arith)
+    sym (get_or-map read rows (56 + i) d7 false (omega arith))
+    ∙ ap (λ (k : ℕ). get_or (map read rows) k false) (omega arith)
+bits-every_eighth read rows i d0 d1 d2 d3 d4 d5 d6 d7 size within (suc (suc (suc (suc (suc (suc (suc (suc j))))))))
+    below = absurd (omega arith)
 
 -- eight rows side by side, from row 8 * i on
-pub bits-eight_rows : {A : Type 0} (read : A → Bool) (rows : List A) (i : ℕ) (d0 d1 d2 d3 d4 d5 d6 d7 : A) → length rows ≡ 64 → i < 8
-    → (j : ℕ) → j < 8
-    → get_or (map read (get_or rows (8 * i) d0 ∷ get_or rows (8 * i + 1) d1 ∷ get_or rows (8 * i + 2) d2 ∷ get_or rows (8 * i + 3) d3
-    ∷ get_or rows (8 * i + 4) d4 ∷ get_or rows (8 * i + 5) d5 ∷ get_or rows (8 * i + 6) d6 ∷ get_or rows (8 * i + 7) d7 ∷ [])) j false
+pub bits-eight_rows : {A : Type 0} (read : A → Bool) (rows : List A) (i : ℕ) (d0 d1 d2 d3 d4 d5 d6 d7 : A)
+    → length rows ≡ 64 → i < 8 → (j : ℕ) → j < 8
+    → get_or (map read (get_or rows (8 * i) d0 ∷ get_or rows (8 * i + 1) d1 ∷ get_or rows (8 * i + 2) d2
+    ∷ get_or rows (8 * i + 3) d3
+    ∷ get_or rows (8 * i + 4) d4 ∷ get_or rows (8 * i + 5) d5 ∷ get_or rows (8 * i + 6) d6 ∷ get_or rows (8 * i + 7) d7
+    ∷ [])) j false
     ≡ get_or (map read rows) (8 * i + j) false
 bits-eight_rows read rows i d0 d1 d2 d3 d4 d5 d6 d7 size within zero below =
-    sym (get_or-map read rows (8 * i) d0 false (omega arith)) ∙ ap (λ (k : ℕ). get_or (map read rows) k false) (omega arith)
+    sym (get_or-map read rows (8 * i) d0 false (omega arith))
+    ∙ ap (λ (k : ℕ). get_or (map read rows) k false) (omega arith)
 bits-eight_rows read rows i d0 d1 d2 d3 d4 d5 d6 d7 size within (suc zero) below =
     sym (get_or-map read rows (8 * i + 1) d1 false (omega arith))
 bits-eight_rows read rows i d0 d1 d2 d3 d4 d5 d6 d7 size within (suc (suc zero)) below =
@@ -101,7 +122,8 @@ bits-eight_rows read rows i d0 d1 d2 d3 d4 d5 d6 d7 size within (suc (suc (suc (
     sym (get_or-map read rows (8 * i + 6) d6 false (omega arith))
 bits-eight_rows read rows i d0 d1 d2 d3 d4 d5 d6 d7 size within (suc (suc (suc (suc (suc (suc (suc zero))))))) below =
     sym (get_or-map read rows (8 * i + 7) d7 false (omega arith))
-bits-eight_rows read rows i d0 d1 d2 d3 d4 d5 d6 d7 size within (suc (suc (suc (suc (suc (suc (suc (suc j)))))))) below = absurd (omega arith)
+bits-eight_rows read rows i d0 d1 d2 d3 d4 d5 d6 d7 size within (suc (suc (suc (suc (suc (suc (suc (suc j))))))))
+    below = absurd (omega arith)
 
 -- the first of eight rows are written at their places, and no other place is
 abbrev pub AreWrittenAt : {A : Type 0} → (A → Bool) → (ℕ → ℕ) → List A → List A → List A → ℕ → Type 0

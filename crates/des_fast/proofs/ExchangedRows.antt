@@ -14,7 +14,8 @@ row rows m = get_or rows m []
 
 -- the first row with the change
 abbrev pub upper_row : ℕ → ℕ → ℕ → List ℕ → List ℕ → List ℕ
-upper_row n d m xs ys = zip2 bit_xor xs (zip2 bit_and (zip2 bit_xor xs (zip2 (λ y k. y / 2 ^ k) ys (replicate n d))) (replicate n m))
+upper_row n d m xs ys =
+    zip2 bit_xor xs (zip2 bit_and (zip2 bit_xor xs (zip2 (λ y k. y / 2 ^ k) ys (replicate n d))) (replicate n m))
 
 -- the second row with the change
 abbrev pub lower_row : ℕ → ℕ → ℕ → List ℕ → List ℕ → List ℕ
@@ -71,7 +72,8 @@ AreExchangedAt d xs ys above below b t =
 
 -- a bit of one of two rows, by the bits of both
 row-bit : (xs ys : List ℕ) (c t : ℕ) → t < 2
-    → bit_of_block c (row (xs ∷ ys ∷ []) (1 * t + 0)) ≡ get_or (bit_of_block c xs ∷ bit_of_block c ys ∷ []) (1 * t + 0) false
+    → bit_of_block c (row (xs ∷ ys ∷ []) (1 * t + 0))
+    ≡ get_or (bit_of_block c xs ∷ bit_of_block c ys ∷ []) (1 * t + 0) false
 row-bit xs ys c zero below = refl
 row-bit xs ys c (suc zero) below = refl
 row-bit xs ys c (suc (suc t)) below = absurd (omega arith)
@@ -137,7 +139,8 @@ exchanged-at n d m xs ys b small p q within tested =
     ]
 
 -- the rows exchange bits at a distance
-pub ArePairwiseExchanged-rows : (n d m : ℕ) (xs ys : List ℕ) → d < 64 → pairs_places d m ≡ true → length xs ≡ n → length ys ≡ n
+pub ArePairwiseExchanged-rows : (n d m : ℕ) (xs ys : List ℕ) → d < 64 → pairs_places d m ≡ true → length xs ≡ n
+    → length ys ≡ n
     → ArePairwiseExchanged (64 * n) bit_of_block 1 d (xs ∷ ys ∷ []) (upper_row n d m xs ys ∷ lower_row n d m xs ys ∷ [])
 ArePairwiseExchanged-rows n d m xs ys small pairs p q zero below b within =
     (exchanged-at n d m xs ys b small p q within (at_range (pairs_place d m) 64 (b % 64) pairs (omega arith))).0

@@ -24,11 +24,13 @@ keep_own : (x y t : Bool) → t ≡ false → xor x (y && t) ≡ x
 keep_own x y t is = grind (arith, is)
 
 -- a bit of the change, at a place whose partner lies before it
-change-at : (d m x y p : ℕ) → p < 64 → d ≤ p → bit_in (change d m x y) p ≡ (xor (bit_in x p) (bit_in y (p - d)) && bit_in m p)
+change-at : (d m x y p : ℕ) → p < 64 → d ≤ p
+    → bit_in (change d m x y) p ≡ (xor (bit_in x p) (bit_in y (p - d)) && bit_in m p)
 change-at d m x y p within after =
     bit_in-bitwise bit_and ◌&&◌ IsBitwise-and (bit_xor x (y / 2 ^ d)) m p within
     ∙ ap (λ (t : Bool). t && bit_in m p)
-    (bit_in-bitwise bit_xor xor IsBitwise-xor x (y / 2 ^ d) p within ∙ ap (xor (bit_in x p)) (bit_in-shr y d p within after))
+    (bit_in-bitwise bit_xor xor IsBitwise-xor x (y / 2 ^ d) p within
+    ∙ ap (xor (bit_in x p)) (bit_in-shr y d p within after))
 
 -- the first word with the change
 abbrev pub upper : ℕ → ℕ → ℕ → ℕ → ℕ
@@ -53,13 +55,15 @@ upper-first d m x y p within free =
     ∙ keep_own (bit_in x p) (bit_in (bit_xor x (y / 2 ^ d)) p) (bit_in m p) free
 
 -- a bit of the second word, by the change
-lower-at : (d m x y p : ℕ) → d < 64 → p < 64 → bit_in (lower d m x y) p ≡ xor (bit_in y p) (bit_in (change d m x y) (p + d))
+lower-at : (d m x y p : ℕ) → d < 64 → p < 64
+    → bit_in (lower d m x y) p ≡ xor (bit_in y p) (bit_in (change d m x y) (p + d))
 lower-at d m x y p small within =
     bit_in-bitwise bit_xor xor IsBitwise-xor y (change d m x y * 2 ^ d % 2 ^ 64) p within
     ∙ ap (xor (bit_in y p)) (bit_in-shl (change d m x y) d p small within)
 
 -- the second word takes the places whose partners are under the mask from the first
-pub lower-first : (d m x y p : ℕ) → d < 64 → p < 64 → bit_in m (p + d) ≡ true → bit_in (lower d m x y) p ≡ bit_in x (p + d)
+pub lower-first : (d m x y p : ℕ) → d < 64 → p < 64 → bit_in m (p + d) ≡ true
+    → bit_in (lower d m x y) p ≡ bit_in x (p + d)
 lower-first d m x y p small within masked =
     elim (cases_lt (p + d) 64) [
       | inl low ↦

@@ -23,7 +23,8 @@ ordered bytes =
     byte 0 ∷ byte 4 ∷ byte 1 ∷ byte 5 ∷ byte 2 ∷ byte 6 ∷ byte 3 ∷ byte 7 ∷ []
 
 -- each byte of a word of groups is below 64
-pub ordered-lt : (word : ℕ) → IsOfGroups word → (i d : ℕ) → i < 8 → slice_index_or (ordered (to_be_bytes w64 word)) i d < 64
+pub ordered-lt : (word : ℕ) → IsOfGroups word → (i d : ℕ) → i < 8
+    → slice_index_or (ordered (to_be_bytes w64 word)) i d < 64
 ordered-lt word of_groups zero d below = place-lt 56 word refl of_groups
 ordered-lt word of_groups (suc zero) d below = place-lt 24 word refl of_groups
 ordered-lt word of_groups (suc (suc zero)) d below = place-lt 48 word refl of_groups
@@ -31,7 +32,8 @@ ordered-lt word of_groups (suc (suc (suc zero))) d below = place-lt 16 word refl
 ordered-lt word of_groups (suc (suc (suc (suc zero)))) d below = place-lt 40 word refl of_groups
 ordered-lt word of_groups (suc (suc (suc (suc (suc zero))))) d below = place-lt 8 word refl of_groups
 ordered-lt word of_groups (suc (suc (suc (suc (suc (suc zero)))))) d below = place-lt 32 word refl of_groups
-ordered-lt word of_groups (suc (suc (suc (suc (suc (suc (suc zero))))))) d below = rw div-one at (place-lt 0 word refl of_groups)
+ordered-lt word of_groups (suc (suc (suc (suc (suc (suc (suc zero))))))) d below =
+    rw div-one at (place-lt 0 word refl of_groups)
 ordered-lt word of_groups (suc (suc (suc (suc (suc (suc (suc (suc i)))))))) d below = absurd (omega arith)
 
 -- the lowest six bits of each are six of all their bits
@@ -53,7 +55,8 @@ bits_of-byte word (suc (suc (suc (suc (suc (suc (suc (suc i)))))))) below = absu
 pub bits_of-ordered : (word i : ℕ) → i < 8
     → bits_of 6 (slice_index (ordered (to_be_bytes w64 word)) i) ≡ take 6 (drop (6 * i) (bits_of_groups word))
 bits_of-ordered word i below =
-    bits_of-byte word i below ∙ ap (λ bits. take 6 (drop (6 * i) (select group_positions bits))) (bits_of_bytes-to_be word)
+    bits_of-byte word i below
+    ∙ ap (λ bits. take 6 (drop (6 * i) (select group_positions bits))) (bits_of_bytes-to_be word)
 
 -- the bytes by shifts and masks
 abbrev pub masked_bytes : ℕ → List ℕ
@@ -63,6 +66,7 @@ masked_bytes word =
 
 pub masked_bytes-ordered : (word : ℕ) → masked_bytes word ≡ ordered (to_be_bytes w64 word)
 masked_bytes-ordered word =
-    let byte : (k : ℕ) → bit_and (word / 2 ^ k) 0x00000000000000ff ≡ word / 2 ^ k % 2 ^ 8 = λ k. and_mask (word / 2 ^ k) 8 in
+    let byte : (k : ℕ) → bit_and (word / 2 ^ k) 0x00000000000000ff ≡ word / 2 ^ k % 2 ^ 8 =
+    λ k. and_mask (word / 2 ^ k) 8 in
     ap₂ ◌∷◌ (byte 56) (ap₂ ◌∷◌ (byte 24) (ap₂ ◌∷◌ (byte 48) (ap₂ ◌∷◌ (byte 16)
     (ap₂ ◌∷◌ (byte 40) (ap₂ ◌∷◌ (byte 8) (ap₂ ◌∷◌ (byte 32) (ap₂ ◌∷◌ (and_mask word 8) refl)))))))

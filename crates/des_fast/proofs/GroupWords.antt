@@ -1,4 +1,5 @@
--- Words of groups: their bits are those of their 48, and one is what 48 bits make; expansions of half blocks among them.
+-- Words of groups: their bits are those of their 48, and one is what 48 bits make; expansions of half blocks among
+-- them.
 use Rattle.std.proofs.Common.{◌≡◌, ℕ, ◌<◌, ◌^◌, List, Bool, length, bit_and, bit_xor, refl, ap, ap₂, sym, ◌∙◌, arith, take_all, append-nil}
 use Rattle.std.specs.List.{range_with_len}
 use Rattle.std.proofs.lemmas.Nat.{and_le_r}
@@ -19,9 +20,11 @@ select-all : (n : ℕ) (bits : List Bool) → length bits ≡ n → select (rang
 select-all n bits width = select-range_with_len 0 n bits (omega arith) ∙ take_all n bits (omega arith)
 
 -- its groups are then these bits
-pub bits_of_groups-Holds : (word : ℕ) (bits : List Bool) → length bits ≡ 48 → Holds word bits → bits_of_groups word ≡ bits
+pub bits_of_groups-Holds : (word : ℕ) (bits : List Bool) → length bits ≡ 48 → Holds word bits
+    → bits_of_groups word ≡ bits
 bits_of_groups-Holds word bits width holds =
-    ap (select group_positions) holds ∙ select-select 49 group_positions positions_in_word bits (omega arith) ∙ select-all 48 bits width
+    ap (select group_positions) holds ∙ select-select 49 group_positions positions_in_word bits (omega arith)
+    ∙ select-all 48 bits width
 
 -- a mask keeps the groups, with zeros beside them
 pub bits_of_word-mask : (x : ℕ) → x < 2 ^ 64 → Holds (bit_and x 0x3f3f3f3f3f3f3f3f) (bits_of_groups x)
@@ -42,11 +45,13 @@ Holds-groups word of_groups =
     ap bits_of_word (sym of_groups) ∙ bits_of_word-mask word (IsOfGroups-lt word of_groups)
 
 -- a word that holds 48 bits is a word of groups
-pub IsOfGroups-Holds : (word : ℕ) (bits : List Bool) → word < 2 ^ 64 → length bits ≡ 48 → Holds word bits → IsOfGroups word
+pub IsOfGroups-Holds : (word : ℕ) (bits : List Bool) → word < 2 ^ 64 → length bits ≡ 48 → Holds word bits
+    → IsOfGroups word
 IsOfGroups-Holds word bits below width holds =
     let masked : ℕ = bit_and word 0x3f3f3f3f3f3f3f3f in
     let same : bits_of_word masked ≡ bits_of_word word =
-    bits_of_word-mask word below ∙ ap (select positions_in_word) (bits_of_groups-Holds word bits width holds) ∙ sym holds in
+    bits_of_word-mask word below ∙ ap (select positions_in_word) (bits_of_groups-Holds word bits width holds)
+    ∙ sym holds in
     sym (number_of-bits_of_word masked (omega (arith, and_le_r word 0x3f3f3f3f3f3f3f3f)))
     ∙ ap number_of same
     ∙ number_of-bits_of_word word below
@@ -64,7 +69,8 @@ word_of_groups-lt bits = rw length-select at (number_of-lt (select positions_in_
 -- ---- expansions
 
 -- a word that holds the expansion of a half block has the half block in it
-half_of-Holds : (word : ℕ) (half : List Bool) → length half ≡ 32 → Holds word (select expansion half) → half_of word ≡ half
+half_of-Holds : (word : ℕ) (half : List Bool) → length half ≡ 32 → Holds word (select expansion half)
+    → half_of word ≡ half
 half_of-Holds word half width holds =
     let expanded : List Bool = select expansion half in
     ap (select half_positions) holds
@@ -77,8 +83,8 @@ pub record IsExpansionOf (word : ℕ) (half : List Bool) : Type 0 where
   pub is_expansion : IsExpansion word
   pub has_half : half_of word ≡ half
 
-pub IsExpansionOf-Holds : (word : ℕ) (half : List Bool) → word < 2 ^ 64 → length half ≡ 32 → Holds word (select expansion half)
-    → IsExpansionOf word half
+pub IsExpansionOf-Holds : (word : ℕ) (half : List Bool) → word < 2 ^ 64 → length half ≡ 32
+    → Holds word (select expansion half) → IsExpansionOf word half
 IsExpansionOf-Holds word half below width holds =
     let found : half_of word ≡ half = half_of-Holds word half width holds in
     let size : length (select expansion half) ≡ 48 = length-select expansion half in
@@ -98,7 +104,8 @@ IsOfGroups-xor a b first second = and-xor a b 0x3f3f3f3f3f3f3f3f ∙ ap₂ bit_x
 
 -- a selection from the bits of a xor is the xor of the selections
 select-xor : (places : List ℕ) (a b : ℕ)
-    → select places (bits_of_word (bit_xor a b)) ≡ xor_bits (select places (bits_of_word a)) (select places (bits_of_word b))
+    → select places (bits_of_word (bit_xor a b))
+    ≡ xor_bits (select places (bits_of_word a)) (select places (bits_of_word b))
 select-xor places a b =
     ap (select places) (bits_of-xor 64 a b)
     ∙ select-xor_bits places (bits_of_word a) (bits_of_word b) (length-bits_of 64 a ∙ sym (length-bits_of 64 b))

@@ -16,7 +16,8 @@ use Rattle.des_fast.proofs.GroupWords.{Holds, IsExpansionOf, IsExpansionOf-Holds
 -- ---- maps under a mask, shifted by half a word
 
 -- images under a mask, shifted to the right, are under the shifted mask
-IsLinearUnder-shr : {mask : ℕ} → {f : ℕ → ℕ} → (k : ℕ) → IsLinearUnder mask f → IsLinearUnder (mask / 2 ^ k) (λ x. f x / 2 ^ k)
+IsLinearUnder-shr : {mask : ℕ} → {f : ℕ → ℕ} → (k : ℕ) → IsLinearUnder mask f
+    → IsLinearUnder (mask / 2 ^ k) (λ x. f x / 2 ^ k)
 IsLinearUnder-shr {mask} {f} k map = record {
   linear = IsLinear-shr k map.linear;
   under = λ x. sym (and_shr (f x) mask k) ∙ ap (λ (y : ℕ). y / 2 ^ k) (map.under x);
@@ -39,7 +40,8 @@ IsLinearUnder-shl {mask} {f} k map = record {
 
 -- a linear map holds the bits of these positions where it does so for zero and for the words with one bit
 Holds-from_units : (f : ℕ → ℕ) (positions : List ℕ) → IsLinearUnder 0x3f3f3f3f3f3f3f3f f
-    → map (λ u. bits_of_word (f u)) units ≡ map (λ u. select (composed 65 positions_in_word positions) (bits_of_word u) ++ zeros 0) units
+    → map (λ u. bits_of_word (f u)) units
+    ≡ map (λ u. select (composed 65 positions_in_word positions) (bits_of_word u) ++ zeros 0) units
     → (x : ℕ) → x < 2 ^ 64 → Holds (f x) (select positions (bits_of_word x))
 Holds-from_units f positions under same x below =
     select-from_units f (composed 65 positions_in_word positions) 0 under.linear same x below
@@ -50,10 +52,12 @@ Holds-from_units f positions under same x below =
 
 -- the groups 1, 3, 5 and 7 of the expansion of each half, and the groups 2, 4, 6 and 8
 abbrev odd_groups : ℕ → ℕ
-odd_groups word = bit_or (bit_and (word / 2 ^ 3) 0x1f3f3f3f1f3f3f3f) (bit_and (word * 2 ^ 29 % 2 ^ 64) 0x2000000020000000)
+odd_groups word =
+    bit_or (bit_and (word / 2 ^ 3) 0x1f3f3f3f1f3f3f3f) (bit_and (word * 2 ^ 29 % 2 ^ 64) 0x2000000020000000)
 
 abbrev even_groups : ℕ → ℕ
-even_groups word = bit_or (bit_and (word * 2 ^ 1 % 2 ^ 64) 0x3f3f3f3e3f3f3f3e) (bit_and (word / 2 ^ 31) 0x0000000100000001)
+even_groups word =
+    bit_or (bit_and (word * 2 ^ 1 % 2 ^ 64) 0x3f3f3f3e3f3f3f3e) (bit_and (word / 2 ^ 31) 0x0000000100000001)
 
 IsLinearUnder-odd_groups : IsLinearUnder 0x3f3f3f3f3f3f3f3f odd_groups
 IsLinearUnder-odd_groups =
@@ -87,26 +91,32 @@ IsLinearUnder-right_groups =
 -- a linear map that holds the expansion of the 32 bits after the first k
 IsExpansionOf-from_units : (f : ℕ → ℕ) (k : ℕ) → k + 32 ≤ 64 → IsLinearUnder 0x3f3f3f3f3f3f3f3f f
     → let positions = composed 65 expansion (range_with_len (k + 1) 32) in
-    map (λ u. bits_of_word (f u)) units ≡ map (λ u. select (composed 65 positions_in_word positions) (bits_of_word u) ++ zeros 0) units
+    map (λ u. bits_of_word (f u)) units
+    ≡ map (λ u. select (composed 65 positions_in_word positions) (bits_of_word u) ++ zeros 0) units
     → (x : ℕ) → x < 2 ^ 64 → IsExpansionOf (f x) (take 32 (drop k (bits_of_word x)))
 IsExpansionOf-from_units f k inside under same x below =
     let bits : List Bool = bits_of_word x in
     let width : length bits ≡ 64 = length-bits_of 64 x in
-    let half : select (range_with_len (k + 1) 32) bits ≡ take 32 (drop k bits) = select-range_with_len k 32 bits (omega arith) in
-    let expanded : select (composed 65 expansion (range_with_len (k + 1) 32)) bits ≡ select expansion (take 32 (drop k bits)) =
+    let half : select (range_with_len (k + 1) 32) bits ≡ take 32 (drop k bits) =
+    select-range_with_len k 32 bits (omega arith) in
+    let expanded : select (composed 65 expansion (range_with_len (k + 1) 32)) bits
+    ≡ select expansion (take 32 (drop k bits)) =
     sym (select-select 65 expansion (range_with_len (k + 1) 32) bits (omega arith)) ∙ ap (select expansion) half in
     IsExpansionOf-Holds (f x) (take 32 (drop k bits)) (IsOfGroups-lt (f x) (under.under x))
     (length-take-le 32 (drop k bits) (omega (arith, length-drop k bits)))
     (rw expanded at (Holds-from_units f (composed 65 expansion (range_with_len (k + 1) 32)) under same x below))
 
-pub IsExpansionOf-left_groups : (word : ℕ) → word < 2 ^ 64 → IsExpansionOf (left_groups word) (take 32 (bits_of_word word))
+pub IsExpansionOf-left_groups : (word : ℕ) → word < 2 ^ 64
+    → IsExpansionOf (left_groups word) (take 32 (bits_of_word word))
 unfolding bits_of select
 IsExpansionOf-left_groups = IsExpansionOf-from_units left_groups 0 (lit≤ tt) IsLinearUnder-left_groups refl
 
-pub IsExpansionOf-right_groups : (word : ℕ) → word < 2 ^ 64 → IsExpansionOf (right_groups word) (drop 32 (bits_of_word word))
+pub IsExpansionOf-right_groups : (word : ℕ) → word < 2 ^ 64
+    → IsExpansionOf (right_groups word) (drop 32 (bits_of_word word))
 unfolding bits_of select
 IsExpansionOf-right_groups word below =
-    let width : length (drop 32 (bits_of_word word)) ≤ 32 = omega (arith, length-drop 32 (bits_of_word word), length-bits_of 64 word) in
+    let width : length (drop 32 (bits_of_word word)) ≤ 32 =
+    omega (arith, length-drop 32 (bits_of_word word), length-bits_of 64 word) in
     rw take_all at (IsExpansionOf-from_units right_groups 32 (lit≤ tt) IsLinearUnder-right_groups refl word below)
 
 -- ---- the half block of an expansion
@@ -131,5 +141,6 @@ unfolding bits_of select
 bits_of-middle_bits groups below =
     sym (drop-bits_of 32 32 (middle_bits groups))
     ∙ ap (drop 32)
-    (select-from_units middle_bits (replicate 32 65 ++ half_positions) 0 IsLinearUnder-middle_bits.linear refl groups below
+    (select-from_units middle_bits (replicate 32 65 ++ half_positions) 0 IsLinearUnder-middle_bits.linear refl groups
+    below
     ∙ append-nil (select (replicate 32 65 ++ half_positions) (bits_of_word groups)))

@@ -17,12 +17,14 @@ abbrev turned : List Bool × List Bool → List Bool × List Bool
 turned halves = (halves.1, halves.0)
 
 -- what the rounds make of a block, from its halves
-pub answer_by-halves : (keys : List (List Bool)) (block : List ℕ) → answer_by keys block ≡ last_block (after keys (first_halves block))
+pub answer_by-halves : (keys : List (List Bool)) (block : List ℕ)
+    → answer_by keys block ≡ last_block (after keys (first_halves block))
 unfolding through_rounds
 answer_by-halves keys block = refl
 
 -- the halves of the block that two halves make are those, each in the place of the other
-first_halves-last_block : (halves : List Bool × List Bool) → AreHalves halves → first_halves (last_block halves) ≡ turned halves
+first_halves-last_block : (halves : List Bool × List Bool) → AreHalves halves
+    → first_halves (last_block halves) ≡ turned halves
 first_halves-last_block halves widths =
     let bits : List Bool = swapped halves in
     let permuted : select initial_permutation (bits_of_bytes (last_block halves)) ≡ bits =
@@ -46,9 +48,11 @@ pub answer_by-three : (k1 k2 k3 : List (List Bool)) (block answer : List ℕ) (f
     → answer ≡ last_block third → answer ≡ answer_by k3 (answer_by k2 (answer_by k1 block))
 answer_by-three k1 k2 k3 block answer first second third makes_first makes_second makes_third ends =
     let halves : List Bool × List Bool = first_halves block in
-    let first_widths : AreHalves (after k1 halves) = AreHalves-after_rounds k1 _ _ (AreHalves-permuted (bits_of_bytes block)) in
+    let first_widths : AreHalves (after k1 halves) =
+    AreHalves-after_rounds k1 _ _ (AreHalves-permuted (bits_of_bytes block)) in
     let widths : AreHalves first = rw makes_first first_widths in
-    let second_widths : AreHalves second = rw makes_second (AreHalves-after_rounds k2 first.1 first.0 (widths.1, widths.0)) in
+    let second_widths : AreHalves second =
+    rw makes_second (AreHalves-after_rounds k2 first.1 first.0 (widths.1, widths.0)) in
     ends
     ∙ ap last_block makes_third
     ∙ sym (answer_by-last_block k3 second second_widths)

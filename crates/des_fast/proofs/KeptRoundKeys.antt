@@ -12,15 +12,18 @@ use Rattle.des_fast.proofs.GroupWords.{bits_of_word-mask, bits_of_groups-Holds, 
 use Rattle.des_fast.proofs.RoundKeysByPlace.{round_keys_of-by_index}
 
 -- a mask keeps the groups of a word
-pub bits_of_groups-mask : (word : ℕ) → word < 2 ^ 64 → bits_of_groups (bit_and word 0x3f3f3f3f3f3f3f3f) ≡ bits_of_groups word
+pub bits_of_groups-mask : (word : ℕ) → word < 2 ^ 64
+    → bits_of_groups (bit_and word 0x3f3f3f3f3f3f3f3f) ≡ bits_of_groups word
 bits_of_groups-mask word below =
-    bits_of_groups-Holds (bit_and word 0x3f3f3f3f3f3f3f3f) (bits_of_groups word) (length-select group_positions (bits_of_word word))
+    bits_of_groups-Holds (bit_and word 0x3f3f3f3f3f3f3f3f) (bits_of_groups word)
+    (length-select group_positions (bits_of_word word))
     (bits_of_word-mask word below)
 
 -- and what it leaves is a word of groups
 pub IsOfGroups-mask : (word : ℕ) → word < 2 ^ 64 → IsOfGroups (bit_and word 0x3f3f3f3f3f3f3f3f)
 IsOfGroups-mask word below =
-    IsOfGroups-Holds (bit_and word 0x3f3f3f3f3f3f3f3f) (bits_of_groups word) (omega (arith, and_le_r word 0x3f3f3f3f3f3f3f3f))
+    IsOfGroups-Holds (bit_and word 0x3f3f3f3f3f3f3f3f) (bits_of_groups word)
+    (omega (arith, and_le_r word 0x3f3f3f3f3f3f3f3f))
     (length-select group_positions (bits_of_word word)) (bits_of_word-mask word below)
 
 -- words and round keys with the same groups, place by place, are the same round keys

@@ -36,7 +36,8 @@ IsLinear-alternating {f} linear =
     let mixed = IsLinear-xor (IsLinear-mask 0x000000000aaaaaaa linear) (IsLinear-mask 0x0000000005555555 opposite) in
     IsLinear-xor (IsLinear-shl 16 mixed) (IsLinear-shr 12 mixed)
 
-IsLinear-windows : {f g : ℕ → ℕ} → (places : List ℕ) → IsLinear f → IsLinear g → IsLinear (λ x. windows (f x) (g x) places)
+IsLinear-windows : {f g : ℕ → ℕ} → (places : List ℕ) → IsLinear f → IsLinear g
+    → IsLinear (λ x. windows (f x) (g x) places)
 IsLinear-windows [] c d = record { sums = λ a b. refl }
 IsLinear-windows (place ∷ places) c d =
     IsLinear-xor (IsLinear-xor (IsLinear-xor
@@ -77,7 +78,8 @@ AreLinear-key_rows =
     let c_linear = IsLinear-shl 16 (IsLinear-alternating (IsLinear-shr 36 IsLinear-id)) in
     let d_linear = IsLinear-alternating (IsLinear-mask 0x000000000fffffff (IsLinear-shr 8 IsLinear-id)) in
     record {
-      row = λ n below. IsLinear-same (is_row n) (IsLinear-windows (slice_index_or window_places n []) c_linear d_linear);
+      row = λ n below.
+          IsLinear-same (is_row n) (IsLinear-windows (slice_index_or window_places n []) c_linear d_linear);
       fits = λ n x below. rw (is_row n x) (windows-lt (c x) (d x) (slice_index_or window_places n []));
     }
 
@@ -88,23 +90,27 @@ AreLinear-exchanged_pairs {rows} distance mask mask_fits linear =
     let second : ℕ → ℕ → ℕ = λ x n. slice_index_or (rows x) (8 + n / 2) 0 in
     let is_row : (n x : ℕ) → n < 16
     → slice_index_or (exchanged_pairs distance mask (rows x)) n 0 ≡ exchanged distance mask (first x n) (second x n) n =
-    λ n x below. get_or-map-range_with_len (λ m. exchanged distance mask (first x m) (second x m) m) 0 16 n n 0 below (zero-add n) in
+    λ n x below. get_or-map-range_with_len (λ m. exchanged distance mask (first x m) (second x m) m) 0 16 n n 0 below
+    (zero-add n) in
     record {
       row = λ n below.
           let from_first = linear.row (n / 2) (omega arith) in
           let from_second = linear.row (8 + n / 2) (omega arith) in
           let differing = IsLinear-mask mask (IsLinear-xor (IsLinear-shr distance from_first) from_second) in
           IsLinear-same (λ x. is_row n x below)
-          (IsLinear-if (n % 2 == 0) (IsLinear-xor from_first (IsLinear-shl distance differing)) (IsLinear-xor from_second differing));
+          (IsLinear-if (n % 2 == 0) (IsLinear-xor from_first (IsLinear-shl distance differing))
+          (IsLinear-xor from_second differing));
       fits = λ n x below.
           let first_fits : first x n < 2 ^ 64 = linear.fits (n / 2) x (omega arith) in
           let second_fits : second x n < 2 ^ 64 = linear.fits (8 + n / 2) x (omega arith) in
           let differing : ℕ = bit_and (bit_xor (first x n / 2 ^ distance) (second x n)) mask in
           let differing_fits : differing < 2 ^ 64 =
           omega (arith, mask_fits, and_le_r (bit_xor (first x n / 2 ^ distance) (second x n)) mask) in
-          let moved_fits : differing * 2 ^ distance % 2 ^ 64 < 2 ^ 64 = mod_below (differing * 2 ^ distance) (2 ^ 64) (omega arith) in
+          let moved_fits : differing * 2 ^ distance % 2 ^ 64 < 2 ^ 64 =
+          mod_below (differing * 2 ^ distance) (2 ^ 64) (omega arith) in
           rw (is_row n x below)
-          (lt-if (n % 2 == 0) (xor_lt 64 (first x n) _ first_fits moved_fits) (xor_lt 64 (second x n) differing second_fits differing_fits));
+          (lt-if (n % 2 == 0) (xor_lt 64 (first x n) _ first_fits moved_fits)
+          (xor_lt 64 (second x n) differing second_fits differing_fits));
     }
 
 AreLinear-transposed : AreLinear (λ x. transposed (key_rows x))
@@ -142,14 +148,16 @@ unfolding bits_of select
 same_of_units = refl
 
 -- the word of a round holds the bits that the round takes
-Holds-word_of : (i halves : ℕ) → i < 16 → halves < 2 ^ 64 → Holds (word_of i halves) (select (halves_positions (i + 1)) (bits_of_word halves))
+Holds-word_of : (i halves : ℕ) → i < 16 → halves < 2 ^ 64
+    → Holds (word_of i halves) (select (halves_positions (i + 1)) (bits_of_word halves))
 Holds-word_of i halves below fits =
     let words = get_or-map-range_with_len words_of_units 0 16 i i [] below (zero-add i) in
     let selections = get_or-map-range_with_len selections_of_units 0 16 i i [] below (zero-add i) in
     let same : words_of_units i ≡ selections_of_units i =
     sym words ∙ ap (λ (lists : List (List (List Bool))). slice_index_or lists i []) same_of_units ∙ selections in
     let bits : List Bool = bits_of_word halves in
-    select-from_units (word_of i) (positions i) 0 (AreLinear-transposed.row _ (ROWS_OF_ROUNDS-lt i below)) same halves fits
+    select-from_units (word_of i) (positions i) 0 (AreLinear-transposed.row _ (ROWS_OF_ROUNDS-lt i below)) same halves
+    fits
     ∙ append-nil (select (positions i) bits)
     ∙ sym (select-select 65 positions_in_word (halves_positions (i + 1)) bits (omega (arith, length-bits_of 64 halves)))
 
@@ -168,7 +176,8 @@ IsRoundKey-row i halves words key below fits holds made =
     ap (λ (list : List ℕ). bits_of_word (slice_index_or list row 0)) made
     ∙ Holds-word_of i halves below fits
     ∙ ap (select positions_in_word) (round_key-halves (i + 1) halves key holds) in
-    let word_fits : slice_index_or words row 0 < 2 ^ 64 = rw made (AreLinear-transposed.fits row halves (ROWS_OF_ROUNDS-lt i below)) in
+    let word_fits : slice_index_or words row 0 < 2 ^ 64 =
+    rw made (AreLinear-transposed.fits row halves (ROWS_OF_ROUNDS-lt i below)) in
     let width : length (round_key key (i + 1)) ≡ 48 = length-select permuted_choice_2 _ in
     record {
       of_groups = IsOfGroups-Holds _ (round_key key (i + 1)) word_fits width held;

@@ -46,12 +46,19 @@ position-at n below =
     let place : ℕ → ℕ = λ k. k + k / 28 * 28 in
     let bounds : (nat_lt 0 (position n) && nat_lt (position n) 129) ≡ true =
     agree_below_at (λ k. nat_lt 0 (position k) && nat_lt (position k) 129) (λ k. true) 56 n refl below in
-    let places : (get_or positions (place n) 0 == position n && (get_or positions (place n + 28) 0 == position n)) ≡ true =
-    agree_below_at (λ k. get_or positions (place k) 0 == position k && (get_or positions (place k + 28) 0 == position k))
+    let places : (get_or positions (place n) 0 == position n && (get_or positions (place n + 28) 0 == position n))
+    ≡ true =
+    agree_below_at (λ k.
+    get_or positions (place k) 0 == position k && (get_or positions (place k + 28) 0 == position k))
     (λ k. true) 56 n refl below in
     let bound = and_parts _ _ bounds in
     let at = and_parts _ _ places in
-    record { from = ltb-true _ _ bound.0; to = ltb-true _ _ bound.1; first = eqb-true _ _ at.0; second = eqb-true _ _ at.1 }
+    record {
+      from = ltb-true _ _ bound.0;
+      to = ltb-true _ _ bound.1;
+      first = eqb-true _ _ at.0;
+      second = eqb-true _ _ at.1;
+    }
 
 -- an element written at two places
 written_twice : {X : Type 0} (P : ℕ → X → Type 0) (xs : List X) (p q : ℕ) (x d : X) → p < length xs → q < length xs
@@ -63,7 +70,8 @@ written_twice P xs p q x d first second at_first at_second m other =
           let at : get_or (set (set xs p x) q x) q d ≡ x = get_or-set_same (set xs p x) q x d inside in
           subst (λ (k : ℕ). P k (get_or (set (set xs p x) q x) k d)) (sym same) (subst (P q) (sym at) at_second)
       | inr not_second ↦
-          let kept : get_or (set (set xs p x) q x) m d ≡ get_or (set xs p x) m d = get_or-set_other (set xs p x) q m x d not_second in
+          let kept : get_or (set (set xs p x) q x) m d ≡ get_or (set xs p x) m d =
+          get_or-set_other (set xs p x) q m x d not_second in
           subst (P m) (sym kept) (elim (cases_eq m p) [
             | inl same ↦
                 let at : get_or (set xs p x) p d ≡ x = get_or-set_same xs p x d first in

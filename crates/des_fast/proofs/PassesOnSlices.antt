@@ -12,8 +12,8 @@ use Rattle.des_fast.proofs.RoundPairs.{after_rounds-two_more}
 -- ---- rounds
 
 -- the halves of a block after two rounds more
-pub bits-two_rounds : (i : ℕ) (keys : List (List Bool)) (left right first second third fourth : List Bool) → 2 * i + 1 < length keys
-    → after_rounds (take (2 * i) keys) left right ≡ (first, second)
+pub bits-two_rounds : (i : ℕ) (keys : List (List Bool)) (left right first second third fourth : List Bool)
+    → 2 * i + 1 < length keys → after_rounds (take (2 * i) keys) left right ≡ (first, second)
     → third ≡ next_half first second (get_or keys (2 * i) [])
     → fourth ≡ next_half second third (get_or keys (2 * i + 1) [])
     → after_rounds (take (2 * (i + 1)) keys) left right ≡ (third, fourth)
@@ -32,11 +32,12 @@ through_passes-append (keys ∷ passes) more bits = through_passes-append passes
 length-through_passes : (passes : List (List (List Bool))) (bits : List Bool) → length bits ≡ 64
     → length (through_passes passes bits) ≡ 64
 length-through_passes [] bits width = width
-length-through_passes (keys ∷ passes) bits width = length-through_passes passes (through_rounds keys bits) (length-through_rounds keys bits)
+length-through_passes (keys ∷ passes) bits width =
+    length-through_passes passes (through_rounds keys bits) (length-through_rounds keys bits)
 
 -- the halves, in the opposite order, after one pass more
-pub through_passes-more : (passes : List (List (List Bool))) (n : ℕ) (bits left right last next : List Bool) → n < length passes
-    → length left ≡ 32 → length right ≡ 32
+pub through_passes-more : (passes : List (List (List Bool))) (n : ℕ) (bits left right last next : List Bool)
+    → n < length passes → length left ≡ 32 → length right ≡ 32
     → select initial_permutation (through_passes (take n passes) bits) ≡ left ++ right
     → after_rounds (get_or passes n []) left right ≡ (last, next)
     → select initial_permutation (through_passes (take (n + 1) passes) bits) ≡ next ++ last
@@ -45,7 +46,8 @@ through_passes-more passes n bits left right last next below first second so_far
     let done : List Bool = through_passes (take n passes) bits in
     let halves : List Bool × List Bool = after_rounds keys left right in
     let widths : AreHalves halves = AreHalves-after_rounds keys left right (first, second) in
-    ap (λ (ks : List (List (List Bool))). select initial_permutation (through_passes ks bits)) (take_more passes n [] below)
+    ap (λ (ks : List (List (List Bool))). select initial_permutation (through_passes ks bits))
+    (take_more passes n [] below)
     ∙ ap (select initial_permutation) (through_passes-append (take n passes) (keys ∷ []) bits)
     ∙ ap (select initial_permutation) (through_rounds-from_halves keys done left right first so_far)
     ∙ select-initial_permutation (swapped halves) (length-swapped halves widths)

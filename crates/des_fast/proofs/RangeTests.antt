@@ -9,5 +9,6 @@ use Rattle.std.proofs.lemmas.List.FromFn.{length-range_with_len, get_or-range_wi
 pub at_range : (p : ℕ → Bool) (n b : ℕ) → list_all p (range_with_len 0 n) ≡ true → b < n → p b ≡ true
 at_range p n b each below =
     let at : p (get_or (range_with_len 0 n) b 0) ≡ true =
-    All-get_or (λ x. p x ≡ true) (range_with_len 0 n) b 0 (omega (arith, length-range_with_len 0 n)) (AllPass-from_list_all p _ each) in
+    All-get_or (λ x. p x ≡ true) (range_with_len 0 n) b 0 (omega (arith, length-range_with_len 0 n))
+    (AllPass-from_list_all p _ each) in
     ap p (sym (get_or-range_with_len 0 n b 0 below ∙ zero-add b)) ∙ at

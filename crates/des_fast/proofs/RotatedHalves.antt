@@ -15,7 +15,8 @@ pub record IsPlace (k : ℕ) : Type 0 where
 pub place-at : (k : ℕ) → k < 48 → IsPlace k
 place-at k below =
     let p : ℕ → ℕ = λ i. get_or permuted_choice_2 i 0 - 1 in
-    let tests = and_parts _ _ (agree_below_at (λ i. nat_lt (p i) 56 && (get_or PLACES i 0 == p i + p i / 28 * 28)) (λ i. true) 48 k refl below) in
+    let tests = and_parts _ _ (agree_below_at (λ i. nat_lt (p i) 56 && (get_or PLACES i 0 == p i + p i / 28 * 28))
+    (λ i. true) 48 k refl below) in
     record { position = ltb-true _ _ tests.0; place = eqb-true _ _ tests.1 }
 
 -- it is within the 112 from any rotation on
@@ -56,21 +57,25 @@ length-rotations true = refl
 
 -- none goes more than once around
 rotations-le : (deciphers : Bool) (i : ℕ) → i < 16 → get_or (rotations deciphers) i 0 < 29
-rotations-le false i below = ltb-true _ _ (agree_below_at (λ k. nat_lt (get_or (rotations false) k 0) 29) (λ k. true) 16 i refl below)
-rotations-le true i below = ltb-true _ _ (agree_below_at (λ k. nat_lt (get_or (rotations true) k 0) 29) (λ k. true) 16 i refl below)
+rotations-le false i below =
+    ltb-true _ _ (agree_below_at (λ k. nat_lt (get_or (rotations false) k 0) 29) (λ k. true) 16 i refl below)
+rotations-le true i below =
+    ltb-true _ _ (agree_below_at (λ k. nat_lt (get_or (rotations true) k 0) 29) (λ k. true) 16 i refl below)
 
-pub rotation-le : (deciphers : Bool) (places : List ℕ) (i : ℕ) → places ≡ rotations deciphers → i < 16 → get_or places i 0 ≤ 28
+pub rotation-le : (deciphers : Bool) (places : List ℕ) (i : ℕ) → places ≡ rotations deciphers → i < 16
+    → get_or places i 0 ≤ 28
 rotation-le deciphers places i are below =
     let each : get_or (rotations deciphers) i 0 < 29 = rotations-le deciphers i below in
     omega (arith, ap (λ (list : List ℕ). get_or list i 0) are)
 
 -- so there are sixteen round keys
 pub length-round_keys_by : (halves : List Bool) (deciphers : Bool) → length (round_keys_by halves deciphers) ≡ 16
-length-round_keys_by halves deciphers = length-map (rotations deciphers) (round_key_of halves) ∙ length-rotations deciphers
+length-round_keys_by halves deciphers =
+    length-map (rotations deciphers) (round_key_of halves) ∙ length-rotations deciphers
 
 -- each by its rotation
-pub round_keys_by-at : (halves : List Bool) (deciphers : Bool) (places : List ℕ) (i : ℕ) → places ≡ rotations deciphers → i < 16
-    → round_key_of halves (get_or places i 0) ≡ get_or (round_keys_by halves deciphers) i []
+pub round_keys_by-at : (halves : List Bool) (deciphers : Bool) (places : List ℕ) (i : ℕ) → places ≡ rotations deciphers
+    → i < 16 → round_key_of halves (get_or places i 0) ≡ get_or (round_keys_by halves deciphers) i []
 round_keys_by-at halves deciphers places i are below =
     ap (λ (list : List ℕ). round_key_of halves (get_or list i 0)) are
     ∙ sym (get_or-map (round_key_of halves) (rotations deciphers) i 0 [] (omega (arith, length-rotations deciphers)))

@@ -58,5 +58,6 @@ round_key-halves i halves key holds =
     ap (λ half. rotate half shifts) (sym (ap (λ b. take 28 (drop 28 b)) holds ∙ d_half-in_bits key))
     ∙ rotate-range 28 28 shifts bits (omega arith) in
     sym (ap (select permuted_choice_2)
-    (ap₂ ◌++◌ c d ∙ sym (map-append (bit bits) (rotated (range_with_len 1 28) shifts) (rotated (range_with_len 29 28) shifts)))
+    (ap₂ ◌++◌ c d ∙ sym (map-append (bit bits) (rotated (range_with_len 1 28) shifts)
+    (rotated (range_with_len 29 28) shifts)))
     ∙ select-select 65 permuted_choice_2 (rotated_halves i) bits (omega arith))

@@ -28,21 +28,25 @@ round_keys_of-at_reverse round_keys m n d count =
     ∙ sym (get_or-reverse keys m [] (omega arith) ∙ ap (λ (k : ℕ). slice_index_or keys k []) place)
 
 -- a round key that the code took from a place, and the place of its bits
-pub bits_of_groups-at : (round_keys : List RoundKey) (round_key : RoundKey) (n m : ℕ) (d : RoundKey) → round_key ≡ slice_index_or round_keys n d
+pub bits_of_groups-at : (round_keys : List RoundKey) (round_key : RoundKey) (n m : ℕ) (d : RoundKey)
+    → round_key ≡ slice_index_or round_keys n d
     → n < length round_keys → n ≡ m → bits_of_groups round_key.groups ≡ slice_index_or (round_keys_of round_keys) m []
 bits_of_groups-at round_keys round_key n m d taken below same =
     ap (λ (key : RoundKey). bits_of_groups key.groups) taken
     ∙ round_keys_of-at round_keys n d below
     ∙ ap (λ (k : ℕ). slice_index_or (round_keys_of round_keys) k []) same
 
-pub bits_of_groups-at_reverse : (round_keys : List RoundKey) (round_key : RoundKey) (n m : ℕ) (d : RoundKey) → round_key ≡ slice_index_or round_keys n d
-    → m + n + 1 ≡ length round_keys → bits_of_groups round_key.groups ≡ slice_index_or (reverse (round_keys_of round_keys)) m []
+pub bits_of_groups-at_reverse : (round_keys : List RoundKey) (round_key : RoundKey) (n m : ℕ) (d : RoundKey)
+    → round_key ≡ slice_index_or round_keys n d
+    → m + n + 1 ≡ length round_keys
+    → bits_of_groups round_key.groups ≡ slice_index_or (reverse (round_keys_of round_keys)) m []
 bits_of_groups-at_reverse round_keys round_key n m d taken count =
     ap (λ (key : RoundKey). bits_of_groups key.groups) taken ∙ round_keys_of-at_reverse round_keys m n d count
 
 -- round keys with these bits, place by place, are those of the list
 pub round_keys_of-by_index : (round_keys : List RoundKey) (keys : List (List Bool)) → length round_keys ≡ length keys
-    → ((i : ℕ) (d : RoundKey) → i < length keys → bits_of_groups (slice_index_or round_keys i d).groups ≡ slice_index_or keys i [])
+    → ((i : ℕ) (d : RoundKey) → i < length keys
+    → bits_of_groups (slice_index_or round_keys i d).groups ≡ slice_index_or keys i [])
     → round_keys_of round_keys ≡ keys
 round_keys_of-by_index round_keys keys size each =
     let none : RoundKey = record { groups = 0; of_groups = refl } in

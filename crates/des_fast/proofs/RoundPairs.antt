@@ -30,7 +30,8 @@ after_rounds-two_more keys i first second left right next_left next_right below 
     ∙ ap (λ ks. after_rounds ks first second) (sym (ap (λ n. take n keys) count ∙ take-two_more keys (2 * i) [] below))
 
 -- the same where each half brings the round key that it meets
-pub after_rounds-keyed : (keys : List (List Bool)) (i : ℕ) (first second left right next_left next_right left_key right_key : List Bool)
+pub after_rounds-keyed : (keys : List (List Bool)) (i : ℕ)
+    (first second left right next_left next_right left_key right_key : List Bool)
     → length keys ≡ 16 → i < 8
     → (left, right) ≡ after_rounds (take (2 * i) keys) first second
     → left_key ≡ slice_index_or keys ((2 * i + 1) % 16) []
@@ -38,7 +39,8 @@ pub after_rounds-keyed : (keys : List (List Bool)) (i : ℕ) (first second left 
     → next_left ≡ next_half left right right_key
     → next_right ≡ next_half right next_left left_key
     → (next_left, next_right) ≡ after_rounds (take (2 * (i + 1)) keys) first second
-after_rounds-keyed keys i first second left right next_left next_right left_key right_key size below so_far has_left has_right makes_left makes_right =
+after_rounds-keyed keys i first second left right next_left next_right left_key right_key size below so_far has_left
+    has_right makes_left makes_right =
     let key : ℕ → List Bool = λ n. slice_index_or keys n [] in
     let even : 2 * i % 16 ≡ 2 * i = omega arith in
     let odd : (2 * i + 1) % 16 ≡ 2 * i + 1 = omega arith in

@@ -7,7 +7,8 @@ use Rattle.des_fast.specs.Slices.{xor_at}
 use Rattle.des_fast.proofs.CipherFunctionByGroups.{entry}
 
 -- the step of box n of a round: its entry is xored into what the steps before made
-pub bits-step : {A : Type 0} (bit : A → Bool) (n : ℕ) (box : Box) (indexes : List ℕ) (before after group entries : List A)
+pub bits-step : {A : Type 0} (bit : A → Bool) (n : ℕ) (box : Box) (indexes : List ℕ)
+    (before after group entries : List A)
     (left mixed : List Bool)
     → map bit before ≡ left
     → map bit group ≡ take 6 (drop (6 * n) mixed)

@@ -40,14 +40,16 @@ round_key_of-select list bits width n =
     let part : (k : ℕ) → take 28 (drop k (select list bits)) ≡ select (take 28 (drop k list)) bits =
     λ k. ap (take 28) (drop-map (bit bits) k list) ∙ take-map (bit bits) 28 (drop k list) in
     ap (select permuted_choice_2)
-    (ap₂ ◌++◌ (part n) (part (56 + n)) ∙ sym (map-append (bit bits) (take 28 (drop n list)) (take 28 (drop (56 + n) list))))
+    (ap₂ ◌++◌ (part n) (part (56 + n))
+    ∙ sym (map-append (bit bits) (take 28 (drop n list)) (take 28 (drop (56 + n) list))))
     ∙ select-select 65 permuted_choice_2 (window list n) bits (omega arith)
 
 -- the positions of each round key are found from those of the last two
 abbrev rounds : List ℕ
 rounds = 1 ∷ 2 ∷ 3 ∷ 4 ∷ 5 ∷ 6 ∷ 7 ∷ 8 ∷ 9 ∷ 10 ∷ 11 ∷ 12 ∷ 13 ∷ 14 ∷ 15 ∷ 16 ∷ []
 
-same_positions : map (λ n. composed 65 permuted_choice_2 (window twice n)) (rotations false) ≡ map halves_positions rounds
+same_positions : map (λ n. composed 65 permuted_choice_2 (window twice n)) (rotations false)
+    ≡ map halves_positions rounds
 same_positions = refl
 
 -- so the round keys of a key are found from the halves
@@ -67,14 +69,17 @@ key_schedule-twice halves key holds =
 
 -- the word of a round key is a selection from the word of the halves
 word-from_halves : (i halves word : ℕ) (key : List Bool) → bits_of_word halves ≡ select permuted_choice_1 key ++ zeros 8
-    → IsOfGroups word → bits_of_groups word ≡ round_key key i → bits_of_word word ≡ select (from_halves i) (bits_of_word halves)
+    → IsOfGroups word → bits_of_groups word ≡ round_key key i
+    → bits_of_word word ≡ select (from_halves i) (bits_of_word halves)
 word-from_halves i halves word key holds of_groups is =
     Holds-groups word of_groups
     ∙ ap (select positions_in_word) (is ∙ sym (round_key-halves i halves key holds))
-    ∙ select-select 65 positions_in_word (halves_positions i) (bits_of_word halves) (omega (arith, length-bits_of 64 halves))
+    ∙ select-select 65 positions_in_word (halves_positions i) (bits_of_word halves)
+    (omega (arith, length-bits_of 64 halves))
 
 -- and so are C and D that stand in the last two
-halves_in-twice : (halves fifteenth sixteenth : ℕ) → bits_of_word fifteenth ≡ select (from_halves 15) (bits_of_word halves)
+halves_in-twice : (halves fifteenth sixteenth : ℕ)
+    → bits_of_word fifteenth ≡ select (from_halves 15) (bits_of_word halves)
     → bits_of_word sixteenth ≡ select (from_halves 16) (bits_of_word halves)
     → halves_in (fifteenth ∷ sixteenth ∷ []) ≡ select twice (bits_of_word halves)
 unfolding select
@@ -90,7 +95,8 @@ record IsWordOf (i word : ℕ) (key : List Bool) : Type 0 where
   of_groups : IsOfGroups word
   is : bits_of_groups word ≡ round_key key (i + 1)
 
-word-at : (round_keys : List RoundKey) (key : List Bool) (i : ℕ) → length round_keys ≡ 16 → round_keys_of round_keys ≡ key_schedule key
+word-at : (round_keys : List RoundKey) (key : List Bool) (i : ℕ) → length round_keys ≡ 16
+    → round_keys_of round_keys ≡ key_schedule key
     → i < 16 → IsWordOf i (get_or (map (λ round_key. round_key.groups) round_keys) i 0) key
 word-at round_keys key i size are below =
     let none : RoundKey = record { groups = 0; of_groups = refl } in
@@ -131,7 +137,8 @@ AreScheduled-schedule round_keys key size are =
 
 -- the round keys of the pass that enciphers
 pub enciphering-last : (round_keys : List RoundKey) (d e : RoundKey) → length round_keys ≡ 16 → AreScheduled round_keys
-    → round_keys_by (halves_in ((get_or round_keys 14 d).groups ∷ (get_or round_keys 15 e).groups ∷ [])) false ≡ round_keys_of round_keys
+    → round_keys_by (halves_in ((get_or round_keys 14 d).groups ∷ (get_or round_keys 15 e).groups ∷ [])) false
+    ≡ round_keys_of round_keys
 enciphering-last round_keys d e size scheduled =
     let word : RoundKey → ℕ = λ round_key. round_key.groups in
     ap (λ (words : List ℕ). round_keys_by (halves_in words) false)

@@ -14,7 +14,8 @@ pub IsFrom-exchanges : {A : Type 0} (blocks : ℕ) (bit : ℕ → A → Bool) (d
 IsFrom-exchanges blocks bit d e f from rows first second third all p q r m below b within =
     let at_row : list_all (comes_from blocks d e f from m) (range_with_len 0 blocks) ≡ true =
     at_range (λ n. list_all (comes_from blocks d e f from n) (range_with_len 0 blocks)) 8 m all below in
-    let at_bit : comes_from blocks d e f from m b ≡ true = at_range (comes_from blocks d e f from m) blocks b at_row within in
+    let at_bit : comes_from blocks d e f from m b ≡ true =
+    at_range (comes_from blocks d e f from m) blocks b at_row within in
     let u : ℕ × ℕ = exchanged_from 4 f m b in
     let v : ℕ × ℕ = exchanged_from 4 e u.0 u.1 in
     let w : ℕ × ℕ = exchanged_from 4 d v.0 v.1 in

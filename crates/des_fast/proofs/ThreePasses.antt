@@ -14,16 +14,19 @@ use Rattle.des_fast.specs.Passes.{block_through_passes}
 bits_of_bytes-answer_by : (keys : List (List Bool)) (block : List ℕ)
     → bits_of_bytes (answer_by keys block) ≡ through_rounds keys (bits_of_bytes block)
 bits_of_bytes-answer_by keys block =
-    bits_of_bytes-block_of_bits (through_rounds keys (bits_of_bytes block)) (length-through_rounds keys (bits_of_bytes block))
+    bits_of_bytes-block_of_bits (through_rounds keys (bits_of_bytes block))
+    (length-through_rounds keys (bits_of_bytes block))
 
 -- three passes are three answers
 pub block_through_passes-three : (first second third : List (List Bool))
-    → block_through_passes (first ∷ second ∷ third ∷ []) ≡ through (answer_by first) (answer_by second) (answer_by third)
+    → block_through_passes (first ∷ second ∷ third ∷ [])
+    ≡ through (answer_by first) (answer_by second) (answer_by third)
 block_through_passes-three first second third =
     fun_ext (λ (block : List ℕ).
     let bits : List Bool = bits_of_bytes block in
     let one : bits_of_bytes (answer_by first block) ≡ through_rounds first bits = bits_of_bytes-answer_by first block in
-    let two : bits_of_bytes (answer_by second (answer_by first block)) ≡ through_rounds second (through_rounds first bits) =
+    let two : bits_of_bytes (answer_by second (answer_by first block))
+    ≡ through_rounds second (through_rounds first bits) =
     bits_of_bytes-answer_by second (answer_by first block) ∙ ap (through_rounds second) one in
     ap (λ (bits : List Bool). block_of_bits (through_rounds third bits)) (sym two))
 
@@ -36,7 +39,8 @@ through-same {a} {b} {c} {d} {e} {f} first second third =
     ∙ ap (λ x. through (answer_by d) (answer_by e) (answer_by x)) third
 
 -- a list of three, of which each is written
-pub three-written : {X : Type 0} (xs : List X) (x y z : X) → length xs ≡ 3 → set (set (set xs 0 x) 1 y) 2 z ≡ x ∷ y ∷ z ∷ []
+pub three-written : {X : Type 0} (xs : List X) (x y z : X) → length xs ≡ 3
+    → set (set (set xs 0 x) 1 y) 2 z ≡ x ∷ y ∷ z ∷ []
 three-written [] x y z three = absurd (omega arith)
 three-written (a ∷ []) x y z three = absurd (omega arith)
 three-written (a ∷ b ∷ []) x y z three = absurd (omega arith)

@@ -23,13 +23,14 @@ unchained-at f iv (block ∷ blocks) zero below = refl
 unchained-at f iv (block ∷ blocks) (suc k) below = unchained-at f block blocks k (omega arith)
 
 -- there are as many
-length-unchained : (f : List ℕ → List ℕ) (iv : List ℕ) (blocks : List (List ℕ)) → length (unchained f iv blocks) ≡ length blocks
+length-unchained : (f : List ℕ → List ℕ) (iv : List ℕ) (blocks : List (List ℕ))
+    → length (unchained f iv blocks) ≡ length blocks
 length-unchained f iv [] = refl
 length-unchained f iv (block ∷ blocks) = ap suc (length-unchained f block blocks)
 
 -- the list computed is out of the chain
-pub Unchains-unchained : (f : List ℕ → List ℕ) (iv : List ℕ) (blocks answers : List (List ℕ)) → answers ≡ unchained f iv blocks
-    → Unchains f iv blocks answers
+pub Unchains-unchained : (f : List ℕ → List ℕ) (iv : List ℕ) (blocks answers : List (List ℕ))
+    → answers ≡ unchained f iv blocks → Unchains f iv blocks answers
 Unchains-unchained f iv blocks answers same = record {
   count = ap length same ∙ length-unchained f iv blocks;
   unchained = λ n from within.
@@ -59,7 +60,8 @@ unchained-append f iv (block ∷ blocks) more =
     ap (λ (rest : List (List ℕ)). xor_blocks (f block) iv ∷ rest) (unchained-append f block blocks more)
 
 -- the block that the chain of two lists goes on from
-last_of-append : (iv : List ℕ) (blocks more : List (List ℕ)) → last_of iv (blocks ++ more) ≡ last_of (last_of iv blocks) more
+last_of-append : (iv : List ℕ) (blocks more : List (List ℕ))
+    → last_of iv (blocks ++ more) ≡ last_of (last_of iv blocks) more
 last_of-append iv [] more = refl
 last_of-append iv (block ∷ blocks) more = last_of-append block blocks more
 
@@ -81,7 +83,8 @@ unchained-more f iv m n old now part within so_far made =
     let size : length front ≡ m = length-unchained f iv (take m old) ∙ length-take-le m old within in
     let first : take m now ≡ front = ap (take m) so_far ∙ take_at front (drop m old) m size in
     let rest : drop m now ≡ drop m old = ap (drop m) so_far ∙ drop_at front (drop m old) m size in
-    let answered : part ≡ unchained f last (take n (drop m old)) = made ∙ ap (λ (xs : List (List ℕ)). unchained f last (take n xs)) rest in
+    let answered : part ≡ unchained f last (take n (drop m old)) =
+    made ∙ ap (λ (xs : List (List ℕ)). unchained f last (take n xs)) rest in
     let behind : drop n (drop m now) ≡ drop (m + n) old = ap (drop n) rest ∙ drop-drop n m old in
     ap₂ ◌++◌ first (ap₂ ◌++◌ answered behind)
     ∙ sym (append_assoc front (unchained f last (take n (drop m old))) (drop (m + n) old))

@@ -15,8 +15,8 @@ abbrev pub bit_in : ℕ → ℕ → Bool
 bit_in word place = get_or (bits_of_word word) place false
 
 -- the bit at a place under an operation that makes each bit of two bits at one place
-pub bit_in-bitwise : (on_words : ℕ → ℕ → ℕ) (on_bits : Bool → Bool → Bool) → IsBitwise on_words on_bits → (x y p : ℕ) → p < 64
-    → bit_in (on_words x y) p ≡ on_bits (bit_in x p) (bit_in y p)
+pub bit_in-bitwise : (on_words : ℕ → ℕ → ℕ) (on_bits : Bool → Bool → Bool) → IsBitwise on_words on_bits → (x y p : ℕ)
+    → p < 64 → bit_in (on_words x y) p ≡ on_bits (bit_in x p) (bit_in y p)
 bit_in-bitwise on_words on_bits is x y p within =
     get_or-bits_of 64 (on_words x y) p within ∙ is.0 x y (63 - p)
     ∙ sym (ap₂ on_bits (get_or-bits_of 64 x p within) (get_or-bits_of 64 y p within))
@@ -56,7 +56,8 @@ bit_in-past x p past = get_or_past (bits_of_word x) p false (omega (arith, lengt
 
 -- the bit of a block stands in a word, at a place
 pub bit_of_block-at : (slice : List ℕ) (b : ℕ) → bit_of_block b slice ≡ bit_in (get_or slice (b / 64) 0) (b % 64)
-bit_of_block-at [] b = sym (get_or-bits_of 64 0 (b % 64) (omega arith) ∙ ap (λ (k : ℕ). k == 1) (bit_at-zero (63 - b % 64)))
+bit_of_block-at [] b =
+    sym (get_or-bits_of 64 0 (b % 64) (omega arith) ∙ ap (λ (k : ℕ). k == 1) (bit_at-zero (63 - b % 64)))
 bit_of_block-at (word ∷ words) b =
     elim (cases_lt b 64) [
       | inl low ↦

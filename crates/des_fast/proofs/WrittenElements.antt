@@ -18,8 +18,8 @@ written_below P xs i x d inside each here g below =
     ]
 
 -- the same of the bits of elements
-pub bits_written_below : {X : Type 0} (bit : X → Bool) (P : ℕ → Bool → Type 0) (xs : List X) (i : ℕ) (x : X) → i < length xs
-    → ((g : ℕ) → g < i → P g (get_or (map bit xs) g false)) → P i (bit x)
+pub bits_written_below : {X : Type 0} (bit : X → Bool) (P : ℕ → Bool → Type 0) (xs : List X) (i : ℕ) (x : X)
+    → i < length xs → ((g : ℕ) → g < i → P g (get_or (map bit xs) g false)) → P i (bit x)
     → (g : ℕ) → g < i + 1 → P g (get_or (map bit (set xs i x)) g false)
 bits_written_below bit P xs i x inside each here g below =
     let in_bits : i < length (map bit xs) = rw (length-map xs bit) inside in

@@ -13,17 +13,16 @@ ghost use Rattle.des_fast.specs.Des.{IsDesOf, encrypted as encrypted_by, decrypt
 use crate::halves::Halves;
 use crate::schedule::KeySchedule;
 use des::cipher::{
-    AlgorithmName, BlockCipher, BlockCipherDecrypt, BlockCipherEncrypt, BlockSizeUser,
-    Complementing, KeyInit, KeySizeUser, KeyedCipher, ParBlocksSizeUser, Relating,
+    AlgorithmName, BlockCipher, BlockCipherDecrypt, BlockCipherEncrypt, Complementing, KeyInit,
+    KeySizeUser, KeyedCipher, OneBlockAtATime, Relating,
 };
-use std::alloc::AllocError;
 use std::fmt;
 
 /// DES under one key: the key's sixteen round keys.
 ///
 /// A key has 8 bytes, bit 1 the most significant bit of the first. Every key is taken, weak ones
 /// included; its parity bits (bits 8, 16, .., 64) are neither tested nor used.
-#[derive(Drop)]
+#[derive(Clone, Drop)]
 pub struct Des {
     pub(crate) schedule: KeySchedule,
 }
@@ -60,25 +59,7 @@ impl KeyInit for Des {
     }
 }
 
-impl BlockSizeUser for Des {
-    ghost use Rattle.std.specs.Prelude.{refl};
-
-    const BLOCK_SIZE: usize = 8;
-
-    ghost BLOCK_SIZE = { 8 };
-
-    ghost block_size_is_eight = { refl };
-}
-
-impl ParBlocksSizeUser for Des {
-    ghost use Rattle.std.proofs.Common.{lit≤};
-
-    const PAR_BLOCKS: usize = 1;
-
-    ghost PAR_BLOCKS = { 1 };
-
-    ghost par_blocks_is_positive = { lit≤ tt };
-}
+impl OneBlockAtATime for Des {}
 
 impl AlgorithmName for Des {
     const NAME: &'static str = "Des";
@@ -157,19 +138,6 @@ impl Complementing for Des {
 
     ghost decryption_complements = { λ key block is_key is_block.
         (Complements-decryption key is_key.0).at block is_block };
-}
-
-impl Clone for Des {
-    ghost use Rattle.std.specs.Prelude.{⊤};
-
-    ghost is_clone = { λ cipher other. other ≡ cipher };
-
-    ghost is_infallible = { λ _. ⊤ };
-
-    fn clone(&self) -> Result<Des, AllocError> {
-        let schedule = self.schedule;
-        Ok(Des { schedule })
-    }
 }
 
 /// Writes the type's name, and no part of the key, whatever options are set. What a writer that

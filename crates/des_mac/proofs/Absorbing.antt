@@ -16,9 +16,10 @@ unfolding chain_after
 Absorbed-none e held width = record { width = width; counted = refl; chained = refl; kept = refl }
 
 -- more bytes are held
-pub Absorbed-held : (e : List ℕ → List ℕ) (n : ℕ) (chain held : List ℕ) (count : ℕ) (m bytes : List ℕ) (now : List ℕ) (total : ℕ)
-    → Absorbed e n chain held count m → length now ≡ 8 → total ≡ count + length bytes → take total now ≡ take count held ++ bytes
-    → Absorbed e n chain now total (m ++ bytes)
+pub Absorbed-held : (e : List ℕ → List ℕ) (n : ℕ) (chain held : List ℕ) (count : ℕ) (m bytes : List ℕ) (now : List ℕ)
+    (total : ℕ)
+    → Absorbed e n chain held count m → length now ≡ 8 → total ≡ count + length bytes
+    → take total now ≡ take count held ++ bytes → Absorbed e n chain now total (m ++ bytes)
 Absorbed-held e n chain held count m bytes now total a width sum joined =
     let counted : 8 * n + count ≡ length m = a.counted in
     record {
@@ -53,8 +54,8 @@ module _ (e : List ℕ → List ℕ) (n : ℕ) (m head rest bytes : List ℕ) (j
 
   module _ (whole last : List ℕ) (cut : whole ++ last ≡ rest) where
     -- the blocks of the rest are those of the message
-    pub block_after-rest : (blocks : List (List ℕ)) → blocks ≡ first_chunks 8 (length whole / 8) whole → (i : ℕ) → i < length whole / 8
-        → get_or blocks i [] ≡ block_after (m ++ bytes) (n + 1 + i)
+    pub block_after-rest : (blocks : List (List ℕ)) → blocks ≡ first_chunks 8 (length whole / 8) whole → (i : ℕ)
+        → i < length whole / 8 → get_or blocks i [] ≡ block_after (m ++ bytes) (n + 1 + i)
     block_after-rest blocks chunks i within =
         ap (λ (list : List (List ℕ)). get_or list i []) chunks
         ∙ get_or-first_chunks (length whole / 8) i whole within
@@ -64,8 +65,10 @@ module _ (e : List ℕ → List ℕ) (n : ℕ) (m head rest bytes : List ℕ) (j
         ∙ ap (λ (all : List ℕ). block_after all (n + 1 + i)) regrouped
 
     -- and what comes after them is held
-    pub Absorbed-rest : (chain held : List ℕ) (count k : ℕ) → length held ≡ 8 → length whole ≡ 8 * k → count ≡ length last
-        → take count held ≡ last → chain ≡ chain_after e (m ++ bytes) (n + 1 + k) → Absorbed e (n + 1 + k) chain held count (m ++ bytes)
+    pub Absorbed-rest : (chain held : List ℕ) (count k : ℕ) → length held ≡ 8 → length whole ≡ 8 * k
+        → count ≡ length last
+        → take count held ≡ last → chain ≡ chain_after e (m ++ bytes) (n + 1 + k)
+        → Absorbed e (n + 1 + k) chain held count (m ++ bytes)
     Absorbed-rest chain held count k width blocks long kept chained =
         let all : length ((m ++ head) ++ rest) ≡ length (m ++ head) + length rest = length-append (m ++ head) rest in
         let parts : length (whole ++ last) ≡ length whole + length last = length-append whole last in
@@ -99,7 +102,8 @@ cbc_mac-held e chain held count m whole a =
 
 -- and with a subkey it is the chain with the last block xor the subkey
 pub cbc_mac-masked : (e : List ℕ → List ℕ) (chain held : List ℕ) (count : ℕ) (m subkey : List ℕ)
-    → length (xor_blocks held subkey) ≡ 8 → AreWholeBlocks (length m) → Absorbed e (block_count (length m) - 1) chain held count m
+    → length (xor_blocks held subkey) ≡ 8 → AreWholeBlocks (length m)
+    → Absorbed e (block_count (length m) - 1) chain held count m
     → e (xor_blocks (xor_blocks held subkey) chain) ≡ cbc_mac e (masked subkey m)
 unfolding cbc_mac masked
 cbc_mac-masked e chain held count m subkey masked_width whole a =
@@ -118,7 +122,8 @@ cbc_mac-masked e chain held count m subkey masked_width whole a =
     omega (arith, length-append (take (8 * n) m) (xor_blocks held subkey)) in
     let blocks : length (take (8 * n) m ++ xor_blocks held subkey) / 8 ≡ n + 1 = omega arith in
     let block : block_after (take (8 * n) m ++ xor_blocks held subkey) n ≡ xor_blocks held subkey =
-    ap (take 8) (drop_at (take (8 * n) m) (xor_blocks held subkey) (8 * n) long) ∙ take_all 8 (xor_blocks held subkey) (omega arith) in
+    ap (take 8) (drop_at (take (8 * n) m) (xor_blocks held subkey) (8 * n) long)
+    ∙ take_all 8 (xor_blocks held subkey) (omega arith) in
     let before : chain_after e (take (8 * n) m ++ xor_blocks held subkey) n ≡ chain =
     chain_after-append e (take (8 * n) m) (xor_blocks held subkey) n (omega arith)
     ∙ sym (chain_after-append e (take (8 * n) m) (drop (8 * n) m) n (omega arith))

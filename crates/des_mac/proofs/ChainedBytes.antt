@@ -18,7 +18,8 @@ block_after-past p q k i width =
     rw (past, ← drop-drop (8 * i) (8 * k) (p ++ q), drop_at p q (8 * k) width) refl
 
 -- the chain reads no more than the blocks that it counts
-pub chain_after-append : (e : List ℕ → List ℕ) (m x : List ℕ) (n : ℕ) → 8 * n ≤ length m → chain_after e (m ++ x) n ≡ chain_after e m n
+pub chain_after-append : (e : List ℕ → List ℕ) (m x : List ℕ) (n : ℕ) → 8 * n ≤ length m
+    → chain_after e (m ++ x) n ≡ chain_after e m n
 unfolding chain_after
 chain_after-append e m x zero fits = refl
 chain_after-append e m x (suc n) fits =

@@ -13,4 +13,5 @@ or_zero-second a b zero = omega (arith, le_or_r a b)
 -- where the xor of two numbers is zero, they are one
 pub xor_zero-same : (a b : ℕ) → bit_xor a b ≡ 0 → a ≡ b
 xor_zero-same a b zero =
-    sym (xor_zero_r a) ∙ ap (bit_xor a) (sym (xor_self b)) ∙ sym (xor_assoc a b b) ∙ ap (λ (x : ℕ). bit_xor x b) zero ∙ xor_zero_l b
+    sym (xor_zero_r a) ∙ ap (bit_xor a) (sym (xor_self b)) ∙ sym (xor_assoc a b b) ∙ ap (λ (x : ℕ). bit_xor x b) zero
+    ∙ xor_zero_l b

@@ -10,7 +10,8 @@ masked_message-whole l m full =
     let is : nat_eq (length m) (block_count (length m) * 8) ≡ true = grind (arith, nat_tests) in
     rw is refl
 
-pub masked_message-part : (l m : List ℕ) → last_count (length m) < 8 → masked_message l m ≡ masked (subkey_2 l) (padded one_bit_after m)
+pub masked_message-part : (l m : List ℕ) → last_count (length m) < 8
+    → masked_message l m ≡ masked (subkey_2 l) (padded one_bit_after m)
 unfolding masked_message
 masked_message-part l m part =
     let is : nat_eq (length m) (block_count (length m) * 8) ≡ false = grind (arith, nat_tests) in

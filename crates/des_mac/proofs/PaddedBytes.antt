@@ -12,7 +12,8 @@ CanChain m = AreBytes m × (8 ≤ length m)
 pub CanChain-zeros_after : (m : List ℕ) → AreBytes m → CanChain (padded zeros_after m)
 CanChain-zeros_after m bytes =
     let IsByte : ℕ → Type 0 = λ byte. byte < 256 in (
-      All-append IsByte m (zeros_after (length m)) bytes (All-replicate IsByte (block_count (length m) * 8 - length m) 0 (omega arith)),
+      All-append IsByte m (zeros_after (length m)) bytes
+          (All-replicate IsByte (block_count (length m) * 8 - length m) 0 (omega arith)),
       omega (arith, length-append m (zeros_after (length m)), (AreWholeBlocks-zeros_after (length m)).1),
     )
 

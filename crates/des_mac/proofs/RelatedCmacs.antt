@@ -20,7 +20,8 @@ IsBlock-doubled : (block : List ℕ) → IsBlock (doubled block)
 unfolding doubled
 IsBlock-doubled block = IsBlock-to_be_bytes _
 
-CanChain-masked : (subkey m : List ℕ) → IsBlock subkey → AreBytes m → AreWholeBlocks (length m) → CanChain (masked subkey m)
+CanChain-masked : (subkey m : List ℕ) → IsBlock subkey → AreBytes m → AreWholeBlocks (length m)
+    → CanChain (masked subkey m)
 unfolding masked
 CanChain-masked subkey m is_subkey bytes whole =
     let front : List ℕ = take (length m - 8) m in
@@ -46,10 +47,12 @@ CanChain-masked_message l m bytes =
           let whole : AreWholeBlocks (length (padded one_bit_after m)) =
           rw (length-append m (one_bit_after (length m))) (AreWholeBlocks-one_bit_after (length m)) in
           rw (masked_message-part l m part)
-          (CanChain-masked (subkey_2 l) (padded one_bit_after m) (IsBlock-doubled (subkey_1 l)) (CanChain-one_bit_after m bytes).0 whole)
+          (CanChain-masked (subkey_2 l) (padded one_bit_after m) (IsBlock-doubled (subkey_1 l))
+          (CanChain-one_bit_after m bytes).0 whole)
     ]
 
-module _ (e : List ℕ → List ℕ) (Relates : List ℕ → List ℕ → Type 0) (graph : IsGraphOf e Relates) (m : List ℕ) (bytes : AreBytes m)
+module _ (e : List ℕ → List ℕ) (Relates : List ℕ → List ℕ → Type 0) (graph : IsGraphOf e Relates) (m : List ℕ)
+    (bytes : AreBytes m)
     (ends_in_blocks : (x y : List ℕ) → Relates x y → IsBlock y) where
   makes_blocks : (block : List ℕ) → IsBlock block → IsBlock (e block)
   makes_blocks block is_block = ends_in_blocks block (e block) ((graph block (e block)).1 (is_block, refl))
@@ -66,6 +69,8 @@ module _ (e : List ℕ → List ℕ) (Relates : List ℕ → List ℕ → Type 0
           chained = cbc_mac-relates e Relates graph (masked_message l m) chains.0 makes_blocks chains.1;
         },
         λ other is.
-            cbc_mac-related e Relates graph (masked_message is.l m) other (CanChain-masked_message is.l m bytes).1 is.chained
-            ∙ ap (λ (zeros : List ℕ). cbc_mac e (masked_message zeros m)) (sym ((graph zero_block is.l).0 is.of_zeros).1),
+            cbc_mac-related e Relates graph (masked_message is.l m) other (CanChain-masked_message is.l m bytes).1
+            is.chained
+            ∙ ap (λ (zeros : List ℕ). cbc_mac e (masked_message zeros m))
+            (sym ((graph zero_block is.l).0 is.of_zeros).1),
       )

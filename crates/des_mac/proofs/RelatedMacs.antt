@@ -32,8 +32,8 @@ module _ (e : List ℕ → List ℕ) (Relates : List ℕ → List ℕ → Type 0
       ap (λ (i : ℕ). get_or (blocks_of m) i []) (omega arith) ∙ get_or-first_chunks (length m / 8) n m within
 
   -- blocks that the relation chains are the chain
-  chain_after-chained : (chain : List (List ℕ)) → Chains Relates zero_block (blocks_of m) chain → (n : ℕ) → n ≤ length m / 8
-      → chain_after e m n ≡ block_before zero_block chain (n + 1)
+  chain_after-chained : (chain : List (List ℕ)) → Chains Relates zero_block (blocks_of m) chain → (n : ℕ)
+      → n ≤ length m / 8 → chain_after e m n ≡ block_before zero_block chain (n + 1)
   unfolding chain_after
   chain_after-chained chain chains zero fits = refl
   chain_after-chained chain chains (suc n) fits =
@@ -79,7 +79,8 @@ module _ (e : List ℕ → List ℕ) (Relates : List ℕ → List ℕ → Type 0
 
   get_or-chain : (i : ℕ) → i < length m / 8 → get_or chain i [] ≡ chain_after e m (suc i)
   unfolding chain
-  get_or-chain i within = get_or-chain_list 0 (length m / 8) i within ∙ ap (λ (j : ℕ). chain_after e m (suc j)) (omega arith)
+  get_or-chain i within =
+      get_or-chain_list 0 (length m / 8) i within ∙ ap (λ (j : ℕ). chain_after e m (suc j)) (omega arith)
 
   get_or-before : (i : ℕ) → i < length m / 8 → get_or (zero_block ∷ chain) i [] ≡ chain_after e m i
   unfolding chain_after
@@ -91,24 +92,35 @@ module _ (e : List ℕ → List ℕ) (Relates : List ℕ → List ℕ → Type 0
     unfolding chain_after
     IsBlock-chain_after zero fits = IsBlock-zero_block
     IsBlock-chain_after (suc n) fits =
-        makes_blocks _ (IsBlock-xor_blocks _ _ (IsBlock-block_after m n bytes (omega arith)) (IsBlock-chain_after n (omega arith)))
+        makes_blocks _ (IsBlock-xor_blocks _ _ (IsBlock-block_after m n bytes (omega arith))
+        (IsBlock-chain_after n (omega arith)))
 
-    relates_next : (n : ℕ) → n < length m / 8 → Relates (xor_blocks (block_after m n) (chain_after e m n)) (chain_after e m (suc n))
+    relates_next : (n : ℕ) → n < length m / 8
+        → Relates (xor_blocks (block_after m n) (chain_after e m n)) (chain_after e m (suc n))
     unfolding chain_after
     relates_next n within =
-        (graph _ _).1 (IsBlock-xor_blocks _ _ (IsBlock-block_after m n bytes (omega arith)) (IsBlock-chain_after n (omega arith)), refl)
+        (graph _ _).1 (
+          IsBlock-xor_blocks _ _ (IsBlock-block_after m n bytes (omega arith))
+              (IsBlock-chain_after n (omega arith)),
+          refl,
+        )
 
     related_at : (n : ℕ) → 1 ≤ n → n ≤ length m / 8
         → Relates (xor_blocks (block_at (blocks_of m) n) (block_before zero_block chain n)) (block_at chain n)
     related_at zero from to = absurd (omega arith)
     related_at (suc n) from to =
         let this : suc n - 1 ≡ n = omega arith in
-        rw (this, get_or-first_chunks (length m / 8) n m (omega arith), get_or-before n (omega arith), get_or-chain n (omega arith))
-        (relates_next n (omega arith))
+        rw (
+          this,
+          get_or-first_chunks (length m / 8) n m (omega arith),
+          get_or-before n (omega arith),
+          get_or-chain n (omega arith),
+        ) (relates_next n (omega arith))
 
     width_at : (n : ℕ) → 1 ≤ n → n ≤ length m / 8 → length (block_at (blocks_of m) n) ≡ 8
     width_at n from to =
-        ap length (get_or-first_chunks (length m / 8) (n - 1) m (omega arith)) ∙ (IsBlock-block_after m (n - 1) bytes (omega arith)).0
+        ap length (get_or-first_chunks (length m / 8) (n - 1) m (omega arith))
+        ∙ (IsBlock-block_after m (n - 1) bytes (omega arith)).0
 
     -- the tag is related
     pub cbc_mac-relates : 8 ≤ length m → IsCbcMac Relates m (cbc_mac e m)

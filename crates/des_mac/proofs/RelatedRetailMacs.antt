@@ -8,12 +8,14 @@ use Rattle.des_mac.proofs.RelatedMacs.{cbc_mac-related, cbc_mac-relates, IsBlock
 
 module _ (forth back : List ℕ → List ℕ) (First Second : List ℕ → List ℕ → Type 0) (first : IsGraphOf forth First)
     (second : IsGraphOf back (λ y x. Second x y)) (m : List ℕ) (bytes : AreBytes m)
-    (ends_in_blocks : (x y : List ℕ) → First x y → IsBlock y) (begins_in_blocks : (x y : List ℕ) → Second x y → IsBlock x) where
+    (ends_in_blocks : (x y : List ℕ) → First x y → IsBlock y)
+    (begins_in_blocks : (x y : List ℕ) → Second x y → IsBlock x) where
   makes_blocks : (block : List ℕ) → IsBlock block → IsBlock (forth block)
   makes_blocks block is_block = ends_in_blocks block (forth block) ((first block (forth block)).1 (is_block, refl))
 
   -- the relations hold of the tag, and of no other
-  pub IsTheOne-retail_mac : (tag : List ℕ) → 8 ≤ length m → tag ≡ forth (back (cbc_mac forth m)) → IsTheOne (IsRetailMac First Second m) tag
+  pub IsTheOne-retail_mac : (tag : List ℕ) → 8 ≤ length m → tag ≡ forth (back (cbc_mac forth m))
+      → IsTheOne (IsRetailMac First Second m) tag
   IsTheOne-retail_mac tag some same =
       let end : List ℕ = cbc_mac forth m in
       let is_end : IsBlock end = IsBlock-cbc_mac forth First first m bytes makes_blocks in

@@ -1,14 +1,9 @@
 //! What ciphers answer, said by the key that they are made from.
 
 ghost use Rattle.std.specs.Prelude.{◌≡◌, ℕ, List, length};
-ghost use Rattle.des.specs.Blocks.{IsKey, AreBytes};
+ghost use Rattle.des.specs.Blocks.{IsKey};
 
-use des::cipher::{KeyBytes, KeyedCipher};
-
-// The numbers of a slice of bytes are bytes.
-pub fn are_bytes(bytes: &[u8])
-    ensures { AreBytes bytes.now }
-{}
+use des::cipher::{KeyBytes, KeyedCipher, are_bytes};
 
 // The bytes of a key are one.
 pub fn are_key_bytes<K: KeyBytes>(key: &K)

@@ -7,10 +7,10 @@ ghost use Rattle.des_mac.specs.Padding.{AreWholeBlocks};
 ghost use Rattle.des_mac.specs.CbcMac.{block_after, chain_after, cbc_mac};
 ghost use Rattle.des_mac.specs.Cmac.{masked};
 
-use crate::by_key::{are_bytes, are_key_bytes, encrypt};
+use crate::by_key::{are_key_bytes, encrypt};
 use crate::progress::Progress;
 use des::cbc::xor;
-use des::cipher::{InvalidLength, KeyedCipher};
+use des::cipher::{InvalidLength, KeyedCipher, are_bytes};
 
 // The chain goes on with a block: the encryption of their xor.
 fn chain_block<C: KeyedCipher>(cipher: &C, chain: &mut [u8; 8], block: &[u8; 8])

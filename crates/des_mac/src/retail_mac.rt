@@ -7,12 +7,12 @@ ghost use Rattle.des_mac.specs.RetailMac.{retail_mac_of};
 ghost use Rattle.des_mac.specs.HoldsRetail.{HoldsRetail};
 ghost use Rattle.des_mac.specs.IsProgress.{HoldsOneBlock, IsProgressOf};
 
-use crate::by_key::{are_bytes, are_key_bytes, decrypt, encrypt};
+use crate::by_key::{are_key_bytes, decrypt, encrypt};
 use crate::chaining::Chaining;
 use crate::mac::Mac;
 use crate::padding::Padding;
 use crate::progress::Progress;
-use des::cipher::{InvalidLength, KeyedCipher};
+use des::cipher::{InvalidLength, KeyedCipher, are_bytes};
 use std::marker::PhantomData;
 
 /// The retail MAC over the cipher `C`, with the padding `P`: CBC-MAC under the first of two keys,

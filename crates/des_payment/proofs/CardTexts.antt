@@ -37,11 +37,13 @@ module _ (account expiry service : List ℕ) (is_account : IsNumber 13 19 accoun
       ∙ sym (take-append-add front zeros (25 - length account))
       ∙ ap (λ (n : ℕ). take n (front ++ zeros)) whole
 
-  pub are_digits-filled : IsTrue (are_digits (account ++ (expiry ++ (service ++ drop 3 (drop 4 (drop (length account) zeros))))))
+  pub are_digits-filled : IsTrue
+      (are_digits (account ++ (expiry ++ (service ++ drop 3 (drop 4 (drop (length account) zeros))))))
   are_digits-filled =
       let IsDigit : ℕ → Type 0 = λ c. is_ascii_digit c ≡ true in
       list_all-from_AllPass is_ascii_digit _
       (All-append IsDigit account _ (AllPass-from_list_all is_ascii_digit account is_account.2)
       (All-append IsDigit expiry _ (AllPass-from_list_all is_ascii_digit expiry is_expiry.2)
       (All-append IsDigit service _ (AllPass-from_list_all is_ascii_digit service is_service.2)
-      (All-drop IsDigit 3 _ (All-drop IsDigit 4 _ (All-drop IsDigit (length account) _ (All-replicate IsDigit 32 48 refl)))))))
+      (All-drop IsDigit 3 _ (All-drop IsDigit 4 _
+      (All-drop IsDigit (length account) _ (All-replicate IsDigit 32 48 refl)))))))

@@ -14,24 +14,27 @@ use Rattle.des_payment.proofs.FieldDigits.{length-account_field}
 use Rattle.des_payment.proofs.PinFields.{IsMade, IsMade-read, all_fifteen, length-pin_field, text_of-made, field_fault-made}
 
 -- one block has these digits
-pub IsTheOne-digits : (F : List ℕ → Type 0) (digits block : List ℕ) → ((other : List ℕ) → F other → digits_of other ≡ digits)
-    → digits_of block ≡ digits → F block → IsTheOne F block
+pub IsTheOne-digits : (F : List ℕ → Type 0) (digits block : List ℕ)
+    → ((other : List ℕ) → F other → digits_of other ≡ digits) → digits_of block ≡ digits → F block → IsTheOne F block
 IsTheOne-digits F digits block by same is = (is, λ other it. digits_of-injective other block (by other it ∙ sym same))
 
--- a result with this fault, and else with this text, is a text of which F holds, where F holds of the text alone, and of it
--- exactly where there is no fault
-exactly : (result : Result (List ℕ) PinError) (fault : Option PinError) (text : List ℕ) (F : List ℕ → Type 0) → result_err result ≡ fault
-    → IfOk result (λ pin. pin ≡ text) → (fault ≡ None → F text) → ((pin : List ℕ) → F pin → (fault ≡ None) × (text ≡ pin))
-    → (pin : List ℕ) → (result ≡ Ok pin) ↔ F pin
+-- a result with this fault, and else with this text, is a text of which F holds, where F holds of the text alone, and
+-- of it exactly where there is no fault
+exactly : (result : Result (List ℕ) PinError) (fault : Option PinError) (text : List ℕ) (F : List ℕ → Type 0)
+    → result_err result ≡ fault
+    → IfOk result (λ pin. pin ≡ text) → (fault ≡ None → F text)
+    → ((pin : List ℕ) → F pin → (fault ≡ None) × (text ≡ pin)) → (pin : List ℕ) → (result ≡ Ok pin) ↔ F pin
 exactly (Ok found) fault text F by is sound complete pin = (
   λ same. let found_is : found ≡ pin = cc in subst F (sym is ∙ found_is) (sound (sym by)),
   λ holds. ap Ok (is ∙ (complete pin holds).1),
 )
-exactly (Err error) fault text F by is sound complete pin = (λ same. cc, λ holds. let none = (complete pin holds).0 in cc)
+exactly (Err error) fault text F by is sound complete pin =
+    (λ same. cc, λ holds. let none = (complete pin holds).0 in cc)
 
 -- the PIN field was made from the PIN with some fill digits
 abbrev pub IsFieldOf : ℕ → ℕ → List ℕ → List ℕ → Type 0
-IsFieldOf format least field pin = (fill : List ℕ) × (IsPin pin × AreFill least fill × (field ≡ pin_field format pin fill))
+IsFieldOf format least field pin =
+    (fill : List ℕ) × (IsPin pin × AreFill least fill × (field ≡ pin_field format pin fill))
 
 -- what is read of it is that PIN, and what is read was made from it
 pub reads : (result : Result (List ℕ) PinError) (format least : ℕ) (field : List ℕ) → length field ≡ 16 → least ≤ 15
@@ -63,16 +66,19 @@ module _ (account block field : List ℕ) (is_account : IsAccountNumber account)
   pub length-field : length field ≡ 16
   length-field =
       ap length same
-      ∙ length-xor_blocks (digits_of block) (account_field account) (omega (arith, count, length-account_field account is_account))
+      ∙ length-xor_blocks (digits_of block) (account_field account)
+      (omega (arith, count, length-account_field account is_account))
       ∙ count
 
   -- the digits of the block are the field xor the account field
   from_field : (other : List ℕ) → field ≡ other → digits_of block ≡ xor_blocks other (account_field account)
   from_field other is =
-      sym (xor_blocks-undone (digits_of block) (account_field account) (omega (arith, count, length-account_field account is_account)))
+      sym (xor_blocks-undone (digits_of block) (account_field account)
+      (omega (arith, count, length-account_field account is_account)))
       ∙ ap (λ (digits : List ℕ). xor_blocks digits (account_field account)) (sym same ∙ is)
 
-  to_field : (other : List ℕ) → length other ≡ 16 → digits_of block ≡ xor_blocks other (account_field account) → field ≡ other
+  to_field : (other : List ℕ) → length other ≡ 16 → digits_of block ≡ xor_blocks other (account_field account)
+      → field ≡ other
   to_field other long is =
       same
       ∙ ap (λ (digits : List ℕ). xor_blocks digits (account_field account)) is
@@ -102,5 +108,6 @@ module _ (account block field : List ℕ) (is_account : IsAccountNumber account)
   pub IsFormat3-field : (pin : List ℕ) → IsFieldOf 3 10 field pin ↔ ((fill : List ℕ) × IsFormat3 pin account fill block)
   IsFormat3-field pin = (
     λ (fill, made). (fill, (made.0, is_account, made.1, (is_block, from_field (pin_field 3 pin fill) made.2))),
-    λ (fill, is). (fill, (is.0, is.2, to_field (pin_field 3 pin fill) (length-pin_field 3 10 pin fill is.0 is.2) is.3.1)),
+    λ (fill, is).
+        (fill, (is.0, is.2, to_field (pin_field 3 pin fill) (length-pin_field 3 10 pin fill is.0 is.2) is.3.1)),
   )

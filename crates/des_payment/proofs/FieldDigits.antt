@@ -30,7 +30,8 @@ AreDigits-fill : (least : ℕ) (fill : List ℕ) → AreFill least fill → AreD
 AreDigits-fill least fill filled =
     All-from_get_or (λ (digit : ℕ). digit < 16) fill 0 (λ i within.
     let digit : ℕ = get_or fill i 0 in
-    let both = and_parts (nat_le least digit) (nat_le digit 15) (AllPass-from_list_all (is_fill least) fill filled.1 i 0 within) in
+    let both = and_parts (nat_le least digit) (nat_le digit 15)
+    (AllPass-from_list_all (is_fill least) fill filled.1 i 0 within) in
     let small = leb-true digit 15 both.1 in
     omega arith)
 
@@ -39,7 +40,8 @@ pub AreDigits-pin_field : (format least : ℕ) (pin fill : List ℕ) → format 
 AreDigits-pin_field format least pin fill small is_pin filled =
     let IsDigit : ℕ → Type 0 = λ digit. digit < 16 in
     All-append IsDigit (format ∷ length pin ∷ []) (take 14 (values pin ++ fill))
-    (All-append IsDigit (format ∷ []) (length pin ∷ []) (AreDigits-one format small) (AreDigits-one (length pin) (omega (arith, is_pin.1))))
+    (All-append IsDigit (format ∷ []) (length pin ∷ []) (AreDigits-one format small)
+    (AreDigits-one (length pin) (omega (arith, is_pin.1))))
     (All-take IsDigit 14 (values pin ++ fill)
     (All-append IsDigit (values pin) fill (AreDigits-values pin is_pin.2) (AreDigits-fill least fill filled)))
 
@@ -47,7 +49,8 @@ module _ (account : List ℕ) (is_account : IsAccountNumber account) where
   pub AreDigits-account_field : AreDigits (account_field account)
   AreDigits-account_field =
       let IsDigit : ℕ → Type 0 = λ digit. digit < 16 in
-      All-append IsDigit (replicate 4 0) (values (take 12 (drop (length account - 13) account))) (All-replicate IsDigit 4 0 (omega arith))
+      All-append IsDigit (replicate 4 0) (values (take 12 (drop (length account - 13) account)))
+      (All-replicate IsDigit 4 0 (omega arith))
       (AreDigits-values (take 12 (drop (length account - 13) account))
       (are_digits-part account (length account - 13) 12 is_account.2))
 
@@ -58,8 +61,8 @@ module _ (account : List ℕ) (is_account : IsAccountNumber account) where
       omega (arith, length-map (take 12 rest) (λ (c : ℕ). c - 48), length-take-le 12 rest long)
 
 -- the xor of two lists of digits
-pub AreDigits-xor_blocks : (digits others : List ℕ) → length digits ≡ length others → AreDigits digits → AreDigits others
-    → AreDigits (xor_blocks digits others)
+pub AreDigits-xor_blocks : (digits others : List ℕ) → length digits ≡ length others → AreDigits digits
+    → AreDigits others → AreDigits (xor_blocks digits others)
 unfolding xor_blocks
 AreDigits-xor_blocks digits others same are_digits are_others =
     let long = length-xor_blocks digits others same in

@@ -22,8 +22,10 @@ take_three (a ∷ b ∷ []) digit = refl
 take_three (a ∷ b ∷ c ∷ xs) digit = refl
 
 -- one more
-pub IsFront-pushed : (count result digit : ℕ) (value pushed xs : List ℕ) → IsFront count value xs → result ≡ min 3 (count + 1)
-    → take result pushed ≡ take 3 (take count value ++ digit ∷ []) → length pushed ≡ 3 → IsFront result pushed (xs ++ digit ∷ [])
+pub IsFront-pushed : (count result digit : ℕ) (value pushed xs : List ℕ) → IsFront count value xs
+    → result ≡ min 3 (count + 1)
+    → take result pushed ≡ take 3 (take count value ++ digit ∷ []) → length pushed ≡ 3
+    → IsFront result pushed (xs ++ digit ∷ [])
 IsFront-pushed count result digit value pushed xs is counted written long = record {
   count_is = omega (arith, is.count_is, counted, length-append xs (digit ∷ []));
   front = written ∙ ap (λ (ys : List ℕ). take 3 (ys ++ digit ∷ [])) is.front ∙ take_three xs digit;
@@ -32,9 +34,11 @@ IsFront-pushed count result digit value pushed xs is counted written long = reco
 
 -- a digit that passes a test is found after those before it, and one that does not is not
 module _ (test : ℕ → Bool) (xs : List ℕ) (i : ℕ) (within : i < length xs) where
-  pub filter-found : test (get_or xs i 0) ≡ true → filter test (take i xs) ++ get_or xs i 0 ∷ [] ≡ filter test (take (i + 1) xs)
+  pub filter-found : test (get_or xs i 0) ≡ true
+      → filter test (take i xs) ++ get_or xs i 0 ∷ [] ≡ filter test (take (i + 1) xs)
   filter-found passes =
-      ap (λ (b : Bool). filter test (take i xs) ++ cond b (get_or xs i 0 ∷ []) []) (sym passes) ∙ sym (filter_more test xs i 0 within)
+      ap (λ (b : Bool). filter test (take i xs) ++ cond b (get_or xs i 0 ∷ []) []) (sym passes)
+      ∙ sym (filter_more test xs i 0 within)
 
   pub filter-passed : test (get_or xs i 0) ≡ false → filter test (take i xs) ≡ filter test (take (i + 1) xs)
   filter-passed fails =
@@ -55,7 +59,8 @@ each_once : (digit : ℕ) (digits : List ℕ) (decimal : Bool) → is_decimal di
 each_once digit digits true is rest = rw is (omega arith)
 each_once digit digits false is rest = rw is (omega arith)
 
-length-filters : (digits : List ℕ) → length (filter is_decimal digits) + length (filter is_letter digits) ≡ length digits
+length-filters : (digits : List ℕ)
+    → length (filter is_decimal digits) + length (filter is_letter digits) ≡ length digits
 length-filters [] = refl
 length-filters (digit ∷ digits) = each_once digit digits (is_decimal digit) refl (length-filters digits)
 
@@ -72,7 +77,8 @@ IsFront-three count value xs is more =
     sym (take_all 3 value (omega (arith, is.long))) ∙ ap (λ (n : ℕ). take n value) (sym three) ∙ is.front
 
 -- digits below sixteen, the decimals first, are digits below ten, and so are some of them
-pub are_decimal : (n : ℕ) (digits : List ℕ) → All (λ digit. digit < 16) digits → list_all is_decimal (take n (decimals_first digits)) ≡ true
+pub are_decimal : (n : ℕ) (digits : List ℕ) → All (λ digit. digit < 16) digits
+    → list_all is_decimal (take n (decimals_first digits)) ≡ true
 are_decimal n digits small =
     let IsDecimal : ℕ → Type 0 = λ digit. is_decimal digit ≡ true in
     let less : ℕ → ℕ = λ digit. digit - 10 in
@@ -80,5 +86,7 @@ are_decimal n digits small =
     λ i d within. let below = small i d within in lt-ltb (less (get_or digits i d)) 10 (omega arith) in
     list_all-from_AllPass is_decimal (take n (decimals_first digits))
     (All-take IsDecimal n (decimals_first digits)
-    (All-append IsDecimal (filter is_decimal digits) (map less (filter is_letter digits)) (filter_passes is_decimal digits)
-    (All-map IsDecimal less (filter is_letter digits) (All-filter is_letter (λ digit. IsDecimal (less digit)) digits letters))))
+    (All-append IsDecimal (filter is_decimal digits) (map less (filter is_letter digits))
+    (filter_passes is_decimal digits)
+    (All-map IsDecimal less (filter is_letter digits)
+    (All-filter is_letter (λ digit. IsDecimal (less digit)) digits letters))))

@@ -1,4 +1,5 @@
 mod KnownAnswers
+pub mod OddBytes
 pub mod TextDigits
 pub mod DigitLists
 pub mod PinFaults

@@ -30,11 +30,16 @@ module _ (format least : ℕ) (pin fill : List ℕ) (is_pin : IsPin pin) (filled
   pin_digits-made = ap (take (length pin)) digits ∙ take_at (values pin) (take (14 - length pin) fill) (length pin) long
 
   fill_digits-made : fill_digits (pin_field format pin fill) ≡ take (14 - length pin) fill
-  fill_digits-made = ap (drop (length pin)) digits ∙ drop_at (values pin) (take (14 - length pin) fill) (length pin) long
+  fill_digits-made =
+      ap (drop (length pin)) digits ∙ drop_at (values pin) (take (14 - length pin) fill) (length pin) long
 
   pub length-pin_field : length (pin_field format pin fill) ≡ 16
   length-pin_field =
-      omega (arith, length-take-le 14 (values pin ++ fill) (omega (arith, length-append (values pin) fill, long, filled.0, is_pin.0)))
+      omega (
+        arith,
+        length-take-le 14 (values pin ++ fill)
+            (omega (arith, length-append (values pin) fill, long, filled.0, is_pin.0)),
+      )
 
   pub text_of-made : text_of (pin_digits (pin_field format pin fill)) ≡ pin
   text_of-made = ap text_of pin_digits-made ∙ text_of-values pin is_pin.2
@@ -53,7 +58,8 @@ module _ (format least : ℕ) (pin fill : List ℕ) (is_pin : IsPin pin) (filled
 -- four tests in a row find no fault where each of them passes
 all_pass : (a b c d : Bool)
     → (if not a then Some Format
-    else (if not b then Some PinLength else (if not c then Some PinDigit else (if not d then Some Fill else None)))) ≡ None
+    else (if not b then Some PinLength else (if not c then Some PinDigit else (if not d then Some Fill else None))))
+    ≡ None
     → (a ≡ true) × (b ≡ true) × (c ≡ true) × (d ≡ true)
 all_pass true true true true none = (refl, refl, refl, refl)
 all_pass false b c d none = (cc, cc, cc, cc)
@@ -64,7 +70,8 @@ all_pass true true true false none = (cc, cc, cc, cc)
 -- so many digits 15 are fill digits
 list_all-replicate : (least n : ℕ) → least ≤ 15 → list_all (is_fill least) (replicate n 15) ≡ true
 list_all-replicate least zero at_most = refl
-list_all-replicate least (suc n) at_most = both_true (both_true (le-leb least 15 at_most) refl) (list_all-replicate least n at_most)
+list_all-replicate least (suc n) at_most =
+    both_true (both_true (le-leb least 15 at_most) refl) (list_all-replicate least n at_most)
 
 -- fill digits that are at least 15 are 15
 pub all_fifteen : (digits : List ℕ) → list_all (is_fill 15) digits ≡ true → digits ≡ replicate (length digits) 15
@@ -90,8 +97,10 @@ pub record IsMade (format least : ℕ) (field : List ℕ) : Type 0 where
 
 module _ (format least : ℕ) (field : List ℕ) (count : length field ≡ 16) (at_most : least ≤ 15)
     (none : field_fault format least field ≡ None) where
-  tests : ((slice_index field 0 == format) ≡ true) × ((nat_le 4 (slice_index field 1) && nat_le (slice_index field 1) 12) ≡ true)
-      × (list_all (λ digit. nat_lt digit 10) (pin_digits field) ≡ true) × (list_all (is_fill least) (fill_digits field) ≡ true)
+  tests : ((slice_index field 0 == format) ≡ true)
+      × ((nat_le 4 (slice_index field 1) && nat_le (slice_index field 1) 12) ≡ true)
+      × (list_all (λ digit. nat_lt digit 10) (pin_digits field) ≡ true)
+      × (list_all (is_fill least) (fill_digits field) ≡ true)
   tests =
       all_pass (slice_index field 0 == format) (nat_le 4 (slice_index field 1) && nat_le (slice_index field 1) 12)
       (list_all (λ digit. nat_lt digit 10) (pin_digits field)) (list_all (is_fill least) (fill_digits field)) none
@@ -119,7 +128,11 @@ module _ (format least : ℕ) (field : List ℕ) (count : length field ≡ 16) (
   pub IsMade-read : IsMade format least field
   unfolding more
   IsMade-read = record {
-    is_pin = (omega (arith, text_long, bounds.0), omega (arith, text_long, bounds.1), are_digits-text_of (pin_digits field) tests.2);
+    is_pin = (
+      omega (arith, text_long, bounds.0),
+      omega (arith, text_long, bounds.1),
+      are_digits-text_of (pin_digits field) tests.2,
+    );
     fill = fill_digits field ++ more;
     filled = (
       length-append (fill_digits field) more

@@ -24,12 +24,14 @@ get_or-mapped_front f xs ys i within same =
 ascii_digit-bounds : (c : ℕ) → is_ascii_digit c ≡ true → (48 ≤ c) × (c ≤ 57)
 ascii_digit-bounds c is = grind (arith, nat_tests)
 
-pub digit_at : (text : List ℕ) (i : ℕ) → IsTrue (are_digits text) → i < length text → (48 ≤ get_or text i 0) × (get_or text i 0 ≤ 57)
-digit_at text i all within = ascii_digit-bounds (get_or text i 0) (AllPass-from_list_all is_ascii_digit text all i 0 within)
+pub digit_at : (text : List ℕ) (i : ℕ) → IsTrue (are_digits text) → i < length text
+    → (48 ≤ get_or text i 0) × (get_or text i 0 ≤ 57)
+digit_at text i all within =
+    ascii_digit-bounds (get_or text i 0) (AllPass-from_list_all is_ascii_digit text all i 0 within)
 
 -- each value that is tested to be below a bound is below it
-pub below_at : (bound : ℕ) (digits : List ℕ) (i : ℕ) → IsTrue (list_all (λ digit. nat_lt digit bound) digits) → i < length digits
-    → get_or digits i 0 < bound
+pub below_at : (bound : ℕ) (digits : List ℕ) (i : ℕ) → IsTrue (list_all (λ digit. nat_lt digit bound) digits)
+    → i < length digits → get_or digits i 0 < bound
 below_at bound digits i all within =
     ltb-true (get_or digits i 0) bound (AllPass-from_list_all (λ (digit : ℕ). nat_lt digit bound) digits all i 0 within)
 
@@ -37,7 +39,8 @@ below_at bound digits i all within =
 ascii_digit-value : (digit : ℕ) → digit < 10 → is_ascii_digit (digit + 48) ≡ true
 ascii_digit-value digit small = grind (arith, nat_tests)
 
-pub are_digits-text_of : (digits : List ℕ) → IsTrue (list_all (λ digit. nat_lt digit 10) digits) → IsTrue (are_digits (text_of digits))
+pub are_digits-text_of : (digits : List ℕ) → IsTrue (list_all (λ digit. nat_lt digit 10) digits)
+    → IsTrue (are_digits (text_of digits))
 are_digits-text_of digits small =
     list_all-from_AllPass is_ascii_digit (text_of digits)
     (All-from_get_or (λ (c : ℕ). is_ascii_digit c ≡ true) (text_of digits) 0 (λ i within.
@@ -46,7 +49,8 @@ are_digits-text_of digits small =
     (ascii_digit-value (get_or digits i 0) (below_at 10 digits i small inside))))
 
 -- some of the characters of a text of digits
-pub are_digits-part : (text : List ℕ) (from n : ℕ) → IsTrue (are_digits text) → IsTrue (are_digits (take n (drop from text)))
+pub are_digits-part : (text : List ℕ) (from n : ℕ) → IsTrue (are_digits text)
+    → IsTrue (are_digits (take n (drop from text)))
 are_digits-part text from n all =
     let IsDigit : ℕ → Type 0 = λ c. is_ascii_digit c ≡ true in
     list_all-from_AllPass is_ascii_digit (take n (drop from text))
@@ -58,7 +62,8 @@ and_parts true b both = (refl, both)
 and_parts false b both = (cc, cc)
 
 -- the values of digits are digits, and each text of digits is the text of its values
-pub decimal-values : (text : List ℕ) → IsTrue (are_digits text) → list_all (λ digit. nat_lt digit 10) (values text) ≡ true
+pub decimal-values : (text : List ℕ) → IsTrue (are_digits text)
+    → list_all (λ digit. nat_lt digit 10) (values text) ≡ true
 decimal-values [] all = refl
 decimal-values (c ∷ text) all =
     let parts = and_parts (is_ascii_digit c) (are_digits text) all in

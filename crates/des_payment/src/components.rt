@@ -6,7 +6,7 @@ ghost use Rattle.des.specs.WeakKeys.{IsRefused};
 ghost use Rattle.des_payment.specs.Components.{odd, xor_of, combined};
 
 use crate::xor::xored;
-use des::{WeakKeyError, weak_key_test};
+use des::weak_key::{WeakKeyError, byte_with_odd_parity, weak_key_test};
 
 // The xor of components, of which there is at least one.
 fn sum_of<const N: usize>(first: &[u8; N], others: &[[u8; N]]) -> [u8; N]
@@ -19,22 +19,11 @@ fn sum_of<const N: usize>(first: &[u8; N], others: &[[u8; N]]) -> [u8; N]
     sum
 }
 
-// The byte with its lowest bit such that the number of its ones is odd.
-fn odd_byte(byte: u8) -> u8
-    ensures { result ≡ odd byte }
-{
-    if byte.count_ones() % 2 == 1 {
-        byte
-    } else {
-        byte ^ 1
-    }
-}
-
 fn set_odd_parity(key: &mut [u8])
     ensures { key.new ≡ map odd key.old }
 {
     for byte in key.iter_mut() {
-        *byte = odd_byte(*byte);
+        *byte = byte_with_odd_parity(*byte);
     }
 }
 

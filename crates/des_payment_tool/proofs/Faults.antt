@@ -7,7 +7,8 @@ use Rattle.des_payment_tool.specs.declared.fault.Fault.TheVariants.{WeakKey}
 use Rattle.des_payment_tool.specs.Fault.{FailsOnlyBy, FailsOrRefuses}
 
 -- which fault there is, by what a call gave
-pub some_from : {A : Type 0} (o : Option Fault) (r : Result A Fault) (e : Fault) → FailsOnlyBy o r → r ≡ Err e → o ≡ Some e
+pub some_from : {A : Type 0} (o : Option Fault) (r : Result A Fault) (e : Fault) → FailsOnlyBy o r → r ≡ Err e
+    → o ≡ Some e
 some_from (Some f) r e fails was = ap result_err (sym fails ∙ was)
 some_from None r e fails was = let bad : false ≡ true = rw was at fails in cc bad
 
@@ -16,7 +17,8 @@ none_from (Some f) r x fails was = let bad : Err f ≡ Ok x = sym fails ∙ was 
 none_from None r x fails was = refl
 
 -- more is tested after it
-pub fails_before : (A : Type 0) (o p : Option Fault) (e : Fault) → o ≡ Some e → FailsOnlyBy {A = A} (option_or o p) (Err e)
+pub fails_before : (A : Type 0) (o p : Option Fault) (e : Fault) → o ≡ Some e
+    → FailsOnlyBy {A = A} (option_or o p) (Err e)
 fails_before A o p e found = rw found refl
 
 -- a test before it was passed
@@ -25,7 +27,8 @@ pub fails_after : (A : Type 0) (test : Bool) (f : Fault) (o : Option Fault) (e :
 fails_after A test f o e passed found = rw (passed, found) refl
 
 -- nothing is at fault, and the key is refused
-pub refuses : (A R : Type 0) (o : Option Fault) (e : Fault) → o ≡ None → e ≡ WeakKey → R → FailsOrRefuses {A = A} o R (Err e)
+pub refuses : (A R : Type 0) (o : Option Fault) (e : Fault) → o ≡ None → e ≡ WeakKey → R
+    → FailsOrRefuses {A = A} o R (Err e)
 refuses A R o e none weak refused = rw none (inl (refused, ap Err weak))
 
 -- nothing is at fault, and the key is not refused

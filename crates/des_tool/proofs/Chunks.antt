@@ -26,7 +26,8 @@ All-IsBlock-chunks (suc k) s fits digits =
     (All-IsBlock-chunks k (drop 16 s) (omega (arith, length-drop 16 s)) (All-drop P 16 s digits))
 
 -- the chunks' bytes, joined, are those of the whole
-pub concat-chunks : (k : ℕ) (s : List ℕ) → length s ≡ 16 * k → concat (map bytes_of_digits (first_chunks 16 k s)) ≡ bytes_of_digits s
+pub concat-chunks : (k : ℕ) (s : List ℕ) → length s ≡ 16 * k
+    → concat (map bytes_of_digits (first_chunks 16 k s)) ≡ bytes_of_digits s
 unfolding bytes_of_digits
 concat-chunks zero [] count = refl
 concat-chunks zero (c ∷ s) count = absurd (omega arith)
@@ -38,6 +39,7 @@ concat-chunks (suc k) s count =
     ∙ ap bytes_of_digits (take-append-drop 16 s)
 
 -- the blocks, once each chunk is taken
-pub items-chunks : (s : List ℕ) (chunks items : List (List ℕ)) (i : ℕ) → chunks ≡ first_chunks 16 (length s / 16) s → length chunks ≤ i
+pub items-chunks : (s : List ℕ) (chunks items : List (List ℕ)) (i : ℕ) → chunks ≡ first_chunks 16 (length s / 16) s
+    → length chunks ≤ i
     → items ≡ map bytes_of_digits (take i chunks) → items ≡ map bytes_of_digits (first_chunks 16 (length s / 16) s)
 items-chunks s chunks items i cut over taken = taken ∙ ap (map bytes_of_digits) (take_all i chunks over ∙ cut)

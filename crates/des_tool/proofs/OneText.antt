@@ -1,4 +1,5 @@
--- Arguments are answered by one text: digits' bytes are cut into blocks in one way, and a cipher takes each block to one.
+-- Arguments are answered by one text: digits' bytes are cut into blocks in one way, and a cipher takes each block to
+-- one.
 use Rattle.std.proofs.Common.{◌≡◌, ℕ, List, Option, Some, None, MatchOption, inl, inr, sym, ap, ◌∙◌}
 use Rattle.des.specs.Blocks.{IsKey}
 use Rattle.des.specs.Relations.{IsTheOne}
@@ -50,8 +51,8 @@ one_verdict key text other (inr first) (inl second) = absurd (first.0 second.0)
 one_verdict key text other (inr first) (inr second) = second.1 ∙ sym first.1
 
 -- a request has one answer
-one_text-request : (request : Request) (text other : List ℕ) → AnswersRequest request text → AnswersRequest request other
-    → other ≡ text
+one_text-request : (request : Request) (text other : List ℕ) → AnswersRequest request text
+    → AnswersRequest request other → other ≡ text
 one_text-request (of_blocks cipher direction key digits) text other first second =
     let Relates : List ℕ → List ℕ → Type 0 = ReadIn direction (relation_of cipher (bytes_of_digits key)) in
     let one = IsOneToOne-read direction _ (IsOneToOne-cipher cipher (bytes_of_digits key)) in

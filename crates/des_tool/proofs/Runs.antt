@@ -35,7 +35,8 @@ told-first told (Some first) fault status old new same shown =
 told-first told None fault status old new same shown = tt
 
 -- and where they have none, of `Memory`
-told-memory : {E : Type 0} (told : E → Option (List ℕ)) (given : Option Fault) (fault : Fault) (status : ℕ) (old new : E)
+told-memory : {E : Type 0} (told : E → Option (List ℕ)) (given : Option Fault) (fault : Fault) (status : ℕ)
+    (old new : E)
     → FailsBy {A = Vec ℕ Global} given (Err fault) → IsTold told fault status old new
     → IfNone given (IsOfFault status → IsTold told Memory status old new)
 told-memory told (Some first) fault status old new same shown = tt
@@ -54,15 +55,16 @@ pub IsRun-from_IsShown : {W E : Type 0} (contents : W → Option (List ℕ)) (to
     → FailsBy (fault_in arguments) answer → IfOk answer (λ text. IsTheAnswer arguments text.items)
     → IsShown contents told answer status out_old out_new err_old err_new
     → IsRun contents told arguments status out_old out_new err_old err_new
-IsRun-from_IsShown contents told arguments (Ok text) status out_old out_new err_old err_new fails answers shown = record {
-  ends = inl shown.0;
-  fault = no_fault (fault_in arguments) text _ fails;
-  memory = memory-answered (fault_in arguments);
-  written = λ is. (text.items, (answers, shown.1 is));
-  part = λ is. (text.items, (answers, shown.2));
-  err = λ is_answer. shown.3;
-  out = λ is_fault. absurd (one_kind status shown.0 is_fault);
-}
+IsRun-from_IsShown contents told arguments (Ok text) status out_old out_new err_old err_new fails answers shown =
+    record {
+      ends = inl shown.0;
+      fault = no_fault (fault_in arguments) text _ fails;
+      memory = memory-answered (fault_in arguments);
+      written = λ is. (text.items, (answers, shown.1 is));
+      part = λ is. (text.items, (answers, shown.2));
+      err = λ is_answer. shown.3;
+      out = λ is_fault. absurd (one_kind status shown.0 is_fault);
+    }
   where
     memory-answered : (given : Option Fault)
         → IfNone given (IsOfFault status → IsTold told Memory status err_old err_new)

@@ -4,7 +4,7 @@
 ghost use Rattle.des.specs.Blocks.{AnswersEach};
 ghost use Rattle.des.specs.Cbc.{Chains};
 ghost use Rattle.des.specs.Enciphering.{Enciphers};
-ghost use Rattle.des.specs.Relations.{IsTheOneList};
+ghost use Rattle.des.specs.Relations.{IsTheOne};
 
 use des::cipher::{KeyInit, Relating};
 use des_fast::Des;
@@ -13,7 +13,7 @@ use des_fast::many::ManyBlocks;
 /// Encrypts in place each block of a list under a key: each is related to the one at its place, and
 /// no other list is so related.
 pub fn encrypt_list_by_fast_des(key: &[u8; 8], blocks: &mut [[u8; 8]])
-    ensures { IsTheOneList
+    ensures { IsTheOne
         (λ answers. AnswersEach (λ x y. Enciphers key.now x y) blocks.old answers) blocks.new }
 {
     let cipher = Des::new(key);
@@ -24,7 +24,7 @@ pub fn encrypt_list_by_fast_des(key: &[u8; 8], blocks: &mut [[u8; 8]])
 /// Decrypts in place each block of a list under a key: the list is the one whose blocks the key
 /// relates to those that stood there.
 pub fn decrypt_list_by_fast_des(key: &[u8; 8], blocks: &mut [[u8; 8]])
-    ensures { IsTheOneList
+    ensures { IsTheOne
         (λ answers. AnswersEach (λ x y. Enciphers key.now x y) answers blocks.old) blocks.new }
 {
     let cipher = Des::new(key);

@@ -3,7 +3,7 @@
 
 ghost use Rattle.std.specs.Prelude.{◌≡◌, ◌↔◌, ℕ, List, length, IsOk, OnOk, OnErr};
 ghost use Rattle.des.specs.Blocks.{AnswersEach};
-ghost use Rattle.des.specs.Relations.{IsTheOneList};
+ghost use Rattle.des.specs.Relations.{IsTheOne};
 ghost use Rattle.des.specs.Triple.{EnciphersEde3};
 
 use des::TdesEde3;
@@ -13,7 +13,7 @@ use des::cipher::{BlockCipherDecrypt, BlockCipherEncrypt, InvalidLength, KeyInit
 /// is related to the one at its place, and no other list is so related.
 pub fn encrypt_related<C: Relating>(cipher: &C, blocks: &mut [[u8; 8]])
     ensures { (key : List ℕ) → C.is_made_from cipher.now key
-        → IsTheOneList (λ answers. AnswersEach (C.relation key) blocks.old answers) blocks.new }
+        → IsTheOne (λ answers. AnswersEach (C.relation key) blocks.old answers) blocks.new }
 {
     cipher.relate_lists();
     cipher.encrypt_blocks(blocks);
@@ -23,7 +23,7 @@ pub fn encrypt_related<C: Relating>(cipher: &C, blocks: &mut [[u8; 8]])
 /// those that stood there.
 pub fn decrypt_related<C: Relating>(cipher: &C, blocks: &mut [[u8; 8]])
     ensures { (key : List ℕ) → C.is_made_from cipher.now key
-        → IsTheOneList (λ answers. AnswersEach (C.relation key) answers blocks.old) blocks.new }
+        → IsTheOne (λ answers. AnswersEach (C.relation key) answers blocks.old) blocks.new }
 {
     cipher.relate_lists();
     cipher.decrypt_blocks(blocks);
@@ -34,7 +34,7 @@ pub fn decrypt_related<C: Relating>(cipher: &C, blocks: &mut [[u8; 8]])
 pub fn encrypt_list_by_ede3(key: &[u8], blocks: &mut [[u8; 8]]) -> Result<(), InvalidLength>
     ensures accepted { IsOk result ↔ (length key.now ≡ 24) }
     ensures enciphered { OnOk result
-        (IsTheOneList (λ answers. AnswersEach (EnciphersEde3 key.now) blocks.old answers) blocks.new) }
+        (IsTheOne (λ answers. AnswersEach (EnciphersEde3 key.now) blocks.old answers) blocks.new) }
     ensures kept { OnErr result (blocks.new ≡ blocks.old) }
 {
     let cipher = TdesEde3::new_from_slice(key)?;

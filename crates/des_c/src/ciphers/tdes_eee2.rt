@@ -4,7 +4,7 @@ ghost use Rattle.std.specs.Prelude.{◌≡◌, ◌≢◌, ◌↔◌, ℕ, List, 
 ghost use Rattle.des.specs.Blocks.{AnswersEach};
 ghost use Rattle.des.specs.Cbc.{Chains, next_vector};
 ghost use Rattle.des.specs.Triple.{EnciphersEee2};
-ghost use Rattle.des.specs.Relations.{IsTheOneList};
+ghost use Rattle.des.specs.Relations.{IsTheOne};
 ghost use Rattle.des_context.specs.Contexts.{IsEee2ContextOf};
 
 use des_context::calls;
@@ -31,7 +31,7 @@ pub extern "C" fn cukvashe_tdes_eee2_encrypt_blocks(
 )
     requires { (key : List ℕ) × IsEee2ContextOf context.now key }
     ensures { (key : List ℕ) → IsEee2ContextOf context.now key
-        → IsTheOneList (λ answers. AnswersEach (λ x y. EnciphersEee2 key x y) blocks.old answers)
+        → IsTheOne (λ answers. AnswersEach (λ x y. EnciphersEee2 key x y) blocks.old answers)
         blocks.new }
 {
     calls::encrypt_blocks(context, blocks);
@@ -45,7 +45,7 @@ pub extern "C" fn cukvashe_tdes_eee2_decrypt_blocks(
 )
     requires { (key : List ℕ) × IsEee2ContextOf context.now key }
     ensures { (key : List ℕ) → IsEee2ContextOf context.now key
-        → IsTheOneList (λ answers. AnswersEach (λ x y. EnciphersEee2 key x y) answers blocks.old)
+        → IsTheOne (λ answers. AnswersEach (λ x y. EnciphersEee2 key x y) answers blocks.old)
         blocks.new }
 {
     calls::decrypt_blocks(context, blocks);
@@ -56,7 +56,7 @@ pub extern "C" fn cukvashe_tdes_eee2_decrypt_blocks(
 pub extern "C" fn cukvashe_tdes_eee2_encrypt_many(context: &TdesEee2Context, blocks: &mut [[u8; 8]])
     requires { (key : List ℕ) × IsEee2ContextOf context.now key }
     ensures { (key : List ℕ) → IsEee2ContextOf context.now key
-        → IsTheOneList (λ answers. AnswersEach (λ x y. EnciphersEee2 key x y) blocks.old answers)
+        → IsTheOne (λ answers. AnswersEach (λ x y. EnciphersEee2 key x y) blocks.old answers)
         blocks.new }
 {
     calls::encrypt_many::<u64x2, _>(context, blocks);
@@ -67,7 +67,7 @@ pub extern "C" fn cukvashe_tdes_eee2_encrypt_many(context: &TdesEee2Context, blo
 pub extern "C" fn cukvashe_tdes_eee2_decrypt_many(context: &TdesEee2Context, blocks: &mut [[u8; 8]])
     requires { (key : List ℕ) × IsEee2ContextOf context.now key }
     ensures { (key : List ℕ) → IsEee2ContextOf context.now key
-        → IsTheOneList (λ answers. AnswersEach (λ x y. EnciphersEee2 key x y) answers blocks.old)
+        → IsTheOne (λ answers. AnswersEach (λ x y. EnciphersEee2 key x y) answers blocks.old)
         blocks.new }
 {
     calls::decrypt_many::<u64x2, _>(context, blocks);
@@ -86,7 +86,7 @@ pub extern "C" fn cukvashe_tdes_eee2_encrypt_many_b2b(
     ensures refused { (result ≡ pos 2) ↔ (length input.now ≢ length output.old) }
     ensures answered { length input.now ≡ length output.old
         → (key : List ℕ) → IsEee2ContextOf context.now key
-        → IsTheOneList (λ answers. AnswersEach (λ x y. EnciphersEee2 key x y) input.now answers)
+        → IsTheOne (λ answers. AnswersEach (λ x y. EnciphersEee2 key x y) input.now answers)
         output.new }
     ensures kept { length input.now ≢ length output.old → output.new ≡ output.old }
 {
@@ -106,7 +106,7 @@ pub extern "C" fn cukvashe_tdes_eee2_decrypt_many_b2b(
     ensures refused { (result ≡ pos 2) ↔ (length input.now ≢ length output.old) }
     ensures answered { length input.now ≡ length output.old
         → (key : List ℕ) → IsEee2ContextOf context.now key
-        → IsTheOneList (λ answers. AnswersEach (λ x y. EnciphersEee2 key x y) answers input.now)
+        → IsTheOne (λ answers. AnswersEach (λ x y. EnciphersEee2 key x y) answers input.now)
         output.new }
     ensures kept { length input.now ≢ length output.old → output.new ≡ output.old }
 {

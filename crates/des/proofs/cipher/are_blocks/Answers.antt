@@ -17,5 +17,6 @@ returns c =
           let place : ℕ = length (flat_map (λ block. block) (take i blocks)) + k in
           let listed : place < length c.as_flattened.result.now =
           omega (arith, inside, ap length same, length-flat_map-take (λ block. block) blocks i [] within) in
-          rw (same, get_or-flat_map (λ block. block) blocks i k [] 0 within inside) at (c.are_bytes.ensures place 0 listed)),
+          rw (same, get_or-flat_map (λ block. block) blocks i k [] 0 within inside)
+          at (c.are_bytes.ensures place 0 listed)),
     ))

@@ -12,4 +12,5 @@ returns-clause-bits c =
     ∙ bits_of_bytes-to_be c.fp.result
     ∙ sym (select-final_permutation (bits_of_word c.fp.result) (length-bits_of 64 c.fp.result))
     ∙ ap (select final_permutation)
-    (c.fp.ensures.selected ∙ ap bits_of_word c.rotate_left.ensures ∙ bits_of_word-rotate_left c.args.halves (omega arith))
+    (c.fp.ensures.selected ∙ ap bits_of_word c.rotate_left.ensures
+    ∙ bits_of_word-rotate_left c.args.halves (omega arith))

@@ -40,7 +40,7 @@ returns-clause-answered g c words yields =
     c.next.result c.next.new.self c.in-None.is c.next.ensures.steps in
     sym (block_of_bits-bits_of_bytes c.last_block.result c.last_block.ensures.block)
     ∙ ap block_of_bits
-    (through_rounds-halves words first c.loop-round_key.halves (bits_of_bytes c.args.block.now) (bits_of_bytes c.last_block.result)
-    c.first_halves-halves.ensures
+    (through_rounds-halves words first c.loop-round_key.halves (bits_of_bytes c.args.block.now)
+    (bits_of_bytes c.last_block.result) c.first_halves-halves.ensures
     (c.loop-round_key.invariant.rounds ∙ ap (λ (ws : List ℕ). halves_after ws (halves_of first)) all.0)
     c.last_block.ensures.bits)

@@ -17,7 +17,8 @@ loop-i-preserved c =
     let within = c.loop-i-test.true in
     record {
       below = rw entry (with_entry-lt c.loop-i.i c.args.input c.loop-i.output within before.below);
-      substituted = rw entry (bits_of-with_entry c.loop-i.i c.args.input c.loop-i.output _ within before.below before.substituted);
+      substituted = rw entry (bits_of-with_entry c.loop-i.i c.args.input c.loop-i.output _ within before.below
+          before.substituted);
     }
 
 pub returns-clause-boxes : goal.returns-clause-boxes

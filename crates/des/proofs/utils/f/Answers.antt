@@ -22,7 +22,8 @@ length-substitute bits = length-substitute_by selection_functions bits
 pub p-requires : goal.p-requires
 p-requires c =
     let boxed = take 48 (bits_of_word (bit_xor c.e.result c.args.key)) in
-    mod-zeros 32 32 c.apply_sboxes.result (substitute boxed) (length-substitute boxed) c.apply_sboxes.ensures.substituted
+    mod-zeros 32 32 c.apply_sboxes.result (substitute boxed) (length-substitute boxed)
+    c.apply_sboxes.ensures.substituted
 
 -- each step's first bits are what the definition passes to the next one
 pub returns : goal.returns
@@ -36,5 +37,6 @@ returns c =
     let mixed : boxed ≡ xor_bits (select expansion half) key =
     rw expanded at (take-bits_of_xor 48 16 c.e.result c.args.key) in
     let replaced : take 32 (bits_of_word c.apply_sboxes.result) ≡ substitute (xor_bits (select expansion half) key) =
-    rw (c.apply_sboxes.ensures.substituted, ← mixed) (take_at (substitute boxed) (zeros 32) 32 (length-substitute boxed)) in
+    rw (c.apply_sboxes.ensures.substituted, ← mixed)
+    (take_at (substitute boxed) (zeros 32) 32 (length-substitute boxed)) in
     rw replaced at c.p.ensures.selected

@@ -26,9 +26,12 @@ loop-i-preserved c =
     let i = c.loop-i.i in
     let within = c.loop-i-test.true in
     let so_far = c.loop-i.invariant in
-    let c_rotated = rotate-more i (c_half key) _ _ within (length-c_half key) so_far.c_rotated c.rotate-c.ensures.rotated in
-    let d_rotated = rotate-more i (d_half key) _ _ within (length-d_half key) so_far.d_rotated c.rotate-d.ensures.rotated in
-    let chosen = round_key-in_word (i + 1) _ _ key c.rotate-c.ensures.half c.rotate-d.ensures.half c_rotated d_rotated in
+    let c_rotated =
+    rotate-more i (c_half key) _ _ within (length-c_half key) so_far.c_rotated c.rotate-c.ensures.rotated in
+    let d_rotated =
+    rotate-more i (d_half key) _ _ within (length-d_half key) so_far.d_rotated c.rotate-d.ensures.rotated in
+    let chosen =
+    round_key-in_word (i + 1) _ _ key c.rotate-c.ensures.half c.rotate-d.ensures.half c_rotated d_rotated in
     record {
       c_within = c.rotate-c.ensures.half;
       d_within = c.rotate-d.ensures.half;

@@ -8,7 +8,8 @@ use Rattle.des.proofs.utils.p.Goals as goal
 pub returns-clause-terms : goal.returns-clause-terms
 unfolding term_form_of_p
 returns-clause-terms c =
-    rw (c.gather.ensures, c.gather-2.ensures, c.gather-3.ensures, c.rotate_left.ensures, c.rotate_left-word.ensures) refl
+    rw (c.gather.ensures, c.gather-2.ensures, c.gather-3.ensures, c.rotate_left.ensures, c.rotate_left-word.ensures)
+    refl
 
 pub returns-clause-selected : goal.returns-clause-selected
 returns-clause-selected c =

@@ -1,6 +1,4 @@
-use Rattle.std.proofs.Common.{◌<◌}
-use Rattle.std.proofs.lemmas.List.Elements.{All-from_get_or}
-use Rattle.des.specs.Blocks.{IsKey}
+use Rattle.des.proofs.ByteArrays.{IsKey-array}
 use Rattle.des.proofs.ParityBits.{AgreeOutsideParity-masked}
 use Rattle.des.proofs.KeySelections.{key_schedule-agreeing, AgreeOutsideParity-key_schedule}
 use Rattle.des.proofs.AgreeingKeys.{Enciphers-agreeing, Ede3-first_parts_agree, Ede3-last_parts_agree}
@@ -10,11 +8,11 @@ pub returns : goal.returns
 returns c =
     let a = c.args.first.now in
     let b = c.args.second.now in
-    let a_key : IsKey 8 a = (c.told-first, All-from_get_or (λ byte. byte < 256) a 0 (λ i within. c.fits-first i)) in
-    let b_key : IsKey 8 b = (c.told-second, All-from_get_or (λ byte. byte < 256) b 0 (λ i within. c.fits-second i)) in
+    let a_key = IsKey-array 8 a c.told-first c.fits-first in
+    let b_key = IsKey-array 8 b c.told-second c.fits-second in
     let agree =
-    AgreeOutsideParity-masked a b c.from_be_bytes.result c.from_be_bytes-2.result c.told-first c.told-second c.fits-first c.fits-second
-    c.from_be_bytes.ensures c.from_be_bytes-2.ensures in
+    AgreeOutsideParity-masked a b c.from_be_bytes.result c.from_be_bytes-2.result c.told-first c.told-second
+    c.fits-first c.fits-second c.from_be_bytes.ensures c.from_be_bytes-2.ensures in
     record {
       agree = agree;
       same_round_keys = (

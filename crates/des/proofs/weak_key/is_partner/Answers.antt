@@ -12,8 +12,10 @@ returns-then-rotate_halves-halves c =
     c.pc1-halves.result c.pc1-partner.result c.rotate_halves-rotated.result c.rotate_halves.result
     c.told-first c.told-second c.fits-first c.fits-second c.from_be_bytes.ensures c.from_be_bytes-2.ensures
     c.pc1-halves.type_inv c.rotate_halves-rotated.type_inv c.rotate_halves.type_inv c.pc1-partner.type_inv
-    c.pc1-halves.ensures.selected c.pc1-partner.ensures.selected c.rotate_halves-rotated.ensures c.rotate_halves.ensures in
-    let partners : IsTrue (nat_eq c.pc1-partner.result c.rotate_halves-rotated.result) ↔ ArePartners c.args.first.now c.args.second.now = (
+    c.pc1-halves.ensures.selected c.pc1-partner.ensures.selected c.rotate_halves-rotated.ensures
+    c.rotate_halves.ensures in
+    let partners : IsTrue (nat_eq c.pc1-partner.result c.rotate_halves-rotated.result)
+    ↔ ArePartners c.args.first.now c.args.second.now = (
       λ yes. known.2.1 (c.if-rotate_halves-halves.true, eqb-true _ _ yes),
       λ partners. eq-eqb _ _ (known.2.0 partners).1,
     ) in
@@ -27,8 +29,10 @@ returns-else-rotate_halves-halves c =
     c.pc1-halves.result c.pc1-partner.result c.rotate_halves-rotated.result c.rotate_halves.result
     c.told-first c.told-second c.fits-first c.fits-second c.from_be_bytes.ensures c.from_be_bytes-2.ensures
     c.pc1-halves.type_inv c.rotate_halves-rotated.type_inv c.rotate_halves.type_inv c.pc1-partner.type_inv
-    c.pc1-halves.ensures.selected c.pc1-partner.ensures.selected c.rotate_halves-rotated.ensures c.rotate_halves.ensures in
-    let partners : IsTrue (nat_eq c.rotate_halves.result c.pc1-halves.result) ↔ ArePartners c.args.first.now c.args.second.now = (
+    c.pc1-halves.ensures.selected c.pc1-partner.ensures.selected c.rotate_halves-rotated.ensures
+    c.rotate_halves.ensures in
+    let partners : IsTrue (nat_eq c.rotate_halves.result c.pc1-halves.result)
+    ↔ ArePartners c.args.first.now c.args.second.now = (
       λ yes. absurd (c.if-rotate_halves-halves.false (eqb-true _ _ yes)),
       λ partners. eq-eqb _ _ (known.2.0 partners).0,
     ) in

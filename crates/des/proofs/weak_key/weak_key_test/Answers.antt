@@ -8,7 +8,8 @@ use Rattle.des.proofs.ListedKeys.{refused_by_class}
 use Rattle.des.proofs.weak_key.weak_key_test.Goals as goal
 use Rattle.des.proofs.weak_key.weak_key_test.Goals.{then-contains_but_parity-via-then-contains_but_parity, then-contains_but_parity-via-else-contains_but_parity+then-contains_but_parity-2}
 
-pub returns-then-contains_but_parity-clause-refused_by_list : goal.returns-then-contains_but_parity-clause-refused_by_list
+pub returns-then-contains_but_parity-clause-refused_by_list :
+    goal.returns-then-contains_but_parity-clause-refused_by_list
 returns-then-contains_but_parity-clause-refused_by_list c =
     let key = c.args.key.now in
     let parts = c.as_chunks.result.0.now in
@@ -28,14 +29,16 @@ returns-then-contains_but_parity-clause-refused_by_list c =
 pub returns-then-contains_but_parity-clause-refused : goal.returns-then-contains_but_parity-clause-refused
 returns-then-contains_but_parity-clause-refused c =
     let key = c.args.key.now in
-    let bytes : AreBytes key = All-from_get_or (λ byte. byte < 256) key 0 (λ i within. Fits-lt-pow (c.type_inv.key i)) in
+    let bytes : AreBytes key =
+    All-from_get_or (λ byte. byte < 256) key 0 (λ i within. Fits-lt-pow (c.type_inv.key i)) in
     refused_by_class key _ bytes (returns-then-contains_but_parity-clause-refused_by_list c)
 
 pub loop-i-preserved : goal.loop-i-preserved
 loop-i-preserved c =
     below_more _ _ c.loop-i.invariant (
       not_from_Decides c.contains_but_parity.result c.contains_but_parity.ensures c.if-contains_but_parity.false,
-      not_from_Decides c.contains_but_parity-else-contains_but_parity.result c.contains_but_parity-else-contains_but_parity.ensures
+      not_from_Decides c.contains_but_parity-else-contains_but_parity.result
+          c.contains_but_parity-else-contains_but_parity.ensures
           c.if-contains_but_parity-2.false,
     )
 
@@ -52,5 +55,6 @@ returns-clause-refused_by_list c =
 pub returns-clause-refused : goal.returns-clause-refused
 returns-clause-refused c =
     let key = c.args.key.now in
-    let bytes : AreBytes key = All-from_get_or (λ byte. byte < 256) key 0 (λ i within. Fits-lt-pow (c.type_inv.key i)) in
+    let bytes : AreBytes key =
+    All-from_get_or (λ byte. byte < 256) key 0 (λ i within. Fits-lt-pow (c.type_inv.key i)) in
     refused_by_class key _ bytes (returns-clause-refused_by_list c)

@@ -9,7 +9,8 @@ returns-in-Ok-clause-passed c =
     (λ same. (long, λ refused. let no = c.in-Ok.ensures.refused.1 refused in absurd (cc no)), λ passed. refl)
 
 pub returns-in-Ok-clause-refused : goal.returns-in-Ok-clause-refused
-returns-in-Ok-clause-refused c = (λ same. absurd (cc same), λ refused. absurd (cc (c.in-Ok.ensures.refused.1 refused.1)))
+returns-in-Ok-clause-refused c =
+    (λ same. absurd (cc same), λ refused. absurd (cc (c.in-Ok.ensures.refused.1 refused.1)))
 
 pub returns-in-Ok-clause-key_length : goal.returns-in-Ok-clause-key_length
 returns-in-Ok-clause-key_length c =
@@ -18,7 +19,8 @@ returns-in-Ok-clause-key_length c =
 
 -- the key is refused, so it does not pass
 pub returns-in-Err-clause-passed : goal.returns-in-Err-clause-passed
-returns-in-Err-clause-passed c = (λ same. absurd (cc same), λ passed. absurd (passed.1 (c.in-Err.ensures.refused.0 refl)))
+returns-in-Err-clause-passed c =
+    (λ same. absurd (cc same), λ passed. absurd (passed.1 (c.in-Err.ensures.refused.0 refl)))
 
 pub returns-in-Err-clause-refused : goal.returns-in-Err-clause-refused
 returns-in-Err-clause-refused c =

@@ -39,4 +39,5 @@ returns g c b within =
     next (c.xor-x46.ensures b within) (next (c.xor-x47.ensures b within) (next (c.or-x48.ensures b within) (
     next (c.and-x49.ensures b within) (next (c.or-x50.ensures b within) (next (c.and_not-x51.ensures b within) (
     next (c.and_not-x52.ensures b within) (next (c.xor-x53.ensures b within) (next (c.xor-x54.ensures b within) (
-    next (c.or-x55.ensures b within) (next (c.xor-x56.ensures b within) (done)))))))))))))))))))))))))))))))))))))))))))))))))))
+    next (c.or-x55.ensures b within)
+    (next (c.xor-x56.ensures b within) (done)))))))))))))))))))))))))))))))))))))))))))))))))))

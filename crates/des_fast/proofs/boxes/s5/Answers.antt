@@ -40,4 +40,5 @@ returns g c b within =
     next (c.xor-x47.ensures b within) (next (c.and-x48.ensures b within) (next (c.xor-x49.ensures b within) (
     next (c.xor-x50.ensures b within) (next (c.xor-x51.ensures b within) (next (c.xor-x52.ensures b within) (
     next (c.and-x53.ensures b within) (next (c.or-x54.ensures b within) (next (c.xor-x55.ensures b within) (
-    next (c.xor-x56.ensures b within) (next (c.xor-x57.ensures b within) (done))))))))))))))))))))))))))))))))))))))))))))))))))))
+    next (c.xor-x56.ensures b within)
+    (next (c.xor-x57.ensures b within) (done))))))))))))))))))))))))))))))))))))))))))))))))))))

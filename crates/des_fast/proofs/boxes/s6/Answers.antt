@@ -40,4 +40,5 @@ returns g c b within =
     next (c.and_not-x45.ensures b within) (next (c.xor-x46.ensures b within) (next (c.and-x47.ensures b within) (
     next (c.xor-x48.ensures b within) (next (c.xor-x49.ensures b within) (next (c.xor-x50.ensures b within) (
     next (c.xor-x51.ensures b within) (next (c.and_not-x52.ensures b within) (
-    next (c.and_not-x53.ensures b within) (next (c.xor-x54.ensures b within) (done)))))))))))))))))))))))))))))))))))))))))))))))))
+    next (c.and_not-x53.ensures b within)
+    (next (c.xor-x54.ensures b within) (done)))))))))))))))))))))))))))))))))))))))))))))))))

@@ -35,4 +35,5 @@ returns g c b within =
     next (c.xor-x36.ensures b within) (next (c.xor-x37.ensures b within) (next (c.or-x38.ensures b within) (
     next (c.xor-x39.ensures b within) (next (c.xor-x40.ensures b within) (next (c.not-x41.ensures b within) (
     next (c.or-x42.ensures b within) (next (c.xor-x43.ensures b within) (next (c.xor-x44.ensures b within) (
-    next (c.xor-x45.ensures b within) (next (c.xor-x46.ensures b within) (next (c.xor-x47.ensures b within) (done))))))))))))))))))))))))))))))))))))))))))
+    next (c.xor-x45.ensures b within) (next (c.xor-x46.ensures b within)
+    (next (c.xor-x47.ensures b within) (done))))))))))))))))))))))))))))))))))))))))))

@@ -21,4 +21,5 @@ parts-preserved g c = (
 
 pub returns : goal.returns
 returns g c keys hold =
-    c.parts.invariant.1 keys hold ∙ answered-all (block_through_passes keys) c.parts.from c.args.blocks.now (omega arith)
+    c.parts.invariant.1 keys hold
+    ∙ answered-all (block_through_passes keys) c.parts.from c.args.blocks.now (omega arith)

@@ -13,8 +13,8 @@ pub invariant_of-round_keys-in-loop-i : goal.invariant_of-round_keys-in-loop-i
 invariant_of-round_keys-in-loop-i c =
     let words : c.transposed-words.result ≡ transposed (key_rows c.pc1.result) =
     c.transposed-words.ensures ∙ ap transposed c.key_rows.ensures in
-    let is = IsRoundKey-row c.loop-i.i c.pc1.result c.transposed-words.result (bits_of_word c.args.key) c.loop-i-test.true c.pc1.type_inv
-    c.pc1.ensures.selected words in
+    let is = IsRoundKey-row c.loop-i.i c.pc1.result c.transposed-words.result (bits_of_word c.args.key)
+    c.loop-i-test.true c.pc1.type_inv c.pc1.ensures.selected words in
     record { of_groups = is.of_groups }
 
 pub loop-i-preserved : goal.loop-i-preserved
@@ -36,7 +36,8 @@ loop-i-preserved c =
 pub returns-clause-made : goal.returns-clause-made
 returns-clause-made c =
     let key : List Bool = bits_of_word c.args.key in
-    round_keys_of-by_index c.loop-i.round_keys (key_schedule key) (c.loop-i.invariant.sixteen ∙ sym (length-key_schedule key))
+    round_keys_of-by_index c.loop-i.round_keys (key_schedule key)
+    (c.loop-i.invariant.sixteen ∙ sym (length-key_schedule key))
     (λ i d below.
     let within : i < 16 = omega (arith, length-key_schedule key) in
     c.loop-i.invariant.made i (omega arith) d

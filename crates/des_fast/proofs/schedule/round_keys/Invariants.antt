@@ -9,5 +9,6 @@ use Rattle.des_fast.proofs.schedule.round_keys.Given as goal
 abbrev pub invariant-loop-i : goal.invariant-loop-i
 invariant-loop-i l = record {
   sixteen : length l.round_keys ≡ 16;
-  made : (k : ℕ) → k < l.i → (d : RoundKey) → bits_of_groups (get_or l.round_keys k d).groups ≡ round_key (bits_of_word l.key) (k + 1);
+  made : (k : ℕ) → k < l.i → (d : RoundKey)
+      → bits_of_groups (get_or l.round_keys k d).groups ≡ round_key (bits_of_word l.key) (k + 1);
 }

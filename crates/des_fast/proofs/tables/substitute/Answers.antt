@@ -9,9 +9,11 @@ returns-clause-tables c = TABLES-combined
 pub returns-clause-expansion : goal.returns-clause-expansion
 returns-clause-expansion c =
     let group = c.groups_of-group in
-    (IsExpansionOf-entries (bits_of_groups c.args.word) group.result group.ensures.within (omega arith) group.ensures.groups).is_expansion
+    (IsExpansionOf-entries (bits_of_groups c.args.word) group.result group.ensures.within (omega arith)
+    group.ensures.groups).is_expansion
 
 pub returns-clause-substituted : goal.returns-clause-substituted
 returns-clause-substituted c =
     let group = c.groups_of-group in
-    (IsExpansionOf-entries (bits_of_groups c.args.word) group.result group.ensures.within (omega arith) group.ensures.groups).has_half
+    (IsExpansionOf-entries (bits_of_groups c.args.word) group.result group.ensures.within (omega arith)
+    group.ensures.groups).has_half

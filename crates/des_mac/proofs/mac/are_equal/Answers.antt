@@ -11,7 +11,8 @@ loop-i-preserved c =
     let bytes = c.args.bytes.now in
     let others = c.args.others.now in
     record {
-      none = λ zero. below_more _ _ (c.loop-i.invariant.none (or_zero-first _ _ zero)) (xor_zero-same _ _ (or_zero-second _ _ zero));
+      none = λ zero. below_more _ _ (c.loop-i.invariant.none (or_zero-first _ _ zero))
+          (xor_zero-same _ _ (or_zero-second _ _ zero));
       same = λ same.
           let before : c.loop-i.differences ≡ 0 = c.loop-i.invariant.same (λ k within. same k (omega arith)) in
           let here : get_or bytes i 0 ≡ get_or others i 0 = same i (omega arith) in
@@ -23,5 +24,6 @@ returns c = (
   λ is.
       same_number_lists c.args.bytes.now c.args.others.now c.requires
       (λ k within. c.loop-i.invariant.none (eqb-true c.loop-i.differences 0 is) k (omega arith)),
-  λ same. eq-eqb c.loop-i.differences 0 (c.loop-i.invariant.same (λ k within. ap (λ (bytes : List ℕ). get_or bytes k 0) same)),
+  λ same. eq-eqb c.loop-i.differences 0
+      (c.loop-i.invariant.same (λ k within. ap (λ (bytes : List ℕ). get_or bytes k 0) same)),
 )

@@ -32,9 +32,17 @@ returns-clause-answer c =
     let digits : List ℕ = c.to_values.new.text in
     let rest : take 16 (drop 16 digits) ≡ drop 16 digits =
     take_all 16 (drop 16 digits)
-    (omega (arith, length-drop 16 digits, ap length c.to_values.ensures, length-map c.args.text.now (λ (x : ℕ). x - 48), c.told-text)) in
+    (omega (
+      arith,
+      length-drop 16 digits,
+      ap length c.to_values.ensures,
+      length-map c.args.text.now (λ (x : ℕ). x - 48),
+      c.told-text,
+    )) in
     let first_is = c.block_of.ensures.bytes ∙ ap (λ (xs : List ℕ). bytes_of (take 16 xs)) c.to_values.ensures in
-    let second_is = c.block_of-2.ensures.bytes ∙ ap bytes_of rest ∙ ap (λ (xs : List ℕ). bytes_of (drop 16 xs)) c.to_values.ensures in
+    let second_is = c.block_of-2.ensures.bytes ∙ ap bytes_of rest
+    ∙ ap (λ (xs : List ℕ). bytes_of (drop 16 xs)) c.to_values.ensures in
     c.encrypted_by_ede2.ensures.answer
     ∙ ap (ede2_encryption c.args.key.now)
-    (c.xored.ensures ∙ ap₂ xor_blocks (c.encrypted_by_des-first.ensures ∙ ap₂ encryption c.key_part.ensures first_is) second_is)
+    (c.xored.ensures
+    ∙ ap₂ xor_blocks (c.encrypted_by_des-first.ensures ∙ ap₂ encryption c.key_part.ensures first_is) second_is)

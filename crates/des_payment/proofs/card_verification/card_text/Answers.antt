@@ -14,13 +14,17 @@ joined account first second third last before begins =
 
 pub returns-clause-text : goal.returns-clause-text
 returns-clause-text c =
-    joined c.args.account.now c.copy_from_slice.ensures.after c.copy_from_slice-2.ensures.after c.copy_from_slice-3.ensures.after
+    joined c.args.account.now c.copy_from_slice.ensures.after c.copy_from_slice-2.ensures.after
+    c.copy_from_slice-3.ensures.after
     c.split_at_mut-front-3.ensures.back c.split_at_mut-front-2.ensures.back c.split_at_mut-front.ensures.back
-    ∙ card_text-filled c.args.account.now c.args.expiry.now c.args.service.now c.requires.account c.requires.expiry c.requires.service
+    ∙ card_text-filled c.args.account.now c.args.expiry.now c.args.service.now c.requires.account c.requires.expiry
+    c.requires.service
 
 pub returns-clause-digits : goal.returns-clause-digits
 returns-clause-digits c =
     subst (λ (text : List ℕ). IsTrue (are_digits text))
-    (sym (joined c.args.account.now c.copy_from_slice.ensures.after c.copy_from_slice-2.ensures.after c.copy_from_slice-3.ensures.after
+    (sym (joined c.args.account.now c.copy_from_slice.ensures.after c.copy_from_slice-2.ensures.after
+    c.copy_from_slice-3.ensures.after
     c.split_at_mut-front-3.ensures.back c.split_at_mut-front-2.ensures.back c.split_at_mut-front.ensures.back))
-    (are_digits-filled c.args.account.now c.args.expiry.now c.args.service.now c.requires.account c.requires.expiry c.requires.service)
+    (are_digits-filled c.args.account.now c.args.expiry.now c.args.service.now c.requires.account c.requires.expiry
+    c.requires.service)

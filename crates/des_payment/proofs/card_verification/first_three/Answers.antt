@@ -24,8 +24,8 @@ loop-digit-preserved c =
       | then-digit-lt10 w ↦
           let test = (decimal-below (get_or digits i 0) w.if-digit-lt10.true).0 in
           moved w.count-is w.value-is (filter-found is_decimal digits i within test)
-          (IsFront-pushed c.loop-digit.count w.push-count.result (get_or digits i 0) c.loop-digit.value w.push-count.new.value
-          (filter is_decimal (take i digits)) c.loop-digit.invariant w.push-count.ensures.count
+          (IsFront-pushed c.loop-digit.count w.push-count.result (get_or digits i 0) c.loop-digit.value
+          w.push-count.new.value (filter is_decimal (take i digits)) c.loop-digit.invariant w.push-count.ensures.count
           w.push-count.ensures.front w.push-count.array_long)
       | else-digit-lt10 w ↦
           let test = (decimal-above (get_or digits i 0) w.if-digit-lt10.false).0 in
@@ -43,7 +43,8 @@ loop-digit-2-preserved c =
       | then-digit-ge10 w ↦
           let digit : ℕ = get_or digits i 0 in
           let test = (decimal-above digit w.if-digit-ge10.true).1 in
-          let more = append_assoc (filter is_decimal digits) (less (filter is_letter (take i digits))) ((digit - 10) ∷ [])
+          let more = append_assoc (filter is_decimal digits) (less (filter is_letter (take i digits)))
+          ((digit - 10) ∷ [])
           ∙ ap (λ (xs : List ℕ). filter is_decimal digits ++ xs)
           (sym (map-append (λ digit. digit - 10) (filter is_letter (take i digits)) (digit ∷ []))
           ∙ ap less (filter-found is_letter digits i within test)) in
@@ -63,10 +64,12 @@ loop-digit-2-preserved c =
 whole : goal.returns-clause-value
 whole c =
     let digits : List ℕ = c.args.digits.now in
-    let all : take c.loop-digit-2.digit-index digits ≡ digits = take_all c.loop-digit-2.digit-index digits (omega arith) in
+    let all : take c.loop-digit-2.digit-index digits ≡ digits =
+    take_all c.loop-digit-2.digit-index digits (omega arith) in
     let front : IsFront c.loop-digit-2.count c.loop-digit-2.value (decimals_first digits) =
     moved refl refl
-    (ap (λ (xs : List ℕ). filter is_decimal digits ++ map (λ digit. digit - 10) (filter is_letter xs)) all) c.loop-digit-2.invariant in
+    (ap (λ (xs : List ℕ). filter is_decimal digits ++ map (λ digit. digit - 10) (filter is_letter xs)) all)
+    c.loop-digit-2.invariant in
     IsFront-three c.loop-digit-2.count c.loop-digit-2.value (decimals_first digits) front
     (omega (arith, length-decimals_first digits, c.told-digits))
 

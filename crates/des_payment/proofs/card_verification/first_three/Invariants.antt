@@ -11,4 +11,5 @@ invariant-loop-digit l = IsFront l.count l.value (filter is_decimal (take l.digi
 -- and then the others, less ten
 abbrev pub invariant-loop-digit-2 : goal.invariant-loop-digit-2
 invariant-loop-digit-2 l =
-    IsFront l.count l.value (filter is_decimal l.digits ++ map (λ digit. digit - 10) (filter is_letter (take l.digit-index l.digits)))
+    IsFront l.count l.value (filter is_decimal l.digits
+    ++ map (λ digit. digit - 10) (filter is_letter (take l.digit-index l.digits)))

@@ -5,5 +5,6 @@ use Rattle.des_payment.proofs.digits.block_of.Given as goal
 abbrev pub invariant-loop-i : goal.invariant-loop-i
 invariant-loop-i l = record {
   count : length l.byte-items ≡ 8;
-  written : (k : ℕ) → k < l.i → get_or l.byte-items k 0 ≡ 16 * get_or l.digits (2 * k) 0 + get_or l.digits (2 * k + 1) 0;
+  written : (k : ℕ) → k < l.i
+      → get_or l.byte-items k 0 ≡ 16 * get_or l.digits (2 * k) 0 + get_or l.digits (2 * k + 1) 0;
 }

@@ -6,5 +6,6 @@ abbrev pub invariant-loop-i : goal.invariant-loop-i
 invariant-loop-i l = record {
   count : length l.digits ≡ 16;
   written : (k : ℕ) → k < l.i
-      → (get_or l.digits (2 * k) 0 ≡ get_or l.block k 0 / 16) × (get_or l.digits (2 * k + 1) 0 ≡ get_or l.block k 0 % 16);
+      → (get_or l.digits (2 * k) 0 ≡ get_or l.block k 0 / 16)
+      × (get_or l.digits (2 * k + 1) 0 ≡ get_or l.block k 0 % 16);
 }

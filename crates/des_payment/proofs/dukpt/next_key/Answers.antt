@@ -6,5 +6,6 @@ pub returns : goal.returns
 unfolding next_key
 returns c =
     c.joined.ensures
-    ∙ ap₂ (λ (left right : List ℕ). left ++ right) (c.next_half-left.ensures ∙ ap (next_half c.args.register) c.masked.ensures)
+    ∙ ap₂ (λ (left right : List ℕ). left ++ right)
+    (c.next_half-left.ensures ∙ ap (next_half c.args.register) c.masked.ensures)
     c.next_half.ensures

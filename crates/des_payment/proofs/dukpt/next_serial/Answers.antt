@@ -17,6 +17,7 @@ returns-then-next-le-MOST_ONES-clause-next c =
       (
         subst (λ (last : ℕ). IsNextCounter (last % 2 ^ 21) next) c.last_bytes-last.ensures found,
         c.with_last_bytes.ensures
-            ∙ ap (λ (last : ℕ). take 2 serial ++ to_be_bytes w64 (last - last % 2 ^ 21 + next)) c.last_bytes-last.ensures,
+            ∙ ap (λ (last : ℕ). take 2 serial ++ to_be_bytes w64 (last - last % 2 ^ 21 + next))
+            c.last_bytes-last.ensures,
       ),
     )

@@ -21,30 +21,36 @@ module _ (field pin fill : List ℕ) (count : length field ≡ 16)
 
 pub returns-clause-pin : goal.returns-clause-pin
 returns-clause-pin c =
-    c.of_digits.ensures ∙ ap text_of (is_pin c.args.field.now c.split_at.result.0.now c.split_at.result.1.now c.told-field
+    c.of_digits.ensures
+    ∙ ap text_of (is_pin c.args.field.now c.split_at.result.0.now c.split_at.result.1.now c.told-field
     c.split_at.ensures.front c.split_at.ensures.back)
 
 pub returns-then-not-are_decimal-clause-fault : goal.returns-then-not-are_decimal-clause-fault
 returns-then-not-are_decimal-clause-fault c =
     let field : List ℕ = c.args.field.now in
-    let pin = is_pin field c.split_at.result.0.now c.split_at.result.1.now c.told-field c.split_at.ensures.front c.split_at.ensures.back in
-    sym (field_fault-digits c.args.format c.args.least field c.if-field-format.false (search rules) (search rules) false _
-    (sym (c.if-not-are_decimal.ensures ∙ ap (list_all _) pin)) refl)
+    let pin = is_pin field c.split_at.result.0.now c.split_at.result.1.now c.told-field c.split_at.ensures.front
+    c.split_at.ensures.back in
+    sym (field_fault-digits c.args.format c.args.least field c.if-field-format.false (search rules) (search rules) false
+    _ (sym (c.if-not-are_decimal.ensures ∙ ap (list_all _) pin)) refl)
 
 pub returns-then-not-are_fill-clause-fault : goal.returns-then-not-are_fill-clause-fault
 returns-then-not-are_fill-clause-fault c =
     let field : List ℕ = c.args.field.now in
-    let pin = is_pin field c.split_at.result.0.now c.split_at.result.1.now c.told-field c.split_at.ensures.front c.split_at.ensures.back in
+    let pin = is_pin field c.split_at.result.0.now c.split_at.result.1.now c.told-field c.split_at.ensures.front
+    c.split_at.ensures.back in
     let fill = is_fill_digits field c.split_at.result.0.now c.split_at.result.1.now c.told-field
     c.split_at.ensures.front c.split_at.ensures.back in
-    sym (field_fault-digits c.args.format c.args.least field c.if-field-format.false (search rules) (search rules) true false
+    sym (field_fault-digits c.args.format c.args.least field c.if-field-format.false (search rules) (search rules) true
+    false
     (sym (c.if-not-are_decimal.ensures ∙ ap (list_all _) pin)) (sym (c.if-not-are_fill.ensures ∙ ap (list_all _) fill)))
 
 pub returns-clause-fault : goal.returns-clause-fault
 returns-clause-fault c =
     let field : List ℕ = c.args.field.now in
-    let pin = is_pin field c.split_at.result.0.now c.split_at.result.1.now c.told-field c.split_at.ensures.front c.split_at.ensures.back in
+    let pin = is_pin field c.split_at.result.0.now c.split_at.result.1.now c.told-field c.split_at.ensures.front
+    c.split_at.ensures.back in
     let fill = is_fill_digits field c.split_at.result.0.now c.split_at.result.1.now c.told-field
     c.split_at.ensures.front c.split_at.ensures.back in
-    sym (field_fault-digits c.args.format c.args.least field c.if-field-format.false (search rules) (search rules) true true
+    sym (field_fault-digits c.args.format c.args.least field c.if-field-format.false (search rules) (search rules) true
+    true
     (sym (c.if-not-are_decimal.ensures ∙ ap (list_all _) pin)) (sym (c.if-not-are_fill.ensures ∙ ap (list_all _) fill)))

@@ -1,7 +1,6 @@
-use Rattle.std.proofs.Common.{◌≡◌, ℕ, ◌<◌, List, ap₂, ◌∙◌, lit≤}
-use Rattle.std.proofs.lemmas.List.Elements.{All-from_get_or}
-use Rattle.des.specs.Blocks.{IsBlock}
+use Rattle.std.proofs.Common.{◌≡◌, ℕ, List, ap₂, ◌∙◌, lit≤}
 use Rattle.des.specs.Cbc.{xor_blocks}
+use Rattle.des.proofs.ByteArrays.{IsBlock-array}
 use Rattle.des_payment.specs.Digits.{digits_of}
 use Rattle.des_payment.specs.Texts.{IsAccountNumber}
 use Rattle.des_payment.specs.PinBlocks.{account_field}
@@ -14,7 +13,7 @@ returns-clause-decoded c pin =
     let account : List ℕ = c.args.account.now in
     let block : List ℕ = c.args.block.now in
     let field : List ℕ = c.xored.result in
-    let is_block : IsBlock block = (c.told-block, All-from_get_or (λ byte. byte < 256) block 0 (λ i within. c.fits-block i)) in
+    let is_block = IsBlock-array block c.told-block c.fits-block in
     let is_account : IsAccountNumber account = c.in_ok-account.ensures.number in
     let same : field ≡ xor_blocks (digits_of block) (account_field account) =
     c.xored.ensures ∙ ap₂ xor_blocks c.digits_of.ensures c.in_ok-account.ensures.field in

@@ -1,6 +1,5 @@
-use Rattle.std.proofs.Common.{◌≡◌, ℕ, ◌<◌, List, length, ap, subst, sym, ◌∙◌, lit≤, arith}
-use Rattle.std.proofs.lemmas.List.Elements.{All-from_get_or}
-use Rattle.des.specs.Blocks.{IsBlock}
+use Rattle.std.proofs.Common.{◌≡◌, ℕ, List, length, ap, subst, sym, ◌∙◌, lit≤, arith}
+use Rattle.des.proofs.ByteArrays.{IsBlock-array}
 use Rattle.des_payment.specs.Digits.{digits_of}
 use Rattle.des_payment.proofs.DigitLists.{length-digits_of}
 use Rattle.des_payment.proofs.Decoding.{reads, IsFieldOf, IsFormat1-field}
@@ -11,7 +10,7 @@ pub returns-clause-decoded : goal.returns-clause-decoded
 returns-clause-decoded c pin =
     let block : List ℕ = c.args.block.now in
     let field : List ℕ = c.digits_of.result in
-    let is_block : IsBlock block = (c.told-block, All-from_get_or (λ byte. byte < 256) block 0 (λ i within. c.fits-block i)) in
+    let is_block = IsBlock-array block c.told-block c.fits-block in
     let same : field ≡ digits_of block = c.digits_of.ensures in
     let count : length field ≡ 16 = ap length same ∙ omega (arith, length-digits_of block, is_block.0) in
     let read = reads c.read_pin.result 1 0 field count (lit≤ tt) c.read_pin.ensures.fault c.read_pin.ensures.pin pin in

@@ -17,5 +17,5 @@ returns-clause-block c =
     let transaction : List ℕ = c.args.transaction.now in
     let filled : AreFill 0 transaction = (c.told-transaction, sym c.if-not-are_fill.ensures) in
     let digits = c.block_of.ensures.digits ∙ c.pin_field.ensures.field in
-    IsTheOne-digits (IsFormat1 pin transaction) (pin_field 1 pin transaction) c.block_of.result (λ other is. is.2.1) digits
-    (c.pin_field.ensures.is_pin, filled, (c.block_of.ensures.block, digits))
+    IsTheOne-digits (IsFormat1 pin transaction) (pin_field 1 pin transaction) c.block_of.result (λ other is. is.2.1)
+    digits (c.pin_field.ensures.is_pin, filled, (c.block_of.ensures.block, digits))

@@ -20,7 +20,8 @@ returns-clause-block c =
     let account : List ℕ = c.args.account.now in
     let fill : List ℕ = c.args.fill.now in
     let filled : AreFill 10 fill = (c.told-fill, sym c.if-not-are_fill.ensures) in
-    let digits = c.block_of.ensures.digits ∙ c.xored.ensures ∙ ap₂ xor_blocks c.pin_field.ensures.field c.in_ok-account.ensures.field in
-    IsTheOne-digits (IsFormat3 pin account fill) (xor_blocks (pin_field 3 pin fill) (account_field account)) c.block_of.result
-    (λ other is. is.3.1) digits
+    let digits = c.block_of.ensures.digits ∙ c.xored.ensures
+    ∙ ap₂ xor_blocks c.pin_field.ensures.field c.in_ok-account.ensures.field in
+    IsTheOne-digits (IsFormat3 pin account fill) (xor_blocks (pin_field 3 pin fill) (account_field account))
+    c.block_of.result (λ other is. is.3.1) digits
     (c.pin_field.ensures.is_pin, c.in_ok-account.ensures.number, filled, (c.block_of.ensures.block, digits))

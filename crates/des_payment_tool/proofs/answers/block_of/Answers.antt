@@ -9,7 +9,8 @@ use Rattle.des_payment_tool.proofs.answers.block_of.Goals as goal
 pub returns-in_err-fill_of-in-Format3-clause-fault :
     goal.returns-in_err-fill_of-in-Format3-clause-fault
 returns-in_err-fill_of-in-Format3-clause-fault c =
-    let p = err_from_is_err_and c.from_residual-in_err-fill_of-in-Format3.result c.from_residual-in_err-fill_of-in-Format3.ensures.1 in
+    let p = err_from_is_err_and c.from_residual-in_err-fill_of-in-Format3.result
+    c.from_residual-in_err-fill_of-in-Format3.ensures.1 in
     let found = some_from (digits_fault 5 FillLength FillText c.in-Format3.fill.now) c.fill_of-in-Format3.result
     c.in_err-fill_of-in-Format3.field-0.0 c.fill_of-in-Format3.ensures.fault c.in_err-fill_of-in-Format3.was in
     rw (p.1, p.2, c.in-Format3.is) (fails_before (List ℕ) _ _ _ found)

@@ -23,6 +23,8 @@ of_list xs ys Fails same refused = rw (← same) refused
 pub returns-in-len2-up-clause-refused : goal.returns-in-len2-up-clause-refused
 returns-in-len2-up-clause-refused g c =
     of_list c.args.components.now
-    (c.first-item.result ∷ c.second-item.result ∷ take (length c.args.components.now - 2) (drop 2 c.args.components.now))
+    (c.first-item.result ∷ c.second-item.result
+    ∷ take (length c.args.components.now - 2) (drop 2 c.args.components.now))
     (IsErr c.combine.result)
-    (two_first c.args.components.now _ _ c.in-len2-up.len_at_least c.first-item.is c.second-item.is) c.combine.ensures.refused
+    (two_first c.args.components.now _ _ c.in-len2-up.len_at_least c.first-item.is c.second-item.is)
+    c.combine.ensures.refused

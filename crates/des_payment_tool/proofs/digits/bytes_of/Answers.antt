@@ -9,8 +9,8 @@ pub returns-in_err-decode-clause-fault : goal.returns-in_err-decode-clause-fault
 returns-in_err-decode-clause-fault g c =
     let p = err_from_is_err_and c.from_residual.result c.from_residual.ensures.1 in
     let long : length c.args.digits.now ≡ 2 * g.row.N = omega (arith, c.if-digits.false) in
-    let found = some_from (text_fault c.args.text_fault c.args.digits.now) c.decode.result c.in_err-decode.field-0.0 c.decode.ensures.fault
-    c.in_err-decode.was in
+    let found = some_from (text_fault c.args.text_fault c.args.digits.now) c.decode.result c.in_err-decode.field-0.0
+    c.decode.ensures.fault c.in_err-decode.was in
     rw (p.1, p.2)
     (fails_after (List ℕ) (length c.args.digits.now == 2 * g.row.N) c.args.length_fault
     (text_fault c.args.text_fault c.args.digits.now) c.in_err-decode.field-0.0 (eq-eqb _ _ long) found)

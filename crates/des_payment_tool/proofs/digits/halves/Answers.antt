@@ -4,4 +4,5 @@ use Rattle.des_payment_tool.proofs.digits.halves.Goals as goal
 
 pub returns : goal.returns
 returns c =
-    digits_of-from_places c.loop-i.digits c.args.bytes.now (omega arith) (λ k within. c.loop-i.invariant.written k (omega arith))
+    digits_of-from_places c.loop-i.digits c.args.bytes.now (omega arith)
+    (λ k within. c.loop-i.invariant.written k (omega arith))

@@ -4,4 +4,5 @@ use Rattle.des.proofs.cipher.BlockCipherDecrypt.decrypt_blocks.Given as goal
 -- the blocks before the index are answered, and those from it on are as they were
 abbrev pub invariant-loop-block : goal.invariant-loop-block
 invariant-loop-block g l =
-    l.blocks ≡ map (g.Self.BlockCipherDecrypt.decrypted l.self) (take l.block-index l.initial.blocks) ++ drop l.block-index l.initial.blocks
+    l.blocks ≡ map (g.Self.BlockCipherDecrypt.decrypted l.self) (take l.block-index l.initial.blocks)
+    ++ drop l.block-index l.initial.blocks

@@ -16,8 +16,10 @@ loop-i-init c =
     let words : List RoundKey = c.args.round_keys.now in
     record {
       halves = ap₂ (λ (l r : List Bool). (l, r)) c.new-left.ensures.half c.new-right.ensures.half;
-      left_key = bits_of_groups-at words c.new-left.result.round_key 1 1 _ c.new-left.ensures.key (omega arith) (omega arith);
-      right_key = bits_of_groups-at words c.new-right.result.round_key 0 0 _ c.new-right.ensures.key (omega arith) (omega arith);
+      left_key = bits_of_groups-at words c.new-left.result.round_key 1 1 _ c.new-left.ensures.key (omega arith)
+          (omega arith);
+      right_key = bits_of_groups-at words c.new-right.result.round_key 0 0 _ c.new-right.ensures.key (omega arith)
+          (omega arith);
     }
 
 pub loop-i-preserved : goal.loop-i-preserved
@@ -33,14 +35,16 @@ loop-i-preserved c =
     record {
       halves =
           after_rounds-keyed keys i _ _ (keyed_half left) right made_left (keyed_half c.next-right.result)
-          (bits_of_groups left.round_key.groups) (bits_of_groups c.loop-i.right.round_key.groups) size c.loop-i-test.true
-          c.loop-i.invariant.halves c.loop-i.invariant.left_key c.loop-i.invariant.right_key
+          (bits_of_groups left.round_key.groups) (bits_of_groups c.loop-i.right.round_key.groups) size
+          c.loop-i-test.true c.loop-i.invariant.halves c.loop-i.invariant.left_key c.loop-i.invariant.right_key
           (c.with_key-left.ensures.half ∙ c.next-left.ensures.half)
           (c.next-right.ensures.half
-          ∙ ap (λ half. next_half half (keyed_half made) (bits_of_groups made.round_key.groups)) c.with_key-right.ensures.half
+          ∙ ap (λ half. next_half half (keyed_half made) (bits_of_groups made.round_key.groups))
+          c.with_key-right.ensures.half
           ∙ ap (λ half. next_half right half (bits_of_groups made.round_key.groups)) (sym c.with_key-left.ensures.half)
           ∙ ap (λ (key : RoundKey). next_half right made_left (bits_of_groups key.groups)) c.next-left.ensures.key);
-      left_key = bits_of_groups-at words c.with_key-left.result.round_key ((2 * i + 3) % 16) ((2 * (i + 1) + 1) % 16) _ c.with_key-left.ensures.key (omega arith) (omega arith);
+      left_key = bits_of_groups-at words c.with_key-left.result.round_key ((2 * i + 3) % 16) ((2 * (i + 1) + 1) % 16) _
+          c.with_key-left.ensures.key (omega arith) (omega arith);
       right_key =
           bits_of_groups-at words c.next-right.result.round_key ((2 * i + 2) % 16) (2 * (i + 1) % 16) _
           (c.next-right.ensures.key ∙ c.with_key-right.ensures.key) (omega arith) (omega arith);

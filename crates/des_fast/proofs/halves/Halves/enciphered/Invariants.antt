@@ -9,7 +9,8 @@ abbrev pub invariant-loop-i : goal.invariant-loop-i
 invariant-loop-i l =
     let keys : List (List Bool) = round_keys_of l.round_keys in
     record {
-      halves : (keyed_half l.left, keyed_half l.right) ≡ after_rounds (take (2 * l.i) keys) (half_of l.fn.self.left.groups) (half_of l.fn.self.right.groups);
+      halves : (keyed_half l.left, keyed_half l.right)
+          ≡ after_rounds (take (2 * l.i) keys) (half_of l.fn.self.left.groups) (half_of l.fn.self.right.groups);
       left_key : bits_of_groups l.left.round_key.groups ≡ slice_index_or keys ((2 * l.i + 1) % 16) [];
       right_key : bits_of_groups l.right.round_key.groups ≡ slice_index_or keys (2 * l.i % 16) [];
     }

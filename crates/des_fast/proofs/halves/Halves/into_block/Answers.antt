@@ -14,7 +14,8 @@ returns c =
     let word : ℕ = c.fp.result in
     let halves : bits_of_word c.word.result ≡ half_of c.args.self.right.groups ++ half_of c.args.self.left.groups =
     rw c.swapped.ensures at c.word.ensures in
-    let permuted : bits_of_word word ≡ select final_permutation (half_of c.args.self.right.groups ++ half_of c.args.self.left.groups) =
+    let permuted : bits_of_word word
+    ≡ select final_permutation (half_of c.args.self.right.groups ++ half_of c.args.self.left.groups) =
     sym (select-final_permutation (bits_of_word word) (length-bits_of 64 word))
     ∙ ap (select final_permutation) (c.fp.ensures.selected ∙ halves) in
     c.to_be_bytes.ensures

@@ -10,4 +10,5 @@ returns-clause-halves c =
     c.ip.ensures.selected
     ∙ ap (λ (word : ℕ). select initial_permutation (bits_of_word word)) c.from_be_bytes.ensures
     ∙ ap (select initial_permutation) (sym (bits_of_bytes-from_be c.args.block.now (omega arith) c.fits-block)) in
-    ap₂ (λ (l r : List Bool). (l, r)) (c.new.ensures.left ∙ ap (take 32) permuted) (c.new.ensures.right ∙ ap (drop 32) permuted)
+    ap₂ (λ (l r : List Bool). (l, r)) (c.new.ensures.left ∙ ap (take 32) permuted)
+    (c.new.ensures.right ∙ ap (drop 32) permuted)

@@ -9,14 +9,16 @@ use Rattle.des_fast.proofs.halves.KeyedHalf.next.Goals as goal
 
 pub substitute-requires : goal.substitute-requires
 substitute-requires c =
-    IsOfGroups-keyed c.args.right.groups c.args.right.round_key.groups c.args.right.expansion c.args.right.round_key.of_groups
+    IsOfGroups-keyed c.args.right.groups c.args.right.round_key.groups c.args.right.expansion
+    c.args.right.round_key.of_groups
 
 pub invariant_of-result : goal.invariant_of-result
 invariant_of-result c =
     let left = c.args.self in
     record {
       expansion = rw (xor-beside_key left.groups c.substitute.result left.round_key.groups)
-          (IsExpansion-xor (bit_xor left.groups left.round_key.groups) c.substitute.result left.expansion c.substitute.ensures.expansion);
+          (IsExpansion-xor (bit_xor left.groups left.round_key.groups) c.substitute.result left.expansion
+          c.substitute.ensures.expansion);
     }
 
 pub returns-clause-half : goal.returns-clause-half

@@ -25,11 +25,13 @@ parts-preserved g c =
           ∙ sym (get_or-drop m now (count - 1) [])
           ∙ ap (λ (xs : List (List ℕ)). get_or xs (count - 1) []) same
           ∙ get_or-drop m old (count - 1) []
-          ∙ sym (last_of-take iv old (m + (count - 1)) (omega (arith, c.next_count-count.ensures.some, c.next_count-count.ensures.there)))
+          ∙ sym (last_of-take iv old (m + (count - 1))
+          (omega (arith, c.next_count-count.ensures.some, c.next_count-count.ensures.there)))
           ∙ ap (λ (k : ℕ). last_of iv (take k old)) last;
       answered = λ keys hold.
           let f : List ℕ → List ℕ = block_through_passes keys in
-          unchained-more f iv m n old now part (omega (arith, c.parts.invariant.within)) (c.parts.invariant.answered keys hold)
+          unchained-more f iv m n old now part (omega (arith, c.parts.invariant.within))
+          (c.parts.invariant.answered keys hold)
           (unchained-from f c.parts.before (take n (drop m now)) part (c.unchain_part.ensures keys hold)
           ∙ ap (λ (before : List ℕ). unchained f before (take n (drop m now))) c.parts.invariant.chained)
           ∙ ap (λ (k : ℕ). unchained f iv (take k old) ++ drop k old) next;

@@ -9,7 +9,8 @@ invariant-parts g l = record {
   within : l.from ≤ length l.blocks;
   chained : l.before ≡ last_of l.iv (take l.from l.initial.blocks);
   answered : (keys : List (List (List Bool))) → HoldPasses g.S.Slice.BATCH g.S.Slice.bit l.passes keys
-      → l.blocks ≡ unchained (block_through_passes keys) l.iv (take l.from l.initial.blocks) ++ drop l.from l.initial.blocks;
+      → l.blocks ≡ unchained (block_through_passes keys) l.iv (take l.from l.initial.blocks)
+      ++ drop l.from l.initial.blocks;
   rest : drop l.from l.blocks ≡ drop l.from l.initial.blocks;
 }
 

@@ -7,7 +7,8 @@ use Rattle.des_fast.proofs.SliceSizes.{pass_slices-le}
 use Rattle.des_fast.proofs.many.chains.unchain_part.Goals as goal
 
 pub write_answers-requires : goal.write_answers-requires
-write_answers-requires g c = (omega (arith, pass_slices-le _ _ g.met.S.Slice.small_gaps g.met.S.Slice.few_bytes), c.requires)
+write_answers-requires g c =
+    (omega (arith, pass_slices-le _ _ g.met.S.Slice.small_gaps g.met.S.Slice.few_bytes), c.requires)
 
 pub returns : goal.returns
 returns g c keys hold =

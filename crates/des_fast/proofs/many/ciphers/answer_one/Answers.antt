@@ -5,7 +5,8 @@ use Rattle.des_fast.proofs.many.ciphers.answer_one.Goals as goal
 
 pub returns : goal.returns
 returns g c =
-    c.answer.ensures (round_keys_of_pass c.args.pass.now ∷ []) (λ b within. ap (λ keys. keys ∷ []) (c.spread.ensures b within))
+    c.answer.ensures (round_keys_of_pass c.args.pass.now ∷ [])
+    (λ b within. ap (λ keys. keys ∷ []) (c.spread.ensures b within))
 
 pub shared_whole_as_slice-answer : goal.shared_whole_as_slice-answer
 shared_whole_as_slice-answer g c = omega (arith, pass_slices-le _ _ g.met.S.Slice.small_gaps g.met.S.Slice.few_bytes)

@@ -9,7 +9,8 @@ returns g c =
     let first : List (List Bool) = round_keys_of_pass c.args.three.now.first in
     let second : List (List Bool) = round_keys_of_pass c.args.three.now.second in
     let third : List (List Bool) = round_keys_of_pass c.args.three.now.third in
-    subst (λ (f : List ℕ → List ℕ). c.answer.new.blocks ≡ map f c.args.blocks.now) (block_through_passes-three first second third)
+    subst (λ (f : List ℕ → List ℕ). c.answer.new.blocks ≡ map f c.args.blocks.now)
+    (block_through_passes-three first second third)
     (c.answer.ensures (first ∷ second ∷ third ∷ []) c.spread.ensures)
 
 pub shared_whole_as_slice-answer : goal.shared_whole_as_slice-answer

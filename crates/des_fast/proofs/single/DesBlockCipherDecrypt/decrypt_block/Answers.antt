@@ -19,4 +19,5 @@ pub returns-clause-deciphers : goal.returns-clause-deciphers
 returns-clause-deciphers c key made =
     IsTheOne-answer (decryption key) (λ y x. Enciphers key x y) c.args.block.now c.into_block.result
     (IsGraphOf-decryption key made.0) c.of_block.ensures.is_block
-    (returns-clause-decrypted c ∙ (Agree-decrypted c.args.self.now key made).at c.args.block.now c.of_block.ensures.is_block)
+    (returns-clause-decrypted c
+    ∙ (Agree-decrypted c.args.self.now key made).at c.args.block.now c.of_block.ensures.is_block)

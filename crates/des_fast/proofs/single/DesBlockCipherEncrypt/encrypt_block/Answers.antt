@@ -19,4 +19,5 @@ pub returns-clause-enciphers : goal.returns-clause-enciphers
 returns-clause-enciphers c key made =
     IsTheOne-answer (encryption key) (λ x y. Enciphers key x y) c.args.block.now c.into_block.result
     (IsGraphOf-encryption key made.0) c.of_block.ensures.is_block
-    (returns-clause-encrypted c ∙ (Agree-encrypted c.args.self.now key made).at c.args.block.now c.of_block.ensures.is_block)
+    (returns-clause-encrypted c
+    ∙ (Agree-encrypted c.args.self.now key made).at c.args.block.now c.of_block.ensures.is_block)

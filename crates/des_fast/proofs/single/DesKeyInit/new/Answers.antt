@@ -1,9 +1,9 @@
-use Rattle.std.proofs.Common.{◌<◌, ℕ, sym, ap, ◌∙◌, arith}
-use Rattle.std.proofs.lemmas.List.Elements.{All-from_get_or}
+use Rattle.std.proofs.Common.{ℕ, sym, ap, ◌∙◌, arith}
 use Rattle.des.specs.Bits.{bits_of_word}
 use Rattle.des.specs.KeySchedule.{key_schedule}
 use Rattle.des.specs.Laws.BitLists.{bits_of_bytes-from_be}
 use Rattle.des.specs.Laws.DesLaws as port
+use Rattle.des.proofs.ByteArrays.{IsKey-array}
 use Rattle.des.proofs.Graphs.{HasOneAnswerEachWay-key, IsGraphOf-encryption, IsGraphOf-decryption}
 use Rattle.des_fast.specs.Laws.DesLaws.{Agree-encrypted, Agree-decrypted}
 use Rattle.des.proofs.PassGraphs.{AnswerAlike-Agree}
@@ -11,7 +11,7 @@ use Rattle.des_fast.proofs.single.DesKeyInit.new.Goals as goal
 
 pub returns-clause-made : goal.returns-clause-made
 returns-clause-made c = (
-  (omega arith, All-from_get_or (λ byte. byte < 256) c.args.key.now 0 (λ i within. c.fits-key i)),
+  IsKey-array 8 c.args.key.now c.told-key c.fits-key,
   c.new.ensures
       ∙ ap (λ (word : ℕ). key_schedule (bits_of_word word)) c.from_be_bytes.ensures
       ∙ ap key_schedule (sym (bits_of_bytes-from_be c.args.key.now (omega arith) c.fits-key)),
@@ -28,8 +28,10 @@ returns-clause-decryption c = IsGraphOf-decryption c.args.key.now (returns-claus
 
 pub returns-clause-encrypts_alike : goal.returns-clause-encrypts_alike
 returns-clause-encrypts_alike c other made =
-    AnswerAlike-Agree (Agree-encrypted (record { schedule = c.new.result }) c.args.key.now (returns-clause-made c)) (port.Agree-encrypted other c.args.key.now made)
+    AnswerAlike-Agree (Agree-encrypted (record { schedule = c.new.result }) c.args.key.now (returns-clause-made c))
+    (port.Agree-encrypted other c.args.key.now made)
 
 pub returns-clause-decrypts_alike : goal.returns-clause-decrypts_alike
 returns-clause-decrypts_alike c other made =
-    AnswerAlike-Agree (Agree-decrypted (record { schedule = c.new.result }) c.args.key.now (returns-clause-made c)) (port.Agree-decrypted other c.args.key.now made)
+    AnswerAlike-Agree (Agree-decrypted (record { schedule = c.new.result }) c.args.key.now (returns-clause-made c))
+    (port.Agree-decrypted other c.args.key.now made)

@@ -7,4 +7,5 @@ pub returns : goal.returns
 returns g c b within =
     let place : ℕ = c.args.position - 1 in
     c.same.ensures b within
-    ∙ sym (bit_of_block-at c.args.words.now place ∙ bit_in-shifted (get_or c.args.words.now (place / 64) 0) (place % 64) (omega arith))
+    ∙ sym (bit_of_block-at c.args.words.now place
+    ∙ bit_in-shifted (get_or c.args.words.now (place / 64) 0) (place % 64) (omega arith))

@@ -21,11 +21,12 @@ loop-n-preserved g c =
       λ b within m below done.
           let read = g.S.Slice.bit b in
           let whole = bits_of_slice c.args.words.now in
-          bits_written_twice read (λ k bit_is. bit_is ≡ bit whole (get_or positions k 0)) c.loop-n.halves place (place + 28) _
-          (omega (arith, size)) (omega (arith, size))
+          bits_written_twice read (λ k bit_is. bit_is ≡ bit whole (get_or positions k 0)) c.loop-n.halves place
+          (place + 28) _ (omega (arith, size)) (omega (arith, size))
           (c.bit_slice-slice.ensures b within ∙ ap (bit whole) (sym is.first))
           (c.bit_slice-slice.ensures b within ∙ ap (bit whole) (sym is.second))
-          m (λ not_first not_second. c.loop-n.invariant.1 b within m below (once-below m n below done not_first not_second)),
+          m (λ not_first not_second.
+          c.loop-n.invariant.1 b within m below (once-below m n below done not_first not_second)),
     )
 
 pub returns : goal.returns

@@ -13,7 +13,8 @@ loop-i-preserved g c =
       λ j below b within.
           let read = g.S.Slice.bit b in
           bits_written_below read
-          (λ k bit_is. bit_is ≡ bit (map read c.args.left.now ++ map read c.args.right.now) (get_or c.args.positions.now k 0))
+          (λ k bit_is.
+          bit_is ≡ bit (map read c.args.left.now ++ map read c.args.right.now) (get_or c.args.positions.now k 0))
           c.loop-i.slices i _ (omega (arith, c.loop-i.invariant.0))
           (λ k lower. c.loop-i.invariant.1 k lower b within)
           (c.slice_of_halves.ensures b within)
@@ -23,6 +24,6 @@ loop-i-preserved g c =
 pub returns : goal.returns
 returns g c b within =
     let read = g.S.Slice.bit b in
-    bits-selection (map read c.loop-i.slices) (map read c.args.left.now ++ map read c.args.right.now) c.args.positions.now
-    (length-map c.loop-i.slices read ∙ omega (arith, c.loop-i.invariant.0))
+    bits-selection (map read c.loop-i.slices) (map read c.args.left.now ++ map read c.args.right.now)
+    c.args.positions.now (length-map c.loop-i.slices read ∙ omega (arith, c.loop-i.invariant.0))
     (λ i below. c.loop-i.invariant.1 i (omega arith) b within)

@@ -12,7 +12,8 @@ use Rattle.des_fast.proofs.KeySlices.{bits-selection}
 use Rattle.des_fast.proofs.slices.passes.selection.Goals as goal
 
 -- a position is one of 64, from 1
-place_of : (positions : List ℕ) (i : ℕ) → i < length positions → IsTrue (list_all (λ p. nat_lt 0 p && nat_lt p 65) positions)
+place_of : (positions : List ℕ) (i : ℕ) → i < length positions
+    → IsTrue (list_all (λ p. nat_lt 0 p && nat_lt p 65) positions)
     → (0 < get_or positions i 0) × (get_or positions i 0 < 65)
 place_of positions i inside each =
     let position : ℕ = get_or positions i 0 in
@@ -28,7 +29,13 @@ overflow_sub-selected g c = (place_of c.args.positions.now c.loop-i.i (omega ari
 pub offset_bounds-slices-positions : goal.offset_bounds-slices-positions
 offset_bounds-slices-positions g c =
     let place = place_of c.args.positions.now c.loop-i.i (omega arith) c.requires in
-    record { fits = omega (arith, mul-le (get_or c.args.positions.now c.loop-i.i 0 - 1) _ 64 32 (omega (arith, place.1)) g.met.S.Slice.few_bytes) }
+    record {
+      fits = omega (
+        arith,
+        mul-le (get_or c.args.positions.now c.loop-i.i 0 - 1) _ 64 32 (omega (arith, place.1))
+            g.met.S.Slice.few_bytes,
+      );
+    }
 
 pub listed : goal.listed
 listed g c =
@@ -50,7 +57,8 @@ loop-i-preserved g c =
       length-set c.loop-i.selected i _ ∙ c.loop-i.invariant.0,
       λ j below b within.
           let read = g.S.Slice.bit b in
-          bits_written_below read (λ k bit_is. bit_is ≡ bit (map read c.args.slices.now) (get_or c.args.positions.now k 0))
+          bits_written_below read (λ k bit_is.
+          bit_is ≡ bit (map read c.args.slices.now) (get_or c.args.positions.now k 0))
           c.loop-i.selected i _ (omega (arith, c.loop-i.invariant.0))
           (λ k lower. c.loop-i.invariant.1 k lower b within)
           (sym (get_or-map read c.args.slices.now (position - 1) _ false (omega arith)))

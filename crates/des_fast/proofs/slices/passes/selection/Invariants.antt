@@ -8,4 +8,5 @@ abbrev pub invariant-loop-i : goal.invariant-loop-i
 invariant-loop-i g l =
     (length l.selected ≡ length l.positions)
     × ((j : ℕ) → j < l.i → InEachBlock g.S.Slice.BATCH
-    (λ b. get_or (map (g.S.Slice.bit b) l.selected) j false ≡ bit (map (g.S.Slice.bit b) l.slices) (get_or l.positions j 0)))
+    (λ b. get_or (map (g.S.Slice.bit b) l.selected) j false
+    ≡ bit (map (g.S.Slice.bit b) l.slices) (get_or l.positions j 0)))

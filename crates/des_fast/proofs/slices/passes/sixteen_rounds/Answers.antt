@@ -17,7 +17,8 @@ round-requires g c = (
   omega (arith, g.met.S.Slice.few_bytes),
   (
     omega (arith, g.met.S.Slice.few_bytes),
-    rotation-le c.args.pass.now.deciphers c.rotations-rotations.result (2 * c.pairs.i) c.rotations-rotations.ensures (omega arith),
+    rotation-le c.args.pass.now.deciphers c.rotations-rotations.result (2 * c.pairs.i) c.rotations-rotations.ensures
+        (omega arith),
   ),
 )
 
@@ -26,7 +27,8 @@ round-requires-in-pairs g c = (
   omega (arith, g.met.S.Slice.few_bytes),
   (
     omega (arith, g.met.S.Slice.few_bytes),
-    rotation-le c.args.pass.now.deciphers c.rotations-rotations.result (2 * c.pairs.i + 1) c.rotations-rotations.ensures (omega arith),
+    rotation-le c.args.pass.now.deciphers c.rotations-rotations.result (2 * c.pairs.i + 1) c.rotations-rotations.ensures
+        (omega arith),
   ),
 )
 
@@ -41,10 +43,12 @@ pairs-preserved g c b within =
     (omega (arith, length-round_keys_by halves deciphers))
     (c.pairs.invariant b within)
     (c.round.ensures b within
-    ∙ ap (next_half (read c.pairs.left) (read c.pairs.right)) (round_keys_by-at halves deciphers c.rotations-rotations.result (2 * i) c.rotations-rotations.ensures (omega arith)))
+    ∙ ap (next_half (read c.pairs.left) (read c.pairs.right)) (round_keys_by-at halves deciphers
+    c.rotations-rotations.result (2 * i) c.rotations-rotations.ensures (omega arith)))
     (c.round-in-pairs.ensures b within
     ∙ ap (next_half (read c.pairs.right) (read c.round.new.left))
-    (round_keys_by-at halves deciphers c.rotations-rotations.result (2 * i + 1) c.rotations-rotations.ensures (omega arith)))
+    (round_keys_by-at halves deciphers c.rotations-rotations.result (2 * i + 1) c.rotations-rotations.ensures
+    (omega arith)))
 
 pub returns : goal.returns
 returns g c b within =
@@ -52,5 +56,6 @@ returns g c b within =
     let keys : List (List Bool) = round_keys_by (read c.args.pass.now.halves) c.args.pass.now.deciphers in
     let all : length keys ≤ 2 * c.pairs.i =
     omega (arith, length-round_keys_by (read c.args.pass.now.halves) c.args.pass.now.deciphers) in
-    ap (λ (ks : List (List Bool)). after_rounds ks (read c.args.left.now) (read c.args.right.now)) (sym (take_all (2 * c.pairs.i) keys all))
+    ap (λ (ks : List (List Bool)). after_rounds ks (read c.args.left.now) (read c.args.right.now))
+    (sym (take_all (2 * c.pairs.i) keys all))
     ∙ c.pairs.invariant b within

@@ -33,7 +33,8 @@ passes-preserved g c b within =
     ap (λ (ks : List (List Bool)). after_rounds ks left right)
     (get_or-map keys c.args.passes.now n c.index-passes-i.result [] inside ∙ ap keys (sym c.index-passes-i.is))
     ∙ c.sixteen_rounds.ensures b within in
-    let made : AreHalves (last, next) = subst AreHalves rounds (AreHalves-after_rounds (get_or passes n []) left right halves) in (
+    let made : AreHalves (last, next) =
+    subst AreHalves rounds (AreHalves-after_rounds (get_or passes n []) left right halves) in (
       (made.1, made.0),
       through_passes-more passes n (read c.args.slices.now) left right last next
           (omega (arith, length-map c.args.passes.now keys)) halves.0 halves.1 (c.passes.invariant b within).1 rounds,

@@ -12,5 +12,6 @@ abbrev pub invariant-passes : goal.invariant-passes
 invariant-passes g l =
     InEachBlock g.S.Slice.BATCH (λ b. let read = map (g.S.Slice.bit b) in
     AreHalves (read l.left, read l.right)
-    × (select initial_permutation (through_passes (take l.i (map (round_keys_in (g.S.Slice.bit b)) l.passes)) (read l.slices))
+    × (select initial_permutation
+    (through_passes (take l.i (map (round_keys_in (g.S.Slice.bit b)) l.passes)) (read l.slices))
     ≡ read l.left ++ read l.right))

@@ -12,14 +12,16 @@ use Rattle.des_fast.proofs.slices.rounds.group.Goals as goal
 
 pub overflow_add-rotation : goal.overflow_add-rotation
 overflow_add-rotation g c =
-    let within = place_within c.args.rotation (6 * c.args.number + c.loop-i.i) 112 c.requires.around (omega (arith, c.requires.numbered)) refl in
+    let within = place_within c.args.rotation (6 * c.args.number + c.loop-i.i) 112 c.requires.around
+    (omega (arith, c.requires.numbered)) refl in
     record { fits = omega (arith, within) }
 
 pub offset_bounds-key-rotation : goal.offset_bounds-key-rotation
 offset_bounds-key-rotation g c =
     let place : ℕ = c.args.rotation + get_or PLACES (6 * c.args.number + c.loop-i.i) 0 in
     let within : place < 112 =
-    place_within c.args.rotation (6 * c.args.number + c.loop-i.i) 112 c.requires.around (omega (arith, c.requires.numbered)) refl in
+    place_within c.args.rotation (6 * c.args.number + c.loop-i.i) 112 c.requires.around
+    (omega (arith, c.requires.numbered)) refl in
     record { fits = omega (arith, mul-le place _ 112 32 (omega (arith, within)) g.met.S.Slice.few_bytes) }
 
 pub listed-in-loop-i : goal.listed-in-loop-i
@@ -29,7 +31,8 @@ listed-in-loop-i g c =
 
 pub bounds-key-rotation : goal.bounds-key-rotation
 bounds-key-rotation g c =
-    place_within c.args.rotation (6 * c.args.number + c.loop-i.i) 112 c.requires.around (omega (arith, c.requires.numbered)) refl
+    place_within c.args.rotation (6 * c.args.number + c.loop-i.i) 112 c.requires.around
+    (omega (arith, c.requires.numbered)) refl
 
 pub loop-i-init : goal.loop-i-init
 loop-i-init g c = (refl, λ k below b within. absurd (omega arith))
@@ -48,11 +51,13 @@ loop-i-preserved g c = (
       let in_bits : c.loop-i.i < length (map read c.loop-i.group) = rw (length-map c.loop-i.group read) inside in
       let in_half : (4 * c.args.number + c.loop-i.i + 31) % 32 < length c.args.half.now = omega arith in
       let in_key : c.args.rotation + get_or PLACES (6 * c.args.number + c.loop-i.i) 0 < length c.args.key.now =
-      place_within c.args.rotation (6 * c.args.number + c.loop-i.i) (length c.args.key.now) c.requires.around (omega arith) c.told-key in
+      place_within c.args.rotation (6 * c.args.number + c.loop-i.i) (length c.args.key.now) c.requires.around
+      (omega arith) c.told-key in
       ap (λ (bits : List Bool). get_or bits c.loop-i.i false) (map-set read c.loop-i.group c.loop-i.i c.xor.result)
       ∙ get_or-set_same (map read c.loop-i.group) c.loop-i.i (read c.xor.result) false in_bits
       ∙ c.xor.ensures b within
-      ∙ sym (ap₂ xor (get_or-map read c.args.half.now _ _ false in_half) (get_or-map read c.args.key.now _ _ false in_key))),
+      ∙ sym (ap₂ xor (get_or-map read c.args.half.now _ _ false in_half)
+      (get_or-map read c.args.key.now _ _ false in_key))),
 )
 
 pub returns : goal.returns
@@ -60,10 +65,11 @@ returns g c b within =
     let read = g.S.Slice.bit b in
     let key : List Bool = map read c.args.key.now in
     let size : length key ≡ 112 = length-map c.args.key.now read ∙ c.told-key in
-    group-xor_bits c.args.number (map read c.loop-i.group) (map read c.args.half.now) (round_key_of key c.args.rotation) c.requires.numbered
-    (length-map c.loop-i.group read ∙ c.loop-i.invariant.0)
+    group-xor_bits c.args.number (map read c.loop-i.group) (map read c.args.half.now) (round_key_of key c.args.rotation)
+    c.requires.numbered (length-map c.loop-i.group read ∙ c.loop-i.invariant.0)
     (length-select permuted_choice_2 _)
     (λ k below.
     c.loop-i.invariant.1 k (omega arith) b within
     ∙ ap (xor (get_or (map read c.args.half.now) ((4 * c.args.number + k + 31) % 32) false))
-    (sym (get_or-round_key_of key c.args.rotation (6 * c.args.number + k) size c.requires.around (omega (arith, c.requires.numbered)))))
+    (sym (get_or-round_key_of key c.args.rotation (6 * c.args.number + k) size c.requires.around
+    (omega (arith, c.requires.numbered)))))

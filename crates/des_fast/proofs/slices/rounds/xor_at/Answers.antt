@@ -11,9 +11,11 @@ use Rattle.des_fast.proofs.CipherFunctionByGroups.{xor_at-more}
 use Rattle.des_fast.proofs.slices.rounds.xor_at.Goals as goal
 
 -- an index is within a half block
-index_below : (indexes : List ℕ) (i : ℕ) → i < length indexes → IsTrue (list_all (λ x. nat_lt x 32) indexes) → get_or indexes i 0 < 32
+index_below : (indexes : List ℕ) (i : ℕ) → i < length indexes → IsTrue (list_all (λ x. nat_lt x 32) indexes)
+    → get_or indexes i 0 < 32
 index_below indexes i inside each =
-    ltb-true _ _ (All-get_or (λ x. nat_lt x 32 ≡ true) indexes i 0 inside (AllPass-from_list_all (λ x. nat_lt x 32) indexes each))
+    ltb-true _ _ (All-get_or (λ x. nat_lt x 32 ≡ true) indexes i 0 inside
+    (AllPass-from_list_all (λ x. nat_lt x 32) indexes each))
 
 -- and its slice is not far from the first
 offset-le : (index size : ℕ) → index < 32 → size ≤ 32 → index * size ≤ 32 * 32
@@ -34,11 +36,13 @@ loop-i-preserved g c = (
       let within_half : index < length half =
       omega (arith, index_below c.args.indexes i (omega arith) c.requires, c.loop-i.invariant.0) in
       let xored : read c.xor.result ≡ xor (get_or (map read half) index false) (get_or changes i false) =
-      c.xor.ensures b within ∙ sym (ap₂ xor (get_or-map read half _ _ false within_half) (get_or-map read c.args.changes _ _ false (omega arith))) in
+      c.xor.ensures b within ∙ sym (ap₂ xor (get_or-map read half _ _ false within_half)
+      (get_or-map read c.args.changes _ _ false (omega arith))) in
       let inside : i < length changes = rw (length-map c.args.changes read) (omega arith) in
       map-set read half index c.xor.result
       ∙ ap (slice_set (map read half) index) xored
-      ∙ ap (λ (bits : List Bool). xor_at bits (index ∷ []) (get_or changes i false ∷ [])) (c.loop-i.invariant.1 b within)
+      ∙ ap (λ (bits : List Bool). xor_at bits (index ∷ []) (get_or changes i false ∷ []))
+      (c.loop-i.invariant.1 b within)
       ∙ sym (xor_at-more (map read c.args.half.now) c.args.indexes changes i (omega arith) inside)
       ∙ ap (λ (k : ℕ). xor_at (map read c.args.half.now) (take k c.args.indexes) (take k changes)) (sym (add-one i)),
 )
@@ -60,7 +64,8 @@ offset_bounds-half-indexes-in-loop-i g c =
     record { fits = omega (arith, offset-le _ _ below g.met.S.Slice.few_bytes) }
 
 pub listed-in-loop-i-2 : goal.listed-in-loop-i-2
-listed-in-loop-i-2 g c = omega (arith, index_below c.args.indexes c.loop-i.i (omega arith) c.requires, c.loop-i.invariant.0)
+listed-in-loop-i-2 g c =
+    omega (arith, index_below c.args.indexes c.loop-i.i (omega arith) c.requires, c.loop-i.invariant.0)
 
 pub bounds-half-indexes-in-loop-i : goal.bounds-half-indexes-in-loop-i
 bounds-half-indexes-in-loop-i g c = index_below c.args.indexes c.loop-i.i (omega arith) c.requires

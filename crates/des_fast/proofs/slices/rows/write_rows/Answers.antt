@@ -15,7 +15,8 @@ rows-preserved g c =
         | inl same ↦
             ap (λ (k : ℕ). get_or c.write_row.new.blocks (64 * lane + k) []) same
             ∙ c.write_row.ensures.written lane within
-            ∙ ap block_of_bits (bits_of_lane-row bit rows n lane _ (omega arith) ∙ ap (λ (k : ℕ). row_lane bit rows k lane) (sym same))
+            ∙ ap block_of_bits (bits_of_lane-row bit rows n lane _ (omega arith)
+            ∙ ap (λ (k : ℕ). row_lane bit rows k lane) (sym same))
         | inr other ↦
             let low : m < n = omega arith in
             let elsewhere : (64 * lane + m) % 64 ≢ n = λ q. other (omega arith) in
@@ -27,6 +28,7 @@ pub returns : goal.returns
 returns g c = record {
   written = λ k within.
       let place : k ≡ 64 * (k / 64) + k % 64 = omega arith in
-      ap (λ (i : ℕ). get_or c.rows.blocks i []) place ∙ c.rows.invariant.1 (k / 64) (omega arith) (k % 64) (omega arith);
+      ap (λ (i : ℕ). get_or c.rows.blocks i []) place
+      ∙ c.rows.invariant.1 (k / 64) (omega arith) (k % 64) (omega arith);
   count = omega arith;
 }

@@ -8,4 +8,5 @@ use Rattle.des_fast.proofs.slices.transposition.write_every_eighth.Given as goal
 abbrev pub invariant-loop-j : goal.invariant-loop-j
 invariant-loop-j g l =
     (length l.rows ≡ 64)
-    × InEachBlock g.S.Slice.BATCH (λ b. AreWrittenAt (g.S.Slice.bit b) (apart_place l.i) l.eight l.initial.rows l.rows l.j)
+    × InEachBlock g.S.Slice.BATCH
+    (λ b. AreWrittenAt (g.S.Slice.bit b) (apart_place l.i) l.eight l.initial.rows l.rows l.j)

@@ -15,7 +15,8 @@ returns-then-bytes-room-clause-holds g c = λ key m holds.
       is_key = holds.is_key;
       made = rw c.hold.ensures.cipher holds.made;
       absorbed = rw (same, c.hold.ensures.chain)
-          (Absorbed-held _ _ _ _ _ m bytes _ _ state (c.hold.ensures.width ∙ state.width) c.hold.ensures.count c.hold.ensures.held);
+          (Absorbed-held _ _ _ _ _ m bytes _ _ state (c.hold.ensures.width ∙ state.width) c.hold.ensures.count
+          c.hold.ensures.held);
     }
 
 -- their head fills the held block, their last block is held, and those between them are chained
@@ -32,11 +33,14 @@ returns-clause-holds g c = λ key m holds.
     let state = holds.absorbed in
     let head_long : length head ≡ 8 - c.args.self.now.count = c.split_at.ensures.front_len in
     let filled : length (m ++ head) ≡ 8 * (n + 1) = omega (arith, state.counted, length-append m head) in
-    let joined : head ++ rest ≡ bytes = rw (c.split_at.ensures.front, c.split_at.ensures.back) (take-append-drop _ bytes) in
-    let cut : whole ++ last ≡ rest = rw (c.split_at-2.ensures.front, c.split_at-2.ensures.back) (take-append-drop _ rest) in
+    let joined : head ++ rest ≡ bytes =
+    rw (c.split_at.ensures.front, c.split_at.ensures.back) (take-append-drop _ bytes) in
+    let cut : whole ++ last ≡ rest =
+    rw (c.split_at-2.ensures.front, c.split_at-2.ensures.back) (take-append-drop _ rest) in
     let full : c.hold-2.new.self.count ≡ 8 = omega (arith, c.hold-2.ensures.count) in
     let width : length c.hold-2.new.self.held ≡ 8 = c.hold-2.ensures.width ∙ state.width in
-    let first = Absorbed-held e n _ _ _ m head c.hold-2.new.self.held c.hold-2.new.self.count state width c.hold-2.ensures.count
+    let first =
+    Absorbed-held e n _ _ _ m head c.hold-2.new.self.held c.hold-2.new.self.count state width c.hold-2.ensures.count
     c.hold-2.ensures.held in
     let made = rw (sym c.hold-2.ensures.cipher) at holds.made in
     let begun = rw c.hold-2.ensures.chain at (c.chain_block.ensures key holds.is_key made) in
@@ -44,7 +48,8 @@ returns-clause-holds g c = λ key m holds.
     let between = c.chain_blocks.ensures key holds.is_key made (m ++ bytes) (n + 1)
     (λ i within. block_after-rest e n m head rest bytes joined filled whole last cut blocks c.as_chunks.ensures.front i
     (omega (arith, c.as_chunks.ensures.front_len))) chain in
-    let whole_long : length whole ≡ 8 * length blocks = omega (arith, c.as_chunks.ensures.front_len, c.split_at-2.ensures.front_len) in
+    let whole_long : length whole ≡ 8 * length blocks =
+    omega (arith, c.as_chunks.ensures.front_len, c.split_at-2.ensures.front_len) in
     let rest_long : length rest + (8 - c.args.self.now.count) ≡ length bytes = c.split_at.ensures.back_len in
     let all_long : length (m ++ bytes) ≡ length m + length bytes = length-append m bytes in
     let same : block_count (length (m ++ bytes)) - 1 ≡ n + 1 + length blocks =
@@ -53,6 +58,7 @@ returns-clause-holds g c = λ key m holds.
       is_key = holds.is_key;
       made = rw (c.hold-3.ensures.cipher, c.hold-2.ensures.cipher) holds.made;
       absorbed = rw (same, c.hold-3.ensures.chain)
-          (Absorbed-rest e n m head rest bytes joined filled whole last cut _ _ _ (length blocks) (c.hold-3.ensures.width ∙ width)
+          (Absorbed-rest e n m head rest bytes joined filled whole last cut _ _ _ (length blocks)
+          (c.hold-3.ensures.width ∙ width)
           whole_long (omega (arith, c.hold-3.ensures.count)) c.hold-3.ensures.held between);
     }

@@ -17,7 +17,8 @@ returns g c = λ key m holds.
           let state = rw (w.padding.ensures (length m) last) at (w.update.ensures.holds key m holds) in
           let whole : AreWholeBlocks (length (padded one_bit_after m)) =
           rw (length-append m (one_bit_after (length m))) (AreWholeBlocks-one_bit_after (length m)) in
-          rw (w.subkey-is, w.doubled-subkey.ensures, first) at (c.close_masked.ensures key (padded one_bit_after m) (rw w.self-is state) whole)
+          rw (w.subkey-is, w.doubled-subkey.ensures, first)
+          at (c.close_masked.ensures key (padded one_bit_after m) (rw w.self-is state) whole)
           ∙ ap (cbc_mac e) (sym (masked_message-part (e zero_block) m (omega arith)))
       | else-count-lt8 w ↦
           let full : last_count (length m) ≡ 8 = omega arith in

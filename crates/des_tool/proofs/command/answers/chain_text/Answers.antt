@@ -17,18 +17,21 @@ use Rattle.des_tool.proofs.command.answers.chain_text.Goals as goal
 
 -- a text of a list chained by what the key answers is one of a list chained under the cipher's relation
 answered : (cipher : Cipher) (direction : Direction) (key iv digits : List ℕ) (result : Result (Vec ℕ Global) Fault)
-    → IfOk result (λ text. IsTextOf (ReadIn direction (Chains (IsMadeBy (encryption_by cipher) (key_size_of cipher) key) iv))
+    → IfOk result (λ text.
+    IsTextOf (ReadIn direction (Chains (IsMadeBy (encryption_by cipher) (key_size_of cipher) key) iv))
     digits text.items)
     → IfOk result (λ text. IsTextOf (ReadIn direction (Chains (relation_of cipher key) iv)) digits text.items)
 answered cipher direction key iv digits result =
-    IfOk-weaker result _ _ (λ text. IsTextOf-chained direction (encryption_by cipher) (key_size_of cipher) key iv (relation_of cipher key)
+    IfOk-weaker result _ _ (λ text.
+    IsTextOf-chained direction (encryption_by cipher) (key_size_of cipher) key iv (relation_of cipher key)
     (λ is_key. (AnswerBy-cipher cipher key is_key).encryption) digits text.items)
 
 pub returns-in-DesCbc-clause-answer : goal.returns-in-DesCbc-clause-answer
 returns-in-DesCbc-clause-answer c =
     let key = bytes_of_digits c.args.key.now in
     let iv = bytes_of_digits c.args.vector.now in
-    rw c.in-DesCbc.is (answered Des c.args.direction key iv c.args.digits.now c.chain_text_by.result c.chain_text_by.ensures.answer)
+    rw c.in-DesCbc.is (answered Des c.args.direction key iv c.args.digits.now c.chain_text_by.result
+    c.chain_text_by.ensures.answer)
 
 pub returns-in-Ede3Cbc-clause-answer : goal.returns-in-Ede3Cbc-clause-answer
 returns-in-Ede3Cbc-clause-answer c =

@@ -23,7 +23,8 @@ returns-clause-answer g c =
       blocks = blocks.items;
       answers = c.as_slice.result.now;
       joined = c.in_ok-blocks.ensures.joined;
-      answered = rw kept (ReadIn-chained c.args.direction encrypts decrypts g.C.KeyedCipher.encryption g.C.KeySizeUser.KEY_SIZE key iv
+      answered = rw kept (ReadIn-chained c.args.direction encrypts decrypts g.C.KeyedCipher.encryption
+          g.C.KeySizeUser.KEY_SIZE key iv
           blocks.items c.answer_chain.new.blocks is_key c.in_ok-iv.ensures.is_block c.in_ok-blocks.ensures.blocks
           (g.met.C.BlockCipher.encrypted_is_block cipher) (g.met.C.BlockCipher.decrypted_is_block cipher)
           (g.met.C.BlockCipher.encrypts_decrypted cipher)

@@ -13,7 +13,8 @@ returns-clause-answer g c =
     let key = bytes_of_digits c.args.key.now in
     let is_key = c.in_ok-cipher.ensures.key in
     let made = c.in_ok-cipher.ensures.made in
-    let answers = in_direction c.args.direction g.C.BlockCipherEncrypt.encrypted g.C.BlockCipherDecrypt.decrypted cipher in
+    let answers =
+    in_direction c.args.direction g.C.BlockCipherEncrypt.encrypted g.C.BlockCipherDecrypt.decrypted cipher in
     let kept : c.as_slice.result.now ≡ c.answer_each.new.blocks =
     c.as_slice.ensures.value ∙ with_items_is blocks c.answer_each.new.blocks (omega arith) in
     IfOk-weaker c.text_of.result _ _

@@ -11,7 +11,8 @@ decode-requires-clause-digits c =
     let text = c.args.digits.now in
     let chunks = c.as_chunks.result.0.now in
     let index = c.loop-chunk.chunk-index in
-    let cut : chunks ≡ first_chunks 16 (length text / 16) text = rw c.as_bytes.ensures.value at c.as_chunks.ensures.front in
+    let cut : chunks ≡ first_chunks 16 (length text / 16) text =
+    rw c.as_bytes.ensures.value at c.as_chunks.ensures.front in
     let count = c.as_bytes.ensures.len in
     let within : index < length text / 16 = omega (arith, c.as_chunks.ensures.front_len) in
     let digits = AllPass-from_list_all is_hex_digit text (sym c.are_digits.ensures ∙ c.if-not-are_digits.false) in
@@ -23,7 +24,8 @@ returns-clause-joined c =
     let text = c.args.digits.now in
     let chunks = c.as_chunks.result.0.now in
     let index = c.loop-chunk.chunk-index in
-    let cut : chunks ≡ first_chunks 16 (length text / 16) text = rw c.as_bytes.ensures.value at c.as_chunks.ensures.front in
+    let cut : chunks ≡ first_chunks 16 (length text / 16) text =
+    rw c.as_bytes.ensures.value at c.as_chunks.ensures.front in
     let whole : length text ≡ 16 * (length text / 16) = omega arith in
     ap concat (items-chunks text chunks _ index cut c.loop-chunk-test.false c.loop-chunk.invariant)
     ∙ concat-chunks (length text / 16) text whole
@@ -33,7 +35,8 @@ returns-clause-blocks c =
     let text = c.args.digits.now in
     let chunks = c.as_chunks.result.0.now in
     let index = c.loop-chunk.chunk-index in
-    let cut : chunks ≡ first_chunks 16 (length text / 16) text = rw c.as_bytes.ensures.value at c.as_chunks.ensures.front in
+    let cut : chunks ≡ first_chunks 16 (length text / 16) text =
+    rw c.as_bytes.ensures.value at c.as_chunks.ensures.front in
     let digits = AllPass-from_list_all is_hex_digit text (sym c.are_digits.ensures ∙ c.if-not-are_digits.false) in
     rw (items-chunks text chunks _ index cut c.loop-chunk-test.false c.loop-chunk.invariant)
     (All-IsBlock-chunks (length text / 16) text (omega arith) digits)

@@ -6,5 +6,7 @@ use Rattle.des_tool.proofs.command.process.run.Goals as goal
 pub returns-in-Err : goal.returns-in-Err
 returns-in-Err g c =
     let fault = c.in-Err.fault in
-    let shown = rw (c.in-Err.ensures.out, c.in-Err.ensures.err) at c.finish.ensures in
-    (Err fault, IsRun-from_IsShown g.W.Write.contents g.E.Write.contents (Err fault) (Err fault) _ _ _ _ _ refl tt shown)
+    let shown = rw (c.in-Err.ensures.out, c.in-Err.ensures.err) at c.finish.ensures in (
+      Err fault,
+      IsRun-from_IsShown g.W.Write.contents g.E.Write.contents (Err fault) (Err fault) _ _ _ _ _ refl tt shown,
+    )

@@ -1,8 +1,7 @@
-use Rattle.std.proofs.Common.{◌<◌, ◌∙◌}
-use Rattle.std.proofs.lemmas.List.Elements.{All-from_get_or}
-use Rattle.des.specs.Blocks.{IsBlock}
+use Rattle.std.proofs.Common.{◌∙◌}
 use Rattle.des.specs.Triple.{EnciphersEde3}
 use Rattle.des.specs.Laws.TriplePasses.{Agree-ede3_decrypted}
+use Rattle.des.proofs.ByteArrays.{IsBlock-array}
 use Rattle.des.proofs.PassGraphs.{IsTheOne-answer}
 use Rattle.des.proofs.TripleGraphs.{AnswerBy-Ede3}
 use Rattle.des.proofs.tdes.ede3.Ede3BlockCipherDecrypt.decrypt_block.Goals as goal
@@ -11,6 +10,8 @@ use Rattle.des.proofs.tdes.ede3.Ede3BlockCipherDecrypt.decrypt_block.Goals as go
 pub returns-clause-deciphers : goal.returns-clause-deciphers
 returns-clause-deciphers g c key made =
     let block = c.args.block.now in
-    let is_block : IsBlock block = (c.told-block, All-from_get_or (λ byte. byte < 256) block 0 (λ i within. c.fits-block i)) in
-    IsTheOne-answer _ (λ y x. EnciphersEde3 key x y) block c.decrypt_ede.new.block (AnswerBy-Ede3 key made.0).decryption is_block
-    (c.decrypt_ede.ensures ∙ (Agree-ede3_decrypted g.met.D.SingleDes.answers_as_des c.args.self.now key made).at block is_block)
+    let is_block = IsBlock-array block c.told-block c.fits-block in
+    IsTheOne-answer _ (λ y x. EnciphersEde3 key x y) block c.decrypt_ede.new.block (AnswerBy-Ede3 key made.0).decryption
+    is_block
+    (c.decrypt_ede.ensures
+    ∙ (Agree-ede3_decrypted g.met.D.SingleDes.answers_as_des c.args.self.now key made).at block is_block)

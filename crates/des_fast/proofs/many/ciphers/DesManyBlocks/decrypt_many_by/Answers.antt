@@ -4,4 +4,5 @@ use Rattle.des_fast.proofs.many.ciphers.DesManyBlocks.decrypt_many_by.Goals as g
 
 pub returns-clause-decrypted : goal.returns-clause-decrypted
 returns-clause-decrypted g c =
-    c.answer_one.ensures ∙ ap (λ (keys : List (List Bool)). map (answer_by keys) c.args.blocks.now) c.deciphering.ensures
+    c.answer_one.ensures
+    ∙ ap (λ (keys : List (List Bool)). map (answer_by keys) c.args.blocks.now) c.deciphering.ensures

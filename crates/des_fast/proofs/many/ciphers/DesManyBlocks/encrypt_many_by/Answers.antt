@@ -4,4 +4,5 @@ use Rattle.des_fast.proofs.many.ciphers.DesManyBlocks.encrypt_many_by.Goals as g
 
 pub returns-clause-encrypted : goal.returns-clause-encrypted
 returns-clause-encrypted g c =
-    c.answer_one.ensures ∙ ap (λ (keys : List (List Bool)). map (answer_by keys) c.args.blocks.now) c.enciphering.ensures
+    c.answer_one.ensures
+    ∙ ap (λ (keys : List (List Bool)). map (answer_by keys) c.args.blocks.now) c.enciphering.ensures

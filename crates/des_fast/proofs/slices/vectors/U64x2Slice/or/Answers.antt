@@ -4,4 +4,5 @@ use Rattle.des_fast.proofs.slices.vectors.U64x2Slice.or.Goals as goal
 
 pub returns : goal.returns
 returns c b within =
-    (HasBit-bitwise bit_or ◌||◌ IsBitwise-or 2 b c.args.self c.args.other _ _ within (c.fits-self, refl) (c.fits-other, refl)).1
+    (HasBit-bitwise bit_or ◌||◌ IsBitwise-or 2 b c.args.self c.args.other _ _ within (c.fits-self, refl)
+    (c.fits-other, refl)).1

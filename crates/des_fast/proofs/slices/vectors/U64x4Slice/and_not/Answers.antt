@@ -4,4 +4,5 @@ use Rattle.des_fast.proofs.slices.vectors.U64x4Slice.and_not.Goals as goal
 
 pub returns : goal.returns
 returns c b within =
-    (HasBit-bitwise bit_and ◌&&◌ IsBitwise-and 4 b c.args.self _ _ _ within (c.fits-self, refl) (HasBit-not 4 b c.args.other _ within (c.fits-other, refl))).1
+    (HasBit-bitwise bit_and ◌&&◌ IsBitwise-and 4 b c.args.self _ _ _ within (c.fits-self, refl)
+    (HasBit-not 4 b c.args.other _ within (c.fits-other, refl))).1

@@ -11,4 +11,5 @@ overflow_shl-result c = shifts_fit_splat 64 _ 4 _ c.requires.within
 pub returns : goal.returns
 returns c =
     let a = c.args in
-    ArePairwiseExchanged-rows 4 a.distance a.mask a.self a.lower c.requires.within c.requires.pairs c.fits-self.0 c.fits-lower.0
+    ArePairwiseExchanged-rows 4 a.distance a.mask a.self a.lower c.requires.within c.requires.pairs c.fits-self.0
+    c.fits-lower.0

@@ -10,7 +10,8 @@ returns c =
     let n : ℕ = c.args.n in
     let old : List (List ℕ) = c.args.blocks.now in
     let upto_1 = AreWordsWritten-more bit_of_block row n old _ 0 n c.block_of.result c.word.result
-    (omega arith) (omega arith) (omega arith) c.word.ensures c.block_of.ensures (AreWordsWritten-none bit_of_block row n old) in
+    (omega arith) (omega arith) (omega arith) c.word.ensures c.block_of.ensures
+    (AreWordsWritten-none bit_of_block row n old) in
     let upto_2 = AreWordsWritten-more bit_of_block row n old _ 1 (64 + n) c.block_of-2.result c.word-2.result
     (omega arith) (omega arith) (omega arith) c.word-2.ensures c.block_of-2.ensures upto_1 in
     let upto_3 = AreWordsWritten-more bit_of_block row n old _ 2 (128 + n) c.block_of-3.result c.word-3.result
