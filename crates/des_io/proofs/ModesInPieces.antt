@@ -1,8 +1,5 @@
 -- Lists of blocks that are enciphered or deciphered piece after piece.
-use Rattle.std.proofs.Common.{◌≡◌, ◌⊎◌, inl, inr, ℕ, suc, ◌+◌, ◌-◌, ◌<◌, ◌≤◌, List, [], ◌∷◌, ◌++◌, length, get_or, map, refl, ap, ap₂, sym, ◌∙◌, arith, length-append}
-use Rattle.std.proofs.lemmas.List.{get_or-append_right}
-use Rattle.std.proofs.Math.ListN.{get_or-append}
-use Rattle.des.specs.Cbc.{next_vector}
+use Rattle.std.proofs.Common.{◌≡◌, ℕ, suc, List, [], ◌∷◌, ◌++◌, length, map, refl, ap, ap₂, sym, ◌∙◌, arith}
 use Rattle.des_io.specs.CipherModes.{Enciphered, Deciphered, mode_after}
 use Rattle.des_io.specs.declared.mode.Mode.{Mode}
 use Rattle.des_io.specs.declared.mode.Mode.TheVariants.{Ecb, Cbc as InChain}
@@ -49,7 +46,7 @@ length-map f [] = refl
 length-map f (block ∷ blocks) = ap suc (length-map f blocks)
 
 -- as many blocks are deciphered as there are
-Deciphered-count : (decryption : List ℕ → List ℕ) (mode : Mode) (q p : List (List ℕ)) → Deciphered decryption mode q p → length p ≡ length q
+pub Deciphered-count : (decryption : List ℕ → List ℕ) (mode : Mode) (q p : List (List ℕ)) → Deciphered decryption mode q p → length p ≡ length q
 Deciphered-count decryption Ecb q p deciphered = ap length deciphered ∙ length-map decryption q
 Deciphered-count decryption (InChain iv) q p deciphered = deciphered.count
 

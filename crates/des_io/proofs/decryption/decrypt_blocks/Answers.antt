@@ -10,7 +10,6 @@ pub loop-init : goal.loop-init
 loop-init g c =
     let none = HoldsLast-none _ _ _ _ in record {
       count = refl;
-      room = refl;
       so_far = none.0;
       left = IsLeft-all _ _
           none.2;
@@ -37,7 +36,7 @@ returns-then-n-ne0-clause-fault g c =
 
 pub returns-in_err-decrypt_piece-clause-front : goal.returns-in_err-decrypt_piece-clause-front
 returns-in_err-decrypt_piece-clause-front g c =
-    let size : length (take c.in_ok-n.n c.fill_front.new.buffer) ≡ c.in_ok-n.n = length-take-le _ _ (search rules) in
+    let size : length (take c.in_ok-n.n c.fill_prefix.new.buffer) ≡ c.in_ok-n.n = length-take-le _ _ (search rules) in
     let counts = length-piece _ _ _ _ _ _ _ _ _ c.in_ok-n.n size c.in_err-decrypt_piece.ensures.deciphered in
     HoldsFront-written _ _ _ _ _ _ _ _ _ _ _ _ _ _ _ c.loop.invariant.so_far c.loop.invariant.after
     c.in_ok-n.ensures.read
@@ -51,7 +50,7 @@ returns-then-n-bytes-clause-done g c =
     c.in_ok-n.ensures.read
     c.in_ok-decrypt_piece.ensures.deciphered in
     let piece = c.in_ok-decrypt_piece.ensures.deciphered in
-    let size : length (take c.in_ok-n.n c.fill_front.new.buffer) ≡ c.in_ok-n.n = length-take-le _ _ (search rules) in
+    let size : length (take c.in_ok-n.n c.fill_prefix.new.buffer) ≡ c.in_ok-n.n = length-take-le _ _ (search rules) in
     let counts = length-piece _ _ _ _ _ _ _ _ _ c.in_ok-n.n size piece in
     record {
       holds = more.0;
@@ -64,8 +63,7 @@ returns-then-n-bytes-clause-done g c =
             c.if-n-bytes.true,
             c.in_ok-n.ensures.room,
             c.loop.invariant.count,
-            c.loop.invariant.room,
-            c.requires.size,
+            c.as_flattened_mut-bytes.ensures.len,
           ))
           | inr is ↦ inr (IsLeft-none _ _ _ _ _ c.next_count-count.result c.loop.invariant.left is
               (omega (arith, all, counts)) more.2)
@@ -78,7 +76,7 @@ returns-then-n-bytes-clause-done g c =
 
 pub returns-then-n-bytes-clause-front : goal.returns-then-n-bytes-clause-front
 returns-then-n-bytes-clause-front g c =
-    let size : length (take c.in_ok-n.n c.fill_front.new.buffer) ≡ c.in_ok-n.n = length-take-le _ _ (search rules) in
+    let size : length (take c.in_ok-n.n c.fill_prefix.new.buffer) ≡ c.in_ok-n.n = length-take-le _ _ (search rules) in
     let counts = length-piece _ _ _ _ _ _ _ _ _ c.in_ok-n.n size c.in_ok-decrypt_piece.ensures.deciphered in
     HoldsFront-written _ _ _ _ _ _ _ _ _ _ _ _ _ _ _ c.loop.invariant.so_far c.loop.invariant.after
     c.in_ok-n.ensures.read
@@ -91,11 +89,10 @@ loop-preserved g c =
     let more = HoldsLast-more _ _ _ _ _ _ _ _ _ _ _ _ _ _ refl c.loop.invariant.so_far c.loop.invariant.after
     c.in_ok-n.ensures.read
     c.in_ok-decrypt_piece.ensures.deciphered in
-    let size : length (take c.in_ok-n.n c.fill_front.new.buffer) ≡ c.in_ok-n.n = length-take-le _ _ (search rules) in
+    let size : length (take c.in_ok-n.n c.fill_prefix.new.buffer) ≡ c.in_ok-n.n = length-take-le _ _ (search rules) in
     let counts = length-piece _ _ _ _ _ _ _ _ _ c.in_ok-n.n size c.in_ok-decrypt_piece.ensures.deciphered in
     record {
       count = search rules;
-      room = search rules;
       so_far = more.0;
       left = IsLeft-more _ _ _ _ _ _ _ c.loop.invariant.left c.left_after-left.ensures (omega (arith, counts)) more.2;
       after = more.1;

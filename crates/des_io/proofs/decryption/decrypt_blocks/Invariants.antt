@@ -7,7 +7,6 @@ use Rattle.des_io.proofs.decryption.decrypt_blocks.Given as goal
 abbrev pub invariant-loop : goal.invariant-loop
 invariant-loop g l = record {
   count : length l.bytes ≡ length l.initial.bytes;
-  room : length l.blocks ≡ length l.initial.blocks;
   so_far : HoldsLast (g.C.BlockCipherDecrypt.decrypted l.cipher) l.initial.mode (g.R.Read.remaining l.initial.reader)
       (g.R.Read.remaining l.reader) (g.W.Write.contents l.initial.writer) (g.W.Write.contents l.writer) l.held;
   left : IsLeft l.initial.left (length so_far.q) l.left;

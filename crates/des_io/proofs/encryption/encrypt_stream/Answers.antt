@@ -5,7 +5,7 @@ use Rattle.des_io.proofs.EncryptedPieces.{EncryptsBlocks-none, EncryptsBlocks-mo
 use Rattle.des_io.proofs.encryption.encrypt_stream.Goals as goal
 
 pub loop-init : goal.loop-init
-loop-init g c = record { count = refl; room = refl; so_far = EncryptsBlocks-none _ _ _ _ }
+loop-init g c = record { count = refl; so_far = EncryptsBlocks-none _ _ _ _ }
 
 pub returns-in_err-n-clause-front : goal.returns-in_err-n-clause-front
 returns-in_err-n-clause-front g c =
@@ -55,7 +55,6 @@ loop-preserved g c =
     c.in_ok-n.ensures.read in
     record {
       count = search rules;
-      room = search rules;
       so_far = EncryptsBlocks-more _ _ _ _ _ _ _ _ _ _ _ _ refl c.loop.invariant.so_far read
           c.in_ok-encrypt_piece-2.ensures.enciphered;
     }

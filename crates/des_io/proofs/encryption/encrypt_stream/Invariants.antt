@@ -6,7 +6,6 @@ use Rattle.des_io.proofs.encryption.encrypt_stream.Given as goal
 abbrev pub invariant-loop : goal.invariant-loop
 invariant-loop g l = record {
   count : length l.bytes ≡ length l.initial.bytes;
-  room : length l.blocks ≡ length l.initial.blocks;
   so_far : EncryptsBlocks (g.C.BlockCipherEncrypt.encrypted l.cipher) l.initial.mode l.mode (g.R.Read.remaining l.initial.reader)
       (g.R.Read.remaining l.reader) (g.W.Write.contents l.initial.writer) (g.W.Write.contents l.writer);
 }

@@ -7,7 +7,7 @@ returns-then-not-branch-clause-done g c =
     let (bytes, read, after) = c.in_ok-is_at_end.ensures.read in
     let off : c.in_ok-is_at_end.field-0 ≡ false = search rules in
     let more = rw off at after in
-    (EndsPart-more _ _ _ c.args.padding _ _ _ _ _ _ _ _ bytes c.in_ok-last.ensures.done read more
+    (EndsPart-more _ _ _ c.args.transformation.now.padding _ _ _ _ _ _ _ _ bytes c.in_ok-last.ensures.done read more
     c.finish.ensures.ended).done
 
 pub returns-then-not-branch-clause-front : goal.returns-then-not-branch-clause-front
@@ -15,7 +15,7 @@ returns-then-not-branch-clause-front g c =
     let (bytes, read, after) = c.in_ok-is_at_end.ensures.read in
     let off : c.in_ok-is_at_end.field-0 ≡ false = search rules in
     let more = rw off at after in
-    (EndsPart-more _ _ _ c.args.padding _ _ _ _ _ _ _ _ bytes c.in_ok-last.ensures.done read more
+    (EndsPart-more _ _ _ c.args.transformation.now.padding _ _ _ _ _ _ _ _ bytes c.in_ok-last.ensures.done read more
     c.finish.ensures.ended).front
 
 pub returns-then-not-branch-clause-fault : goal.returns-then-not-branch-clause-fault
@@ -23,7 +23,7 @@ returns-then-not-branch-clause-fault g c =
     let (bytes, read, after) = c.in_ok-is_at_end.ensures.read in
     let off : c.in_ok-is_at_end.field-0 ≡ false = search rules in
     let more = rw off at after in
-    (EndsPart-more _ _ _ c.args.padding _ _ _ _ _ _ _ _ bytes c.in_ok-last.ensures.done read more
+    (EndsPart-more _ _ _ c.args.transformation.now.padding _ _ _ _ _ _ _ _ bytes c.in_ok-last.ensures.done read more
     c.finish.ensures.ended).fault
 
 pub returns-in-None-clause-fault : goal.returns-in-None-clause-fault
