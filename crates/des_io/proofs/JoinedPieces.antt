@@ -7,17 +7,20 @@ use borrow.Rule.Slice.PartMut.{put_mid, post_of}
 use lib.Seq.{take-add}
 
 -- what was there, and a part behind it
-pub take_split : (a b : ℕ) (old new : List ℕ) → a ≤ b → take a new ≡ take a old → take a old ++ slice_range new a b ≡ take b new
-take_split a b old new h front =
+pub take_split : (a b : ℕ) (old new : List ℕ) → a ≤ b → take a new ≡ take a old
+    → take a old ++ slice_range new a b ≡ take b new
+take_split a b old new h prefix =
     let same : a + (b - a) ≡ b = omega arith in
-    ap (λ l. l ++ slice_range new a b) (sym front) ∙ sym (take-add a (b - a) new) ∙ ap (λ n. take n new) same
+    ap (λ l. l ++ slice_range new a b) (sym prefix) ∙ sym (take-add a (b - a) new) ∙ ap (λ n. take n new) same
 
 -- a part of what was written into a part
-pub slice_range-put_mid : (a k n : ℕ) (xs ys : List ℕ) → a ≤ length xs → n ≤ length ys → slice_range (put_mid a k xs ys) a (a + n) ≡ take n ys
+pub slice_range-put_mid : (a k n : ℕ) (xs ys : List ℕ) → a ≤ length xs → n ≤ length ys
+    → slice_range (put_mid a k xs ys) a (a + n) ≡ take n ys
 slice_range-put_mid a k n xs ys within fits =
     let same : (a + n) - a ≡ n = omega arith in
     let after = post_of a k xs in
-    ap (take ((a + n) - a)) (drop_at (take a xs) (ys ++ after) a (length-take-le a xs within)) ∙ ap (λ m. take m (ys ++ after)) same ∙ take-append-le n ys after fits
+    ap (take ((a + n) - a)) (drop_at (take a xs) (ys ++ after) a (length-take-le a xs within))
+    ∙ ap (λ m. take m (ys ++ after)) same ∙ take-append-le n ys after fits
 
 joined_first : (count : ℕ) (bytes : List ℕ) → length bytes ≡ 8 * count → joined (first_chunks 8 count bytes) ≡ bytes
 joined_first zero [] size = refl

@@ -3,8 +3,8 @@
 ghost use Rattle.std.specs.Prelude.{◌≡◌, ◌⊎◌, ◌≤◌, ◌<◌, ◌%◌, ℕ, Some, length, take, IfSome};
 ghost use Rattle.std.specs.Prelude.{IfOk, IfErr, IsOk};
 ghost use Rattle.std.specs.Io.KnownBytes.{Appends, IsAtEnd};
-ghost use Rattle.des_io.specs.Streams.{bytes_of, WritesPiece, DeciphersPiece, IsLeft};
-ghost use Rattle.des_io.specs.Streams.{HoldsPart, HoldsFront, Decrypts, DecryptsFront};
+ghost use Rattle.des_io.specs.Streams.{passage_of, stage_of, bytes_of, WritesPiece, DeciphersPiece, IsLeft};
+ghost use Rattle.des_io.specs.Streams.{HoldsPart, HoldsPrefix, Decrypts, DecryptsPrefix};
 ghost use Rattle.des_io.specs.StreamFaults.{FailsBefore, EndsStream, FailsToDecrypt, IsOfWriting};
 
 use crate::error::{StreamError, without_end};
@@ -57,8 +57,9 @@ fn decrypt_piece<W: Write, C: ManyBlocks>(
     bytes: &mut [u8],
 ) -> Result<(), StreamError>
     requires { length bytes.old % 8 ≡ 0 }
-    ensures deciphered { DeciphersPiece (C.decrypted cipher.now) mode.old mode.new bytes.old
-        held.old held.new (W.contents writer.old) (W.contents writer.new) (IsOk result) }
+    ensures deciphered { DeciphersPiece (C.decrypted cipher.now) bytes.old
+        (stage_of mode.old held.old (W.contents writer.old))
+        (stage_of mode.new held.new (W.contents writer.new)) (IsOk result) }
     ensures fault { IfErr result IsOfWriting }
 {
     let (blocks, _) = bytes.as_chunks_mut::<8>();
@@ -107,11 +108,11 @@ pub fn decrypt_blocks<R: Read, W: Write, C: ManyBlocks>(
 ) -> Result<Option<[u8; 8]>, StreamError>
     requires room { 0 < length buffer.old }
     ensures done { IfOk result (λ last. HoldsPart (C.decrypted cipher.now) mode limit
-        (R.remaining reader.old) (R.remaining reader.new)
-        (W.contents writer.old) (W.contents writer.new) last) }
-    ensures front { HoldsFront (C.decrypted cipher.now) mode limit
-        (R.remaining reader.old) (R.remaining reader.new)
-        (W.contents writer.old) (W.contents writer.new) }
+        (passage_of (R.remaining reader.old) (R.remaining reader.new)
+        (W.contents writer.old) (W.contents writer.new)) last) }
+    ensures prefix { HoldsPrefix (C.decrypted cipher.now) mode limit
+        (passage_of (R.remaining reader.old) (R.remaining reader.new)
+        (W.contents writer.old) (W.contents writer.new)) }
     ensures fault { IfErr result (λ fault.
         FailsBefore fault limit (R.remaining reader.old) (R.remaining reader.new)) }
 {
@@ -175,18 +176,18 @@ pub fn decrypt_stream<R: Read, W: Write, C: ManyBlocks>(
     requires room { 0 < length buffer.old }
     ensures done { IfOk result (λ _. Decrypts (C.decrypted transformation.now.cipher.now)
         transformation.now.mode transformation.now.padding
-        (R.remaining reader.old) (R.remaining reader.new)
-        (W.contents writer.old) (W.contents writer.new)) }
+        (passage_of (R.remaining reader.old) (R.remaining reader.new)
+        (W.contents writer.old) (W.contents writer.new))) }
     ensures end { IfOk result (λ _. IsAtEnd (R.remaining reader.new)) }
-    ensures front { DecryptsFront (C.decrypted transformation.now.cipher.now)
+    ensures prefix { DecryptsPrefix (C.decrypted transformation.now.cipher.now)
         transformation.now.mode transformation.now.padding
-        (R.remaining reader.old) (R.remaining reader.new)
-        (W.contents writer.old) (W.contents writer.new) }
+        (passage_of (R.remaining reader.old) (R.remaining reader.new)
+        (W.contents writer.old) (W.contents writer.new)) }
     ensures fault { IfErr result (λ fault.
         FailsToDecrypt fault (C.decrypted transformation.now.cipher.now)
         transformation.now.mode transformation.now.padding
-        (R.remaining reader.old) (R.remaining reader.new)
-        (W.contents writer.old) (W.contents writer.new)) }
+        (passage_of (R.remaining reader.old) (R.remaining reader.new)
+        (W.contents writer.old) (W.contents writer.new))) }
 {
     let Transformation {
         cipher,

@@ -2,7 +2,7 @@
 
 ghost use Rattle.std.specs.Prelude.{◌≡◌, ◌<◌, ◌%◌, length, IfOk, IfErr, IsOk};
 ghost use Rattle.std.specs.Io.KnownBytes.{IsAtEnd};
-ghost use Rattle.des_io.specs.Streams.{EnciphersPiece, Encrypts, EncryptsFront};
+ghost use Rattle.des_io.specs.Streams.{passage_of, EnciphersPiece, Encrypts, EncryptsPrefix};
 ghost use Rattle.des_io.specs.StreamFaults.{FailsToEncrypt, IsOfWriting};
 
 use crate::error::{StreamError, without_end};
@@ -47,13 +47,13 @@ pub fn encrypt_stream<R: Read, W: Write, C: ManyBlocks>(
     requires room { 0 < length buffer.old }
     ensures done { IfOk result (λ _. Encrypts (C.encrypted transformation.now.cipher.now)
         transformation.now.mode transformation.now.padding
-        (R.remaining reader.old) (R.remaining reader.new)
-        (W.contents writer.old) (W.contents writer.new)) }
+        (passage_of (R.remaining reader.old) (R.remaining reader.new)
+        (W.contents writer.old) (W.contents writer.new))) }
     ensures end { IfOk result (λ _. IsAtEnd (R.remaining reader.new)) }
-    ensures front { EncryptsFront (C.encrypted transformation.now.cipher.now)
+    ensures prefix { EncryptsPrefix (C.encrypted transformation.now.cipher.now)
         transformation.now.mode transformation.now.padding
-        (R.remaining reader.old) (R.remaining reader.new)
-        (W.contents writer.old) (W.contents writer.new) }
+        (passage_of (R.remaining reader.old) (R.remaining reader.new)
+        (W.contents writer.old) (W.contents writer.new)) }
     ensures fault { IfErr result (λ fault.
         FailsToEncrypt fault transformation.now.padding
         (R.remaining reader.old) (R.remaining reader.new)) }

@@ -2,7 +2,7 @@
 
 ghost use Rattle.std.specs.Prelude.{◌<◌, ℕ, List, length, IfOk, IfErr};
 ghost use Rattle.std.specs.Io.KnownBytes.{Consumes, IsAtEnd};
-ghost use Rattle.des_io.specs.Streams.{Skips, DecryptsPart, DecryptsPartFront, IsEndOrMore};
+ghost use Rattle.des_io.specs.Streams.{passage_of, Skips, DecryptsPart, DecryptsPartPrefix, IsEndOrMore};
 ghost use Rattle.des_io.specs.StreamFaults.{FailsToSkip, FailsInPart, IsOfReading};
 
 use crate::decryption::{decrypt_blocks, finish, next_count};
@@ -83,17 +83,17 @@ pub fn decrypt_part<R: Read, W: Write, C: ManyBlocks>(
     requires room { 0 < length buffer.old }
     ensures done { IfOk result (λ _. DecryptsPart (C.decrypted transformation.now.cipher.now)
         transformation.now.mode transformation.now.padding limit
-        (R.remaining reader.old) (R.remaining reader.new)
-        (W.contents writer.old) (W.contents writer.new)) }
-    ensures front { DecryptsPartFront (C.decrypted transformation.now.cipher.now)
+        (passage_of (R.remaining reader.old) (R.remaining reader.new)
+        (W.contents writer.old) (W.contents writer.new))) }
+    ensures prefix { DecryptsPartPrefix (C.decrypted transformation.now.cipher.now)
         transformation.now.mode transformation.now.padding limit
-        (R.remaining reader.old) (R.remaining reader.new)
-        (W.contents writer.old) (W.contents writer.new) }
+        (passage_of (R.remaining reader.old) (R.remaining reader.new)
+        (W.contents writer.old) (W.contents writer.new)) }
     ensures fault { IfErr result (λ fault.
         FailsInPart fault (C.decrypted transformation.now.cipher.now)
         transformation.now.mode transformation.now.padding limit
-        (R.remaining reader.old) (R.remaining reader.new)
-        (W.contents writer.old) (W.contents writer.new)) }
+        (passage_of (R.remaining reader.old) (R.remaining reader.new)
+        (W.contents writer.old) (W.contents writer.new))) }
 {
     let Transformation {
         cipher,
