@@ -4,21 +4,21 @@ use Rattle.std.specs.Prelude.{Err}
 use Rattle.std.specs.Io.KnownBytes.{Appends, IsAtEnd}
 use Rattle.std.proofs.KnownBytes.{Appends-trans, Consumes-nil}
 use Rattle.des_io.specs.PaddedBytes.{padded, padding_after}
-use Rattle.des_io.specs.Streams.{joined, bytes_of, IsBlockIfThere, IsWithin, HoldsLast, Decrypts}
+use Rattle.des_io.specs.Streams.{passage_of, joined, bytes_of, IsBlockIfThere, IsWithin, HoldsLast, Decrypts}
 use Rattle.des_io.specs.StreamFaults.{EndsStream, IsWronglyPadded, FailsToDecrypt}
 use Rattle.des_io.specs.declared.error.StreamError.{StreamError}
 use Rattle.des_io.specs.declared.error.StreamError.TheVariants.{Read, Write, Length, Start, Padding as WrongPadding}
 use Rattle.des_io.specs.declared.mode.Mode.{Mode}
 use Rattle.des_io.specs.declared.padding.Padding.{Padding}
 use Rattle.des_io.specs.declared.padding.Padding.TheVariants.{Pkcs7, Iso7816, Unpadded}
-use Rattle.des_io.proofs.DecryptedFronts.{DeciphersFront-ended, HoldsFront-read, WithinFront, WithinFront-held}
+use Rattle.des_io.proofs.DecryptedPrefixes.{DeciphersPrefix-ended, HoldsPrefix-read, WithinPrefix, WithinPrefix-held}
 use Rattle.des_io.proofs.DecryptedPieces.{even_bytes}
 use Rattle.des_io.proofs.PaddedLists.{padded-append, last_block}
 
 -- what was written and the last block are whole blocks
-even_whole : (decryption : List ℕ → List ℕ) (mode : Mode) (r s u v : Option (List ℕ)) (held : Option (List ℕ))
-    → (so_far : HoldsLast decryption mode r s u v held) → length (joined so_far.p) % 8 ≡ 0
-even_whole decryption mode r s u v held so_far =
+even_whole : {decryption : List ℕ → List ℕ} {mode : Mode} {r s u v : Option (List ℕ)} {held : Option (List ℕ)}
+    → (so_far : HoldsLast decryption mode (passage_of r s u v) held) → length (joined so_far.p) % 8 ≡ 0
+even_whole {held} so_far =
     omega (
       arith,
       ap length (sym so_far.whole) ∙ length-append so_far.put
@@ -28,11 +28,12 @@ even_whole decryption mode r s u v held so_far =
     )
 
 -- the last bytes without their padding
-pub Decrypts-ended : (decryption : List ℕ → List ℕ) (mode : Mode) (padding : Padding) (r s u v w : Option (List ℕ))
-    (held : Option (List ℕ)) (plain : List ℕ)
-    → (so_far : HoldsLast decryption mode r s u v held) → padded padding plain ≡ bytes_of held → Appends v w plain
-    → (all : Decrypts decryption mode padding r s u w) × (all.q ≡ so_far.q)
-Decrypts-ended decryption mode padding r s u v w held plain so_far is written = (
+pub Decrypts-ended : {decryption : List ℕ → List ℕ} {mode : Mode} (padding : Padding) {r s u v w : Option (List ℕ)}
+    {held : Option (List ℕ)} (plain : List ℕ)
+    → (so_far : HoldsLast decryption mode (passage_of r s u v) held) → padded padding plain ≡ bytes_of held
+    → Appends v w plain
+    → (all : Decrypts decryption mode padding (passage_of r s u w)) × (all.q ≡ so_far.q)
+Decrypts-ended padding {u} {v} {w} plain so_far is written = (
   record {
     q = so_far.q;
     p = so_far.p;
@@ -42,24 +43,24 @@ Decrypts-ended decryption mode padding r s u v w held plain so_far is written = 
     deciphered = so_far.deciphered;
     whole = sym so_far.whole ∙ ap (λ l. so_far.put ++ l) (sym is)
         ∙ sym (padded-append padding so_far.put plain so_far.even);
-    even = even_whole decryption mode r s u v held so_far;
+    even = even_whole so_far;
     written = Appends-trans u v w _ _ so_far.written written;
   },
   refl,
 )
 
 -- a prefix of them
-pub WithinFront-ended : (decryption : List ℕ → List ℕ) (mode : Mode) (padding : Padding) (limit : Option ℕ)
-    (r s u v w : Option (List ℕ))
-    (held : Option (List ℕ)) (plain put missing : List ℕ) → (so_far : HoldsLast decryption mode r s u v held)
+pub WithinPrefix-ended : {decryption : List ℕ → List ℕ} {mode : Mode} {padding : Padding} {limit : Option ℕ}
+    {r s u v w : Option (List ℕ)} {held : Option (List ℕ)} (plain put missing : List ℕ)
+    → (so_far : HoldsLast decryption mode (passage_of r s u v) held)
     → IsWithin limit (length so_far.q)
     → IsAtEnd s → padded padding plain ≡ bytes_of held → put ++ missing ≡ plain → Appends v w put
-    → WithinFront decryption mode padding limit r s u w
-WithinFront-ended decryption mode padding limit r s u v w held plain put missing so_far within end is begins written =
+    → WithinPrefix decryption mode padding limit (passage_of r s u w)
+WithinPrefix-ended {padding} {held} plain put missing so_far within end is begins written =
     let after = padding_after padding (length plain % 8) in
-    let front = sym (append_assoc put missing after) ∙ ap (λ l. l ++ after) begins ∙ is in
+    let prefix = sym (append_assoc put missing after) ∙ ap (λ l. l ++ after) begins ∙ is in
     record {
-      front = DeciphersFront-ended decryption mode r s u v w held put (missing ++ after) so_far front written;
+      prefix = DeciphersPrefix-ended put (missing ++ after) so_far prefix written;
       within = within;
       held = inr record {
         plain = so_far.put ++ plain;
@@ -73,45 +74,46 @@ WithinFront-ended decryption mode padding limit r s u v w held plain put missing
 
 -- ---- wrong padding
 
-same_after : (front a b : List ℕ) → front ++ a ≡ front ++ b → a ≡ b
-same_after front a b same =
-    sym (drop_at front a (length front) refl) ∙ ap (drop (length front)) same ∙ drop_at front b (length front) refl
+same_after : (prefix a b : List ℕ) → prefix ++ a ≡ prefix ++ b → a ≡ b
+same_after prefix a b same =
+    sym (drop_at prefix a (length prefix) refl) ∙ ap (drop (length prefix)) same ∙ drop_at prefix b (length prefix) refl
 
 -- what is not the last bytes with their padding is not the whole with its padding
-wrong_whole : (padding : Padding) (held : Option (List ℕ)) (front all : List ℕ) → IsBlockIfThere held
-    → length front % 8 ≡ 0 → front ++ bytes_of held ≡ all
+wrong_whole : (padding : Padding) (held : Option (List ℕ)) (prefix all : List ℕ) → IsBlockIfThere held
+    → length prefix % 8 ≡ 0 → prefix ++ bytes_of held ≡ all
     → (held ≡ None → all ≡ []) → ((plain : List ℕ) → padded padding plain ≢ bytes_of held) → (plain : List ℕ)
     → padded padding plain ≢ all
-wrong_whole Unpadded held front all size even is none wrong plain same = absurd
+wrong_whole Unpadded held prefix all size even is none wrong plain same = absurd
     (wrong (bytes_of held) (append-nil (bytes_of held)))
-wrong_whole Pkcs7 None front all size even is none wrong plain same = absurd (wrong plain (same ∙ none refl))
-wrong_whole Iso7816 None front all size even is none wrong plain same = absurd (wrong plain (same ∙ none refl))
-wrong_whole Pkcs7 (Some block) front all size even is none wrong plain same =
-    let (rest, split) = last_block Pkcs7 plain front block (λ e. cc) size (same ∙ sym is) in
-    wrong rest (same_after front _ _ (sym (padded-append Pkcs7 front rest even) ∙ ap (padded Pkcs7) (sym split) ∙ same
+wrong_whole Pkcs7 None prefix all size even is none wrong plain same = absurd (wrong plain (same ∙ none refl))
+wrong_whole Iso7816 None prefix all size even is none wrong plain same = absurd (wrong plain (same ∙ none refl))
+wrong_whole Pkcs7 (Some block) prefix all size even is none wrong plain same =
+    let (rest, split) = last_block Pkcs7 plain prefix block (λ e. cc) size (same ∙ sym is) in
+    wrong rest (same_after prefix _ _ (sym (padded-append Pkcs7 prefix rest even) ∙ ap (padded Pkcs7) (sym split) ∙ same
     ∙ sym is))
-wrong_whole Iso7816 (Some block) front all size even is none wrong plain same =
-    let (rest, split) = last_block Iso7816 plain front block (λ e. cc) size (same ∙ sym is) in
-    wrong rest (same_after front _ _ (sym (padded-append Iso7816 front rest even) ∙ ap (padded Iso7816) (sym split)
+wrong_whole Iso7816 (Some block) prefix all size even is none wrong plain same =
+    let (rest, split) = last_block Iso7816 plain prefix block (λ e. cc) size (same ∙ sym is) in
+    wrong rest (same_after prefix _ _ (sym (padded-append Iso7816 prefix rest even) ∙ ap (padded Iso7816) (sym split)
     ∙ same ∙ sym is))
 
 -- all but a block that may be there
-all_but : (held : Option (List ℕ)) (front all : List ℕ) → IsBlockIfThere held → front ++ bytes_of held ≡ all
+all_but : (held : Option (List ℕ)) (prefix all : List ℕ) → IsBlockIfThere held → prefix ++ bytes_of held ≡ all
     → (held ≡ None → all ≡ [])
-    → take (length all - 8) all ≡ front
-all_but None front all size is none =
+    → take (length all - 8) all ≡ prefix
+all_but None prefix all size is none =
     let empty : all ≡ [] = none refl in
-    ap (λ l. take (length l - 8) l) empty ∙ sym empty ∙ sym is ∙ append-nil front
-all_but (Some block) front all size is none =
-    let count : length all - 8 ≡ length front = omega (arith, ap length (sym is) ∙ length-append front block, size) in
-    ap (λ n. take n all) count ∙ ap (take (length front)) (sym is) ∙ take_at front block (length front) refl
+    ap (λ l. take (length l - 8) l) empty ∙ sym empty ∙ sym is ∙ append-nil prefix
+all_but (Some block) prefix all size is none =
+    let count : length all - 8 ≡ length prefix = omega (arith, ap length (sym is) ∙ length-append prefix block, size) in
+    ap (λ n. take n all) count ∙ ap (take (length prefix)) (sym is) ∙ take_at prefix block (length prefix) refl
 
-pub IsWronglyPadded-ended : (decryption : List ℕ → List ℕ) (mode : Mode) (padding : Padding)
-    (r s u v w : Option (List ℕ)) (held : Option (List ℕ))
-    → (so_far : HoldsLast decryption mode r s u v held) → ((plain : List ℕ) → padded padding plain ≢ bytes_of held)
+pub IsWronglyPadded-ended : {decryption : List ℕ → List ℕ} {mode : Mode} (padding : Padding)
+    {r s u v w : Option (List ℕ)} {held : Option (List ℕ)}
+    → (so_far : HoldsLast decryption mode (passage_of r s u v) held)
+    → ((plain : List ℕ) → padded padding plain ≢ bytes_of held)
     → w ≡ v
-    → IsAtEnd s → (wrong : IsWronglyPadded decryption mode padding r s u w) × (wrong.q ≡ so_far.q)
-IsWronglyPadded-ended decryption mode padding r s u v w held so_far wrong same end =
+    → IsAtEnd s → (wrong : IsWronglyPadded decryption mode padding (passage_of r s u w)) × (wrong.q ≡ so_far.q)
+IsWronglyPadded-ended padding {u} {w} {held} so_far wrong same end =
     let none : held ≡ None → joined so_far.p ≡ [] = λ e. ap joined (so_far.none e) in (
       record {
         q = so_far.q;
@@ -130,33 +132,33 @@ IsWronglyPadded-ended decryption mode padding r s u v w held so_far wrong same e
 -- ---- faults at the end
 
 -- what a fault at the end says
-pub FailsToDecrypt-ended : (fault : StreamError) (decryption : List ℕ → List ℕ) (mode : Mode) (padding : Padding)
-    (r s u v w : Option (List ℕ))
-    (held : Option (List ℕ)) → HoldsLast decryption mode r s u v held
+pub FailsToDecrypt-ended : (fault : StreamError) {decryption : List ℕ → List ℕ} {mode : Mode} (padding : Padding)
+    {r s u v : Option (List ℕ)} (w : Option (List ℕ)) {held : Option (List ℕ)}
+    → HoldsLast decryption mode (passage_of r s u v) held
     → EndsStream padding (bytes_of held) v w (Err fault)
-    → IsAtEnd s → FailsToDecrypt fault decryption mode padding r s u w
-FailsToDecrypt-ended (Read error) decryption mode padding r s u v w held so_far ended end = absurd ended.0
-FailsToDecrypt-ended (Write error) decryption mode padding r s u v w held so_far ended end = ended.0
-FailsToDecrypt-ended (Length past) decryption mode padding r s u v w held so_far ended end = absurd ended.0
-FailsToDecrypt-ended Start decryption mode padding r s u v w held so_far ended end = absurd ended.0
-FailsToDecrypt-ended WrongPadding decryption mode padding r s u v w held so_far ended end =
-    (IsWronglyPadded-ended decryption mode padding r s u v w held so_far ended.0 ended.1 end).0
+    → IsAtEnd s → FailsToDecrypt fault decryption mode padding (passage_of r s u w)
+FailsToDecrypt-ended (Read error) padding w so_far ended end = absurd ended.0
+FailsToDecrypt-ended (Write error) padding w so_far ended end = ended.0
+FailsToDecrypt-ended (Length past) padding w so_far ended end = absurd ended.0
+FailsToDecrypt-ended Start padding w so_far ended end = absurd ended.0
+FailsToDecrypt-ended WrongPadding padding w so_far ended end =
+    (IsWronglyPadded-ended padding so_far ended.0 ended.1 end).0
 
 -- and the prefix that was written before it
-pub WithinFront-fault : (fault : StreamError) (decryption : List ℕ → List ℕ) (mode : Mode) (padding : Padding)
-    (limit : Option ℕ)
-    (r s u v w : Option (List ℕ)) (held : Option (List ℕ)) → (so_far : HoldsLast decryption mode r s u v held)
+pub WithinPrefix-fault : (fault : StreamError) {decryption : List ℕ → List ℕ} {mode : Mode} {padding : Padding}
+    {limit : Option ℕ} {r s u v w : Option (List ℕ)} {held : Option (List ℕ)}
+    → (so_far : HoldsLast decryption mode (passage_of r s u v) held)
     → IsWithin limit (length so_far.q)
-    → EndsStream padding (bytes_of held) v w (Err fault) → IsAtEnd s → WithinFront decryption mode padding limit r s u w
-WithinFront-fault WrongPadding decryption mode padding limit r s u v w held so_far within ended end =
-    let holds = HoldsFront-read decryption mode limit r s s u v held [] so_far within (Consumes-nil s) in
-    subst (λ (x : Option (List ℕ)). WithinFront decryption mode padding limit r s u x) (sym ended.1)
-    (WithinFront-held decryption mode padding limit r s u v holds)
-WithinFront-fault (Read error) decryption mode padding limit r s u v w held so_far within ended end = absurd ended.0
-WithinFront-fault Start decryption mode padding limit r s u v w held so_far within ended end = absurd ended.0
-WithinFront-fault (Length past) decryption mode padding limit r s u v w held so_far within ended end = absurd ended.0
-WithinFront-fault (Write error) decryption mode padding limit r s u v w held so_far within ended end =
+    → EndsStream padding (bytes_of held) v w (Err fault) → IsAtEnd s
+    → WithinPrefix decryption mode padding limit (passage_of r s u w)
+WithinPrefix-fault WrongPadding {decryption} {mode} {padding} {limit} {r} {s} {u} so_far within ended end =
+    let holds = HoldsPrefix-read [] so_far within (Consumes-nil s) in
+    subst (λ (x : Option (List ℕ)). WithinPrefix decryption mode padding limit (passage_of r s u x)) (sym ended.1)
+    (WithinPrefix-held holds)
+WithinPrefix-fault (Read error) so_far within ended end = absurd ended.0
+WithinPrefix-fault Start so_far within ended end = absurd ended.0
+WithinPrefix-fault (Length past) so_far within ended end = absurd ended.0
+WithinPrefix-fault (Write error) so_far within ended end =
     let (plain, k, is, written) = ended.1 in
-    WithinFront-ended decryption mode padding limit r s u v w held plain (take k plain)
-    (drop k plain) so_far within end is
+    WithinPrefix-ended plain (take k plain) (drop k plain) so_far within end is
     (take-append-drop k plain) written

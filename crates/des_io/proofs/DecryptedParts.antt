@@ -4,15 +4,15 @@ use Rattle.std.specs.Io.KnownBytes.{Consumes, Appends, IsAtEnd}
 use Rattle.std.proofs.KnownBytes.{Consumes-trans, Consumes-nil}
 use Rattle.std.specs.Prelude.{Result, Ok, Err, IfOk, IfErr}
 use Rattle.des_io.specs.PaddedBytes.{padded}
-use Rattle.des_io.specs.Streams.{joined, bytes_of, IsWithin, HoldsLast, HoldsPart, HoldsFront, DecryptsPart, DecryptsPartFront}
-use Rattle.des_io.specs.StreamFaults.{EndsStream, FailsBefore, FailsInPart}
+use Rattle.des_io.specs.Streams.{Passage, passage_of, joined, bytes_of, IsWithin, HoldsLast, HoldsPart, HoldsPrefix, DecryptsPart, DecryptsPartPrefix}
+use Rattle.des_io.specs.StreamFaults.{EndsStream, FailsInPart}
 use Rattle.des_io.specs.declared.error.StreamError.{StreamError}
 use Rattle.des_io.specs.declared.error.StreamError.TheVariants.{Read, Write, Length, Start, Padding as WrongPadding}
 use Rattle.des_io.specs.declared.mode.Mode.{Mode}
 use Rattle.des_io.specs.declared.padding.Padding.{Padding}
 use Rattle.des_io.specs.declared.padding.Padding.TheVariants.{Unpadded}
-use Rattle.des_io.proofs.DecryptedEnds.{Decrypts-ended, WithinFront-ended, WithinFront-fault, IsWronglyPadded-ended}
-use Rattle.des_io.proofs.DecryptedFronts.{DeciphersFront-ended, DeciphersFront-more, HoldsFront-read, WithinFront-held, DecryptsPartFront-within}
+use Rattle.des_io.proofs.DecryptedEnds.{Decrypts-ended, WithinPrefix-ended, WithinPrefix-fault, IsWronglyPadded-ended}
+use Rattle.des_io.proofs.DecryptedPrefixes.{DeciphersPrefix-ended, DeciphersPrefix-more, HoldsPrefix-read, WithinPrefix-held, DecryptsPartPrefix-within}
 use Rattle.des_io.proofs.ModesInPieces.{Deciphered-nil, Deciphered-only_nil}
 
 -- ---- what was written
@@ -21,21 +21,22 @@ none_some : (block : List ℕ) → None ≡ Some block → ⊥
 none_some block is = cc
 
 -- with the last block held back
-pub DecryptsPartFront-held : (decryption : List ℕ → List ℕ) (mode : Mode) (padding : Padding) (limit : Option ℕ)
-    (r t u w : Option (List ℕ))
-    → HoldsFront decryption mode limit r t u w → DecryptsPartFront decryption mode padding limit r t u w
-DecryptsPartFront-held decryption mode padding limit r t u w holds =
-    DecryptsPartFront-within decryption mode padding limit r t u w
-    (WithinFront-held decryption mode padding limit r t u w holds)
+pub DecryptsPartPrefix-held : {decryption : List ℕ → List ℕ} {mode : Mode} {padding : Padding} {limit : Option ℕ}
+    {r t u w : Option (List ℕ)}
+    → HoldsPrefix decryption mode limit (passage_of r t u w) → DecryptsPartPrefix decryption mode padding limit
+    (passage_of r t u w)
+DecryptsPartPrefix-held holds =
+    DecryptsPartPrefix-within
+    (WithinPrefix-held holds)
 
 -- also where more was read
-pub DecryptsPartFront-read : (decryption : List ℕ → List ℕ) (mode : Mode) (padding : Padding) (limit : Option ℕ)
-    (r s t u v : Option (List ℕ))
-    (held : Option (List ℕ)) (bytes : List ℕ) → HoldsPart decryption mode limit r s u v held → Consumes s t bytes
-    → DecryptsPartFront decryption mode padding limit r t u v
-DecryptsPartFront-read decryption mode padding limit r s t u v held bytes part read =
-    DecryptsPartFront-held decryption mode padding limit r t u v
-    (HoldsFront-read decryption mode limit r s t u v held bytes part.holds part.within read)
+pub DecryptsPartPrefix-read : {decryption : List ℕ → List ℕ} {mode : Mode} {padding : Padding} {limit : Option ℕ}
+    {r s t u v : Option (List ℕ)} {held : Option (List ℕ)} (bytes : List ℕ)
+    → HoldsPart decryption mode limit (passage_of r s u v) held → Consumes s t bytes
+    → DecryptsPartPrefix decryption mode padding limit (passage_of r t u v)
+DecryptsPartPrefix-read bytes part read =
+    DecryptsPartPrefix-held
+    (HoldsPrefix-read bytes part.holds part.within read)
 
 -- a reader that gave another byte was not at its end
 not_at_end : (r s t : Option (List ℕ)) (a b all : List ℕ) → Consumes r s a → Consumes s t b → length b ≡ 1
@@ -47,15 +48,16 @@ not_at_end (Some x) (Some y) (Some z) a b all first second one is end =
     omega (arith, ap length (sym end ∙ second) ∙ length-append b z, one)
 
 -- the last block, or a prefix of it, where more follows
-DecryptsPartFront-followed : (decryption : List ℕ → List ℕ) (mode : Mode) (padding : Padding) (limit : Option ℕ)
-    (r s t u v w : Option (List ℕ))
-    (held : Option (List ℕ)) (bytes put missing : List ℕ) → HoldsPart decryption mode limit r s u v held
+DecryptsPartPrefix-followed : {decryption : List ℕ → List ℕ} {mode : Mode} {padding : Padding} {limit : Option ℕ}
+    {r s t u v w : Option (List ℕ)} {held : Option (List ℕ)} (bytes put missing : List ℕ)
+    → HoldsPart decryption mode limit (passage_of r s u v) held
     → Consumes s t bytes → length bytes ≡ 1
-    → put ++ missing ≡ bytes_of held → Appends v w put → DecryptsPartFront decryption mode padding limit r t u w
-DecryptsPartFront-followed decryption mode padding limit r s t u v w held bytes put missing part read one is written =
+    → put ++ missing ≡ bytes_of held → Appends v w put → DecryptsPartPrefix decryption mode padding limit
+    (passage_of r t u w)
+DecryptsPartPrefix-followed {limit} {r} {s} {t} {held} bytes put missing part read one is written =
     record {
-      front = DeciphersFront-more decryption mode r s t u w bytes
-          (DeciphersFront-ended decryption mode r s u v w held put missing part.holds is written) read;
+      prefix = DeciphersPrefix-more bytes
+          (DeciphersPrefix-ended put missing part.holds is written) read;
       within = part.within;
       held = inr record {
         more = λ none. omega (arith, ap length none, one);
@@ -70,53 +72,43 @@ DecryptsPartFront-followed decryption mode padding limit r s t u v w held bytes 
 
 -- where more follows, no padding is wrong
 FailsInPart-unpadded : (fault : StreamError) (decryption : List ℕ → List ℕ) (mode : Mode) (padding : Padding)
-    (limit : Option ℕ)
-    (r t u v w : Option (List ℕ)) (last : List ℕ) → EndsStream Unpadded last v w (Err fault)
-    → FailsInPart fault decryption mode padding limit r t u w
-FailsInPart-unpadded (Read error) decryption mode padding limit r t u v w last ended = absurd ended.0
-FailsInPart-unpadded (Write error) decryption mode padding limit r t u v w last ended = ended.0
-FailsInPart-unpadded (Length past) decryption mode padding limit r t u v w last ended = absurd ended.0
-FailsInPart-unpadded Start decryption mode padding limit r t u v w last ended = absurd ended.0
-FailsInPart-unpadded WrongPadding decryption mode padding limit r t u v w last ended = absurd
+    (limit : Option ℕ) (passage : Passage) (v : Option (List ℕ)) (last : List ℕ)
+    → EndsStream Unpadded last v passage.written_to (Err fault)
+    → FailsInPart fault decryption mode padding limit passage
+FailsInPart-unpadded (Read error) decryption mode padding limit passage v last ended = absurd ended.0
+FailsInPart-unpadded (Write error) decryption mode padding limit passage v last ended = ended.0
+FailsInPart-unpadded (Length past) decryption mode padding limit passage v last ended = absurd ended.0
+FailsInPart-unpadded Start decryption mode padding limit passage v last ended = absurd ended.0
+FailsInPart-unpadded WrongPadding decryption mode padding limit passage v last ended = absurd
     (ended.0 last (append-nil last))
 
 -- at the end of the input it may be
-FailsInPart-ended : (fault : StreamError) (decryption : List ℕ → List ℕ) (mode : Mode) (padding : Padding)
-    (limit : Option ℕ)
-    (r s u v w : Option (List ℕ)) (held : Option (List ℕ)) → (part : HoldsPart decryption mode limit r s u v held)
+FailsInPart-ended : (fault : StreamError) {decryption : List ℕ → List ℕ} {mode : Mode} (padding : Padding)
+    {limit : Option ℕ} {r s u v : Option (List ℕ)} (w : Option (List ℕ)) {held : Option (List ℕ)}
+    → (part : HoldsPart decryption mode limit (passage_of r s u v) held)
     → part.holds.q ≢ []
     → EndsStream padding (bytes_of held) v w (Err fault) → IsAtEnd s
-    → FailsInPart fault decryption mode padding limit r s u w
-FailsInPart-ended (Read error) decryption mode padding limit r s u v w held part some ended end = absurd ended.0
-FailsInPart-ended (Write error) decryption mode padding limit r s u v w held part some ended end = ended.0
-FailsInPart-ended (Length past) decryption mode padding limit r s u v w held part some ended end = absurd ended.0
-FailsInPart-ended Start decryption mode padding limit r s u v w held part some ended end = absurd ended.0
-FailsInPart-ended WrongPadding decryption mode padding limit r s u v w held part some ended end =
-    let (wrong, same) = IsWronglyPadded-ended decryption mode padding r s u v w held part.holds ended.0 ended.1 end in (
+    → FailsInPart fault decryption mode padding limit (passage_of r s u w)
+FailsInPart-ended (Read error) padding w part some ended end = absurd ended.0
+FailsInPart-ended (Write error) padding w part some ended end = ended.0
+FailsInPart-ended (Length past) padding w part some ended end = absurd ended.0
+FailsInPart-ended Start padding w part some ended end = absurd ended.0
+FailsInPart-ended WrongPadding padding {limit} w part some ended end =
+    let (wrong, same) = IsWronglyPadded-ended padding part.holds ended.0 ended.1 end in (
       wrong,
       λ none. some (sym same ∙ none),
       subst (λ (q : List (List ℕ)). IsWithin limit (length q))
           (sym same) part.within,
     )
 
--- before the padding is looked at
-pub FailsInPart-before : (fault : StreamError) (decryption : List ℕ → List ℕ) (mode : Mode) (padding : Padding)
-    (limit : Option ℕ)
-    (r t u w : Option (List ℕ)) → FailsBefore fault limit r t → FailsInPart fault decryption mode padding limit r t u w
-FailsInPart-before (Read error) decryption mode padding limit r t u w before = before
-FailsInPart-before (Write error) decryption mode padding limit r t u w before = before
-FailsInPart-before (Length past) decryption mode padding limit r t u w before = before
-FailsInPart-before Start decryption mode padding limit r t u w before = absurd before
-FailsInPart-before WrongPadding decryption mode padding limit r t u w before = absurd before
-
 -- ---- blocks
 
 -- a part after which nothing was read
-HoldsPart-same : (decryption : List ℕ → List ℕ) (mode : Mode) (limit : Option ℕ) (r s t u v : Option (List ℕ))
-    (held : Option (List ℕ))
-    (bytes : List ℕ) → HoldsPart decryption mode limit r s u v held → Consumes s t bytes → bytes ≡ [] → IsAtEnd t
-    → HoldsPart decryption mode limit r t u v held
-HoldsPart-same decryption mode limit r s t u v held bytes part read none end =
+HoldsPart-same : {decryption : List ℕ → List ℕ} {mode : Mode} {limit : Option ℕ} {r s t u v : Option (List ℕ)}
+    {held : Option (List ℕ)} (bytes : List ℕ) → HoldsPart decryption mode limit (passage_of r s u v) held
+    → Consumes s t bytes → bytes ≡ [] → IsAtEnd t
+    → HoldsPart decryption mode limit (passage_of r t u v) held
+HoldsPart-same {r} {s} {t} bytes part read none end =
     let holds = part.holds in
     record {
       holds = record {
@@ -138,34 +130,34 @@ HoldsPart-same decryption mode limit r s t u v held bytes part read none end =
     }
 
 -- where a block was held back, blocks were read
-some_blocks : (decryption : List ℕ → List ℕ) (mode : Mode) (r s u v : Option (List ℕ)) (block : List ℕ)
-    → (holds : HoldsLast decryption mode r s u v (Some block)) → holds.q ≢ []
-some_blocks decryption mode r s u v block holds none =
+some_blocks : {decryption : List ℕ → List ℕ} {mode : Mode} {r s u v : Option (List ℕ)} {block : List ℕ}
+    → (holds : HoldsLast decryption mode (passage_of r s u v) (Some block)) → holds.q ≢ []
+some_blocks {decryption} {mode} {block} holds none =
     let blocks : holds.p ≡ [] = Deciphered-nil decryption mode holds.q holds.p holds.deciphered none in
     let lengths : length (holds.put ++ block) ≡ 0 = ap length (holds.whole ∙ ap joined blocks) in
     omega (arith, length-append holds.put block, lengths, holds.size)
 
 -- where none was held back, none was read
-pub no_blocks : (decryption : List ℕ → List ℕ) (mode : Mode) (r s t u v : Option (List ℕ)) (held : Option (List ℕ))
-    (bytes : List ℕ)
-    → held ≡ None → HoldsLast decryption mode r s u v held → Consumes s t bytes → (bytes ≡ []) × IsAtEnd t
+pub no_blocks : {decryption : List ℕ → List ℕ} {mode : Mode} {r s : Option (List ℕ)} (t : Option (List ℕ))
+    {u v : Option (List ℕ)} {held : Option (List ℕ)} (bytes : List ℕ)
+    → held ≡ None → HoldsLast decryption mode (passage_of r s u v) held → Consumes s t bytes → (bytes ≡ []) × IsAtEnd t
     → Consumes r t [] × IsAtEnd t
-no_blocks decryption mode r s t u v held bytes is holds read end =
+no_blocks {decryption} {mode} {r} {s} t bytes is holds read end =
     let blocks : holds.q ≡ [] = Deciphered-only_nil decryption mode holds.q holds.p holds.deciphered (holds.none is) in
     (subst (Consumes r t) (ap₂ ◌++◌ (ap joined blocks) end.0) (Consumes-trans r s t _ _ holds.read read), end.1)
 
 -- ---- the end of a part
 
 -- a part that ends with the input, or before it
-DecryptsPart-ended : (decryption : List ℕ → List ℕ) (mode : Mode) (padding taken : Padding) (limit : Option ℕ)
-    (r s t u v w : Option (List ℕ))
-    (held : Option (List ℕ)) (bytes plain : List ℕ) → (part : HoldsPart decryption mode limit r s u v held)
+DecryptsPart-ended : {decryption : List ℕ → List ℕ} {mode : Mode} {padding : Padding} (taken : Padding)
+    {limit : Option ℕ} {r s t u v w : Option (List ℕ)} {held : Option (List ℕ)} (bytes plain : List ℕ)
+    → (part : HoldsPart decryption mode limit (passage_of r s u v) held)
     → Consumes s t bytes
     → padded taken plain ≡ bytes_of held → Appends v w plain
     → ((bytes ≡ []) × IsAtEnd t × (taken ≡ padding) × (part.holds.q ≢ [])) ⊎ ((length bytes ≡ 1) × (taken ≡ Unpadded))
-    → DecryptsPart decryption mode padding limit r t u w
-DecryptsPart-ended decryption mode padding taken limit r s t u v w held bytes plain part read is written after =
-    let (all, same) = Decrypts-ended decryption mode taken r s u v w held plain part.holds is written in
+    → DecryptsPart decryption mode padding limit (passage_of r t u w)
+DecryptsPart-ended taken {limit} {s} bytes plain part read is written after =
+    let (all, same) = Decrypts-ended taken plain part.holds is written in
     record {
       taken = taken;
       middle = s;
@@ -182,85 +174,82 @@ DecryptsPart-ended decryption mode padding taken limit r s t u v w held bytes pl
 
 -- what holds of a part at its end: what it is, that what was written begins it, and what its fault says
 pub record EndsPart (result : Result (Unit {0}) StreamError) (decryption : List ℕ → List ℕ) (mode : Mode)
-    (padding : Padding)
-    (limit : Option ℕ) (r t u w : Option (List ℕ)) : Type 0 where
-  pub done : IfOk result (λ _. DecryptsPart decryption mode padding limit r t u w)
-  pub front : DecryptsPartFront decryption mode padding limit r t u w
-  pub fault : IfErr result (λ fault. FailsInPart fault decryption mode padding limit r t u w)
+    (padding : Padding) (limit : Option ℕ) (passage : Passage) : Type 0 where
+  pub done : IfOk result (λ _. DecryptsPart decryption mode padding limit passage)
+  pub prefix : DecryptsPartPrefix decryption mode padding limit passage
+  pub fault : IfErr result (λ fault. FailsInPart fault decryption mode padding limit passage)
 
 -- what was written where more follows and the writer failed
-front_more : (fault : StreamError) (decryption : List ℕ → List ℕ) (mode : Mode) (padding : Padding) (limit : Option ℕ)
-    (r s t u v w : Option (List ℕ)) (held : Option (List ℕ)) (bytes : List ℕ)
-    → HoldsPart decryption mode limit r s u v held → Consumes s t bytes
+prefix_more : (fault : StreamError) {decryption : List ℕ → List ℕ} {mode : Mode} {padding : Padding} {limit : Option ℕ}
+    {r s t u v w : Option (List ℕ)} {held : Option (List ℕ)} (bytes : List ℕ)
+    → HoldsPart decryption mode limit (passage_of r s u v) held → Consumes s t bytes
     → length bytes ≡ 1 → EndsStream Unpadded (bytes_of held) v w (Err fault)
-    → DecryptsPartFront decryption mode padding limit r t u w
-front_more (Read error) decryption mode padding limit r s t u v w held bytes part read one ended = absurd ended.0
-front_more Start decryption mode padding limit r s t u v w held bytes part read one ended = absurd ended.0
-front_more (Length past) decryption mode padding limit r s t u v w held bytes part read one ended = absurd ended.0
-front_more WrongPadding decryption mode padding limit r s t u v w held bytes part read one ended =
+    → DecryptsPartPrefix decryption mode padding limit (passage_of r t u w)
+prefix_more (Read error) bytes part read one ended = absurd ended.0
+prefix_more Start bytes part read one ended = absurd ended.0
+prefix_more (Length past) bytes part read one ended = absurd ended.0
+prefix_more WrongPadding {held} bytes part read one ended =
     absurd (ended.0 (bytes_of held) (append-nil (bytes_of held)))
-front_more (Write error) decryption mode padding limit r s t u v w held bytes part read one ended =
+prefix_more (Write error) bytes part read one ended =
     let (plain, k, is, written) = ended.1 in
-    DecryptsPartFront-followed decryption mode padding limit r s t u v w held bytes (take k plain)
-    (drop k plain) part read one
+    DecryptsPartPrefix-followed bytes (take k plain) (drop k plain) part read one
     (take-append-drop k plain ∙ sym (append-nil plain) ∙ is) written
 
 -- of a part that more follows
-pub EndsPart-more : (result : Result (Unit {0}) StreamError) (decryption : List ℕ → List ℕ) (mode : Mode)
-    (padding : Padding) (limit : Option ℕ)
-    (r s t u v w : Option (List ℕ)) (held : Option (List ℕ)) (bytes : List ℕ)
-    → HoldsPart decryption mode limit r s u v held → Consumes s t bytes
+pub EndsPart-more : (result : Result (Unit {0}) StreamError) {decryption : List ℕ → List ℕ} {mode : Mode}
+    (padding : Padding) {limit : Option ℕ} {r s t u v w : Option (List ℕ)} {held : Option (List ℕ)} (bytes : List ℕ)
+    → HoldsPart decryption mode limit (passage_of r s u v) held → Consumes s t bytes
     → length bytes ≡ 1 → EndsStream Unpadded (bytes_of held) v w result
-    → EndsPart result decryption mode padding limit r t u w
-EndsPart-more (Ok done) decryption mode padding limit r s t u v w held bytes part read one ended =
+    → EndsPart result decryption mode padding limit (passage_of r t u w)
+EndsPart-more (Ok done) padding bytes part read one ended =
     let (plain, is, written) = ended in
     record {
-      done = DecryptsPart-ended decryption mode padding Unpadded limit r s t u v w held bytes plain part read is written
+      done = DecryptsPart-ended Unpadded bytes plain part read is written
           (inr (one, refl));
-      front = DecryptsPartFront-followed decryption mode padding limit r s t u v w held bytes plain [] part read one is
+      prefix = DecryptsPartPrefix-followed bytes plain [] part read one is
           written;
       fault = tt;
     }
-EndsPart-more (Err fault) decryption mode padding limit r s t u v w held bytes part read one ended = record {
-  done = tt;
-  front = front_more fault decryption mode padding limit r s t u v w held bytes part read one ended;
-  fault = FailsInPart-unpadded fault decryption mode padding limit r t u v w (bytes_of held) ended;
-}
+EndsPart-more (Err fault) {decryption} {mode} padding {limit} {r} {s} {t} {u} {v} {w} {held} bytes part read one ended =
+    record {
+      done = tt;
+      prefix = prefix_more fault bytes part read one ended;
+      fault = FailsInPart-unpadded fault _ _ padding _ (passage_of r t u w) v (bytes_of held) ended;
+    }
 
 -- of a part at the end of the input, whose last block was held back
-ends_some : (result : Result (Unit {0}) StreamError) (decryption : List ℕ → List ℕ) (mode : Mode) (padding : Padding)
-    (limit : Option ℕ)
-    (r t u v w : Option (List ℕ)) (block : List ℕ) → HoldsPart decryption mode limit r t u v (Some block) → IsAtEnd t
-    → EndsStream padding block v w result → EndsPart result decryption mode padding limit r t u w
-ends_some (Ok done) decryption mode padding limit r t u v w block part end ended =
+ends_some : (result : Result (Unit {0}) StreamError) {decryption : List ℕ → List ℕ} {mode : Mode} {padding : Padding}
+    {limit : Option ℕ} {r t u v w : Option (List ℕ)} {block : List ℕ}
+    → HoldsPart decryption mode limit (passage_of r t u v) (Some block) → IsAtEnd t
+    → EndsStream padding block v w result → EndsPart result decryption mode padding limit (passage_of r t u w)
+ends_some (Ok done) {padding} {t} part end ended =
     let (plain, is, written) = ended in
-    let some = some_blocks decryption mode r t u v block part.holds in
+    let some = some_blocks part.holds in
     record {
-      done = DecryptsPart-ended decryption mode padding padding limit r t t u v w (Some block) [] plain part
+      done = DecryptsPart-ended padding [] plain part
           (Consumes-nil t) is written
           (inl (refl, end, refl, some));
-      front = DecryptsPartFront-within decryption mode padding limit r t u w
-          (WithinFront-ended decryption mode padding limit r t u v w
-          (Some block) plain plain [] part.holds part.within end is (append-nil plain) written);
+      prefix = DecryptsPartPrefix-within
+          (WithinPrefix-ended plain plain [] part.holds part.within end is (append-nil plain) written);
       fault = tt;
     }
-ends_some (Err fault) decryption mode padding limit r t u v w block part end ended = record {
+ends_some (Err fault) {padding} {w} part end ended = record {
   done = tt;
-  front = DecryptsPartFront-within decryption mode padding limit r t u w
-      (WithinFront-fault fault decryption mode padding limit r t u v w (Some block) part.holds part.within ended end);
-  fault = FailsInPart-ended fault decryption mode padding limit r t u v w (Some block) part
-      (some_blocks decryption mode r t u v block part.holds)
+  prefix = DecryptsPartPrefix-within
+      (WithinPrefix-fault fault part.holds part.within ended end);
+  fault = FailsInPart-ended fault padding w part
+      (some_blocks part.holds)
       ended end;
 }
 
-pub EndsPart-last : (result : Result (Unit {0}) StreamError) (decryption : List ℕ → List ℕ) (mode : Mode)
-    (padding : Padding) (limit : Option ℕ)
-    (r s t u v w : Option (List ℕ)) (held : Option (List ℕ)) (block bytes : List ℕ) → held ≡ Some block
-    → HoldsPart decryption mode limit r s u v held → Consumes s t bytes → bytes ≡ [] → IsAtEnd t
+pub EndsPart-last : (result : Result (Unit {0}) StreamError) {decryption : List ℕ → List ℕ} {mode : Mode}
+    {padding : Padding} {limit : Option ℕ} {r s t u v w : Option (List ℕ)} (held : Option (List ℕ))
+    (block bytes : List ℕ) → held ≡ Some block
+    → HoldsPart decryption mode limit (passage_of r s u v) held → Consumes s t bytes → bytes ≡ [] → IsAtEnd t
     → EndsStream padding (bytes_of held) v w result
-    → EndsPart result decryption mode padding limit r t u w
-EndsPart-last result decryption mode padding limit r s t u v w None block bytes is part read none end ended = absurd
+    → EndsPart result decryption mode padding limit (passage_of r t u w)
+EndsPart-last result None block bytes is part read none end ended = absurd
     (none_some block is)
-EndsPart-last result decryption mode padding limit r s t u v w (Some held) block bytes is part read none end ended =
-    ends_some result decryption mode padding limit r t u v w held
-    (HoldsPart-same decryption mode limit r s t u v (Some held) bytes part read none end) end ended
+EndsPart-last result (Some held) block bytes is part read none end ended =
+    ends_some result
+    (HoldsPart-same bytes part read none end) end ended

@@ -2,7 +2,7 @@
 use Rattle.std.proofs.Common.{◌≡◌, inl, inr, ℕ, ◌*◌, ◌%◌, ◌<◌, ◌≤◌, List, [], ◌∷◌, ◌++◌, Option, None, Some, length, take, drop, refl, ap, ap₂, sym, subst, ◌∙◌, arith, append_assoc, append-nil, take-append-drop, length-append, take_all, get_or}
 use Rattle.std.specs.Io.KnownBytes.{Consumes, Appends}
 use Rattle.std.proofs.KnownBytes.{Consumes-trans, Appends-trans, Consumes-nil, Appends-nil}
-use Rattle.des_io.specs.Streams.{joined, bytes_of, IsBlockIfThere, IsHeldBack, WritesPiece, DeciphersPiece, HoldsLast}
+use Rattle.des_io.specs.Streams.{passage_of, stage_of, joined, bytes_of, IsBlockIfThere, IsHeldBack, WritesPiece, DeciphersPiece, HoldsLast}
 use Rattle.std.proofs.lemmas.List.Elements.{All-append, All-nil}
 use Rattle.std.proofs.Math.Seq.{get_or-append_seam}
 use Rattle.des.specs.Blocks.{IsBlock}
@@ -19,14 +19,14 @@ even_bytes None size = refl
 even_bytes (Some block) size = ap (λ n. n % 8) size
 
 -- blocks that end in a block of eight bytes have eight bytes at least
-last_bytes : (front : List ℕ) (blocks before : List (List ℕ)) (last : List ℕ) → length last ≡ 8
+last_bytes : (prefix : List ℕ) (blocks before : List (List ℕ)) (last : List ℕ) → length last ≡ 8
     → blocks ≡ before ++ last ∷ []
-    → 8 ≤ length (front ++ joined blocks)
-last_bytes front blocks before last eight is =
+    → 8 ≤ length (prefix ++ joined blocks)
+last_bytes prefix blocks before last eight is =
     let bytes : joined blocks ≡ joined before ++ (last ++ []) = ap joined is ∙ joined-append before (last ∷ []) in
     omega (
       arith,
-      length-append front (joined blocks),
+      length-append prefix (joined blocks),
       ap length bytes
           ∙ length-append (joined before) (last ++ []),
       length-append last [],
@@ -34,18 +34,18 @@ last_bytes front blocks before last eight is =
     )
 
 -- a part of the block that was held back
-pub WritesPiece-held : (held next : Option (List ℕ)) (blocks front : List (List ℕ)) (last : List ℕ)
-    (u v : Option (List ℕ)) (k : ℕ)
-    (Succeeds : Type 0) → (Succeeds → ⊥) → length last ≡ 8 → blocks ≡ front ++ last ∷ []
+pub WritesPiece-held : {held next : Option (List ℕ)} {blocks : List (List ℕ)} (prefix : List (List ℕ)) (last : List ℕ)
+    {u v : Option (List ℕ)} (k : ℕ) {Succeeds : Type 0} → (Succeeds → ⊥) → length last ≡ 8
+    → blocks ≡ prefix ++ last ∷ []
     → Appends u v (take k (bytes_of held))
     → WritesPiece held next blocks u v Succeeds
-WritesPiece-held held next blocks front last u v k Succeeds fails eight is written = record {
+WritesPiece-held {held} {blocks} prefix last k fails eight is written = record {
   put = take k (bytes_of held);
   missing = drop k (bytes_of held) ++ joined blocks;
   written = written;
   begins = sym (append_assoc (take k (bytes_of held)) (drop k (bytes_of held)) (joined blocks))
       ∙ ap (λ l. l ++ joined blocks) (take-append-drop k (bytes_of held));
-  back = inr (last_bytes (drop k (bytes_of held)) blocks front last eight is);
+  back = inr (last_bytes (drop k (bytes_of held)) blocks prefix last eight is);
   last = λ s. absurd (fails s);
   size = λ s. absurd (fails s);
   even = λ s. absurd (fails s);
@@ -53,23 +53,23 @@ WritesPiece-held held next blocks front last u v k Succeeds fails eight is writt
 }
 
 -- the whole of it, and a part of the blocks but for the last one
-pub WritesPiece-front : (held next : Option (List ℕ)) (blocks front : List (List ℕ)) (last : List ℕ)
-    (u v w : Option (List ℕ)) (k m : ℕ)
-    (Succeeds : Type 0) → (Succeeds → ⊥) → length last ≡ 8 → blocks ≡ front ++ last ∷ [] → k ≡ length (bytes_of held)
-    → Appends u v (take k (bytes_of held)) → Appends v w (take m (joined front))
+pub WritesPiece-prefix : {held next : Option (List ℕ)} {blocks : List (List ℕ)} (prefix : List (List ℕ)) (last : List ℕ)
+    {u : Option (List ℕ)} (v : Option (List ℕ)) {w : Option (List ℕ)} (k m : ℕ) {Succeeds : Type 0} → (Succeeds → ⊥)
+    → length last ≡ 8 → blocks ≡ prefix ++ last ∷ [] → k ≡ length (bytes_of held)
+    → Appends u v (take k (bytes_of held)) → Appends v w (take m (joined prefix))
     → WritesPiece held next blocks u w Succeeds
-WritesPiece-front held next blocks front last u v w k m Succeeds fails eight is whole first second =
+WritesPiece-prefix {held} prefix last {u} v {w} k m fails eight is whole first second =
     let all : take k (bytes_of held) ≡ bytes_of held = take_all k (bytes_of held) (omega (arith, whole)) in
     record {
-      put = bytes_of held ++ take m (joined front);
-      missing = drop m (joined front) ++ joined (last ∷ []);
-      written = subst (Appends u w) (ap (λ l. l ++ take m (joined front)) all) (Appends-trans u v w _ _ first second);
-      begins = append_assoc (bytes_of held) (take m (joined front)) (drop m (joined front) ++ joined (last ∷ []))
-          ∙ ap (λ l. bytes_of held ++ l) (sym (append_assoc (take m (joined front)) (drop m (joined front))
+      put = bytes_of held ++ take m (joined prefix);
+      missing = drop m (joined prefix) ++ joined (last ∷ []);
+      written = subst (Appends u w) (ap (λ l. l ++ take m (joined prefix)) all) (Appends-trans u v w _ _ first second);
+      begins = append_assoc (bytes_of held) (take m (joined prefix)) (drop m (joined prefix) ++ joined (last ∷ []))
+          ∙ ap (λ l. bytes_of held ++ l) (sym (append_assoc (take m (joined prefix)) (drop m (joined prefix))
           (joined (last ∷ [])))
-          ∙ ap (λ l. l ++ joined (last ∷ [])) (take-append-drop m (joined front))
-          ∙ sym (joined-append front (last ∷ [])) ∙ ap joined (sym is));
-      back = inr (last_bytes (drop m (joined front)) (last ∷ []) [] last eight refl);
+          ∙ ap (λ l. l ++ joined (last ∷ [])) (take-append-drop m (joined prefix))
+          ∙ sym (joined-append prefix (last ∷ [])) ∙ ap joined (sym is));
+      back = inr (last_bytes (drop m (joined prefix)) (last ∷ []) [] last eight refl);
       last = λ s. absurd (fails s);
       size = λ s. absurd (fails s);
       even = λ s. absurd (fails s);
@@ -77,34 +77,34 @@ WritesPiece-front held next blocks front last u v w k m Succeeds fails eight is 
     }
 
 -- the last of blocks of eight bytes has eight
-pub length-last : (blocks front : List (List ℕ)) (last : List ℕ) → blocks ≡ front ++ last ∷ []
+pub length-last : (blocks prefix : List (List ℕ)) (last : List ℕ) → blocks ≡ prefix ++ last ∷ []
     → ((i : ℕ) → i < length blocks → length (get_or blocks i []) ≡ 8) → length last ≡ 8
-length-last blocks front last is sizes =
-    let within : length front < length blocks = omega (arith, ap length is ∙ length-append front (last ∷ [])) in
-    ap length (sym (get_or-append_seam front last [] [])
-    ∙ ap (λ (l : List (List ℕ)). get_or l (length front) []) (sym is)) ∙ sizes (length front) within
+length-last blocks prefix last is sizes =
+    let within : length prefix < length blocks = omega (arith, ap length is ∙ length-append prefix (last ∷ [])) in
+    ap length (sym (get_or-append_seam prefix last [] [])
+    ∙ ap (λ (l : List (List ℕ)). get_or l (length prefix) []) (sym is)) ∙ sizes (length prefix) within
 
 -- all but the last block, which is then held back
-pub WritesPiece-whole : (held : Option (List ℕ)) (blocks front : List (List ℕ)) (last : List ℕ)
-    (u v w : Option (List ℕ)) (k m : ℕ)
-    (Succeeds : Type 0) → length last ≡ 8 → blocks ≡ front ++ last ∷ [] → k ≡ length (bytes_of held)
+pub WritesPiece-whole : {held : Option (List ℕ)} {blocks : List (List ℕ)} (prefix : List (List ℕ)) (last : List ℕ)
+    {u : Option (List ℕ)} (v : Option (List ℕ)) {w : Option (List ℕ)} (k m : ℕ) {Succeeds : Type 0} → length last ≡ 8
+    → blocks ≡ prefix ++ last ∷ [] → k ≡ length (bytes_of held)
     → Appends u v (take k (bytes_of held))
-    → m ≡ length (joined front) → length (joined front) ≡ length front * 8 → Appends v w (take m (joined front))
+    → m ≡ length (joined prefix) → length (joined prefix) ≡ length prefix * 8 → Appends v w (take m (joined prefix))
     → WritesPiece held (Some last) blocks u w Succeeds
-WritesPiece-whole held blocks front last u v w k m Succeeds eight is whole first full size second =
+WritesPiece-whole {held} prefix last {u} v {w} k m eight is whole first full size second =
     let all : take k (bytes_of held) ≡ bytes_of held = take_all k (bytes_of held) (omega (arith, whole)) in
-    let rest : take m (joined front) ≡ joined front = take_all m (joined front) (omega (arith, full)) in
+    let rest : take m (joined prefix) ≡ joined prefix = take_all m (joined prefix) (omega (arith, full)) in
     record {
-      put = bytes_of held ++ joined front;
+      put = bytes_of held ++ joined prefix;
       missing = last;
       written = subst (Appends u w) (ap₂ ◌++◌ all rest) (Appends-trans u v w _ _ first second);
-      begins = append_assoc (bytes_of held) (joined front) last
-          ∙ ap (λ l. bytes_of held ++ l) (ap (λ l. joined front ++ l) (sym (append-nil last))
-          ∙ sym (joined-append front (last ∷ [])) ∙ ap joined (sym is));
+      begins = append_assoc (bytes_of held) (joined prefix) last
+          ∙ ap (λ l. bytes_of held ++ l) (ap (λ l. joined prefix ++ l) (sym (append-nil last))
+          ∙ sym (joined-append prefix (last ∷ [])) ∙ ap joined (sym is));
       back = inr (omega (arith, eight));
       last = λ s. refl;
       size = λ s before. eight;
-      even = λ s before. omega (arith, length-append (bytes_of held) (joined front), size, even_bytes held before);
+      even = λ s before. omega (arith, length-append (bytes_of held) (joined prefix), size, even_bytes held before);
       none = λ s e. cc;
     }
 
@@ -128,7 +128,7 @@ WritesPiece-none held (block ∷ blocks) u Succeeds none = absurd (omega arith)
 -- ---- piece after piece
 
 pub HoldsLast-none : (decryption : List ℕ → List ℕ) (mode : Mode) (r u : Option (List ℕ))
-    → (all : HoldsLast decryption mode r r u u None) × (mode ≡ mode_after mode all.q) × (length all.q ≡ 0)
+    → (all : HoldsLast decryption mode (passage_of r r u u) None) × (mode ≡ mode_after mode all.q) × (length all.q ≡ 0)
 HoldsLast-none decryption mode r u = (
   record {
     q = [];
@@ -148,13 +148,14 @@ HoldsLast-none decryption mode r u = (
 )
 
 -- one piece more
-pub HoldsLast-more : (decryption : List ℕ → List ℕ) (mode next last : Mode) (r s t u v w : Option (List ℕ))
-    (held then : Option (List ℕ)) (bytes : List ℕ)
-    (Succeeds : Type 0) → Succeeds → (so_far : HoldsLast decryption mode r s u v held) → next ≡ mode_after mode so_far.q
+pub HoldsLast-more : {decryption : List ℕ → List ℕ} {mode next last : Mode} {r s t u v w : Option (List ℕ)}
+    {held then : Option (List ℕ)} {bytes : List ℕ} {Succeeds : Type 0} → Succeeds
+    → (so_far : HoldsLast decryption mode (passage_of r s u v) held) → next ≡ mode_after mode so_far.q
     → Consumes s t bytes
-    → (piece : DeciphersPiece decryption next last bytes held then v w Succeeds)
-    → (all : HoldsLast decryption mode r t u w then) × (last ≡ mode_after mode all.q) × (all.q ≡ so_far.q ++ piece.q)
-HoldsLast-more decryption mode next last r s t u v w held then bytes Succeeds succeeds so_far after read piece =
+    → (piece : DeciphersPiece decryption bytes (stage_of next held v) (stage_of last then w) Succeeds)
+    → (all : HoldsLast decryption mode (passage_of r t u w) then) × (last ≡ mode_after mode all.q)
+    × (all.q ≡ so_far.q ++ piece.q)
+HoldsLast-more {decryption} {mode} {r} {s} {t} {u} {v} {w} {held} {then} succeeds so_far after read piece =
     let new = piece.written in (
       record {
         q = so_far.q ++ piece.q;
@@ -181,28 +182,28 @@ HoldsLast-more decryption mode next last r s t u v w held then bytes Succeeds su
     )
 
 -- the blocks of a piece are as many as its bytes have
-pub length-piece : (decryption : List ℕ → List ℕ) (mode next : Mode) (bytes : List ℕ) (held then v w : Option (List ℕ))
-    (Succeeds : Type 0)
-    (n : ℕ) → length bytes ≡ n → (piece : DeciphersPiece decryption mode next bytes held then v w Succeeds)
+pub length-piece : {decryption : List ℕ → List ℕ} {mode next : Mode} {bytes : List ℕ} {held then v w : Option (List ℕ)}
+    {Succeeds : Type 0} (n : ℕ) → length bytes ≡ n → (piece : DeciphersPiece decryption bytes (stage_of mode held v)
+    (stage_of next then w) Succeeds)
     → 8 * length piece.q ≡ n
-length-piece decryption mode next bytes held then v w Succeeds n count piece = sym (length-joined piece.q piece.blocks)
+length-piece n count piece = sym (length-joined piece.q piece.blocks)
     ∙ ap length piece.whole ∙ count
 
 -- the block that was held back is missing, or there was none and nothing was written
-pub held_back : (decryption : List ℕ → List ℕ) (mode : Mode) (r s u v : Option (List ℕ)) (held : Option (List ℕ))
-    → (so_far : HoldsLast decryption mode r s u v held) → IsHeldBack so_far.put (bytes_of held)
-held_back decryption mode r s u v None so_far = inl (sym (append-nil so_far.put) ∙ so_far.whole
+pub held_back : {decryption : List ℕ → List ℕ} {mode : Mode} {r s u v : Option (List ℕ)} (held : Option (List ℕ))
+    → (so_far : HoldsLast decryption mode (passage_of r s u v) held) → IsHeldBack so_far.put (bytes_of held)
+held_back None so_far = inl (sym (append-nil so_far.put) ∙ so_far.whole
     ∙ ap joined (so_far.none refl))
-held_back decryption mode r s u v (Some block) so_far = inr (omega (arith, so_far.size))
+held_back (Some block) so_far = inr (omega (arith, so_far.size))
 
 -- and after one piece more, perhaps not the whole of it
-pub held_back-more : (decryption : List ℕ → List ℕ) (mode : Mode) (r s u v w : Option (List ℕ))
-    (held then : Option (List ℕ)) (blocks : List (List ℕ))
-    (Succeeds : Type 0) → (so_far : HoldsLast decryption mode r s u v held)
+pub held_back-more : {decryption : List ℕ → List ℕ} {mode : Mode} {r s u v w : Option (List ℕ)}
+    {held then : Option (List ℕ)} {blocks : List (List ℕ)} {Succeeds : Type 0}
+    → (so_far : HoldsLast decryption mode (passage_of r s u v) held)
     → (new : WritesPiece held then blocks v w Succeeds)
     → IsHeldBack (so_far.put ++ new.put) new.missing
-held_back-more decryption mode r s u v w held then blocks Succeeds so_far new = elim new.back [
-  | inl none ↦ elim (held_back decryption mode r s u v held so_far) [
+held_back-more {held} {blocks} so_far new = elim new.back [
+  | inl none ↦ elim (held_back held so_far) [
     | inl nothing ↦ inl (ap₂ ◌++◌ nothing none)
     | inr eight ↦
         let all : new.missing ≡ bytes_of held ++ joined blocks = ap (λ l. l ++ new.missing) (sym none) ∙ new.begins in

@@ -8,7 +8,7 @@ use Rattle.std.proofs.lemmas.List.Elements.{All-append, All-nil}
 use Rattle.des.specs.Blocks.{IsBlock}
 use Rattle.des_io.specs.CipherModes.{Enciphered, mode_after}
 use Rattle.des_io.specs.PaddedBytes.{padded}
-use Rattle.des_io.specs.Streams.{joined, EnciphersPiece, Encrypts, EncryptsFront}
+use Rattle.des_io.specs.Streams.{Passage, passage_of, joined, EnciphersPiece, Encrypts, EncryptsPrefix}
 use Rattle.des_io.specs.StreamFaults.{EndsInBlock}
 use Rattle.des_io.specs.declared.mode.Mode.{Mode}
 use Rattle.des_io.specs.declared.padding.Padding.{Padding}
@@ -29,17 +29,17 @@ length-joined (block ∷ blocks) are =
     ∙ omega arith
 
 -- blocks p were read and q, which is p enciphered, was written; the mode goes on from them
-pub record EncryptsBlocks (encryption : List ℕ → List ℕ) (mode next : Mode) (r s u v : Option (List ℕ)) : Type 0 where
+pub record EncryptsBlocks (encryption : List ℕ → List ℕ) (mode next : Mode) (passage : Passage) : Type 0 where
   pub p : List (List ℕ)
   pub q : List (List ℕ)
-  pub read : Consumes r s (joined p)
+  pub read : Consumes passage.read_from passage.read_to (joined p)
   pub blocks : All IsBlock p
   pub enciphered : Enciphered encryption mode p q
   pub after : next ≡ mode_after mode q
-  pub written : Appends u v (joined q)
+  pub written : Appends passage.written_from passage.written_to (joined q)
 
 pub EncryptsBlocks-none : (encryption : List ℕ → List ℕ) (mode : Mode) (r u : Option (List ℕ))
-    → EncryptsBlocks encryption mode mode r r u u
+    → EncryptsBlocks encryption mode mode (passage_of r r u u)
 EncryptsBlocks-none encryption mode r u = record {
   p = [];
   q = [];
@@ -51,13 +51,12 @@ EncryptsBlocks-none encryption mode r u = record {
 }
 
 -- one piece more
-pub EncryptsBlocks-more : (encryption : List ℕ → List ℕ) (mode next last : Mode) (r s t u v w : Option (List ℕ))
-    (bytes : List ℕ)
-    (Succeeds : Type 0) → Succeeds
-    → EncryptsBlocks encryption mode next r s u v → Consumes s t bytes
+pub EncryptsBlocks-more : {encryption : List ℕ → List ℕ} {mode next last : Mode} {r s t u v w : Option (List ℕ)}
+    {bytes : List ℕ} {Succeeds : Type 0} → Succeeds
+    → EncryptsBlocks encryption mode next (passage_of r s u v) → Consumes s t bytes
     → EnciphersPiece encryption next last bytes v w Succeeds
-    → EncryptsBlocks encryption mode last r t u w
-EncryptsBlocks-more encryption mode next last r s t u v w bytes Succeeds succeeds so_far read piece = record {
+    → EncryptsBlocks encryption mode last (passage_of r t u w)
+EncryptsBlocks-more {encryption} {mode} {r} {s} {t} {u} {v} {w} succeeds so_far read piece = record {
   p = so_far.p ++ piece.p;
   q = so_far.q ++ piece.q;
   read = subst (Consumes r t) (ap (λ l. joined so_far.p ++ l) (sym piece.whole) ∙ sym (joined-append so_far.p piece.p))
@@ -77,11 +76,12 @@ padded-after : (padding : Padding) (p : List (List ℕ)) (bytes : List ℕ) → 
 padded-after padding p bytes are = padded-append padding (joined p) bytes (omega (arith, length-joined p are))
 
 -- the last piece, of bytes with their padding
-pub Encrypts-last : (encryption : List ℕ → List ℕ) (mode next last : Mode) (padding : Padding)
-    (r s t u v w : Option (List ℕ)) (bytes : List ℕ)
-    (Succeeds : Type 0) → Succeeds → EncryptsBlocks encryption mode next r s u v → Consumes s t bytes
-    → EnciphersPiece encryption next last (padded padding bytes) v w Succeeds → Encrypts encryption mode padding r t u w
-Encrypts-last encryption mode next last padding r s t u v w bytes Succeeds succeeds so_far read piece = record {
+pub Encrypts-last : {encryption : List ℕ → List ℕ} {mode next last : Mode} {padding : Padding}
+    {r s t u v w : Option (List ℕ)} (bytes : List ℕ) {Succeeds : Type 0} → Succeeds
+    → EncryptsBlocks encryption mode next (passage_of r s u v) → Consumes s t bytes
+    → EnciphersPiece encryption next last (padded padding bytes) v w Succeeds
+    → Encrypts encryption mode padding (passage_of r t u w)
+Encrypts-last {encryption} {mode} {padding} {r} {s} {t} {u} {v} {w} bytes succeeds so_far read piece = record {
   plain = joined so_far.p ++ bytes;
   p = so_far.p ++ piece.p;
   q = so_far.q ++ piece.q;
@@ -96,13 +96,14 @@ Encrypts-last encryption mode next last padding r s t u v w bytes Succeeds succe
       (Appends-trans u v w _ _ so_far.written piece.written);
 }
 
--- ---- fronts
+-- ---- prefixes
 
 -- after bytes that were read and not written
-pub EncryptsFront-read : (encryption : List ℕ → List ℕ) (mode next : Mode) (padding : Padding)
-    (r s t u v : Option (List ℕ)) (bytes : List ℕ)
-    → EncryptsBlocks encryption mode next r s u v → Consumes s t bytes → EncryptsFront encryption mode padding r t u v
-EncryptsFront-read encryption mode next padding r s t u v bytes so_far read = record {
+pub EncryptsPrefix-read : {encryption : List ℕ → List ℕ} {mode next : Mode} {padding : Padding}
+    {r s t u v : Option (List ℕ)} (bytes : List ℕ)
+    → EncryptsBlocks encryption mode next (passage_of r s u v) → Consumes s t bytes
+    → EncryptsPrefix encryption mode padding (passage_of r t u v)
+EncryptsPrefix-read {r} {s} {t} bytes so_far read = record {
   bytes = joined so_far.p ++ bytes;
   p = so_far.p;
   q = so_far.q;
@@ -111,20 +112,20 @@ EncryptsFront-read encryption mode next padding r s t u v bytes so_far read = re
   missing = [];
   read = Consumes-trans r s t _ _ so_far.read read;
   blocks = so_far.blocks;
-  front = inl refl;
+  prefix = inl refl;
   enciphered = so_far.enciphered;
   begins = append-nil (joined so_far.q);
   written = so_far.written;
 }
 
 -- after a piece that was written, perhaps not the whole of it
-pub EncryptsFront-written : (encryption : List ℕ → List ℕ) (mode next last : Mode) (padding : Padding)
-    (r s t u v w : Option (List ℕ)) (bytes front rest : List ℕ)
-    (Succeeds : Type 0) → EncryptsBlocks encryption mode next r s u v → Consumes s t bytes
-    → EnciphersPiece encryption next last front v w Succeeds
-    → (front ++ rest ≡ bytes) ⊎ (IsAtEnd t × (front ++ rest ≡ padded padding bytes))
-    → EncryptsFront encryption mode padding r t u w
-EncryptsFront-written encryption mode next last padding r s t u v w bytes front rest Succeeds so_far read piece is =
+pub EncryptsPrefix-written : {encryption : List ℕ → List ℕ} {mode next last : Mode} {padding : Padding}
+    {r s t u v w : Option (List ℕ)} (bytes : List ℕ) {prefix : List ℕ} (rest : List ℕ) {Succeeds : Type 0}
+    → EncryptsBlocks encryption mode next (passage_of r s u v) → Consumes s t bytes
+    → EnciphersPiece encryption next last prefix v w Succeeds
+    → (prefix ++ rest ≡ bytes) ⊎ (IsAtEnd t × (prefix ++ rest ≡ padded padding bytes))
+    → EncryptsPrefix encryption mode padding (passage_of r t u w)
+EncryptsPrefix-written {encryption} {mode} {padding} {r} {s} {t} {u} {v} {w} bytes {prefix} rest so_far read piece is =
     record {
       bytes = joined so_far.p ++ bytes;
       p = so_far.p ++ piece.p;
@@ -134,10 +135,10 @@ EncryptsFront-written encryption mode next last padding r s t u v w bytes front 
       missing = drop piece.count (joined piece.q);
       read = Consumes-trans r s t _ _ so_far.read read;
       blocks = All-append IsBlock so_far.p piece.p so_far.blocks piece.blocks;
-      front =
-          let begins : joined (so_far.p ++ piece.p) ++ rest ≡ joined so_far.p ++ (front ++ rest) =
+      prefix =
+          let begins : joined (so_far.p ++ piece.p) ++ rest ≡ joined so_far.p ++ (prefix ++ rest) =
           ap (λ l. l ++ rest) (joined-append so_far.p piece.p ∙ ap (λ l. joined so_far.p ++ l) piece.whole)
-          ∙ append_assoc (joined so_far.p) front rest in
+          ∙ append_assoc (joined so_far.p) prefix rest in
           elim is [
             | inl all ↦ inl (begins ∙ ap (λ l. joined so_far.p ++ l) all)
             | inr ends ↦ inr (
@@ -173,12 +174,13 @@ unpadded-past Pkcs7 bytes n count past = absurd (past (omega
 unpadded-past Iso7816 bytes n count past = absurd (past
     (omega (arith, sym (length-padded Iso7816 bytes (λ e. cc)) ∙ count)))
 
-pub EndsInBlock-padded : (encryption : List ℕ → List ℕ) (mode next : Mode) (padding : Padding)
-    (r s t u v : Option (List ℕ)) (bytes : List ℕ) (n : ℕ)
-    → EncryptsBlocks encryption mode next r s u v → Consumes s t bytes → IsAtEnd t → length (padded padding bytes) ≡ n
+pub EndsInBlock-padded : {encryption : List ℕ → List ℕ} {mode next : Mode} (padding : Padding)
+    {r s t u v : Option (List ℕ)} (bytes : List ℕ) (n : ℕ)
+    → EncryptsBlocks encryption mode next (passage_of r s u v) → Consumes s t bytes → IsAtEnd t
+    → length (padded padding bytes) ≡ n
     → n % 8 ≢ 0
     → EndsInBlock r t (n % 8)
-EndsInBlock-padded encryption mode next padding r s t u v bytes n so_far read end count past = record {
+EndsInBlock-padded padding {r} {s} {t} bytes n so_far read end count past = record {
   end = end;
   bytes = joined so_far.p ++ bytes;
   read = Consumes-trans r s t _ _ so_far.read read;

@@ -4,7 +4,7 @@ pub mod ModesInPieces
 pub mod EncryptedPieces
 pub mod DecryptedPieces
 pub mod LimitedBlocks
-pub mod DecryptedFronts
+pub mod DecryptedPrefixes
 pub mod DecryptedEnds
 pub mod SkippedBlocks
 pub mod DecryptedParts

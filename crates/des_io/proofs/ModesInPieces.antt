@@ -1,8 +1,5 @@
 -- Lists of blocks that are enciphered or deciphered piece after piece.
-use Rattle.std.proofs.Common.{◌≡◌, ◌⊎◌, inl, inr, ℕ, suc, ◌+◌, ◌-◌, ◌<◌, ◌≤◌, List, [], ◌∷◌, ◌++◌, length, get_or, map, refl, ap, ap₂, sym, ◌∙◌, arith, length-append}
-use Rattle.std.proofs.lemmas.List.{get_or-append_right}
-use Rattle.std.proofs.Math.ListN.{get_or-append}
-use Rattle.des.specs.Cbc.{next_vector}
+use Rattle.std.proofs.Common.{◌≡◌, ℕ, suc, List, [], ◌∷◌, ◌++◌, length, map, refl, ap, ap₂, sym, ◌∙◌, arith}
 use Rattle.des_io.specs.CipherModes.{Enciphered, Deciphered, mode_after}
 use Rattle.des_io.specs.declared.mode.Mode.{Mode}
 use Rattle.des_io.specs.declared.mode.Mode.TheVariants.{Ecb, Cbc as InChain}
@@ -14,19 +11,24 @@ map-append : (f : List ℕ → List ℕ) (a b : List (List ℕ)) → map f (a ++
 map-append f [] b = refl
 map-append f (block ∷ a) b = ap (λ (l : List (List ℕ)). f block ∷ l) (map-append f a b)
 
-pub mode_after-append : (mode : Mode) (blocks more : List (List ℕ)) → mode_after mode (blocks ++ more) ≡ mode_after (mode_after mode blocks) more
+pub mode_after-append : (mode : Mode) (blocks more : List (List ℕ)) → mode_after mode (blocks ++ more) ≡ mode_after
+    (mode_after mode blocks) more
 mode_after-append Ecb blocks more = refl
 mode_after-append (InChain iv) blocks more = ap InChain (next_vector-append iv blocks more)
 
-pub Enciphered-append : (encryption : List ℕ → List ℕ) (mode : Mode) (p q more answers : List (List ℕ)) → Enciphered encryption mode p q
+pub Enciphered-append : (encryption : List ℕ → List ℕ) (mode : Mode) (p q more answers : List (List ℕ))
+    → Enciphered encryption mode p q
     → Enciphered encryption (mode_after mode q) more answers → Enciphered encryption mode (p ++ more) (q ++ answers)
-Enciphered-append encryption Ecb p q more answers first second = ap₂ ◌++◌ first second ∙ sym (map-append encryption p more)
+Enciphered-append encryption Ecb p q more answers first second = ap₂ ◌++◌ first second
+    ∙ sym (map-append encryption p more)
 Enciphered-append encryption (InChain iv) p q more answers first second =
     Chains-append (λ block answer. answer ≡ encryption block) iv p q more answers first second
 
-pub Deciphered-append : (decryption : List ℕ → List ℕ) (mode : Mode) (q p more answers : List (List ℕ)) → Deciphered decryption mode q p
+pub Deciphered-append : (decryption : List ℕ → List ℕ) (mode : Mode) (q p more answers : List (List ℕ))
+    → Deciphered decryption mode q p
     → Deciphered decryption (mode_after mode q) more answers → Deciphered decryption mode (q ++ more) (p ++ answers)
-Deciphered-append decryption Ecb q p more answers first second = ap₂ ◌++◌ first second ∙ sym (map-append decryption q more)
+Deciphered-append decryption Ecb q p more answers first second = ap₂ ◌++◌ first second
+    ∙ sym (map-append decryption q more)
 Deciphered-append decryption (InChain iv) q p more answers first second =
     Unchains-append decryption iv q p more answers first second
 
@@ -38,7 +40,12 @@ mode_after-none (InChain iv) = refl
 
 pub Enciphered-none : (encryption : List ℕ → List ℕ) (mode : Mode) → Enciphered encryption mode [] []
 Enciphered-none encryption Ecb = refl
-Enciphered-none encryption (InChain iv) = record { count = refl; widths = λ n from to. absurd (omega arith); chained = λ n from to. absurd (omega arith) }
+Enciphered-none encryption (InChain iv) = record {
+  count = refl;
+  widths = λ n from to. absurd (omega arith);
+  chained =
+      λ n from to. absurd (omega arith);
+}
 
 pub Deciphered-none : (decryption : List ℕ → List ℕ) (mode : Mode) → Deciphered decryption mode [] []
 Deciphered-none decryption Ecb = refl
@@ -49,7 +56,8 @@ length-map f [] = refl
 length-map f (block ∷ blocks) = ap suc (length-map f blocks)
 
 -- as many blocks are deciphered as there are
-Deciphered-count : (decryption : List ℕ → List ℕ) (mode : Mode) (q p : List (List ℕ)) → Deciphered decryption mode q p → length p ≡ length q
+pub Deciphered-count : (decryption : List ℕ → List ℕ) (mode : Mode) (q p : List (List ℕ))
+    → Deciphered decryption mode q p → length p ≡ length q
 Deciphered-count decryption Ecb q p deciphered = ap length deciphered ∙ length-map decryption q
 Deciphered-count decryption (InChain iv) q p deciphered = deciphered.count
 
@@ -63,7 +71,8 @@ pub Deciphered-nil : (decryption : List ℕ → List ℕ) (mode : Mode) (q p : L
 Deciphered-nil decryption mode q p deciphered none =
     no_elements p (Deciphered-count decryption mode q p deciphered ∙ ap length none)
 
-pub Deciphered-only_nil : (decryption : List ℕ → List ℕ) (mode : Mode) (q p : List (List ℕ)) → Deciphered decryption mode q p
+pub Deciphered-only_nil : (decryption : List ℕ → List ℕ) (mode : Mode) (q p : List (List ℕ))
+    → Deciphered decryption mode q p
     → p ≡ [] → q ≡ []
 Deciphered-only_nil decryption mode q p deciphered none =
     no_elements q (sym (Deciphered-count decryption mode q p deciphered) ∙ ap length none)

@@ -22,11 +22,11 @@ Skips-none mode r count none = record {
 }
 
 -- one piece more
-pub Skips-more : (mode next last : Mode) (m n : ℕ) (r s t : Option (List ℕ)) (bytes : List ℕ) (more : List (List ℕ))
+pub Skips-more : {mode next last : Mode} {m n : ℕ} {r s t : Option (List ℕ)} (bytes : List ℕ) (more : List (List ℕ))
     → Skips mode next m r s
     → Consumes s t bytes → joined more ≡ bytes → All IsBlock more → last ≡ mode_after next more → m + length more ≡ n
     → Skips mode last n r t
-Skips-more mode next last m n r s t bytes more so_far read whole are after size = record {
+Skips-more {mode} {m} {r} {s} {t} bytes more so_far read whole are after size = record {
   q = so_far.q ++ more;
   read = subst (Consumes r t) (ap (λ l. joined so_far.q ++ l) (sym whole) ∙ sym (joined-append so_far.q more))
       (Consumes-trans r s t _ _ so_far.read read);
@@ -36,10 +36,10 @@ Skips-more mode next last m n r s t bytes more so_far read whole are after size 
 }
 
 -- the end before the part
-pub EndsBefore-read : (mode next : Mode) (m n count : ℕ) (r s t : Option (List ℕ)) (bytes : List ℕ)
+pub EndsBefore-read : {mode next : Mode} {m : ℕ} (n : ℕ) {count : ℕ} {r s t : Option (List ℕ)} (bytes : List ℕ)
     → Skips mode next m r s → Consumes s t bytes
     → IsAtEnd t → length bytes ≡ n → 8 * m + n < 8 * count → EndsBefore count r t
-EndsBefore-read mode next m n count r s t bytes so_far read end size short = record {
+EndsBefore-read n {r} {s} {t} bytes so_far read end size short = record {
   bytes = joined so_far.q ++ bytes;
   read = Consumes-trans r s t _ _ so_far.read read;
   end = end;

@@ -8,7 +8,7 @@ use Rattle.std.specs.declared.io.ErrorKind.TheVariants.{Interrupted}
 use Rattle.des.specs.Blocks.{IsBlock}
 use Rattle.des_io.specs.PaddedBytes.{padded}
 use Rattle.des_io.specs.CipherModes.{Deciphered}
-use Rattle.des_io.specs.Streams.{joined, IsWithin}
+use Rattle.des_io.specs.Streams.{joined, IsWithin, Passage}
 use Rattle.des_io.specs.declared.mode.Mode.{Mode}
 use Rattle.des_io.specs.declared.padding.Padding.{Padding}
 use Rattle.des_io.specs.declared.padding.Padding.TheVariants.{Unpadded}
@@ -25,16 +25,16 @@ pub record EndsInBlock (read_from read_to : Option (List ℕ)) (past : ℕ) : Ty
 
 -- all was read, blocks q, and no bytes are p with their padding, which is q deciphered; all but the
 -- last block of p was written
-pub record IsWronglyPadded (decryption : List ℕ → List ℕ) (mode : Mode) (padding : Padding)
-    (read_from read_to written_from written_to : Option (List ℕ)) : Type 0 where
+pub record IsWronglyPadded (decryption : List ℕ → List ℕ) (mode : Mode) (padding : Padding) (passage : Passage)
+    : Type 0 where
   pub q : List (List ℕ)
   pub p : List (List ℕ)
-  pub read : Consumes read_from read_to (joined q)
-  pub end : IsAtEnd read_to
+  pub read : Consumes passage.read_from passage.read_to (joined q)
+  pub end : IsAtEnd passage.read_to
   pub blocks : All IsBlock q
   pub deciphered : Deciphered decryption mode q p
   pub wrong : (plain : List ℕ) → padded padding plain ≢ joined p
-  pub written : Appends written_from written_to (take (length (joined p) - 8) (joined p))
+  pub written : Appends passage.written_from passage.written_to (take (length (joined p) - 8) (joined p))
 
 -- the error is no interruption, after which a call is made again
 abbrev pub IsLasting : (error : Error) → Type 0
@@ -62,8 +62,8 @@ FailsToEncrypt (Write error) padding read_from read_to = IsLasting error
 -- all was read, and `past` bytes follow the last whole block, within a limit in blocks, where there
 -- is one
 abbrev pub EndsInPart : (past : ℕ) (limit : Option ℕ) (read_from read_to : Option (List ℕ)) → Type 0
-EndsInPart past limit read_from read_to = (ends : EndsInBlock read_from read_to past) × IsWithin limit
-    (length ends.bytes / 8 + 1)
+EndsInPart past limit read_from read_to =
+    (ends : EndsInBlock read_from read_to past) × IsWithin limit (length ends.bytes / 8 + 1)
 
 -- what a fault says of a decryption up to a limit in blocks, where there is one, before its padding
 -- is looked at
@@ -74,7 +74,7 @@ FailsBefore WrongPadding limit read_from read_to = ⊥
 FailsBefore (Read error) limit read_from read_to = IsLasting error
 FailsBefore (Write error) limit read_from read_to = IsLasting error
 
--- what the end of a stream answers, whose last block is `last`, or none: at success the writer has
+-- what the end of a stream gives, whose last block is `last`, or none: at success the writer has
 -- the bytes that with their padding are `last`; where there are none such, it is as it was; and at a
 -- fault of writing it has a prefix of them
 abbrev pub EndsStream : (padding : Padding) (last : List ℕ) (written_from written_to : Option (List ℕ))
@@ -89,14 +89,12 @@ EndsStream padding last written_from written_to (Err fault) =
 
 -- what a fault says of a decryption
 abbrev pub FailsToDecrypt : (fault : StreamError) (decryption : List ℕ → List ℕ) (mode : Mode) (padding : Padding)
-    (read_from read_to written_from written_to : Option (List ℕ)) → Type 0
-FailsToDecrypt (Length past) decryption mode padding read_from read_to written_from written_to = EndsInBlock read_from
-    read_to past
-FailsToDecrypt Start decryption mode padding read_from read_to written_from written_to = ⊥
-FailsToDecrypt WrongPadding decryption mode padding read_from read_to written_from written_to =
-    IsWronglyPadded decryption mode padding read_from read_to written_from written_to
-FailsToDecrypt (Read error) decryption mode padding read_from read_to written_from written_to = IsLasting error
-FailsToDecrypt (Write error) decryption mode padding read_from read_to written_from written_to = IsLasting error
+    (passage : Passage) → Type 0
+FailsToDecrypt (Length past) decryption mode padding passage = EndsInBlock passage.read_from passage.read_to past
+FailsToDecrypt Start decryption mode padding passage = ⊥
+FailsToDecrypt WrongPadding decryption mode padding passage = IsWronglyPadded decryption mode padding passage
+FailsToDecrypt (Read error) decryption mode padding passage = IsLasting error
+FailsToDecrypt (Write error) decryption mode padding passage = IsLasting error
 
 -- ---- parts
 
@@ -117,14 +115,12 @@ FailsToSkip _ count read_from read_to = ⊥
 -- has a block, and no more than its limit; it ends within a block of the part; or the reader or the
 -- writer failed
 abbrev pub FailsInPart : (fault : StreamError) (decryption : List ℕ → List ℕ) (mode : Mode) (padding : Padding)
-    (limit : Option ℕ)
-    (read_from read_to written_from written_to : Option (List ℕ)) → Type 0
-FailsInPart Start decryption mode padding limit read_from read_to written_from written_to =
-    Consumes read_from read_to [] × IsAtEnd read_to
-FailsInPart WrongPadding decryption mode padding limit read_from read_to written_from written_to =
-    (wrong : IsWronglyPadded decryption mode padding read_from read_to written_from written_to)
-    × (wrong.q ≢ []) × IsWithin limit (length wrong.q)
-FailsInPart (Length past) decryption mode padding limit read_from read_to written_from written_to =
-    EndsInPart past limit read_from read_to
-FailsInPart (Read error) decryption mode padding limit read_from read_to written_from written_to = IsLasting error
-FailsInPart (Write error) decryption mode padding limit read_from read_to written_from written_to = IsLasting error
+    (limit : Option ℕ) (passage : Passage) → Type 0
+FailsInPart Start decryption mode padding limit passage =
+    Consumes passage.read_from passage.read_to [] × IsAtEnd passage.read_to
+FailsInPart WrongPadding decryption mode padding limit passage =
+    (wrong : IsWronglyPadded decryption mode padding passage) × (wrong.q ≢ []) × IsWithin limit (length wrong.q)
+FailsInPart (Length past) decryption mode padding limit passage =
+    EndsInPart past limit passage.read_from passage.read_to
+FailsInPart (Read error) decryption mode padding limit passage = IsLasting error
+FailsInPart (Write error) decryption mode padding limit passage = IsLasting error

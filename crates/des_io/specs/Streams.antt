@@ -23,39 +23,55 @@ abbrev pub IsBlockIfThere : (held : Option (List ℕ)) → Type 0
 IsBlockIfThere None = ⊤
 IsBlockIfThere (Some block) = length block ≡ 8
 
+-- what a reader has left, and what a writer holds, before a call and after it; none where they do not
+-- tell
+pub record Passage : Type 0 where
+  pub read_from : Option (List ℕ)
+  pub read_to : Option (List ℕ)
+  pub written_from : Option (List ℕ)
+  pub written_to : Option (List ℕ)
+
+abbrev pub passage_of : (read_from read_to written_from written_to : Option (List ℕ)) → Passage
+passage_of read_from read_to written_from written_to = record {
+  read_from = read_from;
+  read_to = read_to;
+  written_from = written_from;
+  written_to = written_to;
+}
+
 -- ---- encryption
 
 -- the bytes that were read are p with their padding, and q, which is p enciphered, was written
-pub record Encrypts (encryption : List ℕ → List ℕ) (mode : Mode) (padding : Padding)
-    (read_from read_to written_from written_to : Option (List ℕ)) : Type 0 where
+pub record Encrypts (encryption : List ℕ → List ℕ) (mode : Mode) (padding : Padding) (passage : Passage)
+    : Type 0 where
   pub plain : List ℕ
   pub p : List (List ℕ)
   pub q : List (List ℕ)
-  pub read : Consumes read_from read_to plain
+  pub read : Consumes passage.read_from passage.read_to plain
   pub blocks : All IsBlock p
   pub whole : joined p ≡ padded padding plain
   pub enciphered : Enciphered encryption mode p q
-  pub written : Appends written_from written_to (joined q)
+  pub written : Appends passage.written_from passage.written_to (joined q)
 
--- what was written begins the answer to what was read: the bytes that were read begin with blocks p,
--- or, only where the input is at its end, those bytes with their padding do; and the bytes that were
+-- what was written begins the ciphertext of what was read: the bytes that were read begin with blocks
+-- p, or, only where the input is at its end, those bytes with their padding do; and the bytes that were
 -- written begin q, which is p enciphered
-pub record EncryptsFront (encryption : List ℕ → List ℕ) (mode : Mode) (padding : Padding)
-    (read_from read_to written_from written_to : Option (List ℕ)) : Type 0 where
+pub record EncryptsPrefix (encryption : List ℕ → List ℕ) (mode : Mode) (padding : Padding) (passage : Passage)
+    : Type 0 where
   pub bytes : List ℕ
   pub p : List (List ℕ)
   pub q : List (List ℕ)
   pub rest : List ℕ
   pub put : List ℕ
   pub missing : List ℕ
-  pub read : Consumes read_from read_to bytes
+  pub read : Consumes passage.read_from passage.read_to bytes
   pub blocks : All IsBlock p
-  pub front : (joined p ++ rest ≡ bytes) ⊎ (IsAtEnd read_to × (joined p ++ rest ≡ padded padding bytes))
+  pub prefix : (joined p ++ rest ≡ bytes) ⊎ (IsAtEnd passage.read_to × (joined p ++ rest ≡ padded padding bytes))
   pub enciphered : Enciphered encryption mode p q
   pub begins : put ++ missing ≡ joined q
-  pub written : Appends written_from written_to put
+  pub written : Appends passage.written_from passage.written_to put
 
--- whole blocks p, which the bytes are, are q enciphered, of which the writer has the front, or at
+-- whole blocks p, which the bytes are, are q enciphered, of which the writer has a prefix, or at
 -- success all
 pub record EnciphersPiece (encryption : List ℕ → List ℕ) (mode next : Mode) (bytes : List ℕ)
     (written_from written_to : Option (List ℕ)) (Succeeds : Type 0) : Type 0 where
@@ -89,48 +105,57 @@ pub record WritesPiece (held next : Option (List ℕ)) (blocks : List (List ℕ)
   pub even : Succeeds → IsBlockIfThere held → length put % 8 ≡ 0
   pub none : Succeeds → next ≡ None → (held ≡ None) × (blocks ≡ [])
 
+-- how far a decryption has come: the mode of the block that follows, the block that is held back, and
+-- what the writer holds
+pub record Stage : Type 0 where
+  pub mode : Mode
+  pub held : Option (List ℕ)
+  pub written : Option (List ℕ)
+
+abbrev pub stage_of : (mode : Mode) (held written : Option (List ℕ)) → Stage
+stage_of mode held written = record { mode = mode; held = held; written = written }
+
 -- whole blocks q, which the bytes are, are p deciphered, of which the writer has what `WritesPiece`
 -- says
-pub record DeciphersPiece (decryption : List ℕ → List ℕ) (mode after_mode : Mode) (bytes : List ℕ)
-    (held next : Option (List ℕ)) (written_from written_to : Option (List ℕ)) (Succeeds : Type 0)
+pub record DeciphersPiece (decryption : List ℕ → List ℕ) (bytes : List ℕ) (from to : Stage) (Succeeds : Type 0)
     : Type 0 where
   pub q : List (List ℕ)
   pub p : List (List ℕ)
   pub blocks : All IsBlock q
   pub whole : joined q ≡ bytes
-  pub deciphered : Deciphered decryption mode q p
-  pub after : after_mode ≡ mode_after mode q
+  pub deciphered : Deciphered decryption from.mode q p
+  pub after : to.mode ≡ mode_after from.mode q
   pub count : length p ≡ length q
-  pub written : WritesPiece held next p written_from written_to Succeeds
+  pub written : WritesPiece from.held to.held p from.written to.written Succeeds
 
 -- blocks q were read, and bytes were written that are p with their padding, which is q deciphered,
 -- and whole blocks
-pub record Decrypts (decryption : List ℕ → List ℕ) (mode : Mode) (padding : Padding)
-    (read_from read_to written_from written_to : Option (List ℕ)) : Type 0 where
+pub record Decrypts (decryption : List ℕ → List ℕ) (mode : Mode) (padding : Padding) (passage : Passage)
+    : Type 0 where
   pub q : List (List ℕ)
   pub p : List (List ℕ)
   pub plain : List ℕ
-  pub read : Consumes read_from read_to (joined q)
+  pub read : Consumes passage.read_from passage.read_to (joined q)
   pub blocks : All IsBlock q
   pub deciphered : Deciphered decryption mode q p
   pub whole : joined p ≡ padded padding plain
   pub even : length (joined p) % 8 ≡ 0
-  pub written : Appends written_from written_to plain
+  pub written : Appends passage.written_from passage.written_to plain
 
 -- blocks q were read, and p, which is q deciphered, was written but for its last block
-pub record HoldsLast (decryption : List ℕ → List ℕ) (mode : Mode)
-    (read_from read_to written_from written_to : Option (List ℕ)) (last : Option (List ℕ)) : Type 0 where
+pub record HoldsLast (decryption : List ℕ → List ℕ) (mode : Mode) (passage : Passage) (last : Option (List ℕ))
+    : Type 0 where
   pub q : List (List ℕ)
   pub p : List (List ℕ)
   pub put : List ℕ
-  pub read : Consumes read_from read_to (joined q)
+  pub read : Consumes passage.read_from passage.read_to (joined q)
   pub blocks : All IsBlock q
   pub deciphered : Deciphered decryption mode q p
   pub whole : put ++ bytes_of last ≡ joined p
   pub size : IsBlockIfThere last
   pub even : length put % 8 ≡ 0
   pub none : last ≡ None → p ≡ []
-  pub written : Appends written_from written_to put
+  pub written : Appends passage.written_from passage.written_to put
 
 -- what is left of a limit, where there is one, after `count` blocks
 abbrev pub IsLeft : (limit : Option ℕ) (count : ℕ) (left : Option ℕ) → Type 0
@@ -144,33 +169,32 @@ IsWithin None count = ⊤
 IsWithin (Some limit) count = count ≤ limit
 
 -- the same of a stream that ends where the reader does, or at a limit in blocks
-pub record HoldsPart (decryption : List ℕ → List ℕ) (mode : Mode) (limit : Option ℕ)
-    (read_from read_to written_from written_to : Option (List ℕ)) (last : Option (List ℕ)) : Type 0 where
-  pub holds : HoldsLast decryption mode read_from read_to written_from written_to last
-  pub ends : IsAtEnd read_to ⊎ (limit ≡ Some (length holds.q))
+pub record HoldsPart (decryption : List ℕ → List ℕ) (mode : Mode) (limit : Option ℕ) (passage : Passage)
+    (last : Option (List ℕ)) : Type 0 where
+  pub holds : HoldsLast decryption mode passage last
+  pub ends : IsAtEnd passage.read_to ⊎ (limit ≡ Some (length holds.q))
   pub within : IsWithin limit (length holds.q)
 
 -- what was written begins what was read, deciphered: bytes were read that begin with blocks q, and
 -- bytes were written that begin p, which is q deciphered
-pub record DeciphersFront (decryption : List ℕ → List ℕ) (mode : Mode)
-    (read_from read_to written_from written_to : Option (List ℕ)) : Type 0 where
+pub record DeciphersPrefix (decryption : List ℕ → List ℕ) (mode : Mode) (passage : Passage) : Type 0 where
   pub q : List (List ℕ)
   pub p : List (List ℕ)
   pub rest : List ℕ
   pub put : List ℕ
   pub missing : List ℕ
-  pub read : Consumes read_from read_to (joined q ++ rest)
+  pub read : Consumes passage.read_from passage.read_to (joined q ++ rest)
   pub blocks : All IsBlock q
   pub deciphered : Deciphered decryption mode q p
   pub begins : put ++ missing ≡ joined p
-  pub written : Appends written_from written_to put
+  pub written : Appends passage.written_from passage.written_to put
 
 -- the same within a limit in blocks, where there is one, with the last block held back
-pub record HoldsFront (decryption : List ℕ → List ℕ) (mode : Mode) (limit : Option ℕ)
-    (read_from read_to written_from written_to : Option (List ℕ)) : Type 0 where
-  pub front : DeciphersFront decryption mode read_from read_to written_from written_to
-  pub within : IsWithin limit (length front.q)
-  pub held : IsHeldBack front.put front.missing
+pub record HoldsPrefix (decryption : List ℕ → List ℕ) (mode : Mode) (limit : Option ℕ) (passage : Passage)
+    : Type 0 where
+  pub prefix : DeciphersPrefix decryption mode passage
+  pub within : IsWithin limit (length prefix.q)
+  pub held : IsHeldBack prefix.put prefix.missing
 
 -- all was read, and the bytes that were written begin those which with their padding are p
 pub record BeginsPlain (padding : Padding) (p : List (List ℕ)) (rest put : List ℕ) (read_to : Option (List ℕ))
@@ -184,10 +208,11 @@ pub record BeginsPlain (padding : Padding) (p : List (List ℕ)) (rest put : Lis
 
 -- what was written begins what was read, deciphered, with the last block held back, or, only where
 -- the input is at its end, without the padding
-pub record DecryptsFront (decryption : List ℕ → List ℕ) (mode : Mode) (padding : Padding)
-    (read_from read_to written_from written_to : Option (List ℕ)) : Type 0 where
-  pub front : DeciphersFront decryption mode read_from read_to written_from written_to
-  pub held : IsHeldBack front.put front.missing ⊎ BeginsPlain padding front.p front.rest front.put read_to
+pub record DecryptsPrefix (decryption : List ℕ → List ℕ) (mode : Mode) (padding : Padding) (passage : Passage)
+    : Type 0 where
+  pub prefix : DeciphersPrefix decryption mode passage
+  pub held : IsHeldBack prefix.put prefix.missing
+      ⊎ BeginsPlain padding prefix.p prefix.rest prefix.put passage.read_to
 
 -- ---- parts
 
@@ -208,15 +233,16 @@ IsEndOrMore false bytes read_to = length bytes ≡ 1
 -- nothing follows it, it has a block and its padding was taken off, and where more follows it has no
 -- padding; `taken` is what was taken off
 pub record DecryptsPart (decryption : List ℕ → List ℕ) (mode : Mode) (padding : Padding) (limit : Option ℕ)
-    (read_from read_to written_from written_to : Option (List ℕ)) : Type 0 where
+    (passage : Passage) : Type 0 where
   pub taken : Padding
   pub middle : Option (List ℕ)
   pub rest : List ℕ
-  pub part : Decrypts decryption mode taken read_from middle written_from written_to
+  pub part : Decrypts decryption mode taken (passage_of passage.read_from middle passage.written_from
+      passage.written_to)
   pub ends : IsAtEnd middle ⊎ (limit ≡ Some (length part.q))
   pub within : IsWithin limit (length part.q)
-  pub read : Consumes middle read_to rest
-  pub after : ((rest ≡ []) × IsAtEnd read_to × (taken ≡ padding) × (part.q ≢ []))
+  pub read : Consumes middle passage.read_to rest
+  pub after : ((rest ≡ []) × IsAtEnd passage.read_to × (taken ≡ padding) × (part.q ≢ []))
       ⊎ ((length rest ≡ 1) × (taken ≡ Unpadded))
 
 -- more follows a part of `count` blocks: `rest` was read after it, and the part has as many blocks
@@ -228,9 +254,10 @@ pub record IsFollowed (limit : Option ℕ) (count : ℕ) (rest : List ℕ) (read
 -- what was written begins what was read, deciphered, within a limit in blocks, where there is one:
 -- with the last block held back; or, only where the input is at its end, without the padding; or,
 -- only where more follows the part, with its last block
-pub record DecryptsPartFront (decryption : List ℕ → List ℕ) (mode : Mode) (padding : Padding) (limit : Option ℕ)
-    (read_from read_to written_from written_to : Option (List ℕ)) : Type 0 where
-  pub front : DeciphersFront decryption mode read_from read_to written_from written_to
-  pub within : IsWithin limit (length front.q)
-  pub held : (IsHeldBack front.put front.missing ⊎ BeginsPlain padding front.p front.rest front.put read_to)
-      ⊎ IsFollowed limit (length front.q) front.rest read_from
+pub record DecryptsPartPrefix (decryption : List ℕ → List ℕ) (mode : Mode) (padding : Padding) (limit : Option ℕ)
+    (passage : Passage) : Type 0 where
+  pub prefix : DeciphersPrefix decryption mode passage
+  pub within : IsWithin limit (length prefix.q)
+  pub held : (IsHeldBack prefix.put prefix.missing
+      ⊎ BeginsPlain padding prefix.p prefix.rest prefix.put passage.read_to)
+      ⊎ IsFollowed limit (length prefix.q) prefix.rest passage.read_from

@@ -1,16 +1,17 @@
 //! Bytes that are decrypted from a reader to a writer.
 
-ghost use Rattle.std.specs.Prelude.{◌≡◌, ◌⊎◌, ◌≤◌, ◌<◌, ◌*◌, ℕ, List, Some, length, take, IfSome};
+ghost use Rattle.std.specs.Prelude.{◌≡◌, ◌⊎◌, ◌≤◌, ◌<◌, ◌%◌, ℕ, Some, length, take, IfSome};
 ghost use Rattle.std.specs.Prelude.{IfOk, IfErr, IsOk};
 ghost use Rattle.std.specs.Io.KnownBytes.{Appends, IsAtEnd};
-ghost use Rattle.des_io.specs.Streams.{joined, bytes_of, WritesPiece, DeciphersPiece, IsLeft};
-ghost use Rattle.des_io.specs.Streams.{HoldsPart, HoldsFront, Decrypts, DecryptsFront};
+ghost use Rattle.des_io.specs.Streams.{passage_of, stage_of, bytes_of, WritesPiece, DeciphersPiece, IsLeft};
+ghost use Rattle.des_io.specs.Streams.{HoldsPart, HoldsPrefix, Decrypts, DecryptsPrefix};
 ghost use Rattle.des_io.specs.StreamFaults.{FailsBefore, EndsStream, FailsToDecrypt, IsOfWriting};
 
 use crate::error::{StreamError, without_end};
 use crate::mode::Mode;
 use crate::padding::{Padding, count_before};
-use crate::pieces::{blocks_of, fill_front, write_whole};
+use crate::pieces::{fill_prefix, write_whole};
+use crate::transformation::Transformation;
 use des_fast::many::ManyBlocks;
 use std::io::{Read, Write};
 
@@ -38,9 +39,9 @@ fn write_piece<W: Write>(
         (W.contents writer.old) (W.contents writer.new) (IsOk result) }
     ensures fault { IfErr result IsOfWriting }
 {
-    if let Some((last, front)) = blocks.split_last() {
+    if let Some((last, rest)) = blocks.split_last() {
         write_held(writer, held)?;
-        write_whole(writer, front.as_flattened())?;
+        write_whole(writer, rest.as_flattened())?;
         *held = Some(*last);
     }
     Ok(())
@@ -53,15 +54,15 @@ fn decrypt_piece<W: Write, C: ManyBlocks>(
     mode: &mut Mode,
     held: &mut Option<[u8; 8]>,
     writer: &mut W,
-    bytes: &[u8],
-    blocks: &mut [[u8; 8]],
+    bytes: &mut [u8],
 ) -> Result<(), StreamError>
-    requires { length bytes.now ≡ length blocks.old * 8 }
-    ensures deciphered { DeciphersPiece (C.decrypted cipher.now) mode.old mode.new bytes.now
-        held.old held.new (W.contents writer.old) (W.contents writer.new) (IsOk result) }
+    requires { length bytes.old % 8 ≡ 0 }
+    ensures deciphered { DeciphersPiece (C.decrypted cipher.now) bytes.old
+        (stage_of mode.old held.old (W.contents writer.old))
+        (stage_of mode.new held.new (W.contents writer.new)) (IsOk result) }
     ensures fault { IfErr result IsOfWriting }
 {
-    blocks_of(bytes, blocks);
+    let (blocks, _) = bytes.as_chunks_mut::<8>();
     mode.decrypt(cipher, blocks);
     write_piece(writer, held, blocks)
 }
@@ -91,9 +92,8 @@ fn left_after(left: Option<u64>, count: usize) -> Option<u64>
 }
 
 /// Decrypts what the reader gives, up to its end or to a limit in blocks, and writes it but for the
-/// last block, which it gives. The two buffers, of bytes and of blocks, have the same size, of one
-/// block at least; what they hold afterwards, which can be plaintext, is not said. The writer is not
-/// flushed.
+/// last block, which it gives. The buffer has one block at least; what it holds afterwards, which
+/// can be plaintext, is not said. The writer is not flushed.
 ///
 /// The error is `Read` or `Write` where the reader or the writer failed, and `Length` where what was
 /// read is not whole blocks. The writer then has a prefix of what was read, decrypted, without its
@@ -104,31 +104,30 @@ pub fn decrypt_blocks<R: Read, W: Write, C: ManyBlocks>(
     limit: Option<u64>,
     reader: &mut R,
     writer: &mut W,
-    bytes: &mut [u8],
-    blocks: &mut [[u8; 8]],
+    buffer: &mut [[u8; 8]],
 ) -> Result<Option<[u8; 8]>, StreamError>
-    requires size { length bytes.old ≡ length blocks.old * 8 }
-    requires room { 0 < length blocks.old }
+    requires room { 0 < length buffer.old }
     ensures done { IfOk result (λ last. HoldsPart (C.decrypted cipher.now) mode limit
-        (R.remaining reader.old) (R.remaining reader.new)
-        (W.contents writer.old) (W.contents writer.new) last) }
-    ensures front { HoldsFront (C.decrypted cipher.now) mode limit
-        (R.remaining reader.old) (R.remaining reader.new)
-        (W.contents writer.old) (W.contents writer.new) }
+        (passage_of (R.remaining reader.old) (R.remaining reader.new)
+        (W.contents writer.old) (W.contents writer.new)) last) }
+    ensures prefix { HoldsPrefix (C.decrypted cipher.now) mode limit
+        (passage_of (R.remaining reader.old) (R.remaining reader.new)
+        (W.contents writer.old) (W.contents writer.new)) }
     ensures fault { IfErr result (λ fault.
         FailsBefore fault limit (R.remaining reader.old) (R.remaining reader.new)) }
 {
     let mut mode = mode;
     let mut left = limit;
     let mut held = None;
+    let room = buffer.len();
+    let bytes = buffer.as_flattened_mut();
     for _ in 0..u64::MAX {
-        let count = next_count(blocks.len(), left);
-        let n = fill_front(reader, bytes, 8 * count)?;
+        let count = next_count(room, left);
+        let n = fill_prefix(reader, bytes, 8 * count)?;
         if n % 8 != 0 {
             return Err(StreamError::Length(n % 8));
         }
-        let piece = &mut blocks[..n / 8];
-        decrypt_piece(cipher, &mut mode, &mut held, writer, &bytes[..n], piece)?;
+        decrypt_piece(cipher, &mut mode, &mut held, writer, &mut bytes[..n])?;
         left = left_after(left, n / 8);
         if n < bytes.len() {
             return Ok(held);
@@ -161,37 +160,41 @@ pub fn finish<W: Write>(
 }
 
 /// Decrypts what the reader gives, up to its end, and writes it without its padding, a buffer at a
-/// time. The two buffers, of bytes and of blocks, have the same size, of one block at least; what
-/// they hold afterwards, which can be plaintext, is not said. The writer is not flushed.
+/// time. The buffer has one block at least; what it holds afterwards, which can be plaintext, is not
+/// said. The writer is not flushed.
 ///
 /// The error is `Read` or `Write` where the reader or the writer failed, `Length` where what was read
 /// is not whole blocks, and `Padding` where its padding is wrong. The writer then has a prefix of the
-/// answer: without the last block that was read, or, where the input is at its end, without the
+/// plaintext: without the last block that was read, or, where the input is at its end, without the
 /// padding. The reader may have gone further.
 pub fn decrypt_stream<R: Read, W: Write, C: ManyBlocks>(
-    cipher: &C,
-    mode: Mode,
-    padding: Padding,
+    transformation: &Transformation<'_, C>,
     reader: &mut R,
     writer: &mut W,
-    bytes: &mut [u8],
-    blocks: &mut [[u8; 8]],
+    buffer: &mut [[u8; 8]],
 ) -> Result<(), StreamError>
-    requires size { length bytes.old ≡ length blocks.old * 8 }
-    requires room { 0 < length blocks.old }
-    ensures done { IfOk result (λ _. Decrypts (C.decrypted cipher.now) mode padding
-        (R.remaining reader.old) (R.remaining reader.new)
-        (W.contents writer.old) (W.contents writer.new)) }
+    requires room { 0 < length buffer.old }
+    ensures done { IfOk result (λ _. Decrypts (C.decrypted transformation.now.cipher.now)
+        transformation.now.mode transformation.now.padding
+        (passage_of (R.remaining reader.old) (R.remaining reader.new)
+        (W.contents writer.old) (W.contents writer.new))) }
     ensures end { IfOk result (λ _. IsAtEnd (R.remaining reader.new)) }
-    ensures front { DecryptsFront (C.decrypted cipher.now) mode padding
-        (R.remaining reader.old) (R.remaining reader.new)
-        (W.contents writer.old) (W.contents writer.new) }
-    ensures fault { IfErr result (λ fault.
-        FailsToDecrypt fault (C.decrypted cipher.now) mode padding
-        (R.remaining reader.old) (R.remaining reader.new)
+    ensures prefix { DecryptsPrefix (C.decrypted transformation.now.cipher.now)
+        transformation.now.mode transformation.now.padding
+        (passage_of (R.remaining reader.old) (R.remaining reader.new)
         (W.contents writer.old) (W.contents writer.new)) }
+    ensures fault { IfErr result (λ fault.
+        FailsToDecrypt fault (C.decrypted transformation.now.cipher.now)
+        transformation.now.mode transformation.now.padding
+        (passage_of (R.remaining reader.old) (R.remaining reader.new)
+        (W.contents writer.old) (W.contents writer.new))) }
 {
-    let last = decrypt_blocks(cipher, mode, None, reader, writer, bytes, blocks)?;
+    let Transformation {
+        cipher,
+        mode,
+        padding,
+    } = *transformation;
+    let last = decrypt_blocks(cipher, mode, None, reader, writer, buffer)?;
     finish(padding, &last, writer)?;
     Ok(())
 }

@@ -1,14 +1,15 @@
 //! Bytes that are encrypted from a reader to a writer.
 
-ghost use Rattle.std.specs.Prelude.{◌≡◌, ◌≤◌, ◌<◌, ◌*◌, ℕ, List, length, take, IfOk, IfErr, IsOk};
-ghost use Rattle.std.specs.Io.KnownBytes.{Appends, IsAtEnd};
-ghost use Rattle.des_io.specs.Streams.{EnciphersPiece, Encrypts, EncryptsFront};
+ghost use Rattle.std.specs.Prelude.{◌≡◌, ◌<◌, ◌%◌, length, IfOk, IfErr, IsOk};
+ghost use Rattle.std.specs.Io.KnownBytes.{IsAtEnd};
+ghost use Rattle.des_io.specs.Streams.{passage_of, EnciphersPiece, Encrypts, EncryptsPrefix};
 ghost use Rattle.des_io.specs.StreamFaults.{FailsToEncrypt, IsOfWriting};
 
 use crate::error::{StreamError, without_end};
 use crate::mode::Mode;
-use crate::padding::{Padding, pad};
-use crate::pieces::{blocks_of, fill, write_whole};
+use crate::padding::pad;
+use crate::pieces::{fill, write_whole};
+use crate::transformation::Transformation;
 use des_fast::many::ManyBlocks;
 use std::io::{Read, Write};
 
@@ -17,60 +18,60 @@ fn encrypt_piece<W: Write, C: ManyBlocks>(
     cipher: &C,
     mode: &mut Mode,
     writer: &mut W,
-    bytes: &[u8],
-    blocks: &mut [[u8; 8]],
+    bytes: &mut [u8],
 ) -> Result<(), StreamError>
-    requires { length bytes.now ≡ length blocks.old * 8 }
-    ensures enciphered { EnciphersPiece (C.encrypted cipher.now) mode.old mode.new bytes.now
+    requires { length bytes.old % 8 ≡ 0 }
+    ensures enciphered { EnciphersPiece (C.encrypted cipher.now) mode.old mode.new bytes.old
         (W.contents writer.old) (W.contents writer.new) (IsOk result) }
     ensures fault { IfErr result IsOfWriting }
 {
-    blocks_of(bytes, blocks);
+    let (blocks, _) = bytes.as_chunks_mut::<8>();
     mode.encrypt(cipher, blocks);
     write_whole(writer, blocks.as_flattened())
 }
 
 /// Encrypts what the reader gives, up to its end, with its padding, and writes it, a buffer at a
-/// time. The two buffers, of bytes and of blocks, have the same size, of one block at least; what
-/// they hold afterwards, which can be plaintext, is not said. The writer is not flushed.
+/// time. The buffer has one block at least; what it holds afterwards, which can be plaintext, is not
+/// said. The writer is not flushed.
 ///
 /// The error is `Read` or `Write` where the reader or the writer failed, and `Length` where the
 /// padding is `Unpadded` and what was read is not whole blocks. The writer then has a prefix of the
-/// answer to what was read, with padding only where the input is at its end, and the reader may have
-/// gone further.
+/// ciphertext of what was read, with padding only where the input is at its end, and the reader may
+/// have gone further.
 pub fn encrypt_stream<R: Read, W: Write, C: ManyBlocks>(
-    cipher: &C,
-    mode: Mode,
-    padding: Padding,
+    transformation: &Transformation<'_, C>,
     reader: &mut R,
     writer: &mut W,
-    bytes: &mut [u8],
-    blocks: &mut [[u8; 8]],
+    buffer: &mut [[u8; 8]],
 ) -> Result<(), StreamError>
-    requires size { length bytes.old ≡ length blocks.old * 8 }
-    requires room { 0 < length blocks.old }
-    ensures done { IfOk result (λ _. Encrypts (C.encrypted cipher.now) mode padding
-        (R.remaining reader.old) (R.remaining reader.new)
-        (W.contents writer.old) (W.contents writer.new)) }
+    requires room { 0 < length buffer.old }
+    ensures done { IfOk result (λ _. Encrypts (C.encrypted transformation.now.cipher.now)
+        transformation.now.mode transformation.now.padding
+        (passage_of (R.remaining reader.old) (R.remaining reader.new)
+        (W.contents writer.old) (W.contents writer.new))) }
     ensures end { IfOk result (λ _. IsAtEnd (R.remaining reader.new)) }
-    ensures front { EncryptsFront (C.encrypted cipher.now) mode padding
-        (R.remaining reader.old) (R.remaining reader.new)
-        (W.contents writer.old) (W.contents writer.new) }
+    ensures prefix { EncryptsPrefix (C.encrypted transformation.now.cipher.now)
+        transformation.now.mode transformation.now.padding
+        (passage_of (R.remaining reader.old) (R.remaining reader.new)
+        (W.contents writer.old) (W.contents writer.new)) }
     ensures fault { IfErr result (λ fault.
-        FailsToEncrypt fault padding (R.remaining reader.old) (R.remaining reader.new)) }
+        FailsToEncrypt fault transformation.now.padding
+        (R.remaining reader.old) (R.remaining reader.new)) }
 {
-    let mut mode = mode;
+    let cipher = transformation.cipher;
+    let mut mode = transformation.mode;
+    let bytes = buffer.as_flattened_mut();
     for _ in 0..u64::MAX {
         let n = fill(reader, bytes)?;
         if n < bytes.len() {
-            let n = pad(padding, bytes, n);
+            let n = pad(transformation.padding, bytes, n);
             if n % 8 != 0 {
                 return Err(StreamError::Length(n % 8));
             }
-            encrypt_piece(cipher, &mut mode, writer, &bytes[..n], &mut blocks[..n / 8])?;
+            encrypt_piece(cipher, &mut mode, writer, &mut bytes[..n])?;
             return Ok(());
         }
-        encrypt_piece(cipher, &mut mode, writer, bytes, blocks)?;
+        encrypt_piece(cipher, &mut mode, writer, bytes)?;
     }
     Err(StreamError::Read(without_end()))
 }

@@ -1,15 +1,15 @@
 //! Bytes that go from a reader to a writer through a cipher: in a mode of operation (ECB or CBC)
 //! and with a padding (PKCS#7, ISO/IEC 7816-4 or none), a buffer at a time, over any cipher with
-//! the trait `ManyBlocks` of `des_fast`. The reader, the writer and the buffers are the caller's:
-//! no call takes memory, however much goes through.
+//! the trait `ManyBlocks` of `des_fast`. The reader, the writer and the buffer are the caller's: no
+//! call takes memory, however much goes through.
 //!
-//! What is written is the answer to what was read; after an error it is a prefix of the answer.
-//! Nothing is authenticated: a changed ciphertext decrypts to something, mostly with no error.
+//! What is written is the ciphertext or the plaintext of all that was read; after an error it is a
+//! prefix of it. Nothing is authenticated: a changed ciphertext decrypts to something, mostly with no error.
 //!
-//! After an error the reader is somewhere after the bytes whose answer was written, and how far is
-//! not said: neither it nor the writer can be gone on with. No call flushes the writer: the caller
-//! does, at success, where it holds bytes back. What the buffers hold after a call is not said
-//! either, and it can be plaintext.
+//! After an error the reader is somewhere after the bytes that what was written comes from, and how
+//! far is not said: neither it nor the writer can be gone on with. No call flushes the writer: the
+//! caller does, at success, where it holds bytes back. What the buffer holds after a call is not
+//! said either, and it can be plaintext.
 #![tactic(auto)]
 
 pub mod decryption;
@@ -19,6 +19,7 @@ pub mod mode;
 pub mod padding;
 pub mod part;
 pub mod pieces;
+pub mod transformation;
 
 pub use decryption::decrypt_stream;
 pub use encryption::encrypt_stream;
@@ -26,3 +27,4 @@ pub use error::StreamError;
 pub use mode::Mode;
 pub use padding::Padding;
 pub use part::{decrypt_part, skip_blocks};
+pub use transformation::Transformation;

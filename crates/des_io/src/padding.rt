@@ -40,14 +40,14 @@ pub fn pad(padding: Padding, bytes: &mut [u8], count: usize) -> usize
 }
 
 // A block of the first bytes of another, and their padding.
-fn padded_front(padding: Padding, block: &[u8; 8], count: usize) -> [u8; 8]
+fn padded_prefix(padding: Padding, block: &[u8; 8], count: usize) -> [u8; 8]
     requires padding { padding ≢ Unpadded }
     requires room { count < 8 }
     ensures { result ≡ padded padding (take count block.now) }
 {
-    let mut front = *block;
-    pad(padding, &mut front, count);
-    front
+    let mut prefix = *block;
+    pad(padding, &mut prefix, count);
+    prefix
 }
 
 /// The number of bytes of the last block of padded bytes that stand before the padding; none where
@@ -62,7 +62,7 @@ pub fn count_before(padding: Padding, block: &[u8; 8]) -> Option<usize>
         return Some(8);
     }
     for count in 0..8 {
-        if padded_front(padding, block, count) == *block {
+        if padded_prefix(padding, block, count) == *block {
             return Some(count);
         }
     }

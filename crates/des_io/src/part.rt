@@ -1,21 +1,21 @@
 //! A part of a stream of ciphertext blocks, decrypted by itself.
 
-ghost use Rattle.std.specs.Prelude.{◌≡◌, ◌≤◌, ◌<◌, ◌*◌, ℕ, List, length, map, IfOk, IfErr, IsOk};
+ghost use Rattle.std.specs.Prelude.{◌<◌, ℕ, List, length, IfOk, IfErr};
 ghost use Rattle.std.specs.Io.KnownBytes.{Consumes, IsAtEnd};
-ghost use Rattle.des_io.specs.Streams.{Skips, DecryptsPart, DecryptsPartFront, IsEndOrMore};
+ghost use Rattle.des_io.specs.Streams.{passage_of, Skips, DecryptsPart, DecryptsPartPrefix, IsEndOrMore};
 ghost use Rattle.des_io.specs.StreamFaults.{FailsToSkip, FailsInPart, IsOfReading};
 
 use crate::decryption::{decrypt_blocks, finish, next_count};
 use crate::error::{StreamError, without_end};
 use crate::mode::Mode;
 use crate::padding::Padding;
-use crate::pieces::{blocks_of, fill, fill_front};
+use crate::pieces::{fill, fill_prefix};
+use crate::transformation::Transformation;
 use des_fast::many::ManyBlocks;
 use std::io::{Read, Write};
 
 /// Reads the `count` blocks before a part, and gives how the blocks of the part go on from them. The
-/// two buffers, of bytes and of blocks, have the same size, of one block at least; what they hold
-/// afterwards is not said.
+/// buffer has one block at least; what it holds afterwards is not said.
 ///
 /// The error is `Start` where there are fewer blocks, and `Read` where the reader failed, which may
 /// then be anywhere in them.
@@ -23,11 +23,9 @@ pub fn skip_blocks<R: Read>(
     mode: Mode,
     count: u64,
     reader: &mut R,
-    bytes: &mut [u8],
-    blocks: &mut [[u8; 8]],
+    buffer: &mut [[u8; 8]],
 ) -> Result<Mode, StreamError>
-    requires size { length bytes.old ≡ length blocks.old * 8 }
-    requires room { 0 < length blocks.old }
+    requires room { 0 < length buffer.old }
     ensures skips { IfOk result (λ next. Skips mode next count
         (R.remaining reader.old) (R.remaining reader.new)) }
     ensures fault { IfErr result (λ fault. FailsToSkip fault count
@@ -35,18 +33,19 @@ pub fn skip_blocks<R: Read>(
 {
     let mut mode = mode;
     let mut left = count;
+    let room = buffer.len();
+    let bytes = buffer.as_flattened_mut();
     for _ in 0..u64::MAX {
         if left == 0 {
             return Ok(mode);
         }
-        let count = next_count(blocks.len(), Some(left));
-        let n = fill_front(reader, bytes, 8 * count)?;
+        let count = next_count(room, Some(left));
+        let n = fill_prefix(reader, bytes, 8 * count)?;
         if n < 8 * count {
             return Err(StreamError::Start);
         }
-        let piece = &mut blocks[..count];
-        blocks_of(&bytes[..n], piece);
-        mode.pass(piece);
+        let (blocks, _) = bytes[..n].as_chunks::<8>();
+        mode.pass(blocks);
         left -= count as u64;
     }
     Err(StreamError::Read(without_end()))
@@ -67,38 +66,41 @@ fn is_at_end<R: Read>(reader: &mut R) -> Result<bool, StreamError>
 
 /// Decrypts a part of `limit` blocks, or up to the end of the reader, and writes it. One byte more
 /// is read, where there is one. Where the reader is then at its end, the padding is taken off, and
-/// there must be a block. The two buffers, of bytes and of blocks, have the same size, of one block
-/// at least; what they hold afterwards, which can be plaintext, is not said. The writer is not
-/// flushed.
+/// there must be a block. The buffer has one block at least; what it holds afterwards, which can be
+/// plaintext, is not said. The writer is not flushed.
 ///
 /// The error is `Start` where there is no block, `Padding` where the padding is wrong, `Length` where
 /// what was read is not whole blocks, and `Read` or `Write` where the reader or the writer failed.
 /// The writer then has a prefix of the part, without its last block or its padding, or with that
 /// block where more follows the part. The reader may have gone further.
 pub fn decrypt_part<R: Read, W: Write, C: ManyBlocks>(
-    cipher: &C,
-    mode: Mode,
-    padding: Padding,
+    transformation: &Transformation<'_, C>,
     limit: Option<u64>,
     reader: &mut R,
     writer: &mut W,
-    bytes: &mut [u8],
-    blocks: &mut [[u8; 8]],
+    buffer: &mut [[u8; 8]],
 ) -> Result<(), StreamError>
-    requires size { length bytes.old ≡ length blocks.old * 8 }
-    requires room { 0 < length blocks.old }
-    ensures done { IfOk result (λ _. DecryptsPart (C.decrypted cipher.now) mode padding limit
-        (R.remaining reader.old) (R.remaining reader.new)
+    requires room { 0 < length buffer.old }
+    ensures done { IfOk result (λ _. DecryptsPart (C.decrypted transformation.now.cipher.now)
+        transformation.now.mode transformation.now.padding limit
+        (passage_of (R.remaining reader.old) (R.remaining reader.new)
+        (W.contents writer.old) (W.contents writer.new))) }
+    ensures prefix { DecryptsPartPrefix (C.decrypted transformation.now.cipher.now)
+        transformation.now.mode transformation.now.padding limit
+        (passage_of (R.remaining reader.old) (R.remaining reader.new)
         (W.contents writer.old) (W.contents writer.new)) }
-    ensures front { DecryptsPartFront (C.decrypted cipher.now) mode padding limit
-        (R.remaining reader.old) (R.remaining reader.new)
-        (W.contents writer.old) (W.contents writer.new) }
     ensures fault { IfErr result (λ fault.
-        FailsInPart fault (C.decrypted cipher.now) mode padding limit
-        (R.remaining reader.old) (R.remaining reader.new)
-        (W.contents writer.old) (W.contents writer.new)) }
+        FailsInPart fault (C.decrypted transformation.now.cipher.now)
+        transformation.now.mode transformation.now.padding limit
+        (passage_of (R.remaining reader.old) (R.remaining reader.new)
+        (W.contents writer.old) (W.contents writer.new))) }
 {
-    let last = decrypt_blocks(cipher, mode, limit, reader, writer, bytes, blocks)?;
+    let Transformation {
+        cipher,
+        mode,
+        padding,
+    } = *transformation;
+    let last = decrypt_blocks(cipher, mode, limit, reader, writer, buffer)?;
     if !is_at_end(reader)? {
         return finish(Padding::Unpadded, &last, writer);
     }

@@ -1,8 +1,7 @@
 //! Bytes from a reader and to a writer, a buffer at a time.
 
-ghost use Rattle.std.specs.Prelude.{◌≡◌, ◌≤◌, ◌<◌, ◌*◌, ℕ, List, length, take, IfOk, IfErr, IsOk};
+ghost use Rattle.std.specs.Prelude.{◌≡◌, ◌≤◌, ◌<◌, ℕ, List, length, take, IfOk, IfErr, IsOk};
 ghost use Rattle.std.specs.Io.KnownBytes.{Consumes, Appends, IsAtEnd};
-ghost use Rattle.des_io.specs.Streams.{joined};
 ghost use Rattle.des_io.specs.StreamFaults.{IsOfReading, IsOfWriting};
 
 use crate::error::{StreamError, without_end};
@@ -39,7 +38,7 @@ pub fn fill<R: Read>(reader: &mut R, buffer: &mut [u8]) -> Result<usize, StreamE
 }
 
 /// Reads as `fill` does, into the first bytes of a buffer.
-pub fn fill_front<R: Read>(
+pub fn fill_prefix<R: Read>(
     reader: &mut R,
     buffer: &mut [u8],
     count: usize,
@@ -81,14 +80,4 @@ pub fn write_whole<W: Write>(writer: &mut W, bytes: &[u8]) -> Result<(), StreamE
         }
     }
     Err(StreamError::Write(without_end()))
-}
-
-/// Writes the blocks of 8 bytes that the bytes are.
-pub fn blocks_of(bytes: &[u8], blocks: &mut [[u8; 8]])
-    requires { length bytes.now ≡ length blocks.old * 8 }
-    ensures { joined blocks.new ≡ bytes.now }
-{
-    for (i, block) in blocks.iter_mut().enumerate() {
-        block.copy_from_slice(&bytes[8 * i..8 * i + 8]);
-    }
 }

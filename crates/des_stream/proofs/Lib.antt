@@ -1,1 +1,2 @@
 pub mod AlikeStreams
+pub mod AlikeFaults

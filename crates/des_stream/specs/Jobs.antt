@@ -5,7 +5,7 @@ use Rattle.hex.specs.Hex.{decode_of}
 use Rattle.des.specs.Blocks.{IsBlock}
 use Rattle.des.specs.Des.{encryption, decryption}
 use Rattle.des.specs.TripleCiphers.{ede3_encryption, ede3_decryption, eee3_encryption, eee3_decryption, ede2_encryption, ede2_decryption, eee2_encryption, eee2_decryption}
-use Rattle.des_io.specs.Streams.{Encrypts, Decrypts, Skips, DecryptsPart}
+use Rattle.des_io.specs.Streams.{Passage, passage_of, Encrypts, Decrypts, Skips, DecryptsPart}
 use Rattle.des_io.specs.declared.mode.Mode.{Mode}
 use Rattle.des_io.specs.declared.mode.Mode.TheVariants.{Ecb, Cbc}
 use Rattle.des_io.specs.declared.padding.Padding.{Padding}
@@ -66,33 +66,29 @@ blocks_before vector part = from_of part
 -- ---- answers
 
 -- all that is read is decrypted, or a part of so many blocks
-abbrev pub DecryptsHere : (List ℕ → List ℕ) → Mode → Padding → Option Part
-    → Option (List ℕ) → Option (List ℕ) → Option (List ℕ) → Option (List ℕ) → Type 0
-DecryptsHere answer mode padding None read_from read_to written_from written_to =
-    Decrypts answer mode padding read_from read_to written_from written_to
-DecryptsHere answer mode padding (Some part) read_from read_to written_from written_to =
-    DecryptsPart answer mode padding part.count read_from read_to written_from written_to
+abbrev pub DecryptsHere : (List ℕ → List ℕ) → Mode → Padding → Option Part → Passage → Type 0
+DecryptsHere answer mode padding None passage = Decrypts answer mode padding passage
+DecryptsHere answer mode padding (Some part) passage = DecryptsPart answer mode padding part.count passage
 
 -- so many blocks are passed over, and from there on it is decrypted
 pub record DecryptsAfter (answer : List ℕ → List ℕ) (mode : Mode) (padding : Padding) (skipped : ℕ)
-    (part : Option Part) (read_from read_to written_from written_to : Option (List ℕ)) : Type 0 where
+    (part : Option Part) (passage : Passage) : Type 0 where
   pub next : Mode
   pub middle : Option (List ℕ)
-  pub skips : Skips mode next skipped read_from middle
-  pub decrypts : DecryptsHere answer next padding part middle read_to written_from written_to
+  pub skips : Skips mode next skipped passage.read_from middle
+  pub decrypts : DecryptsHere answer next padding part
+      (passage_of middle passage.read_to passage.written_from passage.written_to)
 
 -- what the options say is done, by what a cipher answers in each direction
 abbrev pub Answers : Bool → (List ℕ → List ℕ) → (List ℕ → List ℕ) → Mode → Padding → ℕ → Option Part
-    → Option (List ℕ) → Option (List ℕ) → Option (List ℕ) → Option (List ℕ) → Type 0
-Answers true encrypted decrypted mode padding skipped part read_from read_to written_from written_to =
-    Encrypts encrypted mode padding read_from read_to written_from written_to
-Answers false encrypted decrypted mode padding skipped part read_from read_to written_from written_to =
-    DecryptsAfter decrypted mode padding skipped part read_from read_to written_from written_to
+    → Passage → Type 0
+Answers true encrypted decrypted mode padding skipped part passage = Encrypts encrypted mode padding passage
+Answers false encrypted decrypted mode padding skipped part passage =
+    DecryptsAfter decrypted mode padding skipped part passage
 
 -- a job is done: from the mode of its vector what was written is the answer to what was read
 pub record IsDone (options : Options) (skipped : ℕ) (encrypted decrypted : List ℕ → List ℕ)
-    (read_from read_to written_from written_to : Option (List ℕ)) : Type 0 where
+    (passage : Passage) : Type 0 where
   pub mode : Mode
   pub begins : IsFirstMode options.vector mode
-  pub answers : Answers options.encrypts encrypted decrypted mode options.padding skipped options.part
-      read_from read_to written_from written_to
+  pub answers : Answers options.encrypts encrypted decrypted mode options.padding skipped options.part passage

@@ -1,5 +1,5 @@
 -- The digits of a key and of a vector in a text, and the fault that a text has.
-use Rattle.std.specs.Prelude.{◌≡◌, ℕ, ◌*◌, ◌==◌, ◌||◌, ◌⊎◌, Bool, not, if◌then◌else◌, List, filter, length, Option, Some, None, Result, Ok, Err, is_ok, IfErr}
+use Rattle.std.specs.Prelude.{◌≡◌, ℕ, ◌*◌, ◌==◌, ◌||◌, ◌⊎◌, Bool, not, if◌then◌else◌, List, filter, length, Option, Some, None, Result, Err, is_ok, IfErr}
 use Rattle.std.specs.Prelude.{IsErrAnd, IsOk}
 use Rattle.hex.specs.Hex.{decode_of, decode_sized}
 use Rattle.des_stream.specs.declared.fault.Fault.{Fault}

@@ -1,3 +1,4 @@
 pub mod Status
 pub mod KeyText
 pub mod Jobs
+pub mod JobFaults

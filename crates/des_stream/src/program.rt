@@ -1,11 +1,15 @@
 //! The program: what a command line asks for is done.
 
-ghost use Rattle.std.specs.Prelude.{◌≡◌, ◌<◌, ◌≤◌, ◌*◌, length, IfOk};
+ghost use Rattle.std.specs.Prelude.{◌≡◌, ◌⊎◌, ◌↔◌, ◌<◌, length, IfOk, IfErr, IsTrue};
 ghost use Rattle.des.specs.Blocks.{IsBlock};
 ghost use Rattle.des.specs.Relations.{AnswerAlike};
+ghost use Rattle.des.specs.WeakKeys.{IsRefused};
+ghost use Rattle.des_io.specs.Streams.{passage_of};
 ghost use Rattle.des_io.specs.declared.mode.Mode.TheVariants.{Cbc};
 ghost use Rattle.des_stream.specs.Jobs.{encryption_of, decryption_of, IsFirstMode, blocks_before as blocks_before_of};
 ghost use Rattle.des_stream.specs.Jobs.{DecryptsAfter, IsDone};
+ghost use Rattle.des_stream.specs.JobFaults.{StopsDecrypting, IsStopped};
+ghost use Rattle.des_stream.specs.declared.fault.Fault.TheVariants.{Vector as WrongVector};
 
 use crate::arguments::{Cipher, Options, Vector, WeakKeys, options_of, parse};
 use crate::fault::Fault;
@@ -17,7 +21,9 @@ use des::cipher::{InvalidLength, KeyedCipher, are_blocks};
 use des::weak_key::weak_key_test;
 use des_fast::many::ManyBlocks;
 use des_fast::{Des, TdesEde2, TdesEde3, TdesEee2, TdesEee3};
-use des_io::{Mode, StreamError, decrypt_part, decrypt_stream, encrypt_stream, skip_blocks};
+use des_io::{
+    Mode, StreamError, Transformation, decrypt_part, decrypt_stream, encrypt_stream, skip_blocks,
+};
 use std::alloc::Global;
 use std::env;
 use std::fs::File;
@@ -48,7 +54,8 @@ fn chained_from(iv: &[u8; 8]) -> Mode
 // The mode that the input begins with. A vector that is the first block comes with the blocks
 // before those that are decrypted.
 fn first_mode(vector: Vector) -> Result<Mode, Fault>
-    ensures { IfOk result (λ mode. IsFirstMode vector.entry mode) }
+    ensures mode { IfOk result (λ mode. IsFirstMode vector.entry mode) }
+    ensures fault { IfErr result (λ fault. fault ≡ WrongVector) }
 {
     match vector {
         Vector::Absent => Ok(Mode::Ecb),
@@ -71,57 +78,64 @@ fn blocks_before(options: &Options) -> u64
     }
 }
 
-// Decrypts from a reader to a writer, in buffers, the whole or a part.
+// Decrypts from a reader to a writer, in a buffer, the whole or a part.
 fn decrypt_in<C: ManyBlocks, R: Read, W: Write>(
     cipher: &C,
     mode: Mode,
     job: &Job,
     reader: &mut R,
     writer: &mut W,
-    bytes: &mut [u8],
-    blocks: &mut [[u8; 8]],
+    buffer: &mut [[u8; 8]],
 ) -> Result<(), StreamError>
-    requires size { length bytes.old ≡ length blocks.old * 8 }
-    requires room { 0 < length blocks.old }
+    requires room { 0 < length buffer.old }
     ensures done { IfOk result (λ _. DecryptsAfter (C.decrypted cipher.now) mode
         job.now.options.now.padding job.now.skipped job.now.options.now.part
-        (R.remaining reader.old) (R.remaining reader.new)
-        (W.contents writer.old) (W.contents writer.new)) }
+        (passage_of (R.remaining reader.old) (R.remaining reader.new)
+        (W.contents writer.old) (W.contents writer.new))) }
+    ensures fault { IfErr result (λ fault. StopsDecrypting fault (C.decrypted cipher.now) mode
+        job.now.options.now.padding job.now.skipped job.now.options.now.part
+        (passage_of (R.remaining reader.old) (R.remaining reader.new)
+        (W.contents writer.old) (W.contents writer.new))) }
 {
-    let padding = job.options.padding;
-    let mode = skip_blocks(mode, job.skipped, reader, bytes, blocks)?;
+    let transformation = Transformation {
+        cipher,
+        mode: skip_blocks(mode, job.skipped, reader, buffer)?,
+        padding: job.options.padding,
+    };
     match job.options.part {
-        None => decrypt_stream(cipher, mode, padding, reader, writer, bytes, blocks),
-        Some(part) => {
-            decrypt_part(
-                cipher, mode, padding, part.count, reader, writer, bytes, blocks,
-            )
-        }
+        None => decrypt_stream(&transformation, reader, writer, buffer),
+        Some(part) => decrypt_part(&transformation, part.count, reader, writer, buffer),
     }
 }
 
-// Goes through a cipher from a reader to a writer, in buffers.
+// Goes through a cipher from a reader to a writer, in a buffer.
 fn run_in<C: ManyBlocks, R: Read, W: Write>(
     cipher: &C,
     job: &Job,
     reader: &mut R,
     writer: &mut W,
-    bytes: &mut [u8],
-    blocks: &mut [[u8; 8]],
+    buffer: &mut [[u8; 8]],
 ) -> Result<(), Fault>
-    requires size { length bytes.old ≡ length blocks.old * 8 }
-    requires room { 0 < length blocks.old }
+    requires room { 0 < length buffer.old }
     ensures done { IfOk result (λ _. IsDone job.now.options.now job.now.skipped
         (C.encrypted cipher.now) (C.decrypted cipher.now)
-        (R.remaining reader.old) (R.remaining reader.new)
-        (W.contents writer.old) (W.contents writer.new)) }
+        (passage_of (R.remaining reader.old) (R.remaining reader.new)
+        (W.contents writer.old) (W.contents writer.new))) }
+    ensures fault { IfErr result (λ fault. IsStopped fault job.now.options.now job.now.skipped
+        (C.encrypted cipher.now) (C.decrypted cipher.now)
+        (passage_of (R.remaining reader.old) (R.remaining reader.new)
+        (W.contents writer.old) (W.contents writer.new))) }
 {
     let mode = first_mode(job.options.vector)?;
-    let padding = job.options.padding;
     let outcome = if job.options.encrypts {
-        encrypt_stream(cipher, mode, padding, reader, writer, bytes, blocks)
+        let transformation = Transformation {
+            cipher,
+            mode,
+            padding: job.options.padding,
+        };
+        encrypt_stream(&transformation, reader, writer, buffer)
     } else {
-        decrypt_in(cipher, mode, job, reader, writer, bytes, blocks)
+        decrypt_in(cipher, mode, job, reader, writer, buffer)
     };
     outcome?;
     Ok(())
@@ -137,7 +151,7 @@ fn cipher_of<C: KeyedCipher>(key: &[u8]) -> Result<C, InvalidLength>
     C::new_from_slice(key)
 }
 
-// The same with buffers of its own, of so many blocks.
+// The same with a buffer of its own, of so many blocks.
 fn run_cipher<C: KeyedCipher + ManyBlocks + Drop, R: Read, W: Write>(
     alloc: Global,
     job: &Job,
@@ -145,19 +159,22 @@ fn run_cipher<C: KeyedCipher + ManyBlocks + Drop, R: Read, W: Write>(
     writer: &mut W,
     count: usize,
 ) -> Result<(), Fault>
-    requires { (0 < count) × (count < 100000) }
+    requires { 0 < count }
     ensures done { IfOk result (λ _. IsDone job.now.options.now job.now.skipped
         (C.encryption job.now.key.now) (C.decryption job.now.key.now)
-        (R.remaining reader.old) (R.remaining reader.new)
-        (W.contents writer.old) (W.contents writer.new)) }
+        (passage_of (R.remaining reader.old) (R.remaining reader.new)
+        (W.contents writer.old) (W.contents writer.new))) }
+    ensures fault { IfErr result (λ fault. IsStopped fault job.now.options.now job.now.skipped
+        (C.encryption job.now.key.now) (C.decryption job.now.key.now)
+        (passage_of (R.remaining reader.old) (R.remaining reader.new)
+        (W.contents writer.old) (W.contents writer.new))) }
 {
     let cipher = match cipher_of::<C>(job.key) {
         Ok(cipher) => cipher,
         Err(_) => return Err(Fault::KeyLength(2 * job.options.cipher.key_size())),
     };
-    let mut bytes = vec![in alloc; 0u8; count * 8]?;
-    let mut blocks = vec![in alloc; [0u8; 8]; count]?;
-    run_in(&cipher, job, reader, writer, &mut bytes, &mut blocks)
+    let mut buffer = vec![in alloc; [0u8; 8]; count]?;
+    run_in(&cipher, job, reader, writer, &mut buffer)
 }
 
 // The same with the cipher that the options name.
@@ -170,8 +187,13 @@ fn run_named<R: Read, W: Write>(
     ensures done { IfOk result (λ _. IsDone job.now.options.now job.now.skipped
         (encryption_of job.now.options.now.cipher job.now.key.now)
         (decryption_of job.now.options.now.cipher job.now.key.now)
-        (R.remaining reader.old) (R.remaining reader.new)
-        (W.contents writer.old) (W.contents writer.new)) }
+        (passage_of (R.remaining reader.old) (R.remaining reader.new)
+        (W.contents writer.old) (W.contents writer.new))) }
+    ensures fault { IfErr result (λ fault. IsStopped fault job.now.options.now job.now.skipped
+        (encryption_of job.now.options.now.cipher job.now.key.now)
+        (decryption_of job.now.options.now.cipher job.now.key.now)
+        (passage_of (R.remaining reader.old) (R.remaining reader.new)
+        (W.contents writer.old) (W.contents writer.new))) }
 {
     let count = BLOCKS_AT_A_TIME;
     match job.options.cipher {
@@ -184,7 +206,10 @@ fn run_named<R: Read, W: Write>(
 }
 
 // Whether the weak key test refuses the key.
-fn is_weak(key: &[u8]) -> bool {
+fn is_weak(key: &[u8]) -> bool
+    ensures { IsTrue result ↔ (((length key.now ≡ 8) ⊎ (length key.now ≡ 16) ⊎ (length key.now ≡ 24))
+        × IsRefused key.now) }
+{
     match key.len() {
         8 | 16 | 24 => weak_key_test(key).is_err(),
         _ => false,

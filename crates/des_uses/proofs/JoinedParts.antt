@@ -7,7 +7,7 @@ use Rattle.std.proofs.lemmas.List.Elements.{All-append}
 use Rattle.des.specs.Blocks.{IsBlock}
 use Rattle.des_io.specs.CipherModes.{Deciphered}
 use Rattle.des_io.specs.PaddedBytes.{padded}
-use Rattle.des_io.specs.Streams.{joined, Decrypts, Skips, DecryptsPart}
+use Rattle.des_io.specs.Streams.{passage_of, joined, Decrypts, Skips, DecryptsPart}
 use Rattle.des_io.specs.StreamFaults.{FailsInPart}
 use Rattle.des_io.specs.declared.error.StreamError.{StreamError}
 use Rattle.des_io.specs.declared.error.StreamError.TheVariants.{Start}
@@ -78,7 +78,8 @@ pub record IsFirstPart (all : List ℕ) (n : ℕ) (taken : Padding) (q : List (L
 
 first_part : (decryption : List ℕ → List ℕ) (mode : Mode) (padding : Padding) (n : ℕ) (r t u v : Option (List ℕ))
     (all : List ℕ)
-    → r ≡ Some all → 8 * n + 1 ≤ length all → (first : DecryptsPart decryption mode padding (Some n) r t u v)
+    → r ≡ Some all → 8 * n + 1 ≤ length all
+    → (first : DecryptsPart decryption mode padding (Some n) (passage_of r t u v))
     → IsFirstPart all n first.taken first.part.q
 first_part decryption mode padding n r t u v all is more first =
     let q = first.part.q in
@@ -115,7 +116,7 @@ ends_alone r count (inr is) = cc
 
 last_part : (decryption : List ℕ → List ℕ) (mode : Mode) (padding : Padding) (r t u v : Option (List ℕ)) (all : List ℕ)
     → r ≡ Some all
-    → (last : DecryptsPart decryption mode padding None r t u v)
+    → (last : DecryptsPart decryption mode padding None (passage_of r t u v))
     → IsLastPart all padding last.taken last.part.q last.rest t
 last_part decryption mode padding r t u v all is last =
     let q = last.part.q in
@@ -154,9 +155,10 @@ more_blocks mode next n r s t all left padding taken q rest skips split blocks l
 -- the first part and the blocks after it, of the same bytes, are the whole
 pub Decrypts-joined : (decryption : List ℕ → List ℕ) (mode next : Mode) (padding : Padding) (n : ℕ)
     (r t s m e u v w : Option (List ℕ))
-    (all : List ℕ) → r ≡ Some all → s ≡ Some all → DecryptsPart decryption mode padding (Some n) r t u v
+    (all : List ℕ) → r ≡ Some all → s ≡ Some all → DecryptsPart decryption mode padding (Some n) (passage_of r t u v)
     → Skips mode next n s m
-    → DecryptsPart decryption next padding None m e v w → Decrypts decryption mode padding s e u w × IsAtEnd e
+    → DecryptsPart decryption next padding None (passage_of m e v w)
+    → Decrypts decryption mode padding (passage_of s e u w) × IsAtEnd e
 Decrypts-joined decryption mode next padding n r t s m e u v w all first_is second_is first skips last =
     let (left, middle, split) = left_after all s m (joined skips.q) second_is skips.read in
     let after = last_part decryption next padding m e v w left middle last in
@@ -201,28 +203,29 @@ Decrypts-joined decryption mode next padding n r t s m e u v w all first_is seco
     )
 
 -- so it is where the last call answers so
-pub joined_done : (result : Result (Unit {0}) StreamError) (decryption : List ℕ → List ℕ) (mode next : Mode)
-    (padding : Padding) (n : ℕ)
-    (r t s m e u v w : Option (List ℕ)) → DecryptsPart decryption mode padding (Some n) r t u v → Skips mode next n s m
-    → IfOk result (λ _. DecryptsPart decryption next padding None m e v w)
+pub joined_done : (result : Result (Unit {0}) StreamError) {decryption : List ℕ → List ℕ} {mode next : Mode}
+    {padding : Padding} {n : ℕ} {r t s m u v : Option (List ℕ)} (e w : Option (List ℕ))
+    → DecryptsPart decryption mode padding (Some n) (passage_of r t u v) → Skips mode next n s m
+    → IfOk result (λ _. DecryptsPart decryption next padding None (passage_of m e v w))
     → IfOk result (λ _. (all : List ℕ) → r ≡ Some all → s ≡ Some all
-    → Decrypts decryption mode padding s e u w × IsAtEnd e)
-joined_done (Ok done) decryption mode next padding n r t s m e u v w first skips last = λ all first_is second_is.
+    → Decrypts decryption mode padding (passage_of s e u w) × IsAtEnd e)
+joined_done (Ok done) {decryption} {mode} {next} {padding} {n} {r} {t} {s} {m} {u} {v} e w first skips last =
+    λ all first_is second_is.
     Decrypts-joined decryption mode next padding n r t s m e u v w all first_is second_is first skips last
-joined_done (Err fault) decryption mode next padding n r t s m e u v w first skips last = tt
+joined_done (Err fault) e w first skips last = tt
 
 -- ---- no second part
 
 -- the input has n blocks and no more
-pub start_last : (result : Result (Unit {0}) StreamError) (decryption : List ℕ → List ℕ) (mode next : Mode)
-    (padding : Padding) (n : ℕ)
-    (r s m e v w : Option (List ℕ)) → Skips mode next n s m
-    → IfErr result (λ fault. FailsInPart fault decryption next padding None m e v w)
+pub start_last : (result : Result (Unit {0}) StreamError) (decryption : List ℕ → List ℕ) {mode next : Mode}
+    (padding : Padding) {n : ℕ} {s m : Option (List ℕ)} (r e v w : Option (List ℕ)) → Skips mode next n s m
+    → IfErr result (λ fault. FailsInPart fault decryption next padding None (passage_of m e v w))
     → IfErr result (λ fault. (all : List ℕ) → r ≡ Some all → s ≡ Some all → fault ≡ Start → length all ≤ 8 * n)
-start_last (Ok done) decryption mode next padding n r s m e v w skips fails = tt
-start_last (Err fault) decryption mode next padding n r s m e v w skips fails = λ all first_is is start.
-    let none : Consumes m e [] × IsAtEnd e = subst (λ (f : StreamError). FailsInPart f decryption next padding None m e
-    v w) start fails in
+start_last (Ok done) decryption padding r e v w skips fails = tt
+start_last (Err fault) decryption {next = next} padding {s = s} {m = m} r e v w skips fails =
+    λ all first_is is start.
+    let none : Consumes m e [] × IsAtEnd e =
+    subst (λ (f : StreamError). FailsInPart f decryption next padding None (passage_of m e v w)) start fails in
     let (left, middle, split) = left_after all s m (joined skips.q) is skips.read in
     let (after, to, rest) = left_after left m e [] middle none.0 in
     omega (

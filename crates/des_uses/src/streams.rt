@@ -1,12 +1,12 @@
-//! Callers of the streams of `des_io`, over any cipher, reader and writer, with buffers of their own:
+//! Callers of the streams of `des_io`, over any cipher, reader and writer, with a buffer of their own:
 //! what CBC and PKCS#7 make of what is read, a part of a list of chained blocks, and two parts that
 //! joined are the whole.
 
 ghost use Rattle.std.specs.Prelude.{◌≡◌, ◌*◌, ◌≤◌, ℕ, List, length, IfOk, IfErr};
 ghost use Rattle.std.specs.Prelude.{Some, None};
 ghost use Rattle.std.specs.Io.KnownBytes.{IsAtEnd};
-ghost use Rattle.des_io.specs.Streams.{Encrypts, EncryptsFront, Decrypts, DecryptsFront};
-ghost use Rattle.des_io.specs.Streams.{Skips, DecryptsPart, DecryptsPartFront};
+ghost use Rattle.des_io.specs.Streams.{passage_of, Encrypts, EncryptsPrefix, Decrypts, DecryptsPrefix};
+ghost use Rattle.des_io.specs.Streams.{Skips, DecryptsPart, DecryptsPartPrefix};
 ghost use Rattle.des_io.specs.StreamFaults.{FailsToEncrypt, FailsToDecrypt, FailsToSkip};
 ghost use Rattle.des_io.specs.StreamFaults.{FailsInPart};
 ghost use Rattle.des_io.specs.declared.error.StreamError.TheVariants.{Start};
@@ -15,7 +15,8 @@ ghost use Rattle.des_io.specs.declared.padding.Padding.TheVariants.{Pkcs7};
 
 use des_fast::many::ManyBlocks;
 use des_io::{
-    Mode, Padding, StreamError, decrypt_part, decrypt_stream, encrypt_stream, skip_blocks,
+    Mode, Padding, StreamError, Transformation, decrypt_part, decrypt_stream, encrypt_stream,
+    skip_blocks,
 };
 use std::io::{Read, Write};
 
@@ -27,27 +28,21 @@ pub fn encrypt<R: Read, W: Write, C: ManyBlocks>(
     writer: &mut W,
 ) -> Result<(), StreamError>
     ensures done { IfOk result (λ _. Encrypts (C.encrypted cipher.now) (Cbc iv) Pkcs7
-        (R.remaining reader.old) (R.remaining reader.new)
-        (W.contents writer.old) (W.contents writer.new)) }
+        (passage_of (R.remaining reader.old) (R.remaining reader.new)
+        (W.contents writer.old) (W.contents writer.new))) }
     ensures end { IfOk result (λ _. IsAtEnd (R.remaining reader.new)) }
-    ensures front { EncryptsFront (C.encrypted cipher.now) (Cbc iv) Pkcs7
-        (R.remaining reader.old) (R.remaining reader.new)
-        (W.contents writer.old) (W.contents writer.new) }
+    ensures prefix { EncryptsPrefix (C.encrypted cipher.now) (Cbc iv) Pkcs7
+        (passage_of (R.remaining reader.old) (R.remaining reader.new)
+        (W.contents writer.old) (W.contents writer.new)) }
     ensures fault { IfErr result (λ fault. FailsToEncrypt fault Pkcs7
         (R.remaining reader.old) (R.remaining reader.new)) }
 {
-    let mode = Mode::Cbc(iv);
-    let mut bytes = [0; 4096];
-    let mut blocks = [[0; 8]; 512];
-    encrypt_stream(
+    let transformation = Transformation {
         cipher,
-        mode,
-        Padding::Pkcs7,
-        reader,
-        writer,
-        &mut bytes,
-        &mut blocks,
-    )
+        mode: Mode::Cbc(iv),
+        padding: Padding::Pkcs7,
+    };
+    encrypt_stream(&transformation, reader, writer, &mut [[0; 8]; 512])
 }
 
 /// Decrypts what `encrypt` wrote.
@@ -58,28 +53,22 @@ pub fn decrypt<R: Read, W: Write, C: ManyBlocks>(
     writer: &mut W,
 ) -> Result<(), StreamError>
     ensures done { IfOk result (λ _. Decrypts (C.decrypted cipher.now) (Cbc iv) Pkcs7
-        (R.remaining reader.old) (R.remaining reader.new)
-        (W.contents writer.old) (W.contents writer.new)) }
+        (passage_of (R.remaining reader.old) (R.remaining reader.new)
+        (W.contents writer.old) (W.contents writer.new))) }
     ensures end { IfOk result (λ _. IsAtEnd (R.remaining reader.new)) }
-    ensures front { DecryptsFront (C.decrypted cipher.now) (Cbc iv) Pkcs7
-        (R.remaining reader.old) (R.remaining reader.new)
-        (W.contents writer.old) (W.contents writer.new) }
-    ensures fault { IfErr result (λ fault. FailsToDecrypt fault (C.decrypted cipher.now) (Cbc iv) Pkcs7
-        (R.remaining reader.old) (R.remaining reader.new)
+    ensures prefix { DecryptsPrefix (C.decrypted cipher.now) (Cbc iv) Pkcs7
+        (passage_of (R.remaining reader.old) (R.remaining reader.new)
         (W.contents writer.old) (W.contents writer.new)) }
+    ensures fault { IfErr result (λ fault. FailsToDecrypt fault (C.decrypted cipher.now) (Cbc iv) Pkcs7
+        (passage_of (R.remaining reader.old) (R.remaining reader.new)
+        (W.contents writer.old) (W.contents writer.new))) }
 {
-    let mode = Mode::Cbc(iv);
-    let mut bytes = [0; 4096];
-    let mut blocks = [[0; 8]; 512];
-    decrypt_stream(
+    let transformation = Transformation {
         cipher,
-        mode,
-        Padding::Pkcs7,
-        reader,
-        writer,
-        &mut bytes,
-        &mut blocks,
-    )
+        mode: Mode::Cbc(iv),
+        padding: Padding::Pkcs7,
+    };
+    decrypt_stream(&transformation, reader, writer, &mut [[0; 8]; 512])
 }
 
 /// Reads the first `from` blocks of what `encrypt` wrote, and gives how the part goes on from them.
@@ -89,9 +78,7 @@ pub fn begin_part<R: Read>(iv: [u8; 8], from: u64, reader: &mut R) -> Result<Mod
     ensures fault { IfErr result (λ fault. FailsToSkip fault from
         (R.remaining reader.old) (R.remaining reader.new)) }
 {
-    let mut bytes = [0; 4096];
-    let mut blocks = [[0; 8]; 512];
-    skip_blocks(Mode::Cbc(iv), from, reader, &mut bytes, &mut blocks)
+    skip_blocks(Mode::Cbc(iv), from, reader, &mut [[0; 8]; 512])
 }
 
 /// Decrypts a part of `count` blocks, or of fewer where the reader ends before.
@@ -103,29 +90,27 @@ pub fn decrypt_blocks_of_part<R: Read, W: Write, C: ManyBlocks>(
     writer: &mut W,
 ) -> Result<(), StreamError>
     ensures done { IfOk result (λ _. DecryptsPart (C.decrypted cipher.now) mode Pkcs7 (Some count)
-        (R.remaining reader.old) (R.remaining reader.new)
+        (passage_of (R.remaining reader.old) (R.remaining reader.new)
+        (W.contents writer.old) (W.contents writer.new))) }
+    ensures prefix { DecryptsPartPrefix (C.decrypted cipher.now) mode Pkcs7 (Some count)
+        (passage_of (R.remaining reader.old) (R.remaining reader.new)
         (W.contents writer.old) (W.contents writer.new)) }
-    ensures front { DecryptsPartFront (C.decrypted cipher.now) mode Pkcs7 (Some count)
-        (R.remaining reader.old) (R.remaining reader.new)
-        (W.contents writer.old) (W.contents writer.new) }
     ensures fault { IfErr result (λ fault. FailsInPart fault (C.decrypted cipher.now)
         mode Pkcs7 (Some count)
-        (R.remaining reader.old) (R.remaining reader.new)
-        (W.contents writer.old) (W.contents writer.new)) }
+        (passage_of (R.remaining reader.old) (R.remaining reader.new)
+        (W.contents writer.old) (W.contents writer.new))) }
 {
-    let padding = Padding::Pkcs7;
-    let mut bytes = [0; 4096];
-    let mut blocks = [[0; 8]; 512];
-    let limit = Some(count);
-    decrypt_part(
+    let transformation = Transformation {
         cipher,
         mode,
-        padding,
-        limit,
+        padding: Padding::Pkcs7,
+    };
+    decrypt_part(
+        &transformation,
+        Some(count),
         reader,
         writer,
-        &mut bytes,
-        &mut blocks,
+        &mut [[0; 8]; 512],
     )
 }
 
@@ -137,29 +122,22 @@ pub fn decrypt_rest<R: Read, W: Write, C: ManyBlocks>(
     writer: &mut W,
 ) -> Result<(), StreamError>
     ensures done { IfOk result (λ _. DecryptsPart (C.decrypted cipher.now) mode Pkcs7 None
-        (R.remaining reader.old) (R.remaining reader.new)
+        (passage_of (R.remaining reader.old) (R.remaining reader.new)
+        (W.contents writer.old) (W.contents writer.new))) }
+    ensures prefix { DecryptsPartPrefix (C.decrypted cipher.now) mode Pkcs7 None
+        (passage_of (R.remaining reader.old) (R.remaining reader.new)
         (W.contents writer.old) (W.contents writer.new)) }
-    ensures front { DecryptsPartFront (C.decrypted cipher.now) mode Pkcs7 None
-        (R.remaining reader.old) (R.remaining reader.new)
-        (W.contents writer.old) (W.contents writer.new) }
     ensures fault { IfErr result (λ fault. FailsInPart fault (C.decrypted cipher.now)
         mode Pkcs7 None
-        (R.remaining reader.old) (R.remaining reader.new)
-        (W.contents writer.old) (W.contents writer.new)) }
+        (passage_of (R.remaining reader.old) (R.remaining reader.new)
+        (W.contents writer.old) (W.contents writer.new))) }
 {
-    let padding = Padding::Pkcs7;
-    let mut bytes = [0; 4096];
-    let mut blocks = [[0; 8]; 512];
-    decrypt_part(
+    let transformation = Transformation {
         cipher,
         mode,
-        padding,
-        None,
-        reader,
-        writer,
-        &mut bytes,
-        &mut blocks,
-    )
+        padding: Padding::Pkcs7,
+    };
+    decrypt_part(&transformation, None, reader, writer, &mut [[0; 8]; 512])
 }
 
 /// Decrypts what `encrypt` wrote, in two parts, each from a reader of its own over the same bytes:
@@ -178,8 +156,8 @@ pub fn decrypt_in_two_parts<R: Read, S: Read, W: Write, C: ManyBlocks>(
     ensures done { IfOk result (λ _. (bytes : List ℕ)
         → R.remaining first.old ≡ Some bytes → S.remaining second.old ≡ Some bytes
         → Decrypts (C.decrypted cipher.now) (Cbc iv) Pkcs7
-        (S.remaining second.old) (S.remaining second.new)
-        (W.contents writer.old) (W.contents writer.new)
+        (passage_of (S.remaining second.old) (S.remaining second.new)
+        (W.contents writer.old) (W.contents writer.new))
         × IsAtEnd (S.remaining second.new)) }
     ensures start { IfErr result (λ fault. (bytes : List ℕ)
         → R.remaining first.old ≡ Some bytes → S.remaining second.old ≡ Some bytes

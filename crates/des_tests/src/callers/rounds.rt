@@ -2,7 +2,7 @@
 
 use crate::callers::readers::{Counter, Halting, Zeros};
 use des::cipher::KeyInit;
-use des_io::{Mode, Padding, decrypt_stream, encrypt_stream, skip_blocks};
+use des_io::{Mode, Padding, Transformation, decrypt_stream, encrypt_stream, skip_blocks};
 use des_uses::odd_ciphers::XorKey;
 
 // 2^17 blocks, 1 MiB.
@@ -16,6 +16,14 @@ const KEY: [u8; 8] = [1; 8];
 
 const FROM_ZEROS: Mode = Mode::Cbc([0; 8]);
 
+fn from_zeros(cipher: &XorKey) -> Transformation<'_, XorKey> {
+    Transformation {
+        cipher,
+        mode: FROM_ZEROS,
+        padding: Padding::Unpadded,
+    }
+}
+
 fn nothing() -> Counter {
     Counter {
         bytes: 0,
@@ -28,15 +36,8 @@ fn a_stream_is_encrypted_block_by_block(rt: HostRuntime) {
     let cipher = XorKey::new(&KEY);
     let mut reader = Zeros { left: BYTES };
     let mut writer = nothing();
-    let done = encrypt_stream(
-        &cipher,
-        FROM_ZEROS,
-        Padding::Unpadded,
-        &mut reader,
-        &mut writer,
-        &mut [0; 8],
-        &mut [[0; 8]],
-    );
+    let transformation = from_zeros(&cipher);
+    let done = encrypt_stream(&transformation, &mut reader, &mut writer, &mut [[0; 8]]);
     assert!(rt; done.is_ok() && writer.bytes == BYTES && writer.not_zero == BYTES / 2);
 }
 
@@ -45,15 +46,8 @@ fn a_stream_is_decrypted_block_by_block(rt: HostRuntime) {
     let cipher = XorKey::new(&KEY);
     let mut reader = Zeros { left: BYTES };
     let mut writer = nothing();
-    let done = decrypt_stream(
-        &cipher,
-        FROM_ZEROS,
-        Padding::Unpadded,
-        &mut reader,
-        &mut writer,
-        &mut [0; 8],
-        &mut [[0; 8]],
-    );
+    let transformation = from_zeros(&cipher);
+    let done = decrypt_stream(&transformation, &mut reader, &mut writer, &mut [[0; 8]]);
     assert!(rt; done.is_ok() && writer.bytes == BYTES && writer.not_zero == BYTES);
 }
 
@@ -61,7 +55,7 @@ fn a_stream_is_decrypted_block_by_block(rt: HostRuntime) {
 fn blocks_are_skipped_one_by_one(rt: HostRuntime) {
     let mut reader = Zeros { left: BYTES + 8 };
     let count = BLOCKS as u64;
-    let next = skip_blocks(FROM_ZEROS, count, &mut reader, &mut [0; 8], &mut [[0; 8]]);
+    let next = skip_blocks(FROM_ZEROS, count, &mut reader, &mut [[0; 8]]);
     assert!(rt; next.is_ok() && reader.left == 8);
 }
 
@@ -77,14 +71,8 @@ fn a_buffer_is_filled_byte_by_byte(rt: HostRuntime) {
         inner: nothing(),
         is_ready: false,
     };
-    let done = encrypt_stream(
-        &cipher,
-        FROM_ZEROS,
-        Padding::Unpadded,
-        &mut reader,
-        &mut writer,
-        &mut [0; 131072],
-        &mut [[0; 8]; 16384],
-    );
+    let transformation = from_zeros(&cipher);
+    let mut buffer = [[0; 8]; 16384];
+    let done = encrypt_stream(&transformation, &mut reader, &mut writer, &mut buffer);
     assert!(rt; done.is_ok() && writer.inner.bytes == 131072 && writer.inner.not_zero == 65536);
 }

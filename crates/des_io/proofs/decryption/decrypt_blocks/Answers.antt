@@ -1,7 +1,7 @@
 use Rattle.std.proofs.Common.{◌≡◌, ◌<◌, ◌*◌, inl, inr, [], length, take, rules, arith, refl, length-take-le}
 use Rattle.std.proofs.KnownBytes.{Consumes-nil}
 use Rattle.des_io.proofs.DecryptedPieces.{HoldsLast-none, HoldsLast-more, length-piece}
-use Rattle.des_io.proofs.DecryptedFronts.{HoldsFront-read, HoldsFront-written, EndsInPart-read}
+use Rattle.des_io.proofs.DecryptedPrefixes.{HoldsPrefix-read, HoldsPrefix-written, EndsInPart-read}
 use Rattle.des_io.proofs.LimitedBlocks.{IsLeft-all, IsLeft-more, IsLeft-none, IsLeft-within, IsLeft-fits, IsLeft-begun}
 use Rattle.std.proofs.Math.Nat.{eq-or-lt_of_le}
 use Rattle.des_io.proofs.decryption.decrypt_blocks.Goals as goal
@@ -10,36 +10,35 @@ pub loop-init : goal.loop-init
 loop-init g c =
     let none = HoldsLast-none _ _ _ _ in record {
       count = refl;
-      room = refl;
       so_far = none.0;
       left = IsLeft-all _ _
           none.2;
       after = none.1;
     }
 
-pub returns-in_err-n-clause-front : goal.returns-in_err-n-clause-front
-returns-in_err-n-clause-front g c =
+pub returns-in_err-n-clause-prefix : goal.returns-in_err-n-clause-prefix
+returns-in_err-n-clause-prefix g c =
     let (bytes, read) = c.in_err-n.ensures.consumed in
-    HoldsFront-read _ _ _ _ _ _ _ _ _ bytes c.loop.invariant.so_far (IsLeft-within _ _ _ c.loop.invariant.left) read
+    HoldsPrefix-read bytes c.loop.invariant.so_far (IsLeft-within _ _ _ c.loop.invariant.left) read
 
-pub returns-then-n-ne0-clause-front : goal.returns-then-n-ne0-clause-front
-returns-then-n-ne0-clause-front g c =
-    HoldsFront-read _ _ _ _ _ _ _ _ _ _ c.loop.invariant.so_far
+pub returns-then-n-ne0-clause-prefix : goal.returns-then-n-ne0-clause-prefix
+returns-then-n-ne0-clause-prefix g c =
+    HoldsPrefix-read _ c.loop.invariant.so_far
     (IsLeft-within _ _ _ c.loop.invariant.left) c.in_ok-n.ensures.read
 
 pub returns-then-n-ne0-clause-fault : goal.returns-then-n-ne0-clause-fault
 returns-then-n-ne0-clause-fault g c =
     let below : c.in_ok-n.n < 8 * c.next_count-count.result = search rules in
-    EndsInPart-read _ _ _ _ _ _ _ _ _ _ _ c.loop.invariant.so_far c.in_ok-n.ensures.read (c.in_ok-n.ensures.end below)
+    EndsInPart-read _ _ _ c.loop.invariant.so_far c.in_ok-n.ensures.read (c.in_ok-n.ensures.end below)
     (length-take-le _ _ (search rules)) c.if-n-ne0.true
     (λ all total. IsLeft-begun _ _ _ c.next_count-count.result c.in_ok-n.n all c.loop.invariant.left
     c.next_count-count.ensures.left below total)
 
-pub returns-in_err-decrypt_piece-clause-front : goal.returns-in_err-decrypt_piece-clause-front
-returns-in_err-decrypt_piece-clause-front g c =
-    let size : length (take c.in_ok-n.n c.fill_front.new.buffer) ≡ c.in_ok-n.n = length-take-le _ _ (search rules) in
-    let counts = length-piece _ _ _ _ _ _ _ _ _ c.in_ok-n.n size c.in_err-decrypt_piece.ensures.deciphered in
-    HoldsFront-written _ _ _ _ _ _ _ _ _ _ _ _ _ _ _ c.loop.invariant.so_far c.loop.invariant.after
+pub returns-in_err-decrypt_piece-clause-prefix : goal.returns-in_err-decrypt_piece-clause-prefix
+returns-in_err-decrypt_piece-clause-prefix g c =
+    let size : length (take c.in_ok-n.n c.fill_prefix.new.buffer) ≡ c.in_ok-n.n = length-take-le _ _ (search rules) in
+    let counts = length-piece c.in_ok-n.n size c.in_err-decrypt_piece.ensures.deciphered in
+    HoldsPrefix-written c.loop.invariant.so_far c.loop.invariant.after
     c.in_ok-n.ensures.read
     c.in_err-decrypt_piece.ensures.deciphered
     (IsLeft-fits _ _ _ _ c.next_count-count.result c.loop.invariant.left c.next_count-count.ensures.left
@@ -47,12 +46,12 @@ returns-in_err-decrypt_piece-clause-front g c =
 
 pub returns-then-n-bytes-clause-done : goal.returns-then-n-bytes-clause-done
 returns-then-n-bytes-clause-done g c =
-    let more = HoldsLast-more _ _ _ _ _ _ _ _ _ _ _ _ _ _ refl c.loop.invariant.so_far c.loop.invariant.after
+    let more = HoldsLast-more refl c.loop.invariant.so_far c.loop.invariant.after
     c.in_ok-n.ensures.read
     c.in_ok-decrypt_piece.ensures.deciphered in
     let piece = c.in_ok-decrypt_piece.ensures.deciphered in
-    let size : length (take c.in_ok-n.n c.fill_front.new.buffer) ≡ c.in_ok-n.n = length-take-le _ _ (search rules) in
-    let counts = length-piece _ _ _ _ _ _ _ _ _ c.in_ok-n.n size piece in
+    let size : length (take c.in_ok-n.n c.fill_prefix.new.buffer) ≡ c.in_ok-n.n = length-take-le _ _ (search rules) in
+    let counts = length-piece c.in_ok-n.n size piece in
     record {
       holds = more.0;
       ends = elim (eq-or-lt_of_le c.in_ok-n.ensures.within) [
@@ -64,8 +63,7 @@ returns-then-n-bytes-clause-done g c =
             c.if-n-bytes.true,
             c.in_ok-n.ensures.room,
             c.loop.invariant.count,
-            c.loop.invariant.room,
-            c.requires.size,
+            c.as_flattened_mut-bytes.ensures.len,
           ))
           | inr is ↦ inr (IsLeft-none _ _ _ _ _ c.next_count-count.result c.loop.invariant.left is
               (omega (arith, all, counts)) more.2)
@@ -76,11 +74,11 @@ returns-then-n-bytes-clause-done g c =
           (IsLeft-more _ _ _ _ _ _ _ c.loop.invariant.left c.left_after-left.ensures (omega (arith, counts)) more.2);
     }
 
-pub returns-then-n-bytes-clause-front : goal.returns-then-n-bytes-clause-front
-returns-then-n-bytes-clause-front g c =
-    let size : length (take c.in_ok-n.n c.fill_front.new.buffer) ≡ c.in_ok-n.n = length-take-le _ _ (search rules) in
-    let counts = length-piece _ _ _ _ _ _ _ _ _ c.in_ok-n.n size c.in_ok-decrypt_piece.ensures.deciphered in
-    HoldsFront-written _ _ _ _ _ _ _ _ _ _ _ _ _ _ _ c.loop.invariant.so_far c.loop.invariant.after
+pub returns-then-n-bytes-clause-prefix : goal.returns-then-n-bytes-clause-prefix
+returns-then-n-bytes-clause-prefix g c =
+    let size : length (take c.in_ok-n.n c.fill_prefix.new.buffer) ≡ c.in_ok-n.n = length-take-le _ _ (search rules) in
+    let counts = length-piece c.in_ok-n.n size c.in_ok-decrypt_piece.ensures.deciphered in
+    HoldsPrefix-written c.loop.invariant.so_far c.loop.invariant.after
     c.in_ok-n.ensures.read
     c.in_ok-decrypt_piece.ensures.deciphered
     (IsLeft-fits _ _ _ _ c.next_count-count.result c.loop.invariant.left c.next_count-count.ensures.left
@@ -88,20 +86,19 @@ returns-then-n-bytes-clause-front g c =
 
 pub loop-preserved : goal.loop-preserved
 loop-preserved g c =
-    let more = HoldsLast-more _ _ _ _ _ _ _ _ _ _ _ _ _ _ refl c.loop.invariant.so_far c.loop.invariant.after
+    let more = HoldsLast-more refl c.loop.invariant.so_far c.loop.invariant.after
     c.in_ok-n.ensures.read
     c.in_ok-decrypt_piece.ensures.deciphered in
-    let size : length (take c.in_ok-n.n c.fill_front.new.buffer) ≡ c.in_ok-n.n = length-take-le _ _ (search rules) in
-    let counts = length-piece _ _ _ _ _ _ _ _ _ c.in_ok-n.n size c.in_ok-decrypt_piece.ensures.deciphered in
+    let size : length (take c.in_ok-n.n c.fill_prefix.new.buffer) ≡ c.in_ok-n.n = length-take-le _ _ (search rules) in
+    let counts = length-piece c.in_ok-n.n size c.in_ok-decrypt_piece.ensures.deciphered in
     record {
       count = search rules;
-      room = search rules;
       so_far = more.0;
       left = IsLeft-more _ _ _ _ _ _ _ c.loop.invariant.left c.left_after-left.ensures (omega (arith, counts)) more.2;
       after = more.1;
     }
 
-pub returns-clause-front : goal.returns-clause-front
-returns-clause-front g c =
-    HoldsFront-read _ _ _ _ _ _ _ _ _ [] c.loop.invariant.so_far (IsLeft-within _ _ _ c.loop.invariant.left)
+pub returns-clause-prefix : goal.returns-clause-prefix
+returns-clause-prefix g c =
+    HoldsPrefix-read [] c.loop.invariant.so_far (IsLeft-within _ _ _ c.loop.invariant.left)
     (Consumes-nil _)

@@ -1,14 +1,14 @@
 use Rattle.std.proofs.Common.{rules, refl, sym, subst, ap, length, take, ◌∙◌}
 use Rattle.std.specs.Prelude.{IsOk}
 use Rattle.std.specs.Io.KnownBytes.{Appends}
-use Rattle.des_io.proofs.DecryptedPieces.{WritesPiece-held, WritesPiece-front, WritesPiece-whole, WritesPiece-none, length-last}
+use Rattle.des_io.proofs.DecryptedPieces.{WritesPiece-held, WritesPiece-prefix, WritesPiece-whole, WritesPiece-none, length-last}
 use Rattle.des_io.proofs.decryption.write_piece.Goals as goal
 
 pub returns-in_err-write_held-clause-written : goal.returns-in_err-write_held-clause-written
 returns-in_err-write_held-clause-written g c =
     let fails : IsOk c.from_residual.result → ⊥ = search rules in
     let (k, within, written, full) = c.in_err-write_held.ensures.written in
-    WritesPiece-held _ _ _ c.in-Some.front.now c.in-Some.last.now _ _ k _ fails
+    WritesPiece-held c.in-Some.rest.now c.in-Some.last.now k fails
     (length-last _ _ _ c.in-Some.ensures.cases.0 c.told-blocks) c.in-Some.ensures.cases.0
     written
 
@@ -18,7 +18,7 @@ returns-in_err-write_whole-clause-written g c =
     let (k, within, first, full) = c.in_ok-write_held.ensures.written in
     let (m, inside, put, all) = c.in_err-write_whole.ensures.written in
     let second = subst (Appends _ _) (ap (take m) c.as_flattened.ensures.value) put in
-    WritesPiece-front _ _ _ c.in-Some.front.now c.in-Some.last.now _ _ _ k m _ fails
+    WritesPiece-prefix c.in-Some.rest.now c.in-Some.last.now _ k m fails
     (length-last _ _ _ c.in-Some.ensures.cases.0 c.told-blocks)
     c.in-Some.ensures.cases.0 (full refl) first second
 
@@ -28,7 +28,7 @@ returns-in_ok-write_whole-clause-written g c =
     let (m, inside, put, all) = c.in_ok-write_whole.ensures.written in
     let second = subst (Appends _ _) (ap (take m) c.as_flattened.ensures.value) put in
     let same = ap length c.as_flattened.ensures.value in
-    WritesPiece-whole _ _ c.in-Some.front.now c.in-Some.last.now _ _ _ k m _
+    WritesPiece-whole c.in-Some.rest.now c.in-Some.last.now _ k m
     (length-last _ _ _ c.in-Some.ensures.cases.0 c.told-blocks) c.in-Some.ensures.cases.0 (full refl) first
     (all refl ∙ same)
     (sym same ∙ c.as_flattened.ensures.len) second

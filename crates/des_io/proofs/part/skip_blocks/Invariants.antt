@@ -6,7 +6,7 @@ use Rattle.des_io.proofs.part.skip_blocks.Given as goal
 abbrev pub invariant-loop : goal.invariant-loop
 invariant-loop g l = record {
   count : length l.bytes ≡ length l.initial.bytes;
-  room : length l.blocks ≡ length l.initial.blocks;
-  so_far : Skips l.initial.mode l.mode (l.initial.left - l.left) (g.R.Read.remaining l.initial.reader) (g.R.Read.remaining l.reader);
+  so_far : Skips l.initial.mode l.mode (l.initial.left - l.left) (g.R.Read.remaining l.initial.reader)
+      (g.R.Read.remaining l.reader);
   within : l.left ≤ l.initial.left;
 }
