@@ -2,10 +2,8 @@
 //! They tell whether two sides hold the same key, and are the small caller that `docs/CALLING.md`
 //! shows.
 
-ghost use Rattle.std.specs.Prelude.{◌≡◌, ◌↔◌, ℕ, List, length, take, replicate, IsOk, IfOk};
-ghost use Rattle.des.specs.Triple.{EnciphersEde3};
+ghost use Rattle.std.specs.Prelude.{◌≡◌, ◌↔◌, length, take, replicate, IsOk, IfOk};
 
-use des::TdesEde3;
 use des::cipher::{BlockCipherEncrypt, InvalidLength, KeyInit, KeyedCipher};
 
 // The first three bytes of a block.
@@ -26,15 +24,4 @@ pub fn check_value<C: KeyedCipher + Drop>(key: &[u8]) -> Result<[u8; 3], Invalid
     let mut block = [0; 8];
     cipher.encrypt_block(&mut block);
     Ok(first_bytes(&block))
-}
-
-/// The check value of a key of 24 bytes of `TdesEde3`, by the relation that the standard's tables
-/// define.
-pub fn check_value_of_ede3(key: &[u8; 24]) -> [u8; 3]
-    ensures { (answer : List ℕ) → EnciphersEde3 key.now (replicate 8 0) answer
-        → result ≡ take 3 answer }
-{
-    let mut block = [0; 8];
-    TdesEde3::new(key).encrypt_block(&mut block);
-    first_bytes(&block)
 }

@@ -22,7 +22,7 @@ mod texts;
 mod xor;
 
 pub use card_verification::cvv;
-pub use check_values::{check_value, check_value_of_ede3};
+pub use check_values::check_value;
 pub use components::combine;
 pub use cvv_error::CvvError;
 pub use pin::Pin;

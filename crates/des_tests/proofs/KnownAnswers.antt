@@ -10,8 +10,8 @@ entries : ℕ → List ℕ
 unfolding box_entry bits_of number_of
 entries group = map (λ box. box_entry box (bits_of 6 group)) selection_functions
 
--- the groups 011011, 100110 and 111101, which are columns 13, 3 and 14 of the second, third and fourth row, looked up by hand
--- in the tables of FIPS 46-3
+-- the groups 011011, 100110 and 111101, which are columns 13, 3 and 14 of the second, third and fourth row, looked up
+-- by hand in the tables of FIPS 46-3
 entries-second_row : entries 0b011011 ≡ 5 ∷ 9 ∷ 11 ∷ 10 ∷ 9 ∷ 11 ∷ 15 ∷ 14 ∷ []
 unfolding entries box_entry bits_of number_of
 entries-second_row = refl
@@ -24,8 +24,8 @@ entries-fourth_row : entries 0b111101 ≡ 6 ∷ 14 ∷ 2 ∷ 2 ∷ 5 ∷ 8 ∷ 3
 unfolding entries box_entry bits_of number_of
 entries-fourth_row = refl
 
--- the first and the last round key of the worked example of J. Orlin Grabbe, The DES Algorithm Illustrated: the groups 1, 3, 5, 7,
--- then 2, 4, 6, 8
+-- the first and the last round key of the worked example of J. Orlin Grabbe, The DES Algorithm Illustrated: the groups
+-- 1, 3, 5, 7, then 2, 4, 6, 8
 bits_of_groups-first : bits_of_groups 0x060b3f01302f0732 ≡ bits_of 48 0x1b02effc7072
 unfolding bits_of select
 bits_of_groups-first = refl
@@ -35,6 +35,7 @@ unfolding bits_of select
 bits_of_groups-last = refl
 
 -- its first round: the right half after it
-first_round : xor_bits (bits_of 32 0xcc00ccff) (cipher_function (bits_of 32 0xf0aaf0aa) (bits_of 48 0x1b02effc7072)) ≡ bits_of 32 0xef4a6544
+first_round : xor_bits (bits_of 32 0xcc00ccff) (cipher_function (bits_of 32 0xf0aaf0aa) (bits_of 48 0x1b02effc7072))
+    ≡ bits_of 32 0xef4a6544
 unfolding bits_of select substitute_by box_entry number_of cipher_function xor_bits
 first_round = refl

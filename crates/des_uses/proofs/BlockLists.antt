@@ -6,19 +6,23 @@ use Rattle.std.proofs.lemmas.List.Folds.{map_fixed}
 use Rattle.des.specs.Blocks.{IsBlock, AnswersEach}
 
 -- what a function makes of each block answers it
-pub AnswersEach-map : (f : List ℕ → List ℕ) (blocks : List (List ℕ)) → AnswersEach (λ block answer. answer ≡ f block) blocks (map f blocks)
+pub AnswersEach-map : (f : List ℕ → List ℕ) (blocks : List (List ℕ))
+    → AnswersEach (λ block answer. answer ≡ f block) blocks (map f blocks)
 AnswersEach-map f [] = tt
 AnswersEach-map f (block ∷ blocks) = (refl, AnswersEach-map f blocks)
 
 -- a function that undoes another on blocks brings back a list of blocks
-pub map-undone : (f g : List ℕ → List ℕ) (blocks : List (List ℕ)) → ((block : List ℕ) → IsBlock block → g (f block) ≡ block)
+pub map-undone : (f g : List ℕ → List ℕ) (blocks : List (List ℕ))
+    → ((block : List ℕ) → IsBlock block → g (f block) ≡ block)
     → All IsBlock blocks → map g (map f blocks) ≡ blocks
 map-undone f g blocks undoes are_blocks =
     map-map g f blocks ∙ map_fixed (λ block. g (f block)) blocks (λ i d within. undoes _ (are_blocks i d within))
 
 -- two functions that answer each block alike make one list of a list of blocks
-pub map-alike : (f g : List ℕ → List ℕ) (blocks : List (List ℕ)) → ((block : List ℕ) → IsBlock block → f block ≡ g block)
+pub map-alike : (f g : List ℕ → List ℕ) (blocks : List (List ℕ))
+    → ((block : List ℕ) → IsBlock block → f block ≡ g block)
     → All IsBlock blocks → map f blocks ≡ map g blocks
 map-alike f g [] alike are_blocks = refl
 map-alike f g (block ∷ blocks) alike are_blocks =
-    λ i. alike block (are_blocks 0 block (omega arith)) i ∷ map-alike f g blocks alike (λ k d within. are_blocks (suc k) d (omega arith)) i
+    λ i. alike block (are_blocks 0 block (omega arith)) i
+    ∷ map-alike f g blocks alike (λ k d within. are_blocks (suc k) d (omega arith)) i

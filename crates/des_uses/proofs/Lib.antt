@@ -1,4 +1,5 @@
-pub mod AlikeAnswers
 pub mod BlockLists
-pub mod ReversedSchedules
 pub mod JoinedParts
+pub mod KeyedChains
+pub mod RelatedAnswers
+pub mod ReversedSchedules

@@ -41,5 +41,6 @@ IsBlock-reverse block is_block =
     let count : length (reverse block) ≡ length block = length-reverse block in (
       count ∙ is_block.0,
       All-from_get_or (λ byte. byte < 256) (reverse block) 0 (λ i within.
-          rw (get_or-reverse block i 0 (omega (arith, count))) (is_block.1 (length block - 1 - i) 0 (omega (arith, count)))),
+          rw (get_or-reverse block i 0 (omega (arith, count)))
+          (is_block.1 (length block - 1 - i) 0 (omega (arith, count)))),
     )

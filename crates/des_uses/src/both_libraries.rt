@@ -1,14 +1,99 @@
 //! One key, in a cipher of `des` and in one over another single cipher, such as that of `des_fast`:
 //! what the clauses on equal answers give to a caller.
 
-mod ede2;
-mod ede3;
-mod eee2;
-mod eee3;
-mod single;
+ghost use Rattle.std.specs.Prelude.{◌≡◌};
+ghost use Rattle.des.specs.Relations.{IsTheOne, AnswerAlike};
 
-pub use ede2::{decrypted_by_ede2, encrypted_by_ede2};
-pub use ede3::{decrypted_by_ede3, encrypted_by_ede3};
-pub use eee2::{decrypted_by_eee2, encrypted_by_eee2};
-pub use eee3::{decrypted_by_eee3, encrypted_by_eee3};
-pub use single::{decrypted_by_des, encrypted_by_des};
+use crate::by_relation::RelatesBlocks;
+use des::cipher::{KeyInit, KeySizeUser};
+use des::tdes::{Ede2, Ede3, Eee2, Eee3, SingleDes};
+
+/// A cipher whose `new` says that it answers as a cipher of `des` with the same key.
+pub trait AnswersAlike: RelatesBlocks {
+    /// The cipher of `des`.
+    type Port: RelatesBlocks + KeySizeUser<Key = Self::Key> + Drop;
+
+    /// The cipher of a key, by `new`.
+    fn of_key_alike(key: &Self::Key) -> Self
+        ensures encrypts_alike { (other : Self.Port)
+            → Self.Port.is_made_from other (Self.Key.bytes_of key.now)
+            → AnswerAlike (Self.encrypted result) (Self.Port.encrypted other) }
+        ensures decrypts_alike { (other : Self.Port)
+            → Self.Port.is_made_from other (Self.Key.bytes_of key.now)
+            → AnswerAlike (Self.decrypted result) (Self.Port.decrypted other) };
+}
+
+impl AnswersAlike for des_fast::Des {
+    type Port = des::Des;
+
+    fn of_key_alike(key: &[u8; 8]) -> des_fast::Des {
+        des_fast::Des::new(key)
+    }
+}
+
+impl<D: SingleDes> AnswersAlike for Ede3<D> {
+    type Port = des::TdesEde3;
+
+    fn of_key_alike(key: &[u8; 24]) -> Ede3<D> {
+        Ede3::<D>::new(key)
+    }
+}
+
+impl<D: SingleDes> AnswersAlike for Eee3<D> {
+    type Port = des::TdesEee3;
+
+    fn of_key_alike(key: &[u8; 24]) -> Eee3<D> {
+        Eee3::<D>::new(key)
+    }
+}
+
+impl<D: SingleDes> AnswersAlike for Ede2<D> {
+    type Port = des::TdesEde2;
+
+    fn of_key_alike(key: &[u8; 16]) -> Ede2<D> {
+        Ede2::<D>::new(key)
+    }
+}
+
+impl<D: SingleDes> AnswersAlike for Eee2<D> {
+    type Port = des::TdesEee2;
+
+    fn of_key_alike(key: &[u8; 16]) -> Eee2<D> {
+        Eee2::<D>::new(key)
+    }
+}
+
+/// What the cipher of `des` makes of a block by encryption, and what the other makes of it, under a
+/// key. The two are one.
+pub fn encrypted_by_both<C: AnswersAlike + Drop>(
+    key: &C::Key,
+    block: &[u8; 8],
+) -> ([u8; 8], [u8; 8])
+    ensures enciphers { IsTheOne
+        (λ answer. C.Port.relation (C.Key.bytes_of key.now) block.now answer) result.0 }
+    ensures alike { result.1 ≡ result.0 }
+{
+    let cipher = C::Port::of_key(key);
+    let other = C::of_key_alike(key);
+    let (mut answer, mut other_answer) = (*block, *block);
+    cipher.encrypt(&mut answer);
+    other.encrypt(&mut other_answer);
+    (answer, other_answer)
+}
+
+/// The same by decryption.
+pub fn decrypted_by_both<C: AnswersAlike + Drop>(
+    key: &C::Key,
+    block: &[u8; 8],
+) -> ([u8; 8], [u8; 8])
+    ensures deciphers { IsTheOne
+        (λ answer. C.Port.relation (C.Key.bytes_of key.now) answer block.now) result.0 }
+    ensures alike { result.1 ≡ result.0 }
+{
+    let cipher = C::Port::of_key(key);
+    let other = C::of_key_alike(key);
+    let (mut answer, mut other_answer) = (*block, *block);
+    cipher.decrypt(&mut answer);
+    other.decrypt(&mut other_answer);
+    (answer, other_answer)
+}

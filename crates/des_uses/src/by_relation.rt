@@ -2,56 +2,170 @@
 //! of `new`, `encrypt_block` and `decrypt_block` give to a caller. The triple ciphers are those of
 //! either library.
 
-ghost use Rattle.std.specs.Prelude.{◌≡◌, ◌↔◌, length, IsTrue};
-ghost use Rattle.des.specs.Blocks.{IsBlock};
-ghost use Rattle.des.specs.Relations.{TakesBlock};
+ghost use Rattle.std.specs.Prelude.{◌≡◌, ◌↔◌, ℕ, List, IsTrue};
+ghost use Rattle.des.specs.Blocks.{IsKey};
+ghost use Rattle.des.specs.Relations.{IsTheOne, HasOneAnswerEachWay, IsGraphOf};
 
-use des::cipher::KeyedCipher;
+use des::cipher::{BlockCipherDecrypt, BlockCipherEncrypt, KeyInit, Relating};
+use des::tdes::{Ede2, Ede3, Eee2, Eee3, SingleDes};
 
-mod ede2;
-mod ede3;
-mod eee2;
-mod eee3;
-mod fast_single;
-mod single;
+/// A cipher whose own calls for one block say what the relation of the key gives. Generic code reads
+/// the clauses of a trait alone: these are the clauses of each cipher's `new`, `encrypt_block` and
+/// `decrypt_block`, by its relation.
+pub trait RelatesBlocks: Relating {
+    /// The cipher of a key, by `new`.
+    fn of_key(key: &Self::Key) -> Self
+        ensures key { IsKey Self.KEY_SIZE (Self.Key.bytes_of key.now) }
+        ensures made { Self.is_made_from result (Self.Key.bytes_of key.now) }
+        ensures one_answer_each_way { HasOneAnswerEachWay
+            (Self.relation (Self.Key.bytes_of key.now)) }
+        ensures encryption { IsGraphOf (Self.encryption (Self.Key.bytes_of key.now))
+            (Self.relation (Self.Key.bytes_of key.now)) }
+        ensures decryption { IsGraphOf (Self.decryption (Self.Key.bytes_of key.now))
+            (λ y x. Self.relation (Self.Key.bytes_of key.now) x y) };
 
-pub use ede2::{answers_alike_ede2, answers_of_ede2, relates_ede2};
-pub use ede3::{answers_alike_ede3, answers_of_ede3, relates_ede3};
-pub use eee2::{answers_alike_eee2, answers_of_eee2, relates_eee2};
-pub use eee3::{answers_alike_eee3, answers_of_eee3, relates_eee3};
-pub use fast_single::{answers_alike_fast_des, answers_of_fast_des, relates_fast_des};
-pub use single::{answers_alike_des, answers_of_des, relates_des};
+    /// Encrypts a block in place, by `encrypt_block`.
+    fn encrypt(&self, block: &mut [u8; 8])
+        ensures encrypted { block.new ≡ Self.encrypted self.now block.old }
+        ensures enciphers { (key : List ℕ) → Self.is_made_from self.now key
+            → IsTheOne (λ answer. Self.relation key block.old answer) block.new };
 
-// Whether what a key answers takes a block to another by encryption, and the other to the block by
-// decryption. The cipher is one of the key.
-fn relates<C: KeyedCipher>(
-    cipher: &C,
-    key: &[u8],
+    /// Decrypts a block in place, by `decrypt_block`.
+    fn decrypt(&self, block: &mut [u8; 8])
+        ensures decrypted { block.new ≡ Self.decrypted self.now block.old }
+        ensures deciphers { (key : List ℕ) → Self.is_made_from self.now key
+            → IsTheOne (λ answer. Self.relation key answer block.old) block.new };
+}
+
+impl RelatesBlocks for des::Des {
+    fn of_key(key: &[u8; 8]) -> des::Des {
+        des::Des::new(key)
+    }
+
+    fn encrypt(&self, block: &mut [u8; 8]) {
+        self.encrypt_block(block);
+    }
+
+    fn decrypt(&self, block: &mut [u8; 8]) {
+        self.decrypt_block(block);
+    }
+}
+
+impl RelatesBlocks for des_fast::Des {
+    fn of_key(key: &[u8; 8]) -> des_fast::Des {
+        des_fast::Des::new(key)
+    }
+
+    fn encrypt(&self, block: &mut [u8; 8]) {
+        self.encrypt_block(block);
+    }
+
+    fn decrypt(&self, block: &mut [u8; 8]) {
+        self.decrypt_block(block);
+    }
+}
+
+impl<D: SingleDes> RelatesBlocks for Ede3<D> {
+    fn of_key(key: &[u8; 24]) -> Ede3<D> {
+        Ede3::<D>::new(key)
+    }
+
+    fn encrypt(&self, block: &mut [u8; 8]) {
+        self.encrypt_block(block);
+    }
+
+    fn decrypt(&self, block: &mut [u8; 8]) {
+        self.decrypt_block(block);
+    }
+}
+
+impl<D: SingleDes> RelatesBlocks for Eee3<D> {
+    fn of_key(key: &[u8; 24]) -> Eee3<D> {
+        Eee3::<D>::new(key)
+    }
+
+    fn encrypt(&self, block: &mut [u8; 8]) {
+        self.encrypt_block(block);
+    }
+
+    fn decrypt(&self, block: &mut [u8; 8]) {
+        self.decrypt_block(block);
+    }
+}
+
+impl<D: SingleDes> RelatesBlocks for Ede2<D> {
+    fn of_key(key: &[u8; 16]) -> Ede2<D> {
+        Ede2::<D>::new(key)
+    }
+
+    fn encrypt(&self, block: &mut [u8; 8]) {
+        self.encrypt_block(block);
+    }
+
+    fn decrypt(&self, block: &mut [u8; 8]) {
+        self.decrypt_block(block);
+    }
+}
+
+impl<D: SingleDes> RelatesBlocks for Eee2<D> {
+    fn of_key(key: &[u8; 16]) -> Eee2<D> {
+        Eee2::<D>::new(key)
+    }
+
+    fn encrypt(&self, block: &mut [u8; 8]) {
+        self.encrypt_block(block);
+    }
+
+    fn decrypt(&self, block: &mut [u8; 8]) {
+        self.decrypt_block(block);
+    }
+}
+
+/// What a block becomes by encryption under the key, and what it becomes by decryption.
+pub fn answers_of<C: RelatesBlocks + Drop>(key: &C::Key, block: &[u8; 8]) -> ([u8; 8], [u8; 8])
+    ensures enciphers { IsTheOne
+        (λ answer. C.relation (C.Key.bytes_of key.now) block.now answer) result.0 }
+    ensures deciphers { IsTheOne
+        (λ answer. C.relation (C.Key.bytes_of key.now) answer block.now) result.1 }
+{
+    let cipher = C::of_key(key);
+    let (mut encrypted, mut decrypted) = (*block, *block);
+    cipher.encrypt(&mut encrypted);
+    cipher.decrypt(&mut decrypted);
+    (encrypted, decrypted)
+}
+
+/// Whether the key takes a block to another: by encryption of the one, and by decryption of the
+/// other.
+pub fn relates<C: RelatesBlocks + Drop>(
+    key: &C::Key,
     block: &[u8; 8],
     answer: &[u8; 8],
 ) -> (bool, bool)
-    requires made { C.is_made_from cipher.now key.now }
-    requires size { length key.now ≡ C.KEY_SIZE }
-    ensures there { IsTrue result.0 ↔ TakesBlock (C.encryption key.now) block.now answer.now }
-    ensures back { IsTrue result.1 ↔ TakesBlock (C.decryption key.now) answer.now block.now }
+    ensures there { IsTrue result.0
+        ↔ C.relation (C.Key.bytes_of key.now) block.now answer.now }
+    ensures back { IsTrue result.1
+        ↔ C.relation (C.Key.bytes_of key.now) block.now answer.now }
 {
+    let cipher = C::of_key(key);
     let (mut encrypted, mut decrypted) = (*block, *answer);
     cipher.encrypt_block(&mut encrypted);
     cipher.decrypt_block(&mut decrypted);
     (is_same(&encrypted, answer), is_same(&decrypted, block))
 }
 
-// Whether what a key encrypts two blocks to is the same. The cipher is one of the key.
-fn answers_alike<C: KeyedCipher>(cipher: &C, key: &[u8], block: &[u8; 8], other: &[u8; 8]) -> bool
-    requires made { C.is_made_from cipher.now key.now }
-    requires size { length key.now ≡ C.KEY_SIZE }
-    ensures told { IsTrue result
-        ↔ (C.encryption key.now block.now ≡ C.encryption key.now other.now) }
-    ensures is_block { IsBlock (C.encryption key.now block.now) }
+/// Whether the key makes one answer of two blocks: only where they are one block.
+pub fn answers_alike<C: RelatesBlocks + Drop>(
+    key: &C::Key,
+    block: &[u8; 8],
+    other: &[u8; 8],
+) -> bool
+    ensures { IsTrue result ↔ (block.now ≡ other.now) }
 {
+    let cipher = C::of_key(key);
     let (mut answer, mut other_answer) = (*block, *other);
-    cipher.encrypt_block(&mut answer);
-    cipher.encrypt_block(&mut other_answer);
+    cipher.encrypt(&mut answer);
+    cipher.encrypt(&mut other_answer);
     is_same(&answer, &other_answer)
 }
 

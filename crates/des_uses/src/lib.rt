@@ -1,6 +1,6 @@
 //! What stands above the ciphers of `des` and `des_fast`, the MACs and the streams: callers that
-//! rest on their contracts and laws alone, and two ciphers that hide nothing. Nothing here is part
-//! of the product.
+//! rest on their contracts and laws alone, two ciphers that hide nothing, and a single DES of one's
+//! own. Nothing here is part of the product.
 #![tactic(auto)]
 
 pub mod both_libraries;
@@ -15,6 +15,7 @@ pub mod macs;
 pub mod macs_by_relation;
 pub mod macs_by_type;
 pub mod odd_ciphers;
+pub mod own_des;
 pub mod partners;
 pub mod records;
 pub mod related_lists;

@@ -1,7 +1,6 @@
 //! MACs by the relations that the standard's tables define: what a caller of `des_mac` can promise
 //! of a cipher that it names.
 
-ghost use Rattle.std.specs.Prelude.{◌≡◌};
 ghost use Rattle.des.specs.Relations.{IsTheOne};
 ghost use Rattle.des.specs.Enciphering.{Enciphers};
 ghost use Rattle.des.specs.Triple.{EnciphersEde3};

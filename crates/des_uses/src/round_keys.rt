@@ -1,10 +1,12 @@
 //! The round keys of keys: what the clauses of `Des::round_keys`, `Des::distinct_round_keys` and
 //! `equal_but_parity` give to a caller.
 
-ghost use Rattle.std.specs.Prelude.{◌≡◌, ◌↔◌, ◌<◌, IsTrue, IfSome, nat_eq};
+ghost use Rattle.std.specs.Prelude.{◌≡◌, ◌↔◌, IsTrue, IsSome, IfSome, nat_eq};
 ghost use Rattle.std.specs.Set.{distinct_count};
 ghost use Rattle.des.specs.Bits.{bits_of_bytes};
 ghost use Rattle.des.specs.KeyHalves.{HalvesRepeat, HasListedHalves};
+ghost use Rattle.des.specs.KeySchedule.{key_schedule};
+ghost use Rattle.des.specs.Parity.{AgreeOutsideParity};
 ghost use Rattle.des.specs.RoundKeyWords.{HoldRoundKeys};
 
 use des::Des;
@@ -33,8 +35,23 @@ pub fn has_one_or_many(key: &[u8; 8]) -> (bool, bool)
     (count == 1, 4 < count)
 }
 
+/// Whether a key has two round keys, and whether it has four. It has two where its halves repeat
+/// every two bits and not every one, and four where they are of the listed class and do not repeat
+/// every two bits.
+pub fn has_two_or_four(key: &[u8; 8]) -> (bool, bool)
+    ensures two { HalvesRepeat 2 key.now → ¬ (HalvesRepeat 1 key.now) → IsTrue result.0 }
+    ensures four { HasListedHalves key.now → ¬ (HalvesRepeat 2 key.now) → IsTrue result.1 }
+{
+    let count = Des::new(key).distinct_round_keys();
+    (count == 2, count == 4)
+}
+
 /// The round keys of two keys that agree outside parity: those of the one are those of the other.
+/// `None` where the two do not have one key schedule.
 pub fn shared_round_keys(first: &[u8; 8], second: &[u8; 8]) -> Option<[u64; 16]>
+    ensures agreeing { IsSome result ↔ AgreeOutsideParity first.now second.now }
+    ensures found { IsSome result
+        ↔ (key_schedule (bits_of_bytes first.now) ≡ key_schedule (bits_of_bytes second.now)) }
     ensures first { IfSome result (λ words. HoldRoundKeys words (bits_of_bytes first.now)) }
     ensures second { IfSome result (λ words. HoldRoundKeys words (bits_of_bytes second.now)) }
 {

@@ -8,7 +8,9 @@ use crate::cipher::{BlockCipherDecrypt, BlockCipherEncrypt, KeySizeUser, KeyedCi
 use crate::des::Des;
 
 /// A body of DES, and three of them, one after another. The four calls for three passes have bodies
-/// here; a type writes them anew where it can do so quicker.
+/// here; a type writes them anew where it can do so quicker. A type of another crate has to write
+/// them, if only as they stand here: there the toolchain proves no body of a trait whose key is
+/// fixed, as `[u8; 8]` is here.
 pub trait SingleDes: KeyedCipher + KeySizeUser<Key = [u8; 8]> + Drop {
     /// Encryption by the EDE form: encryption, decryption, encryption.
     fn encrypt_ede(first: &Self, second: &Self, third: &Self, block: &mut [u8; 8])

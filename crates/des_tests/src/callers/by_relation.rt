@@ -1,8 +1,9 @@
 //! One block under each cipher, by the callers that speak of its relation.
 
 use crate::callers::known::{BLOCK, DES, EDE2, EDE3, EEE2, EEE3, ONE, THREE, TWO};
-use des::tdes::SingleDes;
-use des_uses::by_relation::*;
+use des::tdes::{Ede2, Ede3, Eee2, Eee3, SingleDes};
+use des_uses::by_relation::{RelatesBlocks, answers_alike, answers_of, relates};
+use des_uses::own_des::{OwnDes, answers_of_own};
 
 // What decryption makes of the block: OpenSSL's answers, by the ciphers that give the others.
 const DES_BACK: [u8; 8] = *b"\x1a\x27\x66\xfa\xc1\x1f\xb9\x20";
@@ -15,52 +16,38 @@ const EDE2_BACK: [u8; 8] = *b"\xbb\x4f\x0b\x34\x2d\x00\x4e\x23";
 
 const EEE2_BACK: [u8; 8] = *b"\x0c\x14\xc0\x48\xb5\x4a\xbb\x38";
 
-// Whether each of the triple ciphers makes these of the block, in each direction.
+// Whether the key makes these of the block, in each direction, relates the block to the one alone,
+// and tells the block from another, and from itself not.
+fn answers<C: RelatesBlocks + Drop>(key: &C::Key, answer: &[u8; 8], back: &[u8; 8]) -> bool {
+    answers_of::<C>(key, &BLOCK) == (*answer, *back)
+        && relates::<C>(key, &BLOCK, answer) == (true, true)
+        && relates::<C>(key, &BLOCK, &BLOCK) == (false, false)
+        && answers_alike::<C>(key, &BLOCK, &BLOCK)
+        && !answers_alike::<C>(key, &BLOCK, answer)
+}
+
+// Whether each of the triple ciphers over a single one does.
 fn triple_ciphers_answer<D: SingleDes>() -> bool {
-    answers_of_ede3::<D>(&THREE, &BLOCK) == (EDE3, EDE3_BACK)
-        && answers_of_eee3::<D>(&THREE, &BLOCK) == (EEE3, EEE3_BACK)
-        && answers_of_ede2::<D>(&TWO, &BLOCK) == (EDE2, EDE2_BACK)
-        && answers_of_eee2::<D>(&TWO, &BLOCK) == (EEE2, EEE2_BACK)
+    answers::<Ede3<D>>(&THREE, &EDE3, &EDE3_BACK)
+        && answers::<Eee3<D>>(&THREE, &EEE3, &EEE3_BACK)
+        && answers::<Ede2<D>>(&TWO, &EDE2, &EDE2_BACK)
+        && answers::<Eee2<D>>(&TWO, &EEE2, &EEE2_BACK)
 }
 
 #[test]
 fn blocks_have_their_answers(rt: HostRuntime) {
+    assert!(rt; answers::<des::Des>(&ONE, &DES, &DES_BACK));
     assert!(rt; triple_ciphers_answer::<des::Des>());
-    assert!(rt; answers_of_des(&ONE, &BLOCK) == (DES, DES_BACK));
-    assert!(rt; answers_of_fast_des(&ONE, &BLOCK) == (DES, DES_BACK));
-}
-
-// Whether each of the triple ciphers relates the block to its answer.
-fn triple_ciphers_relate<D: SingleDes>() -> bool {
-    relates_ede3::<D>(&THREE, &BLOCK, &EDE3) == (true, true)
-        && relates_eee3::<D>(&THREE, &BLOCK, &EEE3) == (true, true)
-        && relates_ede2::<D>(&TWO, &BLOCK, &EDE2) == (true, true)
-        && relates_eee2::<D>(&TWO, &BLOCK, &EEE2) == (true, true)
 }
 
 #[test]
-fn blocks_are_related_to_their_answers_alone(rt: HostRuntime) {
-    assert!(rt; triple_ciphers_relate::<des_fast::Des>());
-    assert!(rt; relates_ede3::<des::Des>(&THREE, &BLOCK, &EEE3) == (false, false));
-    assert!(rt; relates_des(&ONE, &BLOCK, &DES) == (true, true));
-    assert!(rt; relates_des(&ONE, &BLOCK, &EDE3) == (false, false));
-    assert!(rt; relates_fast_des(&ONE, &BLOCK, &DES) == (true, true));
-    assert!(rt; relates_fast_des(&ONE, &BLOCK, &EDE3) == (false, false));
-}
-
-// Whether each of the triple ciphers tells two blocks apart, and a block from itself not.
-fn triple_ciphers_tell_apart<D: SingleDes>() -> bool {
-    answers_alike_ede3::<D>(&THREE, &BLOCK, &BLOCK)
-        && !answers_alike_ede3::<D>(&THREE, &BLOCK, &DES)
-        && !answers_alike_eee3::<D>(&THREE, &BLOCK, &DES)
-        && !answers_alike_ede2::<D>(&TWO, &BLOCK, &DES)
-        && !answers_alike_eee2::<D>(&TWO, &BLOCK, &DES)
+fn blocks_have_their_answers_by_the_faster_library(rt: HostRuntime) {
+    assert!(rt; answers::<des_fast::Des>(&ONE, &DES, &DES_BACK));
+    assert!(rt; triple_ciphers_answer::<des_fast::Des>());
 }
 
 #[test]
-fn blocks_are_told_apart_by_their_answers(rt: HostRuntime) {
-    assert!(rt; triple_ciphers_tell_apart::<des_fast::Des>());
-    assert!(rt; answers_alike_des(&ONE, &BLOCK, &BLOCK));
-    assert!(rt; !answers_alike_des(&ONE, &BLOCK, &DES));
-    assert!(rt; !answers_alike_fast_des(&ONE, &BLOCK, &DES));
+fn blocks_have_their_answers_by_a_single_des_of_ones_own(rt: HostRuntime) {
+    assert!(rt; triple_ciphers_answer::<OwnDes>());
+    assert!(rt; answers_of_own(&THREE, &BLOCK) == (EDE3, EDE3_BACK));
 }

@@ -12,12 +12,14 @@ const WEAK: [u8; 8] = [0xfe; 8];
 
 #[test]
 fn partners_undo_each_other(rt: HostRuntime) {
-    let mut block = BLOCK;
-    assert!(rt; encrypt_under_both(&SEMI_WEAK, &PARTNER, &mut block) && block == BLOCK);
+    let (mut block, mut other) = (BLOCK, DES);
+    assert!(rt; encrypt_under_both(&SEMI_WEAK, &PARTNER, &mut block, &mut other));
+    assert!(rt; block == BLOCK && other == DES);
     assert!(rt; encrypt_twice(&WEAK, &mut block) && block == BLOCK);
     assert!(rt; !encrypt_twice(&SEMI_WEAK, &mut block) && block != BLOCK);
-    let mut block = BLOCK;
-    assert!(rt; !encrypt_under_both(&ONE, &WEAK, &mut block) && block != BLOCK && block != DES);
+    let (mut block, mut other) = (BLOCK, DES);
+    assert!(rt; !encrypt_under_both(&ONE, &WEAK, &mut block, &mut other));
+    assert!(rt; block != BLOCK && block != DES && other != DES);
 }
 
 // Halves of alternating bits, C beginning with a zero and D too, give the round keys of the key in

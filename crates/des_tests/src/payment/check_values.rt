@@ -1,6 +1,20 @@
-//! The check value that has no export.
+//! The check value of a key of triple DES, by the relation that the standard defines: what the
+//! clauses of `check_value` give to a caller.
 
-use des_payment::check_value_of_ede3;
+ghost use Rattle.std.specs.Prelude.{◌≡◌, ℕ, List, take, replicate};
+ghost use Rattle.des.specs.Triple.{EnciphersEde3};
+
+use des::TdesEde3;
+use des_payment::check_value;
+
+// The check value of a key of 24 bytes: the first three bytes of what FIPS 46-3 makes of the block
+// of zeros under it.
+fn check_value_of_ede3(key: &[u8; 24]) -> [u8; 3]
+    ensures { (answer : List ℕ) → EnciphersEde3 key.now (replicate 8 0) answer
+        → result ≡ take 3 answer }
+{
+    check_value::<TdesEde3>(key).unwrap()
+}
 
 const KEY: [u8; 24] = [
     0x01, 0x23, 0x45, 0x67, 0x89, 0xab, 0xcd, 0xef, 0x23, 0x45, 0x67, 0x89, 0xab, 0xcd, 0xef, 0x01,

@@ -1,7 +1,6 @@
 //! The cipher `XorKey`.
 
 ghost use Rattle.std.specs.Prelude.{◌≡◌, refl};
-ghost use Rattle.des.specs.Blocks.{IsKey};
 ghost use Rattle.des_uses.specs.OddCiphers.{xored, IsBlock-xored, xored-xored};
 
 use des::cbc;

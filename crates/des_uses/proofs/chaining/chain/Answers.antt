@@ -13,5 +13,6 @@ returns g c =
     let iv : List ℕ = c.args.iv.now in
     let is_iv : IsBlock iv = (c.told-iv, All-from_get_or (λ byte. byte < 256) iv 0 (λ i within. c.fits-iv i)) in
     Unchains-from_Cbc encryption decryption iv c.args.blocks.now c.encrypt.new.blocks
-    is_iv c.encrypt.ensures.blocks (g.met.C.BlockCipher.encrypted_is_block cipher) (g.met.C.BlockCipher.decrypts_encrypted cipher)
+    is_iv c.encrypt.ensures.blocks
+    (g.met.C.BlockCipher.encrypted_is_block cipher) (g.met.C.BlockCipher.decrypts_encrypted cipher)
     c.encrypt.ensures.chained

@@ -13,5 +13,6 @@ returns g c =
     let iv : List ℕ = c.args.iv.now in
     let is_iv : IsBlock iv = (c.told-iv, All-from_get_or (λ byte. byte < 256) iv 0 (λ i within. c.fits-iv i)) in
     Cbc-from_Unchains encryption decryption iv c.decrypt.new.blocks c.args.blocks.now
-    is_iv c.decrypt.ensures.blocks (g.met.C.BlockCipher.decrypted_is_block cipher) (g.met.C.BlockCipher.encrypts_decrypted cipher)
+    is_iv c.decrypt.ensures.blocks
+    (g.met.C.BlockCipher.decrypted_is_block cipher) (g.met.C.BlockCipher.encrypts_decrypted cipher)
     c.decrypt.ensures.unchained

@@ -9,4 +9,5 @@ loop-byte-preserved c =
     let i : ℕ = c.loop-byte.byte-index in
     let byte : ℕ = get_or c.loop-byte.bytes i 0 in
     ap (set c.loop-byte.bytes i) (sym (complement_of_byte-rest byte (search rules)))
-    ∙ map_over_more complement_of_byte c.args.bytes.now c.loop-byte.bytes i byte (search rules) c.loop-byte.invariant (search rules)
+    ∙ map_over_more complement_of_byte c.args.bytes.now c.loop-byte.bytes i byte (search rules)
+    c.loop-byte.invariant (search rules)

@@ -12,5 +12,5 @@ returns-clause-decrypted g c =
     let bytes : AreBytes key = All-from_get_or (λ byte. byte < 256) key 0 (λ i within. search rules) in
     ◌∙◌ {b = map (g.C.BlockCipherDecrypt.decrypted cipher) c.args.blocks.now} c.decrypt_many.ensures.decrypted
     (map-alike (g.C.BlockCipherDecrypt.decrypted cipher) (g.C.KeyedCipher.decryption key) c.args.blocks.now
-    (λ block is_block. g.met.C.KeyedCipher.decrypts_by_key cipher key block (c.in_ok-cipher.ensures.accepted.0 refl, bytes)
-    c.in_ok-cipher.ensures.made is_block) c.decrypt_many.ensures.blocks)
+    (λ block is_block. g.met.C.KeyedCipher.decrypts_by_key cipher key block
+    (c.in_ok-cipher.ensures.accepted.0 refl, bytes) c.in_ok-cipher.ensures.made is_block) c.decrypt_many.ensures.blocks)

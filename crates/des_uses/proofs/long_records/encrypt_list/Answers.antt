@@ -12,5 +12,5 @@ returns-clause-encrypted g c =
     let bytes : AreBytes key = All-from_get_or (λ byte. byte < 256) key 0 (λ i within. search rules) in
     ◌∙◌ {b = map (g.C.BlockCipherEncrypt.encrypted cipher) c.args.blocks.now} c.encrypt_many.ensures.encrypted
     (map-alike (g.C.BlockCipherEncrypt.encrypted cipher) (g.C.KeyedCipher.encryption key) c.args.blocks.now
-    (λ block is_block. g.met.C.KeyedCipher.encrypts_by_key cipher key block (c.in_ok-cipher.ensures.accepted.0 refl, bytes)
-    c.in_ok-cipher.ensures.made is_block) c.encrypt_many.ensures.blocks)
+    (λ block is_block. g.met.C.KeyedCipher.encrypts_by_key cipher key block
+    (c.in_ok-cipher.ensures.accepted.0 refl, bytes) c.in_ok-cipher.ensures.made is_block) c.encrypt_many.ensures.blocks)

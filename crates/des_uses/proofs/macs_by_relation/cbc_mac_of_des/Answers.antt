@@ -19,5 +19,6 @@ returns c =
     let graph = IsGraphOf-encryption key is_key in
     let chains = CanChain-zeros_after message bytes in
     IsTheOne-cbc_mac (encryption key) (λ x y. Enciphers key x y) graph (padded zeros_after message) chains.0
-    (λ block is_block. ((graph block (encryption key block)).1 (is_block, refl)).last_is_block) c.finalize.result chains.1
+    (λ block is_block. ((graph block (encryption key block)).1 (is_block, refl)).last_is_block)
+    c.finalize.result chains.1
     (c.finalize.ensures key message (c.update.ensures key [] c.new-state.ensures))

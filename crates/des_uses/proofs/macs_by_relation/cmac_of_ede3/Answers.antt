@@ -14,6 +14,7 @@ returns c =
     let message : List ℕ = c.args.message.now in
     let is_key : IsKey 24 key = (c.told-key, All-from_get_or (λ byte. byte < 256) key 0 (λ i within. c.fits-key i)) in
     let bytes : AreBytes message = All-from_get_or (λ byte. byte < 256) message 0 (λ i within. search rules) in
-    IsTheOne-cmac (ede3_encryption key) (λ x y. EnciphersEde3 key x y) (AnswerBy-Ede3 key is_key).encryption message bytes
+    IsTheOne-cmac (ede3_encryption key) (λ x y. EnciphersEde3 key x y) (AnswerBy-Ede3 key is_key).encryption
+    message bytes
     (λ x y related. related.1.1.1.2.last_is_block) c.finalize.result
     (c.finalize.ensures key message (c.update.ensures key [] c.new-state.ensures))

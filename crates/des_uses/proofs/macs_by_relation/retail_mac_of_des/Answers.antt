@@ -16,13 +16,18 @@ returns c =
     let first : List ℕ = c.args.first.now in
     let second : List ℕ = c.args.second.now in
     let message : List ℕ = c.args.message.now in
-    let is_first : IsKey 8 first = (c.told-first, All-from_get_or (λ byte. byte < 256) first 0 (λ i within. c.fits-first i)) in
-    let is_second : IsKey 8 second = (c.told-second, All-from_get_or (λ byte. byte < 256) second 0 (λ i within. c.fits-second i)) in
+    let is_first : IsKey 8 first =
+    (c.told-first, All-from_get_or (λ byte. byte < 256) first 0 (λ i within. c.fits-first i)) in
+    let is_second : IsKey 8 second =
+    (c.told-second, All-from_get_or (λ byte. byte < 256) second 0 (λ i within. c.fits-second i)) in
     let bytes : AreBytes message = All-from_get_or (λ byte. byte < 256) message 0 (λ i within. search rules) in
     let front : take 8 (first ++ second) ≡ first = take_at first second 8 is_first.0 in
     let rest : drop 8 (first ++ second) ≡ second = drop_at first second 8 is_first.0 in
     let chains = CanChain-one_bit_after message bytes in
-    IsTheOne-retail_mac (encryption first) (decryption second) (λ x y. Enciphers first x y) (λ x y. Enciphers second x y)
-    (IsGraphOf-encryption first is_first) (IsGraphOf-decryption second is_second) (padded one_bit_after message) chains.0
+    IsTheOne-retail_mac (encryption first) (decryption second)
+    (λ x y. Enciphers first x y) (λ x y. Enciphers second x y)
+    (IsGraphOf-encryption first is_first) (IsGraphOf-decryption second is_second)
+    (padded one_bit_after message) chains.0
     (λ x y related. related.last_is_block) (λ x y related. related.first_is_block) c.finalize.result chains.1
-    (rw (front, rest) at (c.finalize.ensures (first ++ second) message (c.update.ensures (first ++ second) [] c.new-state.ensures)))
+    (rw (front, rest) at
+    (c.finalize.ensures (first ++ second) message (c.update.ensures (first ++ second) [] c.new-state.ensures)))

@@ -1,26 +1,20 @@
-use Rattle.std.proofs.Common.{ℕ, List, ◌<◌, refl, sym, ◌∙◌, rules}
+use Rattle.std.proofs.Common.{ℕ, List, ◌<◌, refl, rules}
 use Rattle.std.proofs.lemmas.List.Elements.{All-from_get_or}
 use Rattle.des.specs.Blocks.{AreBytes, IsBlock}
-use Rattle.des.specs.Relations.{TakesBlock}
-use Rattle.des.proofs.ChainedBlocks.{Chains-weaker, Chains-from_Unchains}
+use Rattle.des_uses.proofs.KeyedChains.{Chains-by_key}
 use Rattle.des_uses.proofs.records.read_chain.Goals as goal
 
--- encryption undoes decryption on each block, and the cipher is made from the key, so it answers as the key does
+-- the cipher is made from the key, so it answers as the key does
 pub returns-clause-read : goal.returns-clause-read
 returns-clause-read g c =
     let key : List ℕ = c.args.key.now in
     let iv : List ℕ = c.args.iv.now in
     let cipher = c.in_ok-cipher.cipher in
-    let encrypts = g.C.BlockCipherEncrypt.encrypted cipher in
-    let decrypts = g.C.BlockCipherDecrypt.decrypted cipher in
     let is_iv : IsBlock iv = (c.told-iv, All-from_get_or (λ byte. byte < 256) iv 0 (λ i within. c.fits-iv i)) in
     let bytes : AreBytes key = All-from_get_or (λ byte. byte < 256) key 0 (λ i within. search rules) in
-    let chained =
-    Chains-from_Unchains encrypts decrypts iv c.decrypt.new.blocks c.args.blocks.now is_iv c.decrypt.ensures.blocks
-    (g.met.C.BlockCipher.decrypted_is_block cipher) (g.met.C.BlockCipher.encrypts_decrypted cipher) c.decrypt.ensures.unchained in
-    Chains-weaker (TakesBlock encrypts) (TakesBlock (g.C.KeyedCipher.encryption key)) iv c.decrypt.new.blocks c.args.blocks.now
-    (λ x y taken. (
-      taken.0,
-      sym (g.met.C.KeyedCipher.encrypts_by_key cipher key x (c.in_ok-cipher.ensures.accepted.0 refl, bytes)
-          c.in_ok-cipher.ensures.made taken.0) ∙ taken.1,
-    )) chained
+    Chains-by_key (g.C.BlockCipherEncrypt.encrypted cipher) (g.C.BlockCipherDecrypt.decrypted cipher)
+    (g.C.KeyedCipher.encryption key) iv c.decrypt.new.blocks c.args.blocks.now is_iv c.decrypt.ensures.blocks
+    (g.met.C.BlockCipher.decrypted_is_block cipher) (g.met.C.BlockCipher.encrypts_decrypted cipher)
+    (λ block is_block. g.met.C.KeyedCipher.encrypts_by_key cipher key block
+    (c.in_ok-cipher.ensures.accepted.0 refl, bytes) c.in_ok-cipher.ensures.made is_block)
+    c.decrypt.ensures.unchained

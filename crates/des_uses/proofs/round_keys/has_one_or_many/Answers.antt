@@ -12,6 +12,7 @@ returns-clause-unlisted c many listed =
     let says = c.distinct_round_keys-count.ensures in
     let above : 4 < count = ltb-true 4 count many in
     let not_one : HalvesRepeat 1 key → ⊥ = λ same. let one : count ≡ 1 = (says.one key made).1 same in omega arith in
-    let not_two : HalvesRepeat 2 key → ⊥ = λ same. let two : count ≡ 2 = says.two key made same not_one in omega arith in
+    let not_two : HalvesRepeat 2 key → ⊥ =
+    λ same. let two : count ≡ 2 = says.two key made same not_one in omega arith in
     let four : count ≡ 4 = says.four key made listed not_two in
     omega arith

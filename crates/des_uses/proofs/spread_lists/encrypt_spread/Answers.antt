@@ -10,7 +10,8 @@ returns-clause-encrypted g c =
     let key : List ℕ = c.args.key.now in
     let cipher = c.in_ok-cipher.cipher in
     let bytes : AreBytes key = All-from_get_or (λ byte. byte < 256) key 0 (λ i within. search rules) in
-    c.encrypt_many.ensures.encrypted (g.C.BlockCipherEncrypt.encrypted cipher) (g.C.BlockCipherDecrypt.decrypted cipher) c.spread_keys.ensures
+    c.encrypt_many.ensures.encrypted (g.C.BlockCipherEncrypt.encrypted cipher) (g.C.BlockCipherDecrypt.decrypted cipher)
+    c.spread_keys.ensures
     ∙ map-alike (g.C.BlockCipherEncrypt.encrypted cipher) (g.C.KeyedCipher.encryption key) c.args.blocks.now
-    (λ block is_block. g.met.C.KeyedCipher.encrypts_by_key cipher key block (c.in_ok-cipher.ensures.accepted.0 refl, bytes)
-    c.in_ok-cipher.ensures.made is_block) c.encrypt_many.ensures.blocks
+    (λ block is_block. g.met.C.KeyedCipher.encrypts_by_key cipher key block
+    (c.in_ok-cipher.ensures.accepted.0 refl, bytes) c.in_ok-cipher.ensures.made is_block) c.encrypt_many.ensures.blocks

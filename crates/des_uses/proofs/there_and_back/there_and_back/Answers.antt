@@ -15,6 +15,7 @@ pub returns-clause-same : goal.returns-clause-same
 returns-clause-same g c =
     search (
       rules,
-      map-undone (g.C.BlockCipherEncrypt.encrypted c.args.cipher.now) (g.C.BlockCipherDecrypt.decrypted c.args.cipher.now) c.args.blocks.now
+      map-undone (g.C.BlockCipherEncrypt.encrypted c.args.cipher.now)
+          (g.C.BlockCipherDecrypt.decrypted c.args.cipher.now) c.args.blocks.now
           (g.met.C.BlockCipher.decrypts_encrypted c.args.cipher.now) c.encrypt_blocks_b2b.ensures.blocks,
     )

@@ -6,5 +6,6 @@ use Rattle.des_uses.proofs.odd_ciphers.xor_key.XorKey.answer.Goals as goal
 pub returns : goal.returns
 returns c =
     c.to_be_bytes.ensures
-    ∙ xored-words c.args.self.now.key c.args.block.now c.from_be_bytes-2.result c.from_be_bytes.result c.from_be_bytes-2.type_inv
+    ∙ xored-words c.args.self.now.key c.args.block.now c.from_be_bytes-2.result c.from_be_bytes.result
+    c.from_be_bytes-2.type_inv
     c.from_be_bytes-2.ensures c.from_be_bytes.ensures
