@@ -25,9 +25,7 @@ pub DecryptsPartPrefix-held : {decryption : List ℕ → List ℕ} {mode : Mode}
     {r t u w : Option (List ℕ)}
     → HoldsPrefix decryption mode limit (passage_of r t u w) → DecryptsPartPrefix decryption mode padding limit
     (passage_of r t u w)
-DecryptsPartPrefix-held holds =
-    DecryptsPartPrefix-within
-    (WithinPrefix-held holds)
+DecryptsPartPrefix-held holds = DecryptsPartPrefix-within (WithinPrefix-held holds)
 
 -- also where more was read
 pub DecryptsPartPrefix-read : {decryption : List ℕ → List ℕ} {mode : Mode} {padding : Padding} {limit : Option ℕ}
@@ -35,8 +33,7 @@ pub DecryptsPartPrefix-read : {decryption : List ℕ → List ℕ} {mode : Mode}
     → HoldsPart decryption mode limit (passage_of r s u v) held → Consumes s t bytes
     → DecryptsPartPrefix decryption mode padding limit (passage_of r t u v)
 DecryptsPartPrefix-read bytes part read =
-    DecryptsPartPrefix-held
-    (HoldsPrefix-read bytes part.holds part.within read)
+    DecryptsPartPrefix-held (HoldsPrefix-read bytes part.holds part.within read)
 
 -- a reader that gave another byte was not at its end
 not_at_end : (r s t : Option (List ℕ)) (a b all : List ℕ) → Consumes r s a → Consumes s t b → length b ≡ 1
@@ -204,18 +201,15 @@ pub EndsPart-more : (result : Result (Unit {0}) StreamError) {decryption : List 
 EndsPart-more (Ok done) padding bytes part read one ended =
     let (plain, is, written) = ended in
     record {
-      done = DecryptsPart-ended Unpadded bytes plain part read is written
-          (inr (one, refl));
-      prefix = DecryptsPartPrefix-followed bytes plain [] part read one is
-          written;
+      done = DecryptsPart-ended Unpadded bytes plain part read is written (inr (one, refl));
+      prefix = DecryptsPartPrefix-followed bytes plain [] part read one is written;
       fault = tt;
     }
-EndsPart-more (Err fault) {decryption} {mode} padding {limit} {r} {s} {t} {u} {v} {w} {held} bytes part read one ended =
-    record {
-      done = tt;
-      prefix = prefix_more fault bytes part read one ended;
-      fault = FailsInPart-unpadded fault _ _ padding _ (passage_of r t u w) v (bytes_of held) ended;
-    }
+EndsPart-more (Err fault) padding {r} {t} {u} {v} {w} {held} bytes part read one ended = record {
+  done = tt;
+  prefix = prefix_more fault bytes part read one ended;
+  fault = FailsInPart-unpadded fault _ _ padding _ (passage_of r t u w) v (bytes_of held) ended;
+}
 
 -- of a part at the end of the input, whose last block was held back
 ends_some : (result : Result (Unit {0}) StreamError) {decryption : List ℕ → List ℕ} {mode : Mode} {padding : Padding}
@@ -226,8 +220,7 @@ ends_some (Ok done) {padding} {t} part end ended =
     let (plain, is, written) = ended in
     let some = some_blocks part.holds in
     record {
-      done = DecryptsPart-ended padding [] plain part
-          (Consumes-nil t) is written
+      done = DecryptsPart-ended padding [] plain part (Consumes-nil t) is written
           (inl (refl, end, refl, some));
       prefix = DecryptsPartPrefix-within
           (WithinPrefix-ended plain plain [] part.holds part.within end is (append-nil plain) written);
@@ -235,11 +228,8 @@ ends_some (Ok done) {padding} {t} part end ended =
     }
 ends_some (Err fault) {padding} {w} part end ended = record {
   done = tt;
-  prefix = DecryptsPartPrefix-within
-      (WithinPrefix-fault fault part.holds part.within ended end);
-  fault = FailsInPart-ended fault padding w part
-      (some_blocks part.holds)
-      ended end;
+  prefix = DecryptsPartPrefix-within (WithinPrefix-fault fault part.holds part.within ended end);
+  fault = FailsInPart-ended fault padding w part (some_blocks part.holds) ended end;
 }
 
 pub EndsPart-last : (result : Result (Unit {0}) StreamError) {decryption : List ℕ → List ℕ} {mode : Mode}
@@ -251,5 +241,4 @@ pub EndsPart-last : (result : Result (Unit {0}) StreamError) {decryption : List 
 EndsPart-last result None block bytes is part read none end ended = absurd
     (none_some block is)
 EndsPart-last result (Some held) block bytes is part read none end ended =
-    ends_some result
-    (HoldsPart-same bytes part read none end) end ended
+    ends_some result (HoldsPart-same bytes part read none end) end ended

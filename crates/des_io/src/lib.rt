@@ -4,7 +4,8 @@
 //! call takes memory, however much goes through.
 //!
 //! What is written is the ciphertext or the plaintext of all that was read; after an error it is a
-//! prefix of it. Nothing is authenticated: a changed ciphertext decrypts to something, mostly with no error.
+//! prefix of it. Nothing is authenticated: a changed ciphertext decrypts to something, mostly with no
+//! error.
 //!
 //! After an error the reader is somewhere after the bytes that what was written comes from, and how
 //! far is not said: neither it nor the writer can be gone on with. No call flushes the writer: the

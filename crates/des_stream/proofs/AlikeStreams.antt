@@ -91,8 +91,8 @@ DecryptsPart-alike f g mode padding limit passage alike done = record {
   within = done.within;
   read = done.read;
   after = done.after;
-  part = Decrypts-alike f g mode done.taken (passage_of passage.read_from done.middle passage.written_from
-      passage.written_to) alike done.part;
+  part = Decrypts-alike f g mode done.taken
+      (passage_of passage.read_from done.middle passage.written_from passage.written_to) alike done.part;
 }
 
 DecryptsHere-alike : (f g : List ℕ → List ℕ) (mode : Mode) (padding : Padding) (part : Option Part) (passage : Passage)
@@ -119,8 +119,8 @@ Answers-alike false f g h k mode padding skipped part passage encrypts_alike dec
       next = done.next;
       middle = done.middle;
       skips = done.skips;
-      decrypts = DecryptsHere-alike h k done.next padding part (passage_of done.middle passage.read_to passage.written_from
-          passage.written_to) decrypts_alike done.decrypts;
+      decrypts = DecryptsHere-alike h k done.next padding part
+          (passage_of done.middle passage.read_to passage.written_from passage.written_to) decrypts_alike done.decrypts;
     }
 
 -- a job is done by what a cipher answers, and so by what its key does

@@ -1,5 +1,5 @@
 -- What the program is to do with what it reads: which cipher a name means, the mode that a vector
--- makes, the blocks before a part, and the answer to a whole input or to a part of one.
+-- makes, the blocks before a part, and what is made of a whole input or of a part of one.
 use Rattle.std.specs.Prelude.{◌≡◌, ℕ, ◌+◌, ◌-◌, ◌^◌, min, Bool, true, false, List, replicate, Option, Some, None, Ok}
 use Rattle.hex.specs.Hex.{decode_of}
 use Rattle.des.specs.Blocks.{IsBlock}
@@ -86,7 +86,8 @@ Answers true encrypted decrypted mode padding skipped part passage = Encrypts en
 Answers false encrypted decrypted mode padding skipped part passage =
     DecryptsAfter decrypted mode padding skipped part passage
 
--- a job is done: from the mode of its vector what was written is the answer to what was read
+-- a job is done: from the mode of its vector what was written is the ciphertext or the plaintext of what
+-- was read
 pub record IsDone (options : Options) (skipped : ℕ) (encrypted decrypted : List ℕ → List ℕ)
     (passage : Passage) : Type 0 where
   pub mode : Mode
