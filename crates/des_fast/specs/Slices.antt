@@ -16,12 +16,6 @@ abbrev pub ReplacesGroups : {A : Type 0} → ℕ → (ℕ → A → Bool) → Bo
 ReplacesGroups batch bit box groups entries =
     InEachBlock batch (λ b. map (bit b) entries ≡ bits_of 4 (box_entry box (map (bit b) groups)))
 
--- the slices below an index have the bits at some positions, by one block
-abbrev pub HoldBelow : {A : Type 0} → (A → Bool) → List Bool → List ℕ → ℕ → List A → Type 0
-HoldBelow read bits positions index slices =
-    (m : ℕ) → m < index
-    → slice_index_or (map read slices) m false ≡ bit bits (slice_index positions m)
-
 -- bits with others xored into those at some indexes, from 0
 abbrev pub xor_at : List Bool → List ℕ → List Bool → List Bool
 xor_at bits [] changes = bits
