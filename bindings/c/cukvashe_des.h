@@ -142,7 +142,7 @@ int cukvashe_tdes_eee2_init(cukvashe_tdes_eee2 *context, const uint8_t *key, siz
  * void cukvashe_NAME_decrypt_many(const cukvashe_NAME *context, uint8_t *blocks, size_t count)
  *
  * Encrypts, or decrypts, each of `count` blocks in place, each by itself (electronic codebook). They take 128 blocks at a
- * time, and a list or an end of one that is shorter takes the time of 128 blocks, as long as some 20 blocks one by one.
+ * time, and a list or an end of one that is shorter takes the time of 128 blocks, as long as some 15 blocks one by one.
  * At most 20,000 bytes of the stack are used, which is tested.
  */
 void cukvashe_des_encrypt_many(const cukvashe_des *context, uint8_t *blocks, size_t count);
@@ -189,7 +189,7 @@ int cukvashe_tdes_eee2_decrypt_many_b2b(const cukvashe_tdes_eee2 *context, const
  * void cukvashe_NAME_encrypt_blocks(const cukvashe_NAME *context, uint8_t *blocks, size_t count)
  * void cukvashe_NAME_decrypt_blocks(const cukvashe_NAME *context, uint8_t *blocks, size_t count)
  *
- * The same as encrypt_many and decrypt_many, one block at a time: quicker for fewer than some 20 blocks. They read tables
+ * The same as encrypt_many and decrypt_many, one block at a time: quicker for fewer than some 15 blocks. They read tables
  * at indexes that depend on the key and the blocks.
  */
 void cukvashe_des_encrypt_blocks(const cukvashe_des *context, uint8_t *blocks, size_t count);
@@ -232,7 +232,7 @@ void cukvashe_tdes_eee2_decrypt_cbc_many(const cukvashe_tdes_eee2 *context, uint
 /*
  * void cukvashe_NAME_decrypt_cbc(const cukvashe_NAME *context, uint8_t vector[8], uint8_t *blocks, size_t count)
  *
- * The same, one block at a time: quicker for fewer than some 20 blocks. It reads tables at indexes that depend on the key and
+ * The same, one block at a time: quicker for fewer than some 15 blocks. It reads tables at indexes that depend on the key and
  * the blocks.
  */
 void cukvashe_des_decrypt_cbc(const cukvashe_des *context, uint8_t vector[8], uint8_t *blocks, size_t count);
