@@ -4,8 +4,11 @@
 mod command;
 mod digits;
 mod fault;
+mod keys;
 mod lines;
+mod mac;
 mod report;
+mod source;
 
 fn main(rt: HostRuntime) -> std::process::ExitCode {
     std::process::ExitCode::SUCCESS
