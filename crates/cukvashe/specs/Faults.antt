@@ -12,7 +12,7 @@ use Rattle.des_payment.specs.declared.cvv_error.CvvError.TheVariants.{AccountLen
 use Rattle.cukvashe.specs.declared.fault.Reason.{Reason}
 use Rattle.cukvashe.specs.declared.fault.Reason.TheVariants.{NotFound, Permission, IsFolder, NotFolder, Loop, Name, Exists, Full, TooLarge, ReadOnly, Closed, Other}
 use Rattle.cukvashe.specs.declared.fault.Misuse.{Misuse}
-use Rattle.cukvashe.specs.declared.fault.Misuse.TheVariants.{KeySource, StandardInputTwice, VectorNeeded, VectorOfEcb, RandomToDecrypt, FirstBlockToEncrypt, PartToEncrypt, Terminal, PaddingOfCmac, Arguments, Components as PartsOrCount, Fill as FillOptions, NoText}
+use Rattle.cukvashe.specs.declared.fault.Misuse.TheVariants.{KeySource, StandardInputTwice, VectorNeeded, VectorOfEcb, RandomToDecrypt, FirstBlockToEncrypt, PartToEncrypt, Terminal, PaddingOfCmac, PaddingNeeded, Account, Arguments, Components as PartsOrCount, Fill as FillOptions, NoText}
 use Rattle.cukvashe.specs.declared.fault.Kind.{Kind}
 use Rattle.cukvashe.specs.declared.fault.Kind.TheVariants.{Usage, Source, Variable, InputLength, KeyLength, KeyText, WeakKey, Components, Vector, Tag, BlockLength, BlockText, SerialLength, SerialText, FillLength, FillText, CheckDigit, Pin, Card, Memory, Read, Write, Length, Start, Padding}
 
@@ -42,6 +42,8 @@ misuse_words FirstBlockToEncrypt = codes "first-block is for decryption; random 
 misuse_words PartToEncrypt = codes "--from and --blocks are for decryption"
 misuse_words Terminal = codes "no bytes are written to a terminal, unless --out - asks for it"
 misuse_words PaddingOfCmac = codes "CMAC takes no --padding"
+misuse_words PaddingNeeded = codes "CBC-MAC and retail MAC take --padding"
+misuse_words Account = codes "give one of --account and --account-file"
 misuse_words Arguments = codes "the command doesn't take these words (see --help)"
 misuse_words PartsOrCount = codes "give --part-file twice or more, or --count and one source of all"
 misuse_words FillOptions = codes "the format takes other options (see --help)"

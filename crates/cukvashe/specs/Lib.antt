@@ -5,3 +5,6 @@ pub mod Lines
 pub mod Macs
 pub mod Sources
 pub mod Keys
+pub mod Requests
+pub mod CheckDigits
+pub mod Answers

@@ -38,6 +38,8 @@ pub enum Misuse {
     PartToEncrypt,
     Terminal,
     PaddingOfCmac,
+    PaddingNeeded,
+    Account,
     Arguments,
     Components,
     Fill,
@@ -165,12 +167,16 @@ impl Misuse {
             Misuse::VectorNeeded => "CBC takes --iv",
             Misuse::VectorOfEcb => "ECB takes no --iv",
             Misuse::RandomToDecrypt => "random is for encryption; first-block reads what it wrote",
-            Misuse::FirstBlockToEncrypt => "first-block is for decryption; random writes what it reads",
+            Misuse::FirstBlockToEncrypt =>
+                "first-block is for decryption; random writes what it reads",
             Misuse::PartToEncrypt => "--from and --blocks are for decryption",
             Misuse::Terminal => "no bytes are written to a terminal, unless --out - asks for it",
             Misuse::PaddingOfCmac => "CMAC takes no --padding",
+            Misuse::PaddingNeeded => "CBC-MAC and retail MAC take --padding",
+            Misuse::Account => "give one of --account and --account-file",
             Misuse::Arguments => "the command doesn't take these words (see --help)",
-            Misuse::Components => "give --part-file twice or more, or --count and one source of all",
+            Misuse::Components =>
+                "give --part-file twice or more, or --count and one source of all",
             Misuse::Fill => "the format takes other options (see --help)",
             Misuse::NoText => "an argument is no text",
         }
@@ -241,7 +247,8 @@ impl Kind {
             Kind::BlockLength => "a block of 16 hexadecimal digits is needed",
             Kind::BlockText => "the block has a character that is no hexadecimal digit",
             Kind::SerialLength => "a key serial number has 20 hexadecimal digits",
-            Kind::SerialText => "the key serial number has a character that is no hexadecimal digit",
+            Kind::SerialText =>
+                "the key serial number has a character that is no hexadecimal digit",
             Kind::FillLength => "ten digits are needed",
             Kind::FillText => "a character is no hexadecimal digit",
             Kind::CheckDigit => "the account number's last digit is not its check digit",

@@ -71,11 +71,19 @@ fn tag_of_chain<R: Read>(
 {
     match (padding, key.len()) {
         (PaddingMethod::One, 8) => tag_of_reader::<CbcMac<Des, Method1>, R>(key, reader, buffer),
-        (PaddingMethod::One, 16) => tag_of_reader::<CbcMac<TdesEde2, Method1>, R>(key, reader, buffer),
-        (PaddingMethod::One, _) => tag_of_reader::<CbcMac<TdesEde3, Method1>, R>(key, reader, buffer),
+        (PaddingMethod::One, 16) => tag_of_reader::<CbcMac<TdesEde2, Method1>, R>(
+            key, reader, buffer,
+        ),
+        (PaddingMethod::One, _) => tag_of_reader::<CbcMac<TdesEde3, Method1>, R>(
+            key, reader, buffer,
+        ),
         (PaddingMethod::Two, 8) => tag_of_reader::<CbcMac<Des, Method2>, R>(key, reader, buffer),
-        (PaddingMethod::Two, 16) => tag_of_reader::<CbcMac<TdesEde2, Method2>, R>(key, reader, buffer),
-        (PaddingMethod::Two, _) => tag_of_reader::<CbcMac<TdesEde3, Method2>, R>(key, reader, buffer),
+        (PaddingMethod::Two, 16) => tag_of_reader::<CbcMac<TdesEde2, Method2>, R>(
+            key, reader, buffer,
+        ),
+        (PaddingMethod::Two, _) => tag_of_reader::<CbcMac<TdesEde3, Method2>, R>(
+            key, reader, buffer,
+        ),
     }
 }
 

@@ -1,6 +1,4 @@
-use Rattle.std.proofs.Common.{rules, ◌≡◌, ℕ, List, ◌++◌, [], ◌==◌, if◌then◌else◌, length, codes}
-use Rattle.std.specs.List.{flat_map}
-use Rattle.cukvashe.specs.Faults.{line_start, line_end, line_of}
+use Rattle.cukvashe.specs.Faults.{line_start, line_of}
 use Rattle.cukvashe.proofs.Prefixes.{AppendsPrefix-first, AppendsPrefix-second, AppendsPrefix-kept}
 use Rattle.cukvashe.proofs.report.report.Goals as goal
 

@@ -1,4 +1,4 @@
-use Rattle.std.proofs.Common.{rules, ◌≡◌, ℕ, ◌+◌, ◌<◌, length, List, ◌++◌, take, drop, get_or, Bor, [], sym, subst, append-nil, arith}
+use Rattle.std.proofs.Common.{rules, ◌≡◌, ℕ, ◌<◌, length, List, take, Bor, [], sym, subst, arith}
 use Rattle.std.specs.List.{flat_map}
 use Rattle.std.proofs.lemmas.List.{take_all}
 use Rattle.cukvashe.specs.Written.{AppendsPrefix}
@@ -7,7 +7,7 @@ use Rattle.cukvashe.proofs.report.write_texts.Goals as goal
 
 -- what stands in the place of a text that is not there
 abbrev no_text : Bor (List ℕ)
-no_text = record { ref_ptr = (0, 0); now = []; }
+no_text = record { ref_ptr = (0, 0); now = [] }
 
 -- the texts before the one that could not be written whole, and a part of it
 pub returns-in_err-write_whole-clause-part : goal.returns-in_err-write_whole-clause-part
