@@ -219,6 +219,7 @@ fn tag_of_message(
                 let mut file = file;
                 tag_in(rt, method, key, &mut file, BYTES_AT_A_TIME)
             }
+            Err(error) if error.kind() == io::ErrorKind::OutOfMemory => Err(Kind::Memory),
             Err(error) => Err(Kind::Read(Reason::of(&error))),
         },
         _ => tag_in(rt, method, key, &mut rt.stdin(), BYTES_AT_A_TIME),

@@ -12,7 +12,7 @@ use des_io::pieces::fill;
 use std::alloc::Global;
 use std::env::{self, VarError};
 use std::fs::{self, File};
-use std::io::{self, Read, Seek, SeekFrom};
+use std::io::{self, ErrorKind, Read, Seek, SeekFrom};
 
 /// Where a text is.
 #[derive(Clone, Copy)]
@@ -81,7 +81,10 @@ fn text_of_file(rt: &HostRuntime, path: &str) -> Result<Vec<u8>, Kind>
 
 // The system refused a source.
 fn refused(error: io::Error) -> Kind {
-    Kind::Source(Reason::of(&error))
+    match error.kind() {
+        ErrorKind::OutOfMemory => Kind::Memory,
+        _ => Kind::Source(Reason::of(&error)),
+    }
 }
 
 // Where a descriptor of the process stands in its file: 0 in a pipe.

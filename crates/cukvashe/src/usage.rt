@@ -43,7 +43,7 @@ fn hides_words(kind: ErrorKind) -> bool {
 // not, in place of what was typed.
 fn usage_of(rt: &HostRuntime, words: &[&str]) -> Result<String, AllocError> {
     let (name, second) = names_of(words);
-    let wrong = "--no-such-option";
+    let wrong = "--?";
     let known = match (name, second) {
         ("", _) => ["cukvashe", wrong, wrong, wrong],
         (name, "") => ["cukvashe", name, wrong, wrong],
