@@ -1,0 +1,182 @@
+-- The faults of the program: their names, their words, the lines that tell them, and the statuses that it ends with.
+use Rattle.std.specs.Prelude.{◌≡◌, ℕ, ◌==◌, ◌⊎◌, if◌then◌else◌, List, [], ◌∷◌, ◌++◌, length, codes, Option, Some, None, Result, Err, IsOk, IfErr}
+use Rattle.std.specs.List.{concat}
+use Rattle.des_io.specs.declared.error.StreamError.{StreamError}
+use Rattle.des_io.specs.declared.error.StreamError.TheVariants.{Read as ReadError, Write as WriteError, Length as LengthError, Start as StartError, Padding as PaddingError}
+use Rattle.des_payment.specs.PinBlocks.{name_of as name_of_pin_error}
+use Rattle.des_payment.specs.CardVerification.{name_of as name_of_card_error}
+use Rattle.des_payment.specs.declared.pin_error.PinError.{PinError}
+use Rattle.des_payment.specs.declared.pin_error.PinError.TheVariants.{Format, PinLength, PinDigit, AccountLength, AccountDigit, Fill}
+use Rattle.des_payment.specs.declared.cvv_error.CvvError.{CvvError}
+use Rattle.des_payment.specs.declared.cvv_error.CvvError.TheVariants.{AccountLength as CardAccountLength, AccountDigit as CardAccountDigit, ExpiryLength, ExpiryDigit, ServiceLength, ServiceDigit}
+use Rattle.cukvashe.specs.declared.fault.Reason.{Reason}
+use Rattle.cukvashe.specs.declared.fault.Reason.TheVariants.{NotFound, Permission, IsFolder, NotFolder, Loop, Name, Exists, Full, TooLarge, ReadOnly, Closed, Other}
+use Rattle.cukvashe.specs.declared.fault.Misuse.{Misuse}
+use Rattle.cukvashe.specs.declared.fault.Misuse.TheVariants.{KeySource, StandardInputTwice, VectorNeeded, VectorOfEcb, RandomToDecrypt, FirstBlockToEncrypt, PartToEncrypt, Terminal, PaddingOfCmac, PaddingNeeded, Account, Arguments, Components as PartsOrCount, Fill as FillOptions, NoText}
+use Rattle.cukvashe.specs.declared.fault.Kind.{Kind}
+use Rattle.cukvashe.specs.declared.fault.Kind.TheVariants.{Usage, Source, Variable, InputLength, KeyLength, KeyText, WeakKey, Components, Vector, Tag, BlockLength, BlockText, SerialLength, SerialText, FillLength, FillText, CheckDigit, Pin, Card, Memory, Read, Write, Length, Start, Padding}
+
+-- what is said of a file, a pipe or a descriptor
+abbrev pub reason_words : Reason → List ℕ
+reason_words NotFound = codes "there is no such file"
+reason_words Permission = codes "permission denied"
+reason_words IsFolder = codes "it is a folder"
+reason_words NotFolder = codes "a part of the path is no folder"
+reason_words Loop = codes "its symbolic links go in a circle"
+reason_words Name = codes "the file system takes no such name"
+reason_words Exists = codes "the name is taken"
+reason_words Full = codes "no space is left"
+reason_words TooLarge = codes "the file would be too large"
+reason_words ReadOnly = codes "the file system is read-only"
+reason_words Closed = codes "nobody reads it any more"
+reason_words Other = codes "the system refused it"
+
+-- what is said of options that don't go together
+abbrev pub misuse_words : Misuse → List ℕ
+misuse_words KeySource = codes "give one of --key-file, --key-fd and --key-env"
+misuse_words StandardInputTwice = codes "only one of the files can be standard input"
+misuse_words VectorNeeded = codes "CBC takes --iv"
+misuse_words VectorOfEcb = codes "ECB takes no --iv"
+misuse_words RandomToDecrypt = codes "random is for encryption; first-block reads what it wrote"
+misuse_words FirstBlockToEncrypt = codes "first-block is for decryption; random writes what it reads"
+misuse_words PartToEncrypt = codes "--from and --blocks are for decryption"
+misuse_words Terminal = codes "no bytes are written to a terminal, unless --out - asks for it"
+misuse_words PaddingOfCmac = codes "CMAC takes no --padding"
+misuse_words PaddingNeeded = codes "CBC-MAC and retail MAC take --padding"
+misuse_words Account = codes "give one of --account and --account-file"
+misuse_words Arguments = codes "the command doesn't take these words (see --help)"
+misuse_words PartsOrCount = codes "give --part-file twice or more, or --count and one source of all"
+misuse_words FillOptions = codes "the format takes other options (see --help)"
+misuse_words NoText = codes "an argument is no text"
+
+-- what is said of a key whose bytes are of a number, or of one of three
+abbrev pub key_words : ℕ → List ℕ
+key_words size =
+    if size == 8 then codes "a key of 16 hexadecimal digits is needed" else
+    if size == 16 then codes "a key of 32 hexadecimal digits is needed" else
+    if size == 24 then codes "a key of 48 hexadecimal digits is needed" else
+    codes "a key of 16, 32 or 48 hexadecimal digits is needed"
+
+-- what is said of a PIN, an account number or a PIN block
+abbrev pub pin_words : PinError → List ℕ
+pin_words Format = codes "the block is of another format"
+pin_words PinLength = codes "a PIN has 4 to 12 digits"
+pin_words PinDigit = codes "the PIN has a character that is no digit"
+pin_words AccountLength = codes "an account number has 13 to 19 digits"
+pin_words AccountDigit = codes "the account number has a character that is no digit"
+pin_words Fill = codes "a fill digit is none of the format"
+
+-- what is said of a card's data
+abbrev pub card_words : CvvError → List ℕ
+card_words CardAccountLength = codes "an account number has 13 to 19 digits"
+card_words CardAccountDigit = codes "the account number has a character that is no digit"
+card_words ExpiryLength = codes "an expiry date has 4 digits"
+card_words ExpiryDigit = codes "the expiry date has a character that is no digit"
+card_words ServiceLength = codes "a service code has 3 digits"
+card_words ServiceDigit = codes "the service code has a character that is no digit"
+
+-- the name of a fault
+abbrev pub name_of : Kind → List ℕ
+name_of (Usage _) = codes "Usage"
+name_of (Source _) = codes "Source"
+name_of Variable = codes "Variable"
+name_of InputLength = codes "InputLength"
+name_of (KeyLength _) = codes "KeyLength"
+name_of KeyText = codes "KeyText"
+name_of WeakKey = codes "WeakKey"
+name_of Components = codes "Components"
+name_of Vector = codes "Vector"
+name_of Tag = codes "Tag"
+name_of BlockLength = codes "BlockLength"
+name_of BlockText = codes "BlockText"
+name_of SerialLength = codes "SerialLength"
+name_of SerialText = codes "SerialText"
+name_of FillLength = codes "FillLength"
+name_of FillText = codes "FillText"
+name_of CheckDigit = codes "CheckDigit"
+name_of (Pin error) = name_of_pin_error error
+name_of (Card error) = name_of_card_error error
+name_of Memory = codes "Memory"
+name_of (Read _) = codes "Read"
+name_of (Write _) = codes "Write"
+name_of Length = codes "Length"
+name_of Start = codes "Start"
+name_of Padding = codes "Padding"
+
+-- what is said of it
+abbrev pub words_of : Kind → List ℕ
+words_of (Usage misuse) = misuse_words misuse
+words_of (Source reason) = reason_words reason
+words_of (Read reason) = reason_words reason
+words_of (Write reason) = reason_words reason
+words_of Variable = codes "the environment has no such variable of text"
+words_of InputLength = codes "the input is too long"
+words_of (KeyLength size) = key_words size
+words_of KeyText = codes "the key has a character that is no hexadecimal digit"
+words_of WeakKey = codes "the key is weak"
+words_of Components = codes "a key has two components at least"
+words_of Vector = codes "16 hexadecimal digits are needed"
+words_of Tag = codes "8, 10, 12, 14 or 16 hexadecimal digits are needed"
+words_of BlockLength = codes "a block of 16 hexadecimal digits is needed"
+words_of BlockText = codes "the block has a character that is no hexadecimal digit"
+words_of SerialLength = codes "a key serial number has 20 hexadecimal digits"
+words_of SerialText = codes "the key serial number has a character that is no hexadecimal digit"
+words_of FillLength = codes "ten digits are needed"
+words_of FillText = codes "a character is no hexadecimal digit"
+words_of CheckDigit = codes "the account number's last digit is not its check digit"
+words_of (Pin error) = pin_words error
+words_of (Card error) = card_words error
+words_of Memory = codes "a request for memory was refused"
+words_of Length = codes "the input ends within a block of 8 bytes"
+words_of Start = codes "the input ends before the part begins"
+words_of Padding = codes "the last block does not end with the padding of --padding"
+
+-- the line that tells it: the name, what it is about, where that is not empty, and the words
+abbrev pub line_start : Kind → List ℕ
+line_start kind = concat (codes "cukvashe: " ∷ name_of kind ∷ codes ": " ∷ [])
+
+abbrev pub separator_of : List ℕ → List ℕ
+separator_of about = if length about == 0 then [] else codes ": "
+
+abbrev pub line_end : Kind → List ℕ → List ℕ
+line_end kind about = concat (separator_of about ∷ words_of kind ∷ codes "\n" ∷ [])
+
+abbrev pub line_of : Kind → List ℕ → List ℕ
+line_of kind about = line_start kind ++ (about ++ line_end kind about)
+
+-- the status of a fault: memory was refused; the input was not read, or the output not written; the
+-- input is not whole blocks, is too short or has wrong padding; or else the arguments, a key or an
+-- input is at fault
+abbrev pub status_of : Kind → ℕ
+status_of Memory = 3
+status_of (Read reason) = 4
+status_of (Write reason) = 4
+status_of Length = 5
+status_of Start = 5
+status_of Padding = 5
+status_of _ = 2
+
+-- the fault of an error of a stream
+abbrev pub IsOfStream : StreamError → Kind → Type 0
+IsOfStream (ReadError error) kind = (reason : Reason) × (kind ≡ Read reason)
+IsOfStream (WriteError error) kind = (reason : Reason) × (kind ≡ Write reason)
+IsOfStream (LengthError past) kind = kind ≡ Length
+IsOfStream StartError kind = kind ≡ Start
+IsOfStream PaddingError kind = kind ≡ Padding
+
+-- a call gives this fault, where there is one, and else fails for want of memory alone
+abbrev pub FailsBy : {A : Type 0} → Option Kind → Result A Kind → Type 0
+FailsBy (Some kind) result = result ≡ Err kind
+FailsBy None result = IfErr result (λ kind. kind ≡ Memory)
+
+-- a call that takes no memory gives this fault, where there is one, and else does not fail
+abbrev pub FailsOnlyBy : {A : Type 0} → Option Kind → Result A Kind → Type 0
+FailsOnlyBy (Some kind) result = result ≡ Err kind
+FailsOnlyBy None result = IsOk result
+
+-- a call gives this fault, where there is one. Else it fails as `WeakKey` where the key is refused,
+-- and for want of memory alone where it is not
+abbrev pub FailsOrRefuses : {A : Type 0} → Option Kind → Type 0 → Result A Kind → Type 0
+FailsOrRefuses (Some kind) Refused result = result ≡ Err kind
+FailsOrRefuses None Refused result =
+    (Refused × (result ≡ Err WeakKey)) ⊎ ((¬ Refused) × FailsBy None result)

@@ -1,0 +1,10 @@
+pub mod Texts
+pub mod Faults
+pub mod Written
+pub mod Lines
+pub mod Macs
+pub mod Sources
+pub mod Keys
+pub mod Requests
+pub mod CheckDigits
+pub mod Answers

@@ -1,0 +1,293 @@
+//! The command line: what its words ask for.
+
+mod grammar;
+
+use crate::command::Purpose;
+use crate::fault::{Fault, Kind, Misuse};
+use crate::mac::{Method, PaddingMethod};
+use crate::request::{Account, Form, Format, Question, Request, Task};
+use crate::source::Source;
+use clap::ArgMatches;
+use des_payment::dukpt::Message;
+pub use grammar::{names_of, parse};
+
+// Options that don't go together.
+fn misuse<'a>(misuse: Misuse, about: &'a str) -> Fault<'a> {
+    Fault {
+        kind: Kind::Usage(misuse),
+        about,
+    }
+}
+
+// The file of a path, or standard input.
+fn file_of<'a>(path: &'a str) -> Source<'a> {
+    if path == "-" {
+        Source::StandardInput
+    } else {
+        Source::File(path)
+    }
+}
+
+// The file that an option names, or standard input where there is none.
+fn input_of<'a>(matches: &ArgMatches<'a>, option: &str) -> Source<'a> {
+    match matches.get_str(option) {
+        Some(path) => file_of(path),
+        None => Source::StandardInput,
+    }
+}
+
+// Where the key is: one place.
+fn key_of<'a>(matches: &ArgMatches<'a>) -> Result<Source<'a>, Fault<'a>> {
+    let file = matches.get_str("key-file");
+    let descriptor = matches.get_one::<u64>("key-fd");
+    let variable = matches.get_str("key-env");
+    match (file, descriptor, variable) {
+        (Some(path), None, None) => Ok(file_of(path)),
+        (None, Some(number), None) => Ok(Source::Descriptor(number)),
+        (None, None, Some(name)) => Ok(Source::Variable(name)),
+        _ => Err(misuse(Misuse::KeySource, "")),
+    }
+}
+
+// Where the account number is: one place.
+fn account_of<'a>(matches: &ArgMatches<'a>) -> Result<Account<'a>, Fault<'a>> {
+    match (matches.get_str("account"), matches.get_str("account-file")) {
+        (Some(digits), None) => Ok(Account::Digits(digits)),
+        (None, Some(path)) => Ok(Account::In(file_of(path))),
+        _ => Err(misuse(Misuse::Account, "")),
+    }
+}
+
+// Standard input is the place of one of two inputs at most.
+fn read_once<'a>(first: Source, second: Source) -> Result<(), Fault<'a>> {
+    match (first, second) {
+        (Source::StandardInput, Source::StandardInput) => {
+            Err(misuse(Misuse::StandardInputTwice, ""))
+        }
+        _ => Ok(()),
+    }
+}
+
+// What is done, by an input and an account number.
+fn with_account<'a>(
+    form: Form<'a>,
+    input: Source<'a>,
+    matches: &ArgMatches<'a>,
+) -> Result<Request<'a>, Fault<'a>> {
+    let account = account_of(matches)?;
+    if let Account::In(source) = account {
+        read_once(input, source)?;
+    }
+    Ok(Request {
+        task: Task::Line(form),
+        input,
+        account,
+        refuses: matches.get_str("check-digit") == Some("refuse"),
+    })
+}
+
+// What is done, by an input alone.
+fn without_account<'a>(task: Task<'a>, input: Source<'a>) -> Request<'a> {
+    Request {
+        task,
+        input,
+        account: Account::Absent,
+        refuses: false,
+    }
+}
+
+// ---- mac
+
+fn padding_of(matches: &ArgMatches) -> Option<PaddingMethod> {
+    match matches.get_str("padding") {
+        Some("1") => Some(PaddingMethod::One),
+        Some(_) => Some(PaddingMethod::Two),
+        None => None,
+    }
+}
+
+fn method_of<'a>(name: &str, padding: Option<PaddingMethod>) -> Result<Method, Fault<'a>> {
+    match (name, padding) {
+        ("cmac", None) => Ok(Method::Cmac),
+        ("cmac", Some(_)) => Err(misuse(Misuse::PaddingOfCmac, "")),
+        (_, None) => Err(misuse(Misuse::PaddingNeeded, "")),
+        ("retail", Some(padding)) => Ok(Method::Retail(padding)),
+        (_, Some(padding)) => Ok(Method::CbcMac(padding)),
+    }
+}
+
+fn question_of<'a>(matches: &ArgMatches<'a>) -> Result<Question<'a>, Fault<'a>> {
+    match (matches.get_str("verify"), matches.get_one::<u8>("length")) {
+        (None, None) => Ok(Question::Print(8)),
+        (None, Some(count)) => Ok(Question::Print(count)),
+        (Some(digits), None) => Ok(Question::Verify(digits)),
+        (Some(_), Some(_)) => Err(misuse(Misuse::Arguments, "--length")),
+    }
+}
+
+fn mac_request<'a>(matches: &ArgMatches<'a>) -> Result<Request<'a>, Fault<'a>> {
+    let name = matches.get_str("method").unwrap_or("");
+    let method = method_of(name, padding_of(matches))?;
+    let question = question_of(matches)?;
+    let key = key_of(matches)?;
+    let message = input_of(matches, "in");
+    read_once(key, message)?;
+    let task = Task::Mac {
+        method,
+        question,
+        message,
+    };
+    Ok(without_account(task, key))
+}
+
+// ---- keys
+
+fn key_request<'a>(task: Task<'a>, matches: &ArgMatches<'a>) -> Result<Request<'a>, Fault<'a>> {
+    Ok(without_account(task, key_of(matches)?))
+}
+
+// Whether a source of a key is named.
+fn names_key(matches: &ArgMatches) -> bool {
+    matches.contains_id("key-file")
+        || matches.contains_id("key-fd")
+        || matches.contains_id("key-env")
+}
+
+// Standard input is the place of one component at most.
+fn parts_once<'a>(paths: &[&str]) -> Result<(), Fault<'a>> {
+    let mut is_read = false;
+    for path in paths {
+        if *path == "-" {
+            if is_read {
+                return Err(misuse(Misuse::StandardInputTwice, ""));
+            }
+            is_read = true;
+        }
+    }
+    Ok(())
+}
+
+fn combine_request<'a>(matches: &ArgMatches<'a>) -> Result<Request<'a>, Fault<'a>> {
+    match (
+        matches.get_strs("part-file"),
+        matches.get_one::<u8>("count"),
+    ) {
+        (None, Some(count)) => key_request(Task::Line(Form::Combine(count)), matches),
+        (Some(paths), None) if paths.len() >= 2 && !names_key(matches) => {
+            parts_once(paths)?;
+            Ok(without_account(Task::Parts, Source::StandardInput))
+        }
+        _ => Err(misuse(Misuse::Components, "")),
+    }
+}
+
+/// The paths of files with a component each, where the command has them.
+pub fn parts_of<'m, 'a>(matches: &'m ArgMatches<'a>) -> Option<&'m [&'a str]> {
+    matches.subcommand_matches("combine")?.get_strs("part-file")
+}
+
+fn purpose_of<'a>(name: &str, responds: bool) -> Result<Purpose, Fault<'a>> {
+    let message = if responds {
+        Message::Response
+    } else {
+        Message::Request
+    };
+    match name {
+        "mac" => Ok(Purpose::Mac(message)),
+        "data" => Ok(Purpose::Data(message)),
+        _ if responds => Err(misuse(Misuse::Arguments, "--response")),
+        _ => Ok(Purpose::Pin),
+    }
+}
+
+fn dukpt_request<'a>(matches: &ArgMatches<'a>) -> Result<Request<'a>, Fault<'a>> {
+    let serial = matches.get_str("serial").unwrap_or("");
+    let name = matches.get_str("purpose").unwrap_or("");
+    let purpose = purpose_of(name, matches.get_flag("response"))?;
+    key_request(Task::Line(Form::Transaction(serial, purpose)), matches)
+}
+
+fn cvv_request<'a>(matches: &ArgMatches<'a>) -> Result<Request<'a>, Fault<'a>> {
+    let form = Form::Cvv {
+        expiry: matches.get_str("expiry").unwrap_or(""),
+        service: matches.get_str("service").unwrap_or(""),
+    };
+    with_account(form, key_of(matches)?, matches)
+}
+
+// ---- PIN blocks
+
+fn format_of(matches: &ArgMatches) -> Format {
+    match matches.get_str("format") {
+        Some("0") => Format::Zero,
+        Some("1") => Format::One,
+        _ => Format::Three,
+    }
+}
+
+// Format 1 takes no account number.
+fn refuse_account<'a>(matches: &ArgMatches) -> Result<(), Fault<'a>> {
+    if matches.contains_id("account") {
+        Err(misuse(Misuse::Fill, "--account"))
+    } else if matches.contains_id("account-file") {
+        Err(misuse(Misuse::Fill, "--account-file"))
+    } else if matches.contains_id("check-digit") {
+        Err(misuse(Misuse::Fill, "--check-digit"))
+    } else {
+        Ok(())
+    }
+}
+
+fn pin_request<'a>(
+    format: Format,
+    form: Form<'a>,
+    input: Source<'a>,
+    matches: &ArgMatches<'a>,
+) -> Result<Request<'a>, Fault<'a>> {
+    match format {
+        Format::One => {
+            refuse_account(matches)?;
+            Ok(without_account(Task::Line(form), input))
+        }
+        _ => with_account(form, input, matches),
+    }
+}
+
+fn encode_request<'a>(matches: &ArgMatches<'a>) -> Result<Request<'a>, Fault<'a>> {
+    let format = format_of(matches);
+    let fill = match (format, matches.get_str("fill")) {
+        (Format::Zero, None) => "",
+        (Format::One | Format::Three, Some(digits)) => digits,
+        _ => return Err(misuse(Misuse::Fill, "--fill")),
+    };
+    let input = input_of(matches, "pin-file");
+    pin_request(format, Form::Encode(format, fill), input, matches)
+}
+
+fn decode_request<'a>(matches: &ArgMatches<'a>) -> Result<Request<'a>, Fault<'a>> {
+    let format = format_of(matches);
+    let input = input_of(matches, "block-file");
+    pin_request(format, Form::Decode(format), input, matches)
+}
+
+fn block_request<'a>(matches: &ArgMatches<'a>) -> Result<Request<'a>, Fault<'a>> {
+    match matches.subcommand() {
+        Some(("encode", matches)) => encode_request(matches),
+        Some((_, matches)) => decode_request(matches),
+        None => Err(misuse(Misuse::Arguments, "")),
+    }
+}
+
+/// What the words ask for; a fault where their options don't go together.
+pub fn request_of<'a>(matches: &ArgMatches<'a>) -> Result<Request<'a>, Fault<'a>> {
+    match matches.subcommand() {
+        Some(("mac", matches)) => mac_request(matches),
+        Some(("check-value", matches)) => key_request(Task::Line(Form::CheckValue), matches),
+        Some(("weak", matches)) => key_request(Task::Weak, matches),
+        Some(("combine", matches)) => combine_request(matches),
+        Some(("dukpt", matches)) => dukpt_request(matches),
+        Some(("cvv", matches)) => cvv_request(matches),
+        Some((_, matches)) => block_request(matches),
+        None => Err(misuse(Misuse::Arguments, "")),
+    }
+}

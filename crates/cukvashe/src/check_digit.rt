@@ -1,0 +1,44 @@
+//! The check digits of account numbers (ISO/IEC 7812-1, Annex B).
+
+ghost use Rattle.std.specs.Prelude.{◌≡◌, ◌≤◌, ◌<◌, length, IsTrue};
+ghost use Rattle.cukvashe.specs.CheckDigits.{doubled as doubled_of, weighed as weighed_of, value_of, has_check_digit as has_check_digit_of};
+
+// The digits of the double of a digit, added together.
+fn doubled(value: u32) -> u32
+    requires { value < 256 }
+    ensures { result ≡ doubled_of value }
+{
+    2 * value / 10 + 2 * value % 10
+}
+
+// What a digit counts that so many others follow.
+fn weighed(following: usize, value: u32) -> u32
+    requires { value < 256 }
+    ensures value { result ≡ weighed_of following value }
+    ensures small { result < 256 }
+{
+    if following % 2 == 0 {
+        value
+    } else {
+        doubled(value)
+    }
+}
+
+/// Whether the last of an account number's digits is its check digit.
+pub fn has_check_digit(digits: &[u8]) -> bool
+    requires { length digits.now ≤ 4096 }
+    ensures { result ≡ has_check_digit_of digits.now }
+{
+    let mut sum = 0u32;
+    for (i, digit) in digits.iter().enumerate() {
+        sum += weighed(digits.len() - 1 - i, digit.saturating_sub(b'0') as u32);
+    }
+    sum % 10 == 0
+}
+
+/// Whether a text is an account number: 13 to 19 digits.
+pub fn is_account(text: &[u8]) -> bool
+    ensures { IsTrue result → (13 ≤ length text.now) × (length text.now ≤ 19) }
+{
+    text.len() >= 13 && text.len() <= 19 && text.iter().all(|byte| byte.is_ascii_digit())
+}

@@ -1,0 +1,375 @@
+//! Why a command fails: the line that tells it, and the status that the program ends with.
+
+ghost use Rattle.std.specs.Prelude.{◌≡◌};
+ghost use Rattle.cukvashe.specs.Faults.{name_of, status_of, words_of, reason_words, misuse_words, key_words, pin_words, card_words};
+
+use des::WeakKeyError;
+use des_io::StreamError;
+use des_payment::{CvvError, PinError, cvv_error, pin_error};
+use std::alloc::{AllocError, AllocFailed};
+use std::io::{self, ErrorKind};
+
+/// Why a file, a pipe or a descriptor can't be read or written.
+#[derive(Clone, Copy)]
+pub enum Reason {
+    NotFound,
+    Permission,
+    IsFolder,
+    NotFolder,
+    Loop,
+    Name,
+    Exists,
+    Full,
+    TooLarge,
+    ReadOnly,
+    Closed,
+    Other,
+}
+
+/// Options that don't go together.
+#[derive(Clone, Copy)]
+pub enum Misuse {
+    KeySource,
+    StandardInputTwice,
+    VectorNeeded,
+    VectorOfEcb,
+    RandomToDecrypt,
+    FirstBlockToEncrypt,
+    PartToEncrypt,
+    Terminal,
+    PaddingOfCmac,
+    PaddingNeeded,
+    Account,
+    Arguments,
+    Components,
+    Fill,
+    NoText,
+}
+
+/// What is at fault. Each has a name, under which the documents list it, and words.
+#[derive(Clone, Copy)]
+pub enum Kind {
+    /// The arguments don't go together.
+    Usage(Misuse),
+    /// The file or descriptor of a key, a PIN or an account number can't be read.
+    Source(Reason),
+    /// The environment has no such variable, or it is no text.
+    Variable,
+    /// An input is longer than what it may be.
+    InputLength,
+    /// A key does not have two digits for each of its bytes: 8, 16 or 24, or one of these for 0.
+    KeyLength(u8),
+    /// A key has a character that is no hexadecimal digit.
+    KeyText,
+    /// The weak key test refuses the key.
+    WeakKey,
+    /// Fewer than two components.
+    Components,
+    /// The initialization vector does not have 16 hexadecimal digits.
+    Vector,
+    /// A tag does not have 8 to 16 hexadecimal digits, two for each byte.
+    Tag,
+    /// A PIN block does not have 16 digits.
+    BlockLength,
+    /// A PIN block has a character that is no hexadecimal digit.
+    BlockText,
+    /// A key serial number does not have 20 digits.
+    SerialLength,
+    /// A key serial number has a character that is no hexadecimal digit.
+    SerialText,
+    /// There are not ten transaction or fill digits.
+    FillLength,
+    /// A transaction or fill digit is no hexadecimal digit.
+    FillText,
+    /// An account number's last digit is not its check digit.
+    CheckDigit,
+    /// A fault of a PIN, an account number or a PIN block.
+    Pin(PinError),
+    /// A fault of a card's data.
+    Card(CvvError),
+    /// A request for memory was refused.
+    Memory,
+    /// The input can't be read.
+    Read(Reason),
+    /// The output can't be written.
+    Write(Reason),
+    /// The input ends within a block.
+    Length,
+    /// The input ends before the part.
+    Start,
+    /// The last block does not end with the padding.
+    Padding,
+}
+
+/// What is at fault, and the file, option or command that it is about, which may be empty. It is
+/// never a secret.
+#[derive(Clone, Copy)]
+pub struct Fault<'a> {
+    pub kind: Kind,
+    pub about: &'a str,
+}
+
+// The statuses of faults.
+const ARGUMENTS_AT_FAULT: u8 = 2;
+
+const MEMORY_REFUSED: u8 = 3;
+
+const NOT_READ_OR_WRITTEN: u8 = 4;
+
+const INPUT_AT_FAULT: u8 = 5;
+
+impl Reason {
+    /// The reason of an error of the system.
+    pub fn of(error: &io::Error) -> Reason {
+        match error.kind() {
+            ErrorKind::NotFound => Reason::NotFound,
+            ErrorKind::PermissionDenied => Reason::Permission,
+            ErrorKind::IsADirectory => Reason::IsFolder,
+            ErrorKind::NotADirectory => Reason::NotFolder,
+            ErrorKind::FilesystemLoop => Reason::Loop,
+            ErrorKind::InvalidFilename => Reason::Name,
+            ErrorKind::AlreadyExists => Reason::Exists,
+            ErrorKind::StorageFull | ErrorKind::QuotaExceeded => Reason::Full,
+            ErrorKind::FileTooLarge => Reason::TooLarge,
+            ErrorKind::ReadOnlyFilesystem => Reason::ReadOnly,
+            ErrorKind::BrokenPipe | ErrorKind::WriteZero => Reason::Closed,
+            _ => Reason::Other,
+        }
+    }
+
+    fn words(self) -> &'static str
+        ensures { result.now ≡ reason_words self }
+    {
+        match self {
+            Reason::NotFound => "there is no such file",
+            Reason::Permission => "permission denied",
+            Reason::IsFolder => "it is a folder",
+            Reason::NotFolder => "a part of the path is no folder",
+            Reason::Loop => "its symbolic links go in a circle",
+            Reason::Name => "the file system takes no such name",
+            Reason::Exists => "the name is taken",
+            Reason::Full => "no space is left",
+            Reason::TooLarge => "the file would be too large",
+            Reason::ReadOnly => "the file system is read-only",
+            Reason::Closed => "nobody reads it any more",
+            Reason::Other => "the system refused it",
+        }
+    }
+}
+
+impl Misuse {
+    fn words(self) -> &'static str
+        ensures { result.now ≡ misuse_words self }
+    {
+        match self {
+            Misuse::KeySource => "give one of --key-file, --key-fd and --key-env",
+            Misuse::StandardInputTwice => "only one of the files can be standard input",
+            Misuse::VectorNeeded => "CBC takes --iv",
+            Misuse::VectorOfEcb => "ECB takes no --iv",
+            Misuse::RandomToDecrypt => "random is for encryption; first-block reads what it wrote",
+            Misuse::FirstBlockToEncrypt =>
+                "first-block is for decryption; random writes what it reads",
+            Misuse::PartToEncrypt => "--from and --blocks are for decryption",
+            Misuse::Terminal => "no bytes are written to a terminal, unless --out - asks for it",
+            Misuse::PaddingOfCmac => "CMAC takes no --padding",
+            Misuse::PaddingNeeded => "CBC-MAC and retail MAC take --padding",
+            Misuse::Account => "give one of --account and --account-file",
+            Misuse::Arguments => "the command doesn't take these words (see --help)",
+            Misuse::Components =>
+                "give --part-file twice or more, or --count and one source of all",
+            Misuse::Fill => "the format takes other options (see --help)",
+            Misuse::NoText => "an argument is no text",
+        }
+    }
+}
+
+// What is said of a key whose bytes are of this number, or of 0 where it may be one of three.
+fn key_words(size: u8) -> &'static str
+    ensures { result.now ≡ key_words size }
+{
+    match size {
+        8 => "a key of 16 hexadecimal digits is needed",
+        16 => "a key of 32 hexadecimal digits is needed",
+        24 => "a key of 48 hexadecimal digits is needed",
+        _ => "a key of 16, 32 or 48 hexadecimal digits is needed",
+    }
+}
+
+impl Kind {
+    /// The fault's name.
+    pub fn name(self) -> &'static str
+        ensures { result.now ≡ name_of self }
+    {
+        match self {
+            Kind::Usage(_) => "Usage",
+            Kind::Source(_) => "Source",
+            Kind::Variable => "Variable",
+            Kind::InputLength => "InputLength",
+            Kind::KeyLength(_) => "KeyLength",
+            Kind::KeyText => "KeyText",
+            Kind::WeakKey => "WeakKey",
+            Kind::Components => "Components",
+            Kind::Vector => "Vector",
+            Kind::Tag => "Tag",
+            Kind::BlockLength => "BlockLength",
+            Kind::BlockText => "BlockText",
+            Kind::SerialLength => "SerialLength",
+            Kind::SerialText => "SerialText",
+            Kind::FillLength => "FillLength",
+            Kind::FillText => "FillText",
+            Kind::CheckDigit => "CheckDigit",
+            Kind::Pin(error) => pin_error::name(error),
+            Kind::Card(error) => cvv_error::name(error),
+            Kind::Memory => "Memory",
+            Kind::Read(_) => "Read",
+            Kind::Write(_) => "Write",
+            Kind::Length => "Length",
+            Kind::Start => "Start",
+            Kind::Padding => "Padding",
+        }
+    }
+
+    /// What is said of it.
+    pub fn words(self) -> &'static str
+        ensures { result.now ≡ words_of self }
+    {
+        match self {
+            Kind::Usage(misuse) => misuse.words(),
+            Kind::Source(reason) | Kind::Read(reason) | Kind::Write(reason) => reason.words(),
+            Kind::Variable => "the environment has no such variable of text",
+            Kind::InputLength => "the input is too long",
+            Kind::KeyLength(size) => key_words(size),
+            Kind::KeyText => "the key has a character that is no hexadecimal digit",
+            Kind::WeakKey => "the key is weak",
+            Kind::Components => "a key has two components at least",
+            Kind::Vector => "16 hexadecimal digits are needed",
+            Kind::Tag => "8, 10, 12, 14 or 16 hexadecimal digits are needed",
+            Kind::BlockLength => "a block of 16 hexadecimal digits is needed",
+            Kind::BlockText => "the block has a character that is no hexadecimal digit",
+            Kind::SerialLength => "a key serial number has 20 hexadecimal digits",
+            Kind::SerialText =>
+                "the key serial number has a character that is no hexadecimal digit",
+            Kind::FillLength => "ten digits are needed",
+            Kind::FillText => "a character is no hexadecimal digit",
+            Kind::CheckDigit => "the account number's last digit is not its check digit",
+            Kind::Pin(error) => pin_words(error),
+            Kind::Card(error) => card_words(error),
+            Kind::Memory => "a request for memory was refused",
+            Kind::Length => "the input ends within a block of 8 bytes",
+            Kind::Start => "the input ends before the part begins",
+            Kind::Padding => "the last block does not end with the padding of --padding",
+        }
+    }
+
+    /// The status that the program ends with.
+    pub fn status(self) -> u8
+        ensures { result ≡ status_of self }
+    {
+        match self {
+            Kind::Memory => MEMORY_REFUSED,
+            Kind::Read(_) | Kind::Write(_) => NOT_READ_OR_WRITTEN,
+            Kind::Length | Kind::Start | Kind::Padding => INPUT_AT_FAULT,
+            _ => ARGUMENTS_AT_FAULT,
+        }
+    }
+}
+
+// What is said of a PIN, an account number or a PIN block.
+fn pin_words(error: PinError) -> &'static str
+    ensures { result.now ≡ pin_words error }
+{
+    match error {
+        PinError::Format => "the block is of another format",
+        PinError::PinLength => "a PIN has 4 to 12 digits",
+        PinError::PinDigit => "the PIN has a character that is no digit",
+        PinError::AccountLength => "an account number has 13 to 19 digits",
+        PinError::AccountDigit => "the account number has a character that is no digit",
+        PinError::Fill => "a fill digit is none of the format",
+    }
+}
+
+// What is said of a card's data.
+fn card_words(error: CvvError) -> &'static str
+    ensures { result.now ≡ card_words error }
+{
+    match error {
+        CvvError::AccountLength => "an account number has 13 to 19 digits",
+        CvvError::AccountDigit => "the account number has a character that is no digit",
+        CvvError::ExpiryLength => "an expiry date has 4 digits",
+        CvvError::ExpiryDigit => "the expiry date has a character that is no digit",
+        CvvError::ServiceLength => "a service code has 3 digits",
+        CvvError::ServiceDigit => "the service code has a character that is no digit",
+    }
+}
+
+impl From<StreamError> for Kind {
+    ghost use Rattle.std.specs.Prelude.{◌≡◌};
+    ghost use Rattle.cukvashe.specs.Faults.{IsOfStream};
+
+    ghost from_gives = { λ error kind. IsOfStream error kind };
+
+    fn from(error: StreamError) -> Kind {
+        match error {
+            StreamError::Read(error) => Kind::Read(Reason::of(&error)),
+            StreamError::Write(error) => Kind::Write(Reason::of(&error)),
+            StreamError::Length(_) => Kind::Length,
+            StreamError::Start => Kind::Start,
+            StreamError::Padding => Kind::Padding,
+        }
+    }
+}
+
+impl From<PinError> for Kind {
+    ghost use Rattle.std.specs.Prelude.{◌≡◌};
+    ghost use Rattle.cukvashe.specs.declared.fault.Kind.TheVariants.{Pin};
+
+    ghost from_gives = { λ error kind. kind ≡ Pin error };
+
+    fn from(error: PinError) -> Kind {
+        Kind::Pin(error)
+    }
+}
+
+impl From<CvvError> for Kind {
+    ghost use Rattle.std.specs.Prelude.{◌≡◌};
+    ghost use Rattle.cukvashe.specs.declared.fault.Kind.TheVariants.{Card};
+
+    ghost from_gives = { λ error kind. kind ≡ Card error };
+
+    fn from(error: CvvError) -> Kind {
+        Kind::Card(error)
+    }
+}
+
+impl From<WeakKeyError> for Kind {
+    ghost use Rattle.std.specs.Prelude.{◌≡◌};
+    ghost use Rattle.cukvashe.specs.declared.fault.Kind.TheVariants.{WeakKey};
+
+    ghost from_gives = { λ _ kind. kind ≡ WeakKey };
+
+    fn from(_refused: WeakKeyError) -> Kind {
+        Kind::WeakKey
+    }
+}
+
+impl From<AllocError> for Kind {
+    ghost use Rattle.std.specs.Prelude.{◌≡◌};
+    ghost use Rattle.cukvashe.specs.declared.fault.Kind.TheVariants.{Memory};
+
+    ghost from_gives = { λ _ kind. kind ≡ Memory };
+
+    fn from(_refused: AllocError) -> Kind {
+        Kind::Memory
+    }
+}
+
+impl<T: Drop> From<AllocFailed<T>> for Kind {
+    ghost use Rattle.std.specs.Prelude.{◌≡◌};
+    ghost use Rattle.cukvashe.specs.declared.fault.Kind.TheVariants.{Memory};
+
+    ghost from_gives = { λ _ kind. kind ≡ Memory };
+
+    fn from(_refused: AllocFailed<T>) -> Kind {
+        Kind::Memory
+    }
+}

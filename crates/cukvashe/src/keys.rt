@@ -1,0 +1,61 @@
+//! Keys: their bytes, and whether they are weak.
+
+ghost use Rattle.std.specs.Prelude.{◌≡◌, ◌↔◌, ◌⊎◌, List, ℕ, length, take, drop, IfOk, IsTrue};
+ghost use Rattle.des.specs.Parity.{AgreeOutsideParity};
+ghost use Rattle.des.specs.WeakKeys.{IsRefused};
+ghost use Rattle.cukvashe.specs.Texts.{bytes_of as bytes_of_text};
+ghost use Rattle.cukvashe.specs.Faults.{FailsBy};
+ghost use Rattle.cukvashe.specs.Keys.{key_fault, is_key_length, IsKeySize, IsDoubleLength};
+
+use crate::digits::decode;
+use crate::fault::Kind;
+use des::tdes::key_part;
+use des::weak_key::{equal_but_parity, weak_key_test};
+use std::alloc::Global;
+
+// Whether so many digits write a key of `size` bytes, or for 0 one of 8, 16 or 24.
+fn is_key_length(count: usize, size: u8) -> bool
+    ensures { result ≡ is_key_length count size }
+{
+    match size {
+        0 => count == 16 || count == 32 || count == 48,
+        _ => count == 2 * size as usize,
+    }
+}
+
+/// The bytes of a key that hexadecimal digits write: of `size` bytes, 8, 16 or 24, or for 0 of one
+/// of these. The fault is `KeyLength` where there are not as many digits, `KeyText` where a character
+/// is none, and else `Memory`.
+pub fn key_of_digits(alloc: Global, digits: &[u8], size: u8) -> Result<Vec<u8>, Kind>
+    requires { (size ≡ 0) ⊎ IsKeySize size }
+    ensures fault { FailsBy (key_fault size digits.now) result }
+    ensures key { IfOk result (λ key. key.items ≡ bytes_of_text digits.now) }
+    ensures size { IfOk result (λ key. IsKeySize (length key.items)) }
+{
+    if !is_key_length(digits.len(), size) {
+        return Err(Kind::KeyLength(size));
+    }
+    let mut buffer = [0u8; 24];
+    let bytes = &mut buffer[..digits.len() / 2];
+    decode(digits, bytes, Kind::KeyText)?;
+    Ok(Vec::from_slice(alloc, bytes)?)
+}
+
+/// Whether the weak key test refuses a key of 8, 16 or 24 bytes.
+pub fn is_weak(key: &[u8]) -> bool
+    requires { IsKeySize (length key.now) }
+    ensures { IsTrue result ↔ IsRefused key.now }
+{
+    weak_key_test(key).is_err()
+}
+
+/// Whether a key is one of two parts in the form of three, K1, K2, K1, whose first two parts the weak
+/// key test accepts. Triple DES under it is that of two parts.
+pub fn is_double_length(key: &[u8]) -> bool
+    ensures { IsTrue result ↔ IsDoubleLength key.now }
+{
+    if key.len() != 24 || !equal_but_parity(&key_part(key, 1), &key_part(key, 3)) {
+        return false;
+    }
+    !is_weak(&key[..16])
+}

@@ -1,0 +1,324 @@
+//! The program: what a command line asks for is done.
+
+ghost use Rattle.std.specs.Prelude.{◌≡◌, ◌⊎◌, ◌≤◌, ◌<◌, length, IfOk};
+ghost use Rattle.cukvashe.specs.Keys.{IsKeySize};
+
+use crate::answer::{Answer, status_of, tag_answer, tag_of_digits, verified, weak_answer};
+use crate::arguments::{parse, parts_of, request_of};
+use crate::check_digit::{has_check_digit, is_account};
+use crate::command::Command;
+use crate::fault::{Fault, Kind, Misuse, Reason};
+use crate::keys::{is_weak, key_of_digits};
+use crate::lines::{LONGEST_TEXT, line_of_command};
+use crate::mac::{Method, tag_of};
+use crate::report::{report, show};
+use crate::request::{Account, Form, Question, Request, Task, about_of, command_of};
+use crate::source::{Source, text_of};
+use crate::usage::show_usage;
+use clap::ArgMatches;
+use des_payment::{CvvError, PinError};
+use std::env;
+use std::fs::File;
+use std::io::{self, Read};
+use std::process::ExitCode;
+
+// The bytes of a message that are read at a time: 64 KiB.
+const BYTES_AT_A_TIME: usize = 65536;
+
+// A fault of what a name stands for.
+fn about<'a>(kind: Kind, name: &'a str) -> Fault<'a> {
+    let is_of_memory = matches!(kind, Kind::Memory);
+    Fault {
+        kind,
+        about: if is_of_memory { "" } else { name },
+    }
+}
+
+fn yes(text: Vec<u8>) -> Answer {
+    Answer { text, is_no: false }
+}
+
+// The text of a source.
+fn text_in<'a>(rt: &HostRuntime, source: Source<'a>) -> Result<Vec<u8>, Fault<'a>>
+    ensures { IfOk result (λ text. length text.items ≤ LONGEST_TEXT) }
+{
+    text_of(rt, source).map_err(|kind| about(kind, source.name()))
+}
+
+// The key in a source, of so many bytes, or for 0 of 8, 16 or 24.
+fn key_in<'a>(rt: &HostRuntime, source: Source<'a>, size: u8) -> Result<Vec<u8>, Fault<'a>>
+    requires { (size ≡ 0) ⊎ IsKeySize size }
+    ensures { IfOk result (λ key. IsKeySize (length key.items)) }
+{
+    let text = text_in(rt, source)?;
+    key_of_digits(rt.alloc(), text.as_slice(), size).map_err(|kind| about(kind, source.name()))
+}
+
+// ---- lines
+
+// What a fault of an account number is about.
+fn account_name<'a>(account: Account<'a>) -> &'a str {
+    match account {
+        Account::In(source) => source.name(),
+        _ => "--account",
+    }
+}
+
+// The digits of an account number.
+fn account_in<'a>(rt: &HostRuntime, account: Account<'a>) -> Result<Vec<u8>, Fault<'a>> {
+    match account {
+        Account::Absent => Ok(Vec::new(rt.alloc())),
+        Account::Digits(digits) => match Vec::from_slice(rt.alloc(), digits.as_bytes()) {
+            Ok(digits) => Ok(digits),
+            Err(_) => Err(about(Kind::Memory, "")),
+        },
+        Account::In(source) => text_in(rt, source),
+    }
+}
+
+// An account number whose last digit is not its check digit is refused, or else a line says so.
+fn accept_account<'a>(
+    rt: &HostRuntime,
+    request: &Request<'a>,
+    account: &[u8],
+) -> Result<(), Fault<'a>> {
+    if !is_account(account) || has_check_digit(account) {
+        return Ok(());
+    }
+    let fault = about(Kind::CheckDigit, account_name(request.account));
+    if request.refuses {
+        return Err(fault);
+    }
+    let _ = report(fault, &mut rt.stderr());
+    Ok(())
+}
+
+// What a fault of a fill digit is about.
+fn fill_name<'a>(form: Form, input: &'a str) -> &'a str {
+    match form {
+        Form::Encode(_, _) => "--fill",
+        _ => input,
+    }
+}
+
+fn line_answer<'a>(
+    rt: &HostRuntime,
+    request: &Request<'a>,
+    form: Form<'a>,
+) -> Result<Answer, Fault<'a>> {
+    let account = account_in(rt, request.account)?;
+    accept_account(rt, request, account.as_slice())?;
+    let text = text_in(rt, request.input)?;
+    let digits = str::from_utf8(account.as_slice()).unwrap_or("");
+    let command = command_of(form, digits);
+    match line_of_command(rt.alloc(), command, text.as_slice()) {
+        Ok(line) => Ok(yes(line)),
+        Err(kind) => {
+            let input = request.input.name();
+            let account = account_name(request.account);
+            let name = about_of(kind, input, account, fill_name(form, input));
+            Err(Fault { kind, about: name })
+        }
+    }
+}
+
+// ---- components in files
+
+// Adds the digits of the component in a file, of so many bytes, or for 0 of 8, 16 or 24. Gives its
+// bytes.
+fn add_part<'a>(
+    rt: &HostRuntime,
+    path: &'a str,
+    size: u8,
+    digits: &mut Vec<u8>,
+) -> Result<u8, Fault<'a>>
+    requires { (size ≡ 0) ⊎ IsKeySize size }
+    ensures { IfOk result (λ size. IsKeySize size) }
+{
+    let source = if path == "-" {
+        Source::StandardInput
+    } else {
+        Source::File(path)
+    };
+    let text = text_in(rt, source)?;
+    let key = key_of_digits(rt.alloc(), text.as_slice(), size).map_err(|kind| about(
+        kind,
+        source.name(),
+    ))?;
+    match digits.extend_from_slice(text.as_slice()) {
+        Ok(()) => Ok(key.len() as u8),
+        Err(_) => Err(about(Kind::Memory, "")),
+    }
+}
+
+// The digits of components, each in a file.
+fn parts_in<'a>(rt: &HostRuntime, paths: &[&'a str]) -> Result<Vec<u8>, Fault<'a>> {
+    let mut digits = Vec::new(rt.alloc());
+    let mut size = 0;
+    for path in paths {
+        size = add_part(rt, path, size, &mut digits)?;
+    }
+    Ok(digits)
+}
+
+fn parts_answer<'a>(rt: &HostRuntime, paths: &[&'a str]) -> Result<Answer, Fault<'a>> {
+    let digits = parts_in(rt, paths)?;
+    if paths.len() > 255 || digits.len() > LONGEST_TEXT {
+        return Err(about(Kind::InputLength, "--part-file"));
+    }
+    let count = paths.len() as u8;
+    match line_of_command(rt.alloc(), Command::Combine { count }, digits.as_slice()) {
+        Ok(line) => Ok(yes(line)),
+        Err(kind) => Err(about(kind, "--part-file")),
+    }
+}
+
+// ---- keys
+
+fn key_answer<'a>(rt: &HostRuntime, source: Source<'a>) -> Result<Answer, Fault<'a>> {
+    let key = key_in(rt, source, 0)?;
+    weak_answer(rt.alloc(), is_weak(key.as_slice())).map_err(|_| about(Kind::Memory, ""))
+}
+
+// ---- tags
+
+// The bytes of a method's keys, or 0 where there are three sizes.
+fn key_size_of(method: Method) -> u8
+    ensures { (result ≡ 0) ⊎ IsKeySize result }
+{
+    match method {
+        Method::Retail(_) => 16,
+        _ => 0,
+    }
+}
+
+// The tag of all that a reader has.
+fn tag_in<R: Read>(
+    rt: &HostRuntime,
+    method: Method,
+    key: &[u8],
+    reader: &mut R,
+    size: usize,
+) -> Result<[u8; 8], Kind>
+    requires { (0 < size) × (size ≤ 100000) }
+{
+    let mut buffer = vec![in rt.alloc(); 0u8; size]?;
+    tag_of(method, key, reader, &mut buffer)
+}
+
+// The tag of a message.
+fn tag_of_message(
+    rt: &HostRuntime,
+    method: Method,
+    key: &[u8],
+    message: Source,
+) -> Result<[u8; 8], Kind> {
+    match message {
+        Source::File(path) => match File::open(rt, path) {
+            Ok(file) => {
+                let mut file = file;
+                tag_in(rt, method, key, &mut file, BYTES_AT_A_TIME)
+            }
+            Err(error) if error.kind() == io::ErrorKind::OutOfMemory => Err(Kind::Memory),
+            Err(error) => Err(Kind::Read(Reason::of(&error))),
+        },
+        _ => tag_in(rt, method, key, &mut rt.stdin(), BYTES_AT_A_TIME),
+    }
+}
+
+// The tag, its first bytes, or whether others are those.
+fn answer_of<'a>(rt: &HostRuntime, tag: &[u8; 8], question: Question<'a>) -> Result<Answer, Kind> {
+    match question {
+        Question::Print(count) => Ok(tag_answer(rt.alloc(), tag, count)?),
+        Question::Verify(digits) => {
+            let given = tag_of_digits(rt.alloc(), digits.as_bytes())?;
+            Ok(verified(rt.alloc(), tag, given.as_slice()))
+        }
+    }
+}
+
+fn mac_answer<'a>(
+    rt: &HostRuntime,
+    source: Source<'a>,
+    method: Method,
+    question: Question<'a>,
+    message: Source<'a>,
+) -> Result<Answer, Fault<'a>> {
+    if let Question::Verify(digits) = question {
+        tag_of_digits(rt.alloc(), digits.as_bytes()).map_err(|kind| about(kind, "--verify"))?;
+    }
+    let key = key_in(rt, source, key_size_of(method))?;
+    let tag = tag_of_message(rt, method, key.as_slice(), message).map_err(|kind| about(
+        kind,
+        message.name(),
+    ))?;
+    answer_of(rt, &tag, question).map_err(|kind| about(kind, "--verify"))
+}
+
+// ---- the program
+
+fn answer_to<'a>(
+    rt: &HostRuntime,
+    request: &Request<'a>,
+    matches: &ArgMatches<'a>,
+) -> Result<Answer, Fault<'a>> {
+    match request.task {
+        Task::Line(form) => line_answer(rt, request, form),
+        Task::Weak => key_answer(rt, request.input),
+        Task::Parts => match parts_of(matches) {
+            Some(paths) => parts_answer(rt, paths),
+            None => Err(about(Kind::Usage(Misuse::Components), "")),
+        },
+        Task::Mac {
+            method,
+            question,
+            message,
+        } => mac_answer(rt, request.input, method, question, message),
+    }
+}
+
+// Writes a text or the line of a fault, and gives the status.
+fn show_on(rt: &HostRuntime, outcome: Result<Vec<u8>, Fault>) -> u8 {
+    show(&outcome, &mut rt.stdout(), &mut rt.stderr())
+}
+
+// Does what the options ask for.
+fn run_matches<'a>(rt: &HostRuntime, matches: &ArgMatches<'a>) -> u8 {
+    let outcome = match request_of(matches) {
+        Ok(request) => answer_to(rt, &request, matches),
+        Err(fault) => Err(fault),
+    };
+    match outcome {
+        Ok(Answer { text, is_no }) => status_of(show_on(rt, Ok(text)), is_no),
+        Err(fault) => show_on(rt, Err(fault)),
+    }
+}
+
+fn run_words(rt: &HostRuntime, words: &[&str]) -> u8 {
+    match parse(rt.alloc(), words) {
+        Ok(matches) => run_matches(rt, &matches),
+        Err(error) => show_usage(rt, &error, words),
+    }
+}
+
+// The words of the command line, the program's name first.
+fn run_arguments(rt: &HostRuntime) -> io::Result<u8> {
+    let arguments: Vec<String> = env::args(rt)?.collect(rt.alloc())?;
+    let words: Vec<&str> = arguments
+        .iter()
+        .map(|argument| argument.as_str())
+        .collect(rt.alloc())?;
+    Ok(run_words(rt, words.as_slice()))
+}
+
+/// Runs the program on the arguments of the process, and gives the status that it ends with.
+pub fn run(rt: &HostRuntime) -> ExitCode {
+    let status = match run_arguments(rt) {
+        Ok(status) => status,
+        Err(error) if error.kind() == io::ErrorKind::OutOfMemory => {
+            show_on(rt, Err(about(Kind::Memory, "")))
+        }
+        Err(_) => show_on(rt, Err(about(Kind::Usage(Misuse::NoText), ""))),
+    };
+    ExitCode::from(status)
+}

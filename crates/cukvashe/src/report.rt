@@ -1,0 +1,100 @@
+//! What is written of a result or a fault, and the status that the program ends with.
+
+ghost use Rattle.std.specs.Prelude.{◌≡◌, List, ℕ, OnOk};
+ghost use Rattle.std.specs.List.{flat_map};
+ghost use Rattle.std.specs.Io.KnownBytes.{Appends};
+ghost use Rattle.cukvashe.specs.Faults.{line_of, separator_of};
+ghost use Rattle.cukvashe.specs.Written.{AppendsPrefix, IsShown};
+
+use crate::fault::Fault;
+use std::io::{self, Error, ErrorKind, Write};
+
+// The statuses of a result.
+const WRITTEN: u8 = 0;
+
+const NOT_WRITTEN: u8 = 4;
+
+// Writes the bytes. Where that fails, a prefix of them is written. A write that was interrupted is
+// tried again.
+fn write_whole<W: Write>(out: &mut W, bytes: &[u8]) -> io::Result<()>
+    ensures part { AppendsPrefix (W.contents out.old) (W.contents out.new) bytes.now }
+    ensures whole { OnOk result (Appends (W.contents out.old) (W.contents out.new) bytes.now) }
+{
+    let mut at = 0;
+    for _ in 0..u64::MAX {
+        if at >= bytes.len() {
+            return Ok(());
+        }
+        match out.write(&bytes[at..]) {
+            Ok(0) => return Err(Error::from(ErrorKind::WriteZero)),
+            Ok(n) => at += n,
+            Err(error) => {
+                if error.kind() != ErrorKind::Interrupted {
+                    return Err(error);
+                }
+            }
+        }
+    }
+    // A writer that is interrupted again and again, and never ends.
+    Err(Error::from(ErrorKind::TimedOut))
+}
+
+// Writes texts one after another.
+fn write_texts<W: Write>(out: &mut W, texts: &[&str]) -> io::Result<()>
+    ensures part { AppendsPrefix (W.contents out.old) (W.contents out.new)
+        (flat_map (λ text. text.now) texts.now) }
+    ensures whole { OnOk result (Appends (W.contents out.old) (W.contents out.new)
+        (flat_map (λ text. text.now) texts.now)) }
+{
+    for text in texts {
+        write_whole(out, text.as_bytes())?;
+    }
+    Ok(())
+}
+
+// Writes the bytes and flushes.
+fn send<W: Write>(out: &mut W, bytes: &[u8]) -> io::Result<()>
+    ensures part { AppendsPrefix (W.contents out.old) (W.contents out.new) bytes.now }
+    ensures whole { OnOk result (Appends (W.contents out.old) (W.contents out.new) bytes.now) }
+{
+    write_whole(out, bytes)?;
+    out.flush()
+}
+
+// What stands between what a fault is about and its words.
+fn separator(about: &str) -> &'static str
+    ensures { result.now ≡ separator_of about.now }
+{
+    if about.is_empty() { "" } else { ": " }
+}
+
+/// Writes the line of a fault.
+pub fn report<E: Write>(fault: Fault, err: &mut E) -> io::Result<()>
+    ensures part { AppendsPrefix (E.contents err.old) (E.contents err.new) (line_of fault.entry.kind fault.entry.about.now) }
+    ensures whole { OnOk result
+        (Appends (E.contents err.old) (E.contents err.new) (line_of fault.entry.kind fault.entry.about.now)) }
+{
+    write_texts(err, &["cukvashe: ", fault.kind.name(), ": "])?;
+    write_whole(err, fault.about.as_bytes())?;
+    write_texts(err, &[separator(fault.about), fault.kind.words(), "\n"])?;
+    err.flush()
+}
+
+/// Writes a result to `out`, or the line of a fault to `err`, and gives the status that the program
+/// ends with: 0 where the whole result was written, 4 where it was not, and that of the fault. A line
+/// that can't be written changes no status. No clause says that the status is 4 only where `out`
+/// failed, since std has no word for that; runs of the program show it.
+pub fn show<W: Write, E: Write>(outcome: &Result<Vec<u8>, Fault>, out: &mut W, err: &mut E) -> u8
+    ensures { IsShown W.contents E.contents outcome.now result out.old out.new err.old err.new }
+{
+    match outcome {
+        Ok(text) => match send(out, text.as_slice()) {
+            Ok(()) => WRITTEN,
+            Err(_) => NOT_WRITTEN,
+        },
+        Err(fault) => {
+            let _ = report(*fault, err);
+            fault.kind.status()
+        }
+    }
+}

@@ -1,0 +1,149 @@
+//! Secrets and other short inputs: where their texts are, and how they are read.
+
+ghost use Rattle.std.specs.Prelude.{◌≡◌, ◌≤◌, ◌<◌, ℕ, List, length, IfOk, IfErr};
+ghost use Rattle.std.specs.Io.KnownBytes.{Consumes, IsAtEnd};
+ghost use Rattle.cukvashe.specs.Texts.{written_in};
+ghost use Rattle.cukvashe.specs.Sources.{IsTextOf, FailsToGive, name_of_source};
+
+use crate::digits::strip;
+use crate::fault::{Kind, Reason};
+use des_io::StreamError;
+use des_io::pieces::fill;
+use std::alloc::Global;
+use std::env::{self, VarError};
+use std::fs::{self, File};
+use std::io::{self, ErrorKind, Read, Seek, SeekFrom};
+
+/// Where a text is.
+#[derive(Clone, Copy)]
+pub enum Source<'a> {
+    /// On standard input.
+    StandardInput,
+    /// In a file.
+    File(&'a str),
+    /// On a descriptor of the process, from where that stands.
+    Descriptor(u64),
+    /// In a variable of the environment.
+    Variable(&'a str),
+}
+
+/// The bytes that an input has at most, white space among them.
+pub const LONGEST_TEXT: usize = 4096;
+
+impl<'a> Source<'a> {
+    /// What a fault of the source is about: a file's path, or the option.
+    pub fn name(self) -> &'a str
+        ensures { result.now ≡ name_of_source self.entry }
+    {
+        match self {
+            Source::StandardInput => "standard input",
+            Source::File(path) => path,
+            Source::Descriptor(_) => "--key-fd",
+            Source::Variable(_) => "--key-env",
+        }
+    }
+}
+
+// A fault of the reader is one of the source.
+fn source_fault(error: StreamError) -> Kind
+    ensures { (reason : Reason) × (result ≡ Kind.Source reason) }
+{
+    match error {
+        StreamError::Read(error) => Kind::Source(Reason::of(&error)),
+        _ => Kind::Source(Reason::Other),
+    }
+}
+
+// What a reader gives up to its end, without its white space, where that is `longest` bytes at most.
+fn text_of_reader<R: Read>(alloc: Global, reader: &mut R, longest: usize) -> Result<Vec<u8>, Kind>
+    requires { longest < 100000 }
+    ensures text { IfOk result (λ text.
+        IsTextOf longest text.items (R.remaining reader.old) (R.remaining reader.new)) }
+    ensures bound { IfOk result (λ text. length text.items ≤ longest) }
+    ensures fault { IfErr result (FailsToGive longest (R.remaining reader.old) (R.remaining reader.new)) }
+{
+    let mut text = vec![in alloc; 0u8; longest + 1]?;
+    let n = fill(reader, &mut text).map_err(source_fault)?;
+    if n > longest {
+        return Err(Kind::InputLength);
+    }
+    text.truncate(n);
+    strip(&mut text);
+    Ok(text)
+}
+
+fn text_of_file(rt: &HostRuntime, path: &str) -> Result<Vec<u8>, Kind>
+    ensures { IfOk result (λ text. length text.items ≤ LONGEST_TEXT) }
+{
+    let mut file = File::open(rt, path).map_err(refused)?;
+    text_of_reader(rt.alloc(), &mut file, LONGEST_TEXT)
+}
+
+// The system refused a source.
+fn refused(error: io::Error) -> Kind {
+    match error.kind() {
+        ErrorKind::OutOfMemory => Kind::Memory,
+        _ => Kind::Source(Reason::of(&error)),
+    }
+}
+
+// Where a descriptor of the process stands in its file: 0 in a pipe.
+fn place_of(rt: &HostRuntime, number: u64) -> Result<u64, Kind> {
+    let path = format!(in rt.alloc(); "/proc/self/fdinfo/{number}")?;
+    let text = fs::read_to_string(rt, path.as_str()).map_err(refused)?;
+    let place = text
+        .lines()
+        .find_map(|line| line.strip_prefix("pos:"))
+        .and_then(|digits| digits.trim().parse().ok());
+    place.ok_or(Kind::Source(Reason::Other))
+}
+
+// The system opens the file of a descriptor anew, at its beginning, so the text is read from where
+// the descriptor stands.
+fn text_of_descriptor(rt: &HostRuntime, number: u64) -> Result<Vec<u8>, Kind>
+    ensures { IfOk result (λ text. length text.items ≤ LONGEST_TEXT) }
+{
+    let place = place_of(rt, number)?;
+    let path = format!(in rt.alloc(); "/dev/fd/{number}")?;
+    let mut file = File::open(rt, path.as_str()).map_err(refused)?;
+    if place > 0 {
+        file.seek(SeekFrom::Start(place)).map_err(refused)?;
+    }
+    text_of_reader(rt.alloc(), &mut file, LONGEST_TEXT)
+}
+
+// The text of a value, without its white space.
+fn text_of_bytes(alloc: Global, bytes: &[u8]) -> Result<Vec<u8>, Kind>
+    ensures text { IfOk result (λ text. text.items ≡ written_in bytes.now) }
+    ensures bound { IfOk result (λ text. length text.items ≤ LONGEST_TEXT) }
+{
+    if bytes.len() > LONGEST_TEXT {
+        return Err(Kind::InputLength);
+    }
+    let mut text = Vec::from_slice(alloc, bytes)?;
+    strip(&mut text);
+    Ok(text)
+}
+
+fn text_of_variable(rt: &HostRuntime, name: &str) -> Result<Vec<u8>, Kind>
+    ensures { IfOk result (λ text. length text.items ≤ LONGEST_TEXT) }
+{
+    match env::var(rt, name) {
+        Ok(value) => text_of_bytes(rt.alloc(), value.as_bytes()),
+        Err(VarError::OutOfMemory) => Err(Kind::Memory),
+        Err(_) => Err(Kind::Variable),
+    }
+}
+
+/// The text of a source, without its white space, of `LONGEST_TEXT` bytes at most. The fault is
+/// `InputLength` where there is more, `Source` where the system refused it, `Variable` or `Memory`.
+pub fn text_of(rt: &HostRuntime, source: Source) -> Result<Vec<u8>, Kind>
+    ensures { IfOk result (λ text. length text.items ≤ LONGEST_TEXT) }
+{
+    match source {
+        Source::StandardInput => text_of_reader(rt.alloc(), &mut rt.stdin(), LONGEST_TEXT),
+        Source::File(path) => text_of_file(rt, path),
+        Source::Descriptor(number) => text_of_descriptor(rt, number),
+        Source::Variable(name) => text_of_variable(rt, name),
+    }
+}
