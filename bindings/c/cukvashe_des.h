@@ -189,7 +189,7 @@ int cukvashe_tdes_eee2_decrypt_many_b2b(const cukvashe_tdes_eee2 *context, const
  * void cukvashe_NAME_encrypt_blocks(const cukvashe_NAME *context, uint8_t *blocks, size_t count)
  * void cukvashe_NAME_decrypt_blocks(const cukvashe_NAME *context, uint8_t *blocks, size_t count)
  *
- * The same as encrypt_many and decrypt_many, one block at a time: quicker for fewer than some 15 blocks. They read tables
+ * The same as encrypt_many and decrypt_many, one block at a time: faster for fewer than about 15 blocks. They read tables
  * at indexes that depend on the key and the blocks.
  */
 void cukvashe_des_encrypt_blocks(const cukvashe_des *context, uint8_t *blocks, size_t count);
@@ -232,7 +232,7 @@ void cukvashe_tdes_eee2_decrypt_cbc_many(const cukvashe_tdes_eee2 *context, uint
 /*
  * void cukvashe_NAME_decrypt_cbc(const cukvashe_NAME *context, uint8_t vector[8], uint8_t *blocks, size_t count)
  *
- * The same, one block at a time: quicker for fewer than some 15 blocks. It reads tables at indexes that depend on the key and
+ * The same, one block at a time: faster for fewer than about 15 blocks. It reads tables at indexes that depend on the key and
  * the blocks.
  */
 void cukvashe_des_decrypt_cbc(const cukvashe_des *context, uint8_t vector[8], uint8_t *blocks, size_t count);
@@ -516,7 +516,7 @@ CUKVASHE_INLINE bool cukvashe_has_wide(void) {
 /*
  * cukvashe_widest_NAME_encrypt_many, cukvashe_widest_NAME_decrypt_many, cukvashe_widest_NAME_encrypt_many_b2b,
  * cukvashe_widest_NAME_decrypt_many_b2b and cukvashe_widest_NAME_decrypt_cbc_many: the wide call where the processor has it
- * and the list has more than 128 blocks, and else the other, which is then the quicker one. Arguments, statuses and answers
+ * and the list has more than 128 blocks, and else the other, which is then the faster one. Arguments, statuses and answers
  * are those of the call of the same end.
  */
 #define CUKVASHE_WIDEST_CALLS(name)                                                                                     \

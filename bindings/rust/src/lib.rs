@@ -3,7 +3,7 @@
 //!
 //! A block is `[u8; 8]`, bit 1 of the standard the most significant of the first byte; `as_chunks_mut::<8>` of a slice
 //! gives such blocks. The calls named `_many` take lists of any length, 128 or 256 blocks at a time as the processor can;
-//! those named `_blocks` go one by one, and are quicker for fewer than some 15 blocks. No call takes memory. Padding is
+//! those named `_blocks` go one by one, and are faster for fewer than about 15 blocks. No call takes memory. Padding is
 //! the caller's, and so is wiping what is secret from memory. `mac` has message authentication codes, and
 //! `payment` check values, keys of components and of transactions, PIN blocks and card verification values.
 #![warn(missing_docs)]

@@ -35,7 +35,7 @@ pub fn weak_answer(alloc: Global, is_weak: bool) -> Result<Answer, AllocError>
     })
 }
 
-/// The answer that shows the first bytes of a tag, so many.
+/// The answer that shows the first `count` bytes of a tag.
 pub fn tag_answer(alloc: Global, tag: &[u8; 8], count: u8) -> Result<Answer, AllocError>
     ensures line { IfOk result (λ answer. answer.text.items ≡ hex_line_of (take count tag.now)) }
     ensures yes { IfOk result (λ answer. answer.is_no ≡ false) }

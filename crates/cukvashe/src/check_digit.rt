@@ -11,7 +11,7 @@ fn doubled(value: u32) -> u32
     2 * value / 10 + 2 * value % 10
 }
 
-// What a digit counts that so many others follow.
+// What a digit counts that `following` others follow.
 fn weighed(following: usize, value: u32) -> u32
     requires { value < 256 }
     ensures value { result ≡ weighed_of following value }

@@ -7,7 +7,7 @@ use des_payment::dukpt::Message;
 pub enum Command<'a> {
     /// The check value of a key.
     Check,
-    /// The key of so many components.
+    /// The key of `count` components.
     Combine {
         count: u8,
     },

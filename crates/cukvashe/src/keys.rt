@@ -13,7 +13,7 @@ use des::tdes::key_part;
 use des::weak_key::{equal_but_parity, weak_key_test};
 use std::alloc::Global;
 
-// Whether so many digits write a key of `size` bytes, or for 0 one of 8, 16 or 24.
+// Whether `count` digits write a key of `size` bytes, or for 0 one of 8, 16 or 24.
 fn is_key_length(count: usize, size: u8) -> bool
     ensures { result ≡ is_key_length count size }
 {

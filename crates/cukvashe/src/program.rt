@@ -45,7 +45,7 @@ fn text_in<'a>(rt: &HostRuntime, source: Source<'a>) -> Result<Vec<u8>, Fault<'a
     text_of(rt, source).map_err(|kind| about(kind, source.name()))
 }
 
-// The key in a source, of so many bytes, or for 0 of 8, 16 or 24.
+// The key in a source, of `size` bytes, or for 0 of 8, 16 or 24.
 fn key_in<'a>(rt: &HostRuntime, source: Source<'a>, size: u8) -> Result<Vec<u8>, Fault<'a>>
     requires { (size ≡ 0) ⊎ IsKeySize size }
     ensures { IfOk result (λ key. IsKeySize (length key.items)) }
@@ -124,7 +124,7 @@ fn line_answer<'a>(
 
 // ---- components in files
 
-// Adds the digits of the component in a file, of so many bytes, or for 0 of 8, 16 or 24. Gives its
+// Adds the digits of the component in a file, of `size` bytes, or for 0 of 8, 16 or 24. Gives its
 // bytes.
 fn add_part<'a>(
     rt: &HostRuntime,

@@ -31,7 +31,7 @@ pub enum Format {
 /// What is asked of a tag.
 #[derive(Clone, Copy)]
 pub enum Question<'a> {
-    /// Its first bytes, so many.
+    /// This number of its first bytes.
     Print(u8),
     /// Whether these are the digits of its first bytes.
     Verify(&'a str),

@@ -1,4 +1,4 @@
-//! Half blocks as the rounds want them, and the rounds.
+//! Half blocks in the layout that the rounds use, and the rounds.
 //!
 //! A word of groups holds 48 bits in eight groups of six, each in the last six bits of a byte: the
 //! groups 1, 3, 5 and 7 in bytes 1 to 4, the groups 2, 4, 6 and 8 in bytes 5 to 8. So the expansion
@@ -188,6 +188,7 @@ impl KeyedHalf {
             round_key,
         }
     }
+
     // The half block that a round makes: this one, the left half, xor f of the right half and the
     // round key in it.
     #[inline]

@@ -80,7 +80,7 @@ pub(crate) fn next_count(room: usize, left: Option<u64>) -> usize
     }
 }
 
-// What is left after so many blocks.
+// What is left after `count` blocks.
 fn left_after(left: Option<u64>, count: usize) -> Option<u64>
     requires { IfSome left (λ left. count ≤ left) }
     ensures { IsLeft left count result }

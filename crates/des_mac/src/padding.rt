@@ -7,7 +7,7 @@ ghost use Rattle.des_mac.specs.Laws.Unambiguous.{one_bit_after-unambiguous};
 
 /// A padding, which goes after the bytes of a message.
 pub trait Padding {
-    // What goes after so many bytes.
+    // What goes after n bytes.
     ghost padding_after: { ℕ → List ℕ };
 
     /// The padding of a message of which `count` bytes stand in its last block: from 1 to 8, or 0

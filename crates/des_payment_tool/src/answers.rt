@@ -90,7 +90,7 @@ fn combine_all<const N: usize>(components: &[[u8; N]]) -> Result<[u8; N], WeakKe
     }
 }
 
-// The key of the components, each of so many bytes, that the digits write one after another.
+// The key of the components, of N bytes each, that the digits write one after another.
 fn combine_by<const N: usize>(digits: &[u8]) -> Result<[u8; N], Fault>
     requires size { (N ≡ 8) ⊎ (N ≡ 16) ⊎ (N ≡ 24) }
     requires whole { length digits.now % (2 * N) ≡ 0 }
@@ -122,7 +122,7 @@ fn combined_line<const N: usize>(alloc: Global, digits: &[u8]) -> Result<Vec<u8>
     Ok(hex_line(alloc, &key)?)
 }
 
-// The key of so many components.
+// The key of `count` components.
 fn combine_line(alloc: Global, count: u8, digits: &[u8]) -> Result<Vec<u8>, Fault>
     requires { length digits.now ≤ LONGEST_TEXT }
     ensures fault { FailsAs (Command.Combine count) digits.now result }

@@ -16,7 +16,7 @@ pub enum Fault {
     KeySource(io::Error),
     /// The environment has no such variable, or it is no text.
     KeyVariable,
-    /// The key is not of so many digits.
+    /// The key does not have this number of digits.
     KeyLength(usize),
     /// The key has a character that is no digit.
     KeyText,

@@ -45,7 +45,7 @@ fn digits_of(alloc: Global, text: &[u8]) -> Result<Vec<u8>, AllocError>
         .collect(alloc)
 }
 
-// The bytes, so many, that hexadecimal digits write.
+// The bytes that hexadecimal digits write, `size` of them.
 fn key_of_digits(alloc: Global, digits: &[u8], size: usize) -> Result<Vec<u8>, Fault>
     requires { size < 1000 }
     ensures fault { FailsBy (digits_fault size digits.now) result }
@@ -61,7 +61,7 @@ fn key_of_digits(alloc: Global, digits: &[u8], size: usize) -> Result<Vec<u8>, F
     }
 }
 
-/// The bytes of a key from its digits, of so many bytes. White space is passed over. The fault is
+/// The bytes of a key of `size` bytes, from its digits. White space is passed over. The fault is
 /// `KeyLength` where there are not as many digits, `KeyText` where a character is no digit, and
 /// `Memory` where a request for memory was refused.
 pub fn key_of_text(alloc: Global, text: &[u8], size: usize) -> Result<Vec<u8>, Fault>
@@ -142,7 +142,7 @@ fn key_of_variable(rt: &HostRuntime, name: &str, size: usize) -> Result<Vec<u8>,
     }
 }
 
-/// The bytes of the key, of so many bytes, that the source has. The fault is one of the text, as of
+/// The bytes of the key, `size` of them, that the source has. The fault is one of the text, as of
 /// `key_of_text`, or one of the source: `KeySource`, or `KeyVariable`.
 pub fn read_key(rt: &HostRuntime, source: KeySource, size: usize) -> Result<Vec<u8>, Fault>
     requires { size < 1000 }

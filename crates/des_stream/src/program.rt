@@ -151,7 +151,7 @@ fn cipher_of<C: KeyedCipher>(key: &[u8]) -> Result<C, InvalidLength>
     C::new_from_slice(key)
 }
 
-// The same with a buffer of its own, of so many blocks.
+// The same with a buffer of its own, of `count` blocks.
 fn run_cipher<C: KeyedCipher + ManyBlocks + Drop, R: Read, W: Write>(
     alloc: Global,
     job: &Job,

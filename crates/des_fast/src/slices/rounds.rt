@@ -27,7 +27,7 @@ const PLACES: [usize; 48] = [
 ];
 
 /// The group of six bits of E(R) ^ K that a box replaces, for the box S1 at `number` 0 (FIPS 46-3,
-/// cipher function). K is taken from C and D rotated by so many places.
+/// cipher function). K is taken from C and D rotated by that number of places.
 #[inline(always)]
 fn group<S: Slice>(half: &[S; 32], key: &KeyHalves<S>, rotation: usize, number: usize) -> [S; 6]
     requires around { rotation ≤ 28 }
@@ -58,7 +58,7 @@ fn xor_at<S: Slice>(half: &mut [S; 32], indexes: [usize; 4], changes: [S; 4])
 
 /// Xors f(R, K) into the left half of each block: one round, but for the exchange of the halves
 /// (FIPS 46-3, enciphering). The indexes are where P puts the bits of each box, from 0, and K is
-/// that of C and D rotated by so many places.
+/// that of C and D rotated by that number of places.
 pub(super) fn round<S: Slice>(
     left: &mut [S; 32],
     right: &[S; 32],

@@ -57,6 +57,16 @@ fn streams_go_on_where_they_were_interrupted(rt: HostRuntime) {
     assert!(rt; text == *TEXT);
 }
 
+// A writer that has no room for the last byte takes nothing of it.
+#[test]
+fn a_writer_without_room_is_named(rt: HostRuntime) {
+    let cipher = TdesEde3::new(&THREE);
+    let mut written = [0; 31];
+    let outcome = encrypt(&cipher, IV, &mut &TEXT[..], &mut &mut written[..]);
+    assert!(rt; matches!(outcome, Err(StreamError::Write(_))));
+    assert!(rt; written[..] == ANSWER[..31]);
+}
+
 // The third block alone, of which more follows.
 #[test]
 fn a_part_is_decrypted_by_itself(rt: HostRuntime) {
