@@ -17,7 +17,7 @@ enum { MOST = 1 << 20, RUNS = 5 };
 static const size_t sizes[] = {16, 1024, 8192, MOST};
 static uint8_t message[MOST], key[24], vector[8];
 
-/* What is timed: a call on a message of so many bytes. */
+/* What is timed: a call on a message of this number of bytes. */
 typedef void call(void *state, size_t bytes);
 
 static double now(void) {

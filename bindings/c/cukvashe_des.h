@@ -102,7 +102,7 @@ extern "C" {
 #define CUKVASHE_PADDING_METHOD_2 2
 
 /*
- * The contexts, for the caller's stack or wherever they are wanted: 128, 384, 384, 256 and 256 bytes. They hold the round
+ * The contexts: 128, 384, 384, 256 and 256 bytes, on your stack or where else you need them. They hold the round
  * keys, so they are as secret as the key. Their members are the library's own.
  */
 typedef struct {
@@ -142,7 +142,7 @@ int cukvashe_tdes_eee2_init(cukvashe_tdes_eee2 *context, const uint8_t *key, siz
  * void cukvashe_NAME_decrypt_many(const cukvashe_NAME *context, uint8_t *blocks, size_t count)
  *
  * Encrypts, or decrypts, each of `count` blocks in place, each by itself (electronic codebook). They take 128 blocks at a
- * time, and a list or an end of one that is shorter takes the time of 128 blocks, as long as some 15 blocks one by one.
+ * time. A partial batch costs as much as a full one, about 15 single blocks.
  * At most 20,000 bytes of the stack are used, which is tested.
  */
 void cukvashe_des_encrypt_many(const cukvashe_des *context, uint8_t *blocks, size_t count);
@@ -267,8 +267,8 @@ bool cukvashe_equal_but_parity(const uint8_t first[8], const uint8_t second[8]);
  * zeros at the end of a message. Tags and blocks have 64 bits: a key is for far fewer than 2^32 messages, and of a tag that
  * is cut to 4 bytes one guess in 2^32 is right. All calls read tables at indexes that depend on the key and the message.
  *
- * The contexts have 160, 416, 288, 288 and 416 bytes. They hold round keys and bytes of the message. A copy of one goes on
- * by itself, so that messages that begin alike need the beginning once.
+ * The contexts have 160, 416, 288, 288 and 416 bytes. They hold round keys and bytes of the message. A copy is
+ * independent: for messages with the same beginning, add that once and copy.
  */
 typedef struct {
   uint64_t words[20];
@@ -388,11 +388,11 @@ int cukvashe_dukpt_next_serial(const uint8_t serial[10], uint8_t next[10]);
 
 /*
  * PIN blocks (ISO 9564-1, formats 0, 1 and 3), which are not encrypted here: that is one call of a cipher. PINs have 4 to 12
- * digits and account numbers 13 to 19, of which the last is the check digit. Both are texts: ASCII digits, so many as the
- * length says, with no zero at the end.
+ * digits and account numbers 13 to 19, of which the last is the check digit. Both are texts: ASCII digits, as many as the
+ * length says, without a terminating zero.
  *
- * `transaction` and `fill` are ten digits of four bits, one in a byte: from 0 to 15, and from 10 to 15. All ten are looked at,
- * and the block takes the first so many that it has sixteen digits.
+ * `transaction` and `fill` are ten digits of four bits, one in a byte: from 0 to 15, and from 10 to 15. All ten are checked,
+ * and the block uses the first of them that fill it to sixteen digits.
  *
  * encode gives the block. Its status is that of the first fault: CUKVASHE_PIN_LENGTH, CUKVASHE_PIN_DIGIT,
  * CUKVASHE_ACCOUNT_LENGTH, CUKVASHE_ACCOUNT_DIGIT, CUKVASHE_FILL, in this order; then `block` stays as it was.

@@ -193,7 +193,7 @@ def _vector_of(iv):
 
 
 def _count_of(length):
-    """The number of blocks in so many bytes."""
+    """The number of blocks in `length` bytes."""
     if length % BLOCK_SIZE:
         raise BlockLength(f"{length} bytes are not whole blocks of {BLOCK_SIZE}")
     return length // BLOCK_SIZE
@@ -548,14 +548,14 @@ def pin_encode_0(pin, account):
 
 
 def pin_encode_1(pin, transaction):
-    """The PIN block of format 1 of a PIN and ten transaction digits, bytes from 0 to 15, of which it takes the first so many
+    """The PIN block of format 1 of a PIN and ten transaction digits, bytes from 0 to 15, of which it uses the first ones
     that there is room for."""
     return _encoded(_pin_encode_1, *_text_of(pin), _fill_of(transaction))
 
 
 def pin_encode_3(pin, account, fill):
-    """The PIN block of format 3 of a PIN, an account number, and ten fill digits, random bytes from 10 to 15, of which it takes
-    the first so many that there is room for."""
+    """The PIN block of format 3 of a PIN, an account number, and ten fill digits, random bytes from 10 to 15, of which it uses
+    the first ones that there is room for."""
     return _encoded(_pin_encode_3, *_text_of(pin), *_text_of(account), _fill_of(fill))
 
 

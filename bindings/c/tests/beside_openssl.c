@@ -1,5 +1,5 @@
 /* Each call beside OpenSSL's libcrypto: beside_openssl KEYS KNOWN [LONGEST]. As many random keys with random lists; the keys of
-   the file of known answers; and where LONGEST is given, lists of every length from 0 to 300 blocks, and one of so many. */
+   the file of known answers; and where LONGEST is given, lists of every length from 0 to 300 blocks, and one of LONGEST. */
 #define OPENSSL_SUPPRESS_DEPRECATED
 #include "cases.h"
 #include <openssl/des.h>
@@ -149,7 +149,7 @@ static void list_under(int cipher, const uint8_t *key, const uint8_t *iv, const 
   chains_of(cipher, &copied, iv, plain, wanted, count);
 }
 
-/* A random list of so many blocks under a random key. */
+/* A random list of `count` blocks under a random key. */
 static void random_list(int cipher, size_t count) {
   static uint8_t plain[8 * LONG];
   uint8_t key[24], iv[8];

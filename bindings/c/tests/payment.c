@@ -136,7 +136,7 @@ static void counts(void) {
 
 static const char account[] = "4012345678909"; /* its twelve digits before the last: 401234567890 */
 
-/* A text of so many bytes as it has, and the call's length. */
+/* A text and its length, the two arguments of a call. */
 #define TEXT(text) (const uint8_t *)(text), strlen(text)
 
 /* What decode gave: the digits, and zeros after them. */

@@ -94,14 +94,14 @@ pub fn encode_format_0(pin: &Pin, account: &[u8]) -> Result<Block, PinError> {
     checked(status, block)
 }
 
-/// The block of format 1 of a PIN and ten transaction digits from 0 to 15, of which it takes the first so many that there are
+/// The block of format 1 of a PIN and ten transaction digits from 0 to 15, of which it uses the first ones that fill it to
 /// sixteen digits; `Fill` where one of the ten is above 15.
 pub fn encode_format_1(pin: &Pin, transaction: &[u8; 10]) -> Result<Block, PinError> {
     encode_1(pin.text(), transaction)
 }
 
-/// The block of format 3 of a PIN, an account number as in format 0, and ten fill digits from 10 to 15, of which it takes the
-/// first so many that there are sixteen digits; `Fill` where one of the ten is none of them.
+/// The block of format 3 of a PIN, an account number as in format 0, and ten fill digits from 10 to 15, of which it uses the
+/// first ones that fill it to sixteen digits; `Fill` where one of the ten is none of them.
 pub fn encode_format_3(pin: &Pin, account: &[u8], fill: &[u8; 10]) -> Result<Block, PinError> {
     let (pin, mut block) = (pin.text(), [0; 8]);
     let status = unsafe {
