@@ -2,7 +2,7 @@
 
 ghost use Rattle.std.specs.Prelude.{◌≡◌, ◌↔◌, ◌⊎◌, ◌≤◌, [], length, take, false, not, IfOk, IfErr};
 ghost use Rattle.des_mac.specs.Tags.{IsTruncated};
-ghost use Rattle.cukvashe.specs.Answers.{status_after};
+ghost use Rattle.cukvashe.specs.Answers.{status_after, weak_line};
 ghost use Rattle.cukvashe.specs.Texts.{bytes_of as bytes_of_text, hex_line as hex_line_of};
 
 use crate::digits::{decode, hex_line};
@@ -26,7 +26,8 @@ pub fn status_of(written: u8, is_no: bool) -> u8
 
 /// The answer of a key that is weak, or of one that is not.
 pub fn weak_answer(alloc: Global, is_weak: bool) -> Result<Answer, AllocError>
-    ensures { IfOk result (λ answer. answer.is_no ≡ not is_weak) }
+    ensures yes { IfOk result (λ answer. answer.is_no ≡ not is_weak) }
+    ensures line { IfOk result (λ answer. answer.text.items ≡ weak_line is_weak) }
 {
     let line = if is_weak { "weak\n" } else { "not weak\n" };
     Ok(Answer {
