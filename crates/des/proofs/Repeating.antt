@@ -5,7 +5,7 @@ use Rattle.std.proofs.lemmas.Bool.{and_parts}
 use Rattle.des.specs.KeySchedule.{rotate}
 use Rattle.des.proofs.Rotation.{rotate-rotate}
 
--- bits, and after them the same bits, and so on, so many times in all, with a step taken at each bit from each time to
+-- bits, and after them the same bits, and so on, n times in all, with a step taken at each bit from each time to
 -- the next
 abbrev pub repeated : (Bool → Bool) → ℕ → List Bool → List Bool
 repeated step zero front = []

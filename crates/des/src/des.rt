@@ -248,7 +248,7 @@ impl Clone for Des {
 }
 
 /// Writes the type's name, and no part of the key, whatever options are set. What a writer that
-/// refuses a write has got by then is tested to be a front of that text, and not proved.
+/// refuses a write has got by then is tested to be a prefix of that text, and not proved.
 impl fmt::Debug for Des {
     ghost debug_output = { λ _. Some (codes "Des { ... }") };
 

@@ -2,11 +2,11 @@
 use Rattle.std.specs.Prelude.{ℕ, ℤ, pos, ◌||◌, nat_eq, List, if◌then◌else◌}
 use Rattle.des_mac.specs.Padding.{zeros_after, one_bit_after}
 
--- what goes after so many bytes, by method 1 or 2
+-- what goes after n bytes, by method 1 or 2
 abbrev pub padding_by : ℕ → ℕ → List ℕ
 padding_by method n = if nat_eq method 2 then one_bit_after n else zeros_after n
 
--- the status of a key of so many bytes, where a key has `size`, and of a number of a method
+-- the status of a key of n bytes, where a key has `size`, and of a number of a method
 abbrev pub status_of : ℕ → ℕ → ℕ → ℤ
 status_of size bytes method =
     if nat_eq bytes size then (if nat_eq method 1 || nat_eq method 2 then pos 0 else pos 4) else pos 1

@@ -50,7 +50,7 @@ answered-all f m old all =
     ap₂ (λ (front back : List (List ℕ)). map f front ++ back) (take_all m old all) (drop_all m old all)
     ∙ append-nil (map f old)
 
--- a list written over the front of a longer one leaves room for a batch
+-- a list written over the beginning of a longer one leaves room for a batch
 pub batch-le_filled : {n : ℕ} (batch : ℕ) (part filling : List (List ℕ)) → length part ≤ batch → batch ≤ 256
     → length part ≡ n → length filling ≡ 256 → batch ≤ length (part ++ drop n filling)
 batch-le_filled {n} batch part filling fits most in_part long =
@@ -62,7 +62,7 @@ pub length-filled : {n : ℕ} (batch : ℕ) (part filling : List (List ℕ)) →
 length-filled {n} batch part filling fits most in_part long =
     length-take-le batch (part ++ drop n filling) (batch-le_filled batch part filling fits most in_part long)
 
--- the answers to a list that was written over the front of a longer one
+-- the answers to a list that was written over the beginning of a longer one
 pub answered-front : (f : List ℕ → List ℕ) (n batch : ℕ) (old part filling answers back : List (List ℕ))
     → length old ≡ n → n ≤ batch
     → batch ≤ 256 → length filling ≡ 256 → part ≡ old → answers ≡ map f (take batch (part ++ drop n filling))

@@ -93,7 +93,7 @@ bits_of_lane-row bit rows m lane d inside =
     map-same (λ p. bit (64 * lane + p) (get_or rows m d)) (λ p. get_or (map (bit (64 * lane + p)) rows) m false) 64
     (λ p below. sym (get_or-map (bit (64 * lane + p)) rows m d false inside))
 
--- the blocks of so many words of a row are written, and no other block is
+-- the blocks of the first words of a row are written, and no other block is
 abbrev pub AreWordsWritten : {A : Type 0} → (ℕ → A → Bool) → A → ℕ → List (List ℕ) → List (List ℕ) → ℕ → Type 0
 AreWordsWritten bit row n old new count =
     ((lane : ℕ) → lane < count → get_or new (64 * lane + n) [] ≡ block_of_bits (bits_of_lane bit row lane))

@@ -66,6 +66,6 @@ pub record IsExpansion (word : ℕ) : Type 0 where
 
 -- ---- fours of bits
 
--- four bits in place n, from 1, of so many places for four bits each, with zeros in the others
+-- four bits in place n, from 1, of several places for four bits each, with zeros in the others
 abbrev pub in_place : ℕ → ℕ → List Bool → List Bool
 in_place places n bits = zeros (4 * (n - 1)) ++ bits ++ zeros (4 * (places - n))

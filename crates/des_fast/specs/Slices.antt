@@ -6,7 +6,7 @@ use Rattle.des.specs.Bits.{bit, bits_of, bits_of_word, xor}
 use Rattle.des.specs.Tables.{Box}
 use Rattle.des.specs.CipherFunction.{box_entry}
 
--- what holds of each block of a batch of so many
+-- what holds of each block of a batch
 abbrev pub InEachBlock : ℕ → (ℕ → Type 0) → Type 0
 InEachBlock batch P = (b : ℕ) → b < batch → P b
 

@@ -157,7 +157,7 @@ EncryptsPrefix-written {encryption} {mode} {padding} {r} {s} {t} {u} {v} {w} byt
 
 -- ---- the end within a block
 
--- bytes of which so many are past the last whole block, with their padding, are as many past it
+-- where bytes with their padding are not whole blocks, as many of the bytes are past the last whole one
 past-padded : (padding : Padding) (bytes : List ℕ) (n : ℕ) → length (padded padding bytes) ≡ n → n % 8 ≢ 0
     → length bytes % 8 ≡ n % 8
 past-padded Unpadded bytes n count past = ap (λ m. m % 8) (ap length (sym (append-nil bytes)) ∙ count)

@@ -10,7 +10,7 @@ use borrow.Rule.Slice.PartMut.{put_mid}
 
 -- ---- how long padding is
 
--- so many bytes as are missing from a block, or none
+-- the bytes that are missing from a block, or none
 length-padding_after : (padding : Padding) (past : ℕ) → past < 8 → padding ≢ Unpadded
     → length (padding_after padding past) ≡ 8 - past
 length-padding_after Pkcs7 past below pads = length-replicate (8 - past) (8 - past)

@@ -56,7 +56,7 @@ module _ (e : List ℕ → List ℕ) (Relates : List ℕ → List ℕ → Type 0
       ∙ sym (block_before-next zero_block is.chain (length m / 8) (omega arith))
       ∙ sym (chain_after-chained is.chain is.chained (length m / 8) (omega arith))
 
-  -- the chain as a list, of so many blocks after the first n
+  -- the chain as a list, of the blocks after the first n
   chain_list : ℕ → ℕ → List (List ℕ)
   chain_list n zero = []
   chain_list n (suc k) = chain_after e m (suc n) ∷ chain_list (suc n) k

@@ -9,7 +9,7 @@ abbrev pub retail_mac : (List ℕ → List ℕ → List ℕ) → (List ℕ → L
 retail_mac encryption decryption first second m =
     encryption first (decryption second (cbc_mac (encryption first) m))
 
--- the same of a key that is two keys of so many bytes, one after the other
+-- the same of a key that is two keys of `size` bytes, one after the other
 abbrev pub retail_mac_of : ℕ → (List ℕ → List ℕ → List ℕ) → (List ℕ → List ℕ → List ℕ)
     → List ℕ → List ℕ → List ℕ
 retail_mac_of size encryption decryption key m =

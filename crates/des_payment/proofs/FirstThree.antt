@@ -8,7 +8,7 @@ use Rattle.std.proofs.lemmas.List.Elements.{filter_more, filter_passes, All-filt
 use Rattle.std.proofs.lemmas.List.Sums.{list_all-from_AllPass}
 use Rattle.des_payment.specs.CardVerification.{is_decimal, is_letter, decimals_first}
 
--- so many digits are written as a list has, or three, and they are its first ones
+-- the digits that are written are the first three of a list, or all of a shorter one
 pub record IsFront (count : ℕ) (value xs : List ℕ) : Type 0 where
   pub count_is : count ≡ min 3 (length xs)
   pub front : take count value ≡ take 3 xs

@@ -67,7 +67,7 @@ all_pass true false c d none = (cc, cc, cc, cc)
 all_pass true true false d none = (cc, cc, cc, cc)
 all_pass true true true false none = (cc, cc, cc, cc)
 
--- so many digits 15 are fill digits
+-- digits that are all 15 are fill digits
 list_all-replicate : (least n : ℕ) → least ≤ 15 → list_all (is_fill least) (replicate n 15) ≡ true
 list_all-replicate least zero at_most = refl
 list_all-replicate least (suc n) at_most =

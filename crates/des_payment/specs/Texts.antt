@@ -7,7 +7,7 @@ use Rattle.std.specs.Char.{is_ascii_digit}
 abbrev pub are_digits : List ℕ → Bool
 are_digits text = list_all is_ascii_digit text
 
--- a text of so many digits, at least and at most
+-- a text of digits, from the least to the greatest number of them
 abbrev pub IsNumber : ℕ → ℕ → List ℕ → Type 0
 IsNumber least most text = (least ≤ length text) × (length text ≤ most) × IsTrue (are_digits text)
 
@@ -26,7 +26,7 @@ IsPin pin = IsNumber 4 12 pin
 abbrev pub IsAccountNumber : List ℕ → Type 0
 IsAccountNumber account = IsNumber 13 19 account
 
--- the fault of a text that is to have so many digits, if it has one: one for its length, then one
+-- the fault of a text that is to have a number of digits, if it has one: one for its length, then one
 -- for its characters
 abbrev pub number_fault : {E : Type 0} → ℕ → ℕ → E → E → List ℕ → Option E
 number_fault least most length_fault digit_fault text =

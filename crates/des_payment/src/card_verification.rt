@@ -15,7 +15,7 @@ use crate::texts::{are_digits, to_text, to_values};
 use crate::xor::xored;
 use des::tdes::key_part;
 
-// Whether a text is a number of so many digits: its fault, if it has one.
+// Whether a text is a number of `least` to `most` digits: its fault, if it has one.
 fn check_number(
     text: &[u8],
     least: usize,

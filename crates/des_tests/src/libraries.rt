@@ -3,10 +3,10 @@
 
 mod blocks;
 mod ciphers;
-mod fronts;
 mod known;
 mod lengths;
 mod lists;
+mod prefixes;
 mod steps;
 mod texts;
 mod weak_keys;

@@ -12,7 +12,7 @@ pub fn remade<K: KeyBytes>(key: &K) -> Option<K>
     K::from_bytes(key.as_bytes())
 }
 
-/// How often a cipher has a whole number of blocks to treat at a time in so many bytes: a block has
+/// How often a cipher has a whole number of blocks to treat at a time in a number of bytes: a block has
 /// eight of them.
 pub fn whole_batches<C: ParBlocksSizeUser>(bytes: &[u8]) -> usize
     ensures { result ≡ length bytes.now / 8 / C.PAR_BLOCKS }

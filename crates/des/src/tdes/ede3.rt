@@ -141,7 +141,7 @@ impl<D: SingleDes> Complementing for Ede3<D> {
 }
 
 /// Writes the type's name, and no part of the key, whatever options are set. What a writer that
-/// refuses a write has got by then is tested to be a front of that text, and not proved.
+/// refuses a write has got by then is tested to be a prefix of that text, and not proved.
 impl<D: SingleDes> fmt::Debug for Ede3<D> {
     ghost debug_output = { λ _. Some (codes "TdesEde3 { ... }") };
 

@@ -129,7 +129,7 @@ pub extern "C" fn cukvashe_pin_encode_3(
     }
 }
 
-/// The PIN of a block of format 0 and an account number: so many ASCII digits, with zeros after
+/// The PIN of a block of format 0 and an account number: its ASCII digits, with zeros after
 /// them. The status of the first fault is 10 or 11 where it is the account number's, 7 where the
 /// block has another format, 8 or 9 where its PIN has another length or a digit above 9, and 12
 /// where it is not filled with 15, and then nothing is written.

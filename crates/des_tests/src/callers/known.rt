@@ -1,6 +1,6 @@
 //! The keys, blocks and answers of the tests.
 
-// NIST Special Publication 800-67, appendix B: a key, its front of two parts and of one, and "The
+// NIST Special Publication 800-67, appendix B: a key, its prefix of two parts and of one, and "The
 // qufck brown fox jump" with its answers by the EDE form under three parts.
 pub const ONE: [u8; 8] = *b"\x01\x23\x45\x67\x89\xab\xcd\xef";
 

@@ -1,10 +1,10 @@
 //! Lists of 130 blocks, a whole batch and two blocks after it, by the calls of every cipher, by
 //! those of `ManyBlocks` that name no width, and by keys that are spread once.
 
-use crate::libraries::fronts::{answers_each_length, keys_answer_lengths};
 use crate::libraries::known::{
     DES, EDE2, EDE3, EEE2, EEE3, IV, Known, LIST_PARTS, STEP, blocks, multiples,
 };
+use crate::libraries::prefixes::{answers_each_length, keys_answer_lengths};
 use des::cbc;
 use des::cipher::{BlockCipher, KeyedCipher};
 use des_fast::many::{ListKeys, ManyBlocks, Slice, SpreadOnce};

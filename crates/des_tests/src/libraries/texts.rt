@@ -56,7 +56,7 @@ fn errors_write_their_texts(rt: HostRuntime) {
 // More writes than a text takes, so that none is refused.
 const ENOUGH: usize = 1000;
 
-// Takes text, but for one write, after so many that it takes. The text of that write is lost or
+// Takes text, but for one write, after a number of others. The text of that write is lost or
 // kept, as the page is made; the writes after it are taken again.
 #[derive(Drop)]
 struct Page {
@@ -82,12 +82,12 @@ impl Page {
         &self.bytes[..self.taken] == text.as_bytes()
     }
 
-    // Whether what came is the front of a text.
-    fn has_front(&self, text: &str) -> bool {
+    // Whether what came is a prefix of a text.
+    fn has_prefix(&self, text: &str) -> bool {
         text.as_bytes().starts_with(&self.bytes[..self.taken])
     }
 
-    // A text that is too long fills the page, which then has the front of none.
+    // A text that is too long fills the page, which then has the prefix of none.
     fn push(&mut self, text: &str) {
         let left = &mut self.bytes[self.taken..];
         if text.len() < left.len() {
@@ -110,17 +110,17 @@ impl Write for Page {
     }
 }
 
-// Whether a page gets a front of the text alone, and all of it where no write was refused, under
+// Whether a page gets a prefix of the text alone, and all of it where no write was refused, under
 // the options of this number.
-fn gets_a_front<D: fmt::Debug>(value: &D, text: &str, options: usize, mut page: Page) -> bool {
+fn gets_a_prefix<D: fmt::Debug>(value: &D, text: &str, options: usize, mut page: Page) -> bool {
     match write_debug(&mut page, value, options) {
         Ok(()) => page.has(text),
-        Err(_) => page.has_front(text),
+        Err(_) => page.has_prefix(text),
     }
 }
 
 // Whether a value writes its text under the options of this number, and a page that refuses one
-// write, after whatever number of them, gets a front of the text alone: there is at most one write
+// write, after whatever number of them, gets a prefix of the text alone: there is at most one write
 // for each byte.
 fn shows_alone<D: fmt::Debug>(value: &D, text: &str, options: usize) -> bool {
     let mut whole = Page::new(ENOUGH, false);
@@ -128,8 +128,8 @@ fn shows_alone<D: fmt::Debug>(value: &D, text: &str, options: usize) -> bool {
         return false;
     }
     for takes in 0..text.len() + 1 {
-        if !gets_a_front(value, text, options, Page::new(takes, true))
-            || !gets_a_front(value, text, options, Page::new(takes, false))
+        if !gets_a_prefix(value, text, options, Page::new(takes, true))
+            || !gets_a_prefix(value, text, options, Page::new(takes, false))
         {
             return false;
         }

@@ -72,7 +72,7 @@ fn lists_keys_in_their_places(rt: HostRuntime) {
     assert!(rt; key_at(16) == 0x01011f1f01010e0e && key_at(63) == 0xfefee0e0fefef1f1);
 }
 
-// How many listed keys have so many round keys.
+// How many listed keys have this number of round keys.
 fn listed_with(count: u8) -> usize {
     WEAK_KEYS
         .iter()

@@ -15,7 +15,7 @@ fn shows_no_digit(rt: HostRuntime) -> Result<(), Fail> {
     Ok(())
 }
 
-// Refuses one write, after so many that it takes, and counts the bytes that come after that one.
+// Refuses one write, after a number of others, and counts the bytes that come after that one.
 #[derive(Drop)]
 struct Refusing {
     takes: usize,

@@ -1,4 +1,4 @@
--- The blocks are written over the front of the filling, and a batch of both is answered.
+-- The blocks are written over the beginning of the filling, and a batch of both is answered.
 use Rattle.std.proofs.Common.{length, refl, arith}
 use Rattle.des_fast.specs.Passes.{block_through_passes}
 use Rattle.des_fast.proofs.AnsweredBatches.{answered-front}

@@ -2,7 +2,7 @@ use Rattle.std.proofs.Common.{◌≡◌, ◌-◌, ◌≤◌, length}
 use Rattle.des_io.specs.Streams.{Skips}
 use Rattle.des_io.proofs.part.skip_blocks.Given as goal
 
--- blocks were read, and so many are left
+-- blocks were read, and the others are left
 abbrev pub invariant-loop : goal.invariant-loop
 invariant-loop g l = record {
   count : length l.bytes ≡ length l.initial.bytes;

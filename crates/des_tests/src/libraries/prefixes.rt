@@ -14,7 +14,7 @@ const LONGEST: usize = 513;
 
 type Long = [[u8; 8]; LONGEST];
 
-// What a cipher makes of the longest list, one by one: what it makes of a shorter one is a front.
+// What a cipher makes of the longest list, one by one: what it makes of a shorter one is a prefix.
 fn answers_of<C: BlockCipher>(cipher: &C) -> [Long; 3] {
     let (mut encrypted, mut decrypted, mut unchained) = (
         multiples(STEP),
@@ -27,7 +27,7 @@ fn answers_of<C: BlockCipher>(cipher: &C) -> [Long; 3] {
     [encrypted, decrypted, unchained]
 }
 
-// Whether the list begins with so many of the answers, and the others are left.
+// Whether the list begins with `count` of the answers, and its other blocks are as they were.
 fn joins(list: &Long, count: usize, answers: &Long, blocks: &Long) -> bool
     requires { count ≤ LONGEST }
 {
@@ -35,7 +35,7 @@ fn joins(list: &Long, count: usize, answers: &Long, blocks: &Long) -> bool
 }
 
 // Whether the first blocks of the list are answered so, and the others left.
-fn answers_front<S: Slice, C: ManyBlocks>(cipher: &C, count: usize, answers: &[Long; 3]) -> bool
+fn answers_prefix<S: Slice, C: ManyBlocks>(cipher: &C, count: usize, answers: &[Long; 3]) -> bool
     requires { count ≤ LONGEST }
 {
     let blocks: Long = multiples(STEP);
@@ -53,7 +53,7 @@ fn answers_front<S: Slice, C: ManyBlocks>(cipher: &C, count: usize, answers: &[L
 pub fn answers_each_length<S: Slice, C: ManyBlocks, P: BlockCipher>(cipher: &C, port: &P) -> bool {
     let answers = answers_of(port);
     for count in 0..301usize {
-        if !answers_front::<S, C>(cipher, count, &answers) {
+        if !answers_prefix::<S, C>(cipher, count, &answers) {
             return false;
         }
     }
@@ -61,7 +61,7 @@ pub fn answers_each_length<S: Slice, C: ManyBlocks, P: BlockCipher>(cipher: &C, 
 }
 
 // Whether keys answer the first blocks of the list so, and leave the others.
-fn keys_answer_front<K: ListKeys>(keys: &K, count: usize, answers: &[Long; 3]) -> bool
+fn keys_answer_prefix<K: ListKeys>(keys: &K, count: usize, answers: &[Long; 3]) -> bool
     requires { count ≤ LONGEST }
 {
     let blocks: Long = multiples(STEP);
@@ -81,7 +81,7 @@ const LENGTHS: [usize; 11] = [0, 1, 2, 19, 127, 128, 129, 256, 257, 300, LONGEST
 pub fn keys_answer_lengths<K: ListKeys, P: BlockCipher>(keys: &K, port: &P) -> bool {
     let answers = answers_of(port);
     for count in LENGTHS {
-        if count > LONGEST || !keys_answer_front(keys, count, &answers) {
+        if count > LONGEST || !keys_answer_prefix(keys, count, &answers) {
             return false;
         }
     }
