@@ -3,14 +3,14 @@ use Rattle.std.proofs.Common.{◌≡◌, ◌≢◌, inr, ℕ, ◌-◌, ◌%◌, 
 use Rattle.std.specs.Prelude.{Err}
 use Rattle.std.specs.Io.KnownBytes.{Appends, IsAtEnd}
 use Rattle.std.proofs.KnownBytes.{Appends-trans, Consumes-nil}
-use Rattle.des_io.specs.PaddedBytes.{padded, padding_after}
+use Rattle.des_io.specs.PaddedBytes.{padded, padding_after, taken_off}
 use Rattle.des_io.specs.Streams.{passage_of, joined, bytes_of, IsBlockIfThere, IsWithin, HoldsLast, Decrypts}
 use Rattle.des_io.specs.StreamFaults.{EndsStream, IsWronglyPadded, FailsToDecrypt}
 use Rattle.des_io.specs.declared.error.StreamError.{StreamError}
 use Rattle.des_io.specs.declared.error.StreamError.TheVariants.{Read, Write, Length, Start, Padding as WrongPadding}
 use Rattle.des_io.specs.declared.mode.Mode.{Mode}
 use Rattle.des_io.specs.declared.padding.Padding.{Padding}
-use Rattle.des_io.specs.declared.padding.Padding.TheVariants.{Pkcs7, Iso7816, Unpadded}
+use Rattle.des_io.specs.declared.padding.Padding.TheVariants.{Pkcs7, Iso7816, Zeros, Unpadded}
 use Rattle.des_io.proofs.DecryptedPrefixes.{DeciphersPrefix-ended, HoldsPrefix-read, WithinPrefix, WithinPrefix-held}
 use Rattle.des_io.proofs.DecryptedPieces.{even_bytes}
 use Rattle.des_io.proofs.PaddedLists.{padded-append, last_block}
@@ -30,7 +30,7 @@ even_whole {held} so_far =
 -- the last bytes without their padding
 pub Decrypts-ended : {decryption : List ℕ → List ℕ} {mode : Mode} (padding : Padding) {r s u v w : Option (List ℕ)}
     {held : Option (List ℕ)} (plain : List ℕ)
-    → (so_far : HoldsLast decryption mode (passage_of r s u v) held) → padded padding plain ≡ bytes_of held
+    → (so_far : HoldsLast decryption mode (passage_of r s u v) held) → padded (taken_off padding) plain ≡ bytes_of held
     → Appends v w plain
     → (all : Decrypts decryption mode padding (passage_of r s u w)) × (all.q ≡ so_far.q)
 Decrypts-ended padding {u} {v} {w} plain so_far is written = (
@@ -42,7 +42,7 @@ Decrypts-ended padding {u} {v} {w} plain so_far is written = (
     blocks = so_far.blocks;
     deciphered = so_far.deciphered;
     whole = sym so_far.whole ∙ ap (λ l. so_far.put ++ l) (sym is)
-        ∙ sym (padded-append padding so_far.put plain so_far.even);
+        ∙ sym (padded-append (taken_off padding) so_far.put plain so_far.even);
     even = even_whole so_far;
     written = Appends-trans u v w _ _ so_far.written written;
   },
@@ -54,10 +54,10 @@ pub WithinPrefix-ended : {decryption : List ℕ → List ℕ} {mode : Mode} {pad
     {r s u v w : Option (List ℕ)} {held : Option (List ℕ)} (plain put missing : List ℕ)
     → (so_far : HoldsLast decryption mode (passage_of r s u v) held)
     → IsWithin limit (length so_far.q)
-    → IsAtEnd s → padded padding plain ≡ bytes_of held → put ++ missing ≡ plain → Appends v w put
+    → IsAtEnd s → padded (taken_off padding) plain ≡ bytes_of held → put ++ missing ≡ plain → Appends v w put
     → WithinPrefix decryption mode padding limit (passage_of r s u w)
 WithinPrefix-ended {padding} {held} plain put missing so_far within end is begins written =
-    let after = padding_after padding (length plain % 8) in
+    let after = padding_after (taken_off padding) (length plain % 8) in
     let prefix = sym (append_assoc put missing after) ∙ ap (λ l. l ++ after) begins ∙ is in
     record {
       prefix = DeciphersPrefix-ended put (missing ++ after) so_far prefix written;
@@ -67,7 +67,8 @@ WithinPrefix-ended {padding} {held} plain put missing so_far within end is begin
         missing = missing;
         end = end;
         all = refl;
-        whole = padded-append padding so_far.put plain so_far.even ∙ ap (λ l. so_far.put ++ l) is ∙ so_far.whole;
+        whole = padded-append (taken_off padding) so_far.put plain so_far.even ∙ ap (λ l. so_far.put ++ l) is
+            ∙ so_far.whole;
         begins = append_assoc so_far.put put missing ∙ ap (λ l. so_far.put ++ l) begins;
       };
     }
@@ -81,9 +82,12 @@ same_after prefix a b same =
 -- what is not the last bytes with their padding is not the whole with its padding
 wrong_whole : (padding : Padding) (held : Option (List ℕ)) (prefix all : List ℕ) → IsBlockIfThere held
     → length prefix % 8 ≡ 0 → prefix ++ bytes_of held ≡ all
-    → (held ≡ None → all ≡ []) → ((plain : List ℕ) → padded padding plain ≢ bytes_of held) → (plain : List ℕ)
-    → padded padding plain ≢ all
+    → (held ≡ None → all ≡ []) → ((plain : List ℕ) → padded (taken_off padding) plain ≢ bytes_of held)
+    → (plain : List ℕ)
+    → padded (taken_off padding) plain ≢ all
 wrong_whole Unpadded held prefix all size even is none wrong plain same = absurd
+    (wrong (bytes_of held) (append-nil (bytes_of held)))
+wrong_whole Zeros held prefix all size even is none wrong plain same = absurd
     (wrong (bytes_of held) (append-nil (bytes_of held)))
 wrong_whole Pkcs7 None prefix all size even is none wrong plain same = absurd (wrong plain (same ∙ none refl))
 wrong_whole Iso7816 None prefix all size even is none wrong plain same = absurd (wrong plain (same ∙ none refl))
@@ -110,7 +114,7 @@ all_but (Some block) prefix all size is none =
 pub IsWronglyPadded-ended : {decryption : List ℕ → List ℕ} {mode : Mode} (padding : Padding)
     {r s u v w : Option (List ℕ)} {held : Option (List ℕ)}
     → (so_far : HoldsLast decryption mode (passage_of r s u v) held)
-    → ((plain : List ℕ) → padded padding plain ≢ bytes_of held)
+    → ((plain : List ℕ) → padded (taken_off padding) plain ≢ bytes_of held)
     → w ≡ v
     → IsAtEnd s → (wrong : IsWronglyPadded decryption mode padding (passage_of r s u w)) × (wrong.q ≡ so_far.q)
 IsWronglyPadded-ended padding {u} {w} {held} so_far wrong same end =

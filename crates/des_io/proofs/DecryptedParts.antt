@@ -3,7 +3,7 @@ use Rattle.std.proofs.Common.{◌≡◌, ◌≢◌, ◌⊎◌, inl, inr, ap₂, 
 use Rattle.std.specs.Io.KnownBytes.{Consumes, Appends, IsAtEnd}
 use Rattle.std.proofs.KnownBytes.{Consumes-trans, Consumes-nil}
 use Rattle.std.specs.Prelude.{Result, Ok, Err, IfOk, IfErr}
-use Rattle.des_io.specs.PaddedBytes.{padded}
+use Rattle.des_io.specs.PaddedBytes.{padded, taken_off}
 use Rattle.des_io.specs.Streams.{Passage, passage_of, joined, bytes_of, IsWithin, HoldsLast, HoldsPart, HoldsPrefix, DecryptsPart, DecryptsPartPrefix}
 use Rattle.des_io.specs.StreamFaults.{EndsStream, FailsInPart}
 use Rattle.des_io.specs.declared.error.StreamError.{StreamError}
@@ -150,7 +150,7 @@ DecryptsPart-ended : {decryption : List ℕ → List ℕ} {mode : Mode} {padding
     {limit : Option ℕ} {r s t u v w : Option (List ℕ)} {held : Option (List ℕ)} (bytes plain : List ℕ)
     → (part : HoldsPart decryption mode limit (passage_of r s u v) held)
     → Consumes s t bytes
-    → padded taken plain ≡ bytes_of held → Appends v w plain
+    → padded (taken_off taken) plain ≡ bytes_of held → Appends v w plain
     → ((bytes ≡ []) × IsAtEnd t × (taken ≡ padding) × (part.holds.q ≢ [])) ⊎ ((length bytes ≡ 1) × (taken ≡ Unpadded))
     → DecryptsPart decryption mode padding limit (passage_of r t u w)
 DecryptsPart-ended taken {limit} {s} bytes plain part read is written after =

@@ -12,9 +12,9 @@ use Rattle.des_io.specs.Streams.{Passage, passage_of, joined, EnciphersPiece, En
 use Rattle.des_io.specs.StreamFaults.{EndsInBlock}
 use Rattle.des_io.specs.declared.mode.Mode.{Mode}
 use Rattle.des_io.specs.declared.padding.Padding.{Padding}
-use Rattle.des_io.specs.declared.padding.Padding.TheVariants.{Pkcs7, Iso7816, Unpadded}
+use Rattle.des_io.specs.declared.padding.Padding.TheVariants.{Pkcs7, Iso7816, Zeros, Unpadded}
 use Rattle.des_io.proofs.ModesInPieces.{Enciphered-append, Enciphered-none, mode_after-append, mode_after-none}
-use Rattle.des_io.proofs.PaddedLists.{padded-append, length-padded}
+use Rattle.des_io.proofs.PaddedLists.{padded-append, length-padded, length-zeros}
 
 -- the bytes of two lists of blocks
 pub joined-append : (a b : List (List ℕ)) → joined (a ++ b) ≡ joined a ++ joined b
@@ -164,6 +164,7 @@ past-padded Unpadded bytes n count past = ap (λ m. m % 8) (ap length (sym (appe
 past-padded Pkcs7 bytes n count past = absurd (past (omega (arith, sym (length-padded Pkcs7 bytes (λ e. cc)) ∙ count)))
 past-padded Iso7816 bytes n count past = absurd (past (omega
     (arith, sym (length-padded Iso7816 bytes (λ e. cc)) ∙ count)))
+past-padded Zeros bytes n count past = absurd (past (omega (arith, sym (length-zeros bytes) ∙ count)))
 
 -- only where there is no padding
 pub unpadded-past : (padding : Padding) (bytes : List ℕ) (n : ℕ) → length (padded padding bytes) ≡ n → n % 8 ≢ 0
@@ -173,6 +174,7 @@ unpadded-past Pkcs7 bytes n count past = absurd (past (omega
     (arith, sym (length-padded Pkcs7 bytes (λ e. cc)) ∙ count)))
 unpadded-past Iso7816 bytes n count past = absurd (past
     (omega (arith, sym (length-padded Iso7816 bytes (λ e. cc)) ∙ count)))
+unpadded-past Zeros bytes n count past = absurd (past (omega (arith, sym (length-zeros bytes) ∙ count)))
 
 pub EndsInBlock-padded : {encryption : List ℕ → List ℕ} {mode next : Mode} (padding : Padding)
     {r s t u v : Option (List ℕ)} (bytes : List ℕ) (n : ℕ)

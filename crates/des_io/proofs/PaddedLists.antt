@@ -3,25 +3,39 @@ use Rattle.std.proofs.Common.{◌≡◌, ◌≢◌, ℕ, suc, ◌-◌, ◌%◌, 
 use Rattle.std.proofs.lemmas.List.{take_more_set, length-replicate, get_or-replicate, get_or-append_right, take-append-le}
 use Rattle.std.proofs.lemmas.Slice.{take-put_mid}
 use Rattle.std.proofs.Math.ListN.{length-set}
-use Rattle.des_io.specs.PaddedBytes.{padding_after, padded}
+use Rattle.des_io.specs.PaddedBytes.{padding_after, padded, taken_off}
 use Rattle.des_io.specs.declared.padding.Padding.{Padding}
-use Rattle.des_io.specs.declared.padding.Padding.TheVariants.{Pkcs7, Iso7816, Unpadded}
+use Rattle.des_io.specs.declared.padding.Padding.TheVariants.{Pkcs7, Iso7816, Zeros, Unpadded}
 use borrow.Rule.Slice.PartMut.{put_mid}
 
 -- ---- how long padding is
 
 -- the bytes that are missing from a block, or none
-length-padding_after : (padding : Padding) (past : ℕ) → past < 8 → padding ≢ Unpadded
+length-padding_after : (padding : Padding) (past : ℕ) → past < 8 → taken_off padding ≢ Unpadded
     → length (padding_after padding past) ≡ 8 - past
 length-padding_after Pkcs7 past below pads = length-replicate (8 - past) (8 - past)
 length-padding_after Iso7816 past below pads = ap suc (length-replicate (7 - past) 0) ∙ omega arith
+length-padding_after Zeros past below pads = absurd (pads refl)
 length-padding_after Unpadded past below pads = absurd (pads refl)
 
-pub length-padded : (padding : Padding) (bytes : List ℕ) → padding ≢ Unpadded
+pub length-padded : (padding : Padding) (bytes : List ℕ) → taken_off padding ≢ Unpadded
     → length (padded padding bytes) ≡ length bytes + (8 - length bytes % 8)
 length-padded padding bytes pads =
     length-append bytes (padding_after padding (length bytes % 8))
     ∙ ap (λ n. length bytes + n) (length-padding_after padding (length bytes % 8) (omega arith) pads)
+
+-- with zeros
+pub length-zeros : (bytes : List ℕ) → length (padded Zeros bytes) ≡ length bytes + (8 - length bytes % 8) % 8
+length-zeros bytes =
+    length-append bytes (padding_after Zeros (length bytes % 8))
+    ∙ ap (λ n. length bytes + n) (length-replicate ((8 - length bytes % 8) % 8) 0)
+
+-- what decryption takes off, it takes off
+pub taken_off-twice : (padding : Padding) → taken_off (taken_off padding) ≡ taken_off padding
+taken_off-twice Pkcs7 = refl
+taken_off-twice Iso7816 = refl
+taken_off-twice Zeros = refl
+taken_off-twice Unpadded = refl
 
 -- the bytes are the prefix of what they are with their padding
 pub take-padded : (padding : Padding) (bytes : List ℕ) → take (length bytes) (padded padding bytes) ≡ bytes
@@ -46,11 +60,14 @@ padded-at padding bytes i after = get_or-append_right bytes (padding_after paddi
     (length bytes) i 0 refl after
 
 -- lists of different lengths have different ones
-not_shorter : (padding : Padding) (a b : List ℕ) → padded padding a ≡ padded padding b → length a < length b → ⊥
+not_shorter : (padding : Padding) (a b : List ℕ) → padded (taken_off padding) a ≡ padded (taken_off padding) b
+    → length a < length b → ⊥
+not_shorter Zeros a b same shorter =
+    let lengths : length a ≡ length b = ap length (sym (append-nil a) ∙ same ∙ append-nil b) in omega (arith, lengths)
 not_shorter Unpadded a b same shorter =
     let lengths : length a ≡ length b = ap length (sym (append-nil a) ∙ same ∙ append-nil b) in omega (arith, lengths)
 not_shorter Pkcs7 a b same shorter =
-    let pads : Pkcs7 ≢ Unpadded = (λ e. cc) in
+    let pads : taken_off Pkcs7 ≢ Unpadded = (λ e. cc) in
     let lengths : length a + (8 - length a % 8) ≡ length b + (8 - length b % 8) =
     sym (length-padded Pkcs7 a pads) ∙ ap length same ∙ length-padded Pkcs7 b pads in
     let i = length b in
@@ -61,7 +78,7 @@ not_shorter Pkcs7 a b same shorter =
     ∙ padded-at Pkcs7 b i (omega arith) ∙ second in
     omega (arith, lengths, counts)
 not_shorter Iso7816 a b same shorter =
-    let pads : Iso7816 ≢ Unpadded = (λ e. cc) in
+    let pads : taken_off Iso7816 ≢ Unpadded = (λ e. cc) in
     let lengths : length a + (8 - length a % 8) ≡ length b + (8 - length b % 8) =
     sym (length-padded Iso7816 a pads) ∙ ap length same ∙ length-padded Iso7816 b pads in
     let i = length b in
@@ -77,18 +94,19 @@ not_shorter Iso7816 a b same shorter =
     ∙ padded-at Iso7816 b i (omega arith) ∙ second in
     omega (arith, counts)
 
--- a list is determined by its bytes with their padding: taking the padding off gives the list back
-pub padded-injective : (padding : Padding) (a b : List ℕ) → padded padding a ≡ padded padding b → a ≡ b
+-- a list is determined by its bytes with the padding that is taken off: taking it off gives the list back
+pub padded-injective : (padding : Padding) (a b : List ℕ)
+    → padded (taken_off padding) a ≡ padded (taken_off padding) b → a ≡ b
 padded-injective padding a b same =
     let not_less : length a < length b → ⊥ = not_shorter padding a b same in
     let not_more : length b < length a → ⊥ = not_shorter padding b a (sym same) in
     let lengths : length a ≡ length b = omega arith in
-    sym (take-padded padding a) ∙ ap₂ take lengths same ∙ take-padded padding b
+    sym (take-padded (taken_off padding) a) ∙ ap₂ take lengths same ∙ take-padded (taken_off padding) b
 
 -- ---- the last block
 
 -- bytes with their padding that end in a block after whole ones are those whole ones, and bytes with that last block
-pub last_block : (padding : Padding) (bytes prefix block : List ℕ) → padding ≢ Unpadded → length block ≡ 8
+pub last_block : (padding : Padding) (bytes prefix block : List ℕ) → taken_off padding ≢ Unpadded → length block ≡ 8
     → padded padding bytes ≡ prefix ++ block
     → (rest : List ℕ) × (bytes ≡ prefix ++ rest)
 last_block padding bytes prefix block pads eight same =

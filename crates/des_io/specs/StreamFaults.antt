@@ -6,7 +6,7 @@ use Rattle.std.specs.IoError.{error_kind}
 use Rattle.std.specs.declared.io.Error.{Error}
 use Rattle.std.specs.declared.io.ErrorKind.TheVariants.{Interrupted}
 use Rattle.des.specs.Blocks.{IsBlock}
-use Rattle.des_io.specs.PaddedBytes.{padded}
+use Rattle.des_io.specs.PaddedBytes.{padded, taken_off}
 use Rattle.des_io.specs.CipherModes.{Deciphered}
 use Rattle.des_io.specs.Streams.{joined, IsWithin, Passage}
 use Rattle.des_io.specs.declared.mode.Mode.{Mode}
@@ -23,8 +23,8 @@ pub record EndsInBlock (read_from read_to : Option (List ℕ)) (past : ℕ) : Ty
   pub count : length bytes % 8 ≡ past
   pub some : past ≢ 0
 
--- all was read, blocks q, and no bytes are p with their padding, which is q deciphered; all but the
--- last block of p was written
+-- all was read, blocks q, and p is q deciphered; no bytes are p with the padding that is taken off,
+-- and all but the last block of p was written
 pub record IsWronglyPadded (decryption : List ℕ → List ℕ) (mode : Mode) (padding : Padding) (passage : Passage)
     : Type 0 where
   pub q : List (List ℕ)
@@ -33,7 +33,7 @@ pub record IsWronglyPadded (decryption : List ℕ → List ℕ) (mode : Mode) (p
   pub end : IsAtEnd passage.read_to
   pub blocks : All IsBlock q
   pub deciphered : Deciphered decryption mode q p
-  pub wrong : (plain : List ℕ) → padded padding plain ≢ joined p
+  pub wrong : (plain : List ℕ) → padded (taken_off padding) plain ≢ joined p
   pub written : Appends passage.written_from passage.written_to (take (length (joined p) - 8) (joined p))
 
 -- the error is no interruption, after which a call is made again
@@ -75,17 +75,18 @@ FailsBefore (Read error) limit read_from read_to = IsLasting error
 FailsBefore (Write error) limit read_from read_to = IsLasting error
 
 -- what the end of a stream gives, whose last block is `last`, or none: at success the writer has
--- the bytes that with their padding are `last`; where there are none such, it is as it was; and at a
+-- the bytes that with the padding that is taken off are `last`; where there are none such, it is as it was; and at a
 -- fault of writing it has a prefix of them
 abbrev pub EndsStream : (padding : Padding) (last : List ℕ) (written_from written_to : Option (List ℕ))
     (result : Result (Unit {0}) StreamError) → Type 0
 EndsStream padding last written_from written_to (Ok done) =
-    (plain : List ℕ) × (padded padding plain ≡ last) × Appends written_from written_to plain
+    (plain : List ℕ) × (padded (taken_off padding) plain ≡ last) × Appends written_from written_to plain
 EndsStream padding last written_from written_to (Err WrongPadding) =
-    ((plain : List ℕ) → padded padding plain ≢ last) × (written_to ≡ written_from)
+    ((plain : List ℕ) → padded (taken_off padding) plain ≢ last) × (written_to ≡ written_from)
 EndsStream padding last written_from written_to (Err fault) =
     IsOfWriting fault
-    × ((plain : List ℕ) × (k : ℕ) × (padded padding plain ≡ last) × Appends written_from written_to (take k plain))
+    × ((plain : List ℕ) × (k : ℕ) × (padded (taken_off padding) plain ≡ last)
+    × Appends written_from written_to (take k plain))
 
 -- what a fault says of a decryption
 abbrev pub FailsToDecrypt : (fault : StreamError) (decryption : List ℕ → List ℕ) (mode : Mode) (padding : Padding)

@@ -3,7 +3,7 @@ use Rattle.std.specs.Prelude.{◌≡◌, ◌≢◌, ◌⊎◌, ℕ, ◌+◌, ◌
 use Rattle.std.specs.List.{All, flat_map}
 use Rattle.std.specs.Io.KnownBytes.{Consumes, Appends, IsAtEnd}
 use Rattle.des.specs.Blocks.{IsBlock}
-use Rattle.des_io.specs.PaddedBytes.{padded}
+use Rattle.des_io.specs.PaddedBytes.{padded, taken_off}
 use Rattle.des_io.specs.CipherModes.{Enciphered, Deciphered, mode_after}
 use Rattle.des_io.specs.declared.mode.Mode.{Mode}
 use Rattle.des_io.specs.declared.padding.Padding.{Padding}
@@ -128,8 +128,8 @@ pub record DeciphersPiece (decryption : List ℕ → List ℕ) (bytes : List ℕ
   pub count : length p ≡ length q
   pub written : WritesPiece from.held to.held p from.written to.written Succeeds
 
--- blocks q were read, and bytes were written that are p with their padding, which is q deciphered,
--- and whole blocks
+-- blocks q were read, and p is q deciphered; bytes were written that with the padding that is taken
+-- off are p, and whole blocks
 pub record Decrypts (decryption : List ℕ → List ℕ) (mode : Mode) (padding : Padding) (passage : Passage)
     : Type 0 where
   pub q : List (List ℕ)
@@ -138,7 +138,7 @@ pub record Decrypts (decryption : List ℕ → List ℕ) (mode : Mode) (padding 
   pub read : Consumes passage.read_from passage.read_to (joined q)
   pub blocks : All IsBlock q
   pub deciphered : Deciphered decryption mode q p
-  pub whole : joined p ≡ padded padding plain
+  pub whole : joined p ≡ padded (taken_off padding) plain
   pub even : length (joined p) % 8 ≡ 0
   pub written : Appends passage.written_from passage.written_to plain
 
@@ -196,14 +196,15 @@ pub record HoldsPrefix (decryption : List ℕ → List ℕ) (mode : Mode) (limit
   pub within : IsWithin limit (length prefix.q)
   pub held : IsHeldBack prefix.put prefix.missing
 
--- all was read, and the bytes that were written begin those which with their padding are p
+-- all was read, and the bytes that were written begin those which with the padding that is taken off
+-- are p
 pub record BeginsPlain (padding : Padding) (p : List (List ℕ)) (rest put : List ℕ) (read_to : Option (List ℕ))
     : Type 0 where
   pub plain : List ℕ
   pub missing : List ℕ
   pub end : IsAtEnd read_to
   pub all : rest ≡ []
-  pub whole : padded padding plain ≡ joined p
+  pub whole : padded (taken_off padding) plain ≡ joined p
   pub begins : put ++ missing ≡ plain
 
 -- what was written begins what was read, deciphered, with the last block held back, or, only where

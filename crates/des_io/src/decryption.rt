@@ -136,7 +136,8 @@ pub fn decrypt_blocks<R: Read, W: Write, C: ManyBlocks>(
     Err(StreamError::Read(without_end()))
 }
 
-/// Writes the last block of a list of blocks without its padding. The writer is not flushed.
+/// Writes the last block of a list of blocks without its padding, or, where that is `Zeros`, as it
+/// is. The writer is not flushed.
 ///
 /// The error is `Padding` where it is the last block of no padded bytes, and nothing is then
 /// written; and `Write` where the writer failed, which then has a prefix of the bytes before the
@@ -154,14 +155,14 @@ pub fn finish<W: Write>(
             Some(count) => write_whole(writer, &block[..count]),
             None => Err(StreamError::Padding),
         },
-        None if padding == Padding::Unpadded => Ok(()),
+        None if padding.taken_off() == Padding::Unpadded => Ok(()),
         None => Err(StreamError::Padding),
     }
 }
 
 /// Decrypts what the reader gives, up to its end, and writes it without its padding, a buffer at a
-/// time. The buffer has one block at least; what it holds afterwards, which can be plaintext, is not
-/// said. The writer is not flushed.
+/// time; where that is `Zeros`, nothing is taken off. The buffer has one block at least; what it holds
+/// afterwards, which can be plaintext, is not said. The writer is not flushed.
 ///
 /// The error is `Read` or `Write` where the reader or the writer failed, `Length` where what was read
 /// is not whole blocks, and `Padding` where its padding is wrong. The writer then has a prefix of the

@@ -1,7 +1,7 @@
 //! Bytes that go from a reader to a writer through a cipher: in a mode of operation (ECB or CBC)
-//! and with a padding (PKCS#7, ISO/IEC 7816-4 or none), a buffer at a time, over any cipher with
-//! the trait `ManyBlocks` of `des_fast`. The reader, the writer and the buffer are the caller's: no
-//! call takes memory, however much goes through.
+//! and with a padding (PKCS#7, ISO/IEC 7816-4, zeros or none), a buffer at a time, over any cipher
+//! with the trait `ManyBlocks` of `des_fast`. The reader, the writer and the buffer are the
+//! caller's: no call takes memory, however much goes through.
 //!
 //! What is written is the ciphertext or the plaintext of all that was read; after an error it is a
 //! prefix of it. Nothing is authenticated: a changed ciphertext decrypts to something, mostly with no

@@ -2,7 +2,7 @@
 
 ghost use Rattle.std.specs.Prelude.{◌≡◌, ◌≢◌, ◌<◌, ◌≤◌, ◌%◌, ℕ, List, length, take, Some, IfSome};
 ghost use Rattle.std.specs.Prelude.{IfNone};
-ghost use Rattle.des_io.specs.PaddedBytes.{padded};
+ghost use Rattle.des_io.specs.PaddedBytes.{padded, taken_off as taken_off_of};
 ghost use Rattle.des_io.specs.declared.padding.Padding.TheVariants.{Unpadded};
 
 /// How bytes are made whole blocks.
@@ -13,8 +13,23 @@ pub enum Padding {
     Pkcs7,
     /// ISO/IEC 7816-4: a byte 80 in hexadecimal digits, and as many zeros as are then missing.
     Iso7816,
+    /// Zeros: as few zero bytes as make whole blocks, none after whole blocks. Nothing tells them
+    /// from data, so decryption takes nothing off.
+    Zeros,
     /// None: the bytes are whole blocks.
     Unpadded,
+}
+
+impl Padding {
+    /// The padding that decryption takes off: `Unpadded` for `Zeros`, else this one.
+    pub fn taken_off(self) -> Padding
+        ensures { result ≡ taken_off_of self }
+    {
+        match self {
+            Padding::Zeros => Padding::Unpadded,
+            _ => self,
+        }
+    }
 }
 
 /// Writes the padding after the first `count` bytes, and gives their number with it.
@@ -35,13 +50,18 @@ pub fn pad(padding: Padding, bytes: &mut [u8], count: usize) -> usize
             bytes[count + 1..end].fill(0);
             end
         }
+        Padding::Zeros => {
+            let end = count + (8 - count % 8) % 8;
+            bytes[count..end].fill(0);
+            end
+        }
         Padding::Unpadded => count,
     }
 }
 
 // A block of the first bytes of another, and their padding.
 fn padded_prefix(padding: Padding, block: &[u8; 8], count: usize) -> [u8; 8]
-    requires padding { padding ≢ Unpadded }
+    requires padding { taken_off_of padding ≢ Unpadded }
     requires room { count < 8 }
     ensures { result ≡ padded padding (take count block.now) }
 {
@@ -50,14 +70,15 @@ fn padded_prefix(padding: Padding, block: &[u8; 8], count: usize) -> [u8; 8]
     prefix
 }
 
-/// The number of bytes of the last block of padded bytes that stand before the padding; none where
-/// no bytes have this last block with their padding.
+/// The number of bytes of the last block of padded bytes that stand before the padding that is
+/// taken off; none where no bytes have this last block with it.
 pub fn count_before(padding: Padding, block: &[u8; 8]) -> Option<usize>
     ensures found { IfSome result (λ count.
-        (count ≤ 8) × (padded padding (take count block.now) ≡ block.now)) }
-    ensures back { (bytes : List ℕ) → padded padding bytes ≡ block.now
+        (count ≤ 8) × (padded (taken_off_of padding) (take count block.now) ≡ block.now)) }
+    ensures back { (bytes : List ℕ) → padded (taken_off_of padding) bytes ≡ block.now
         → result ≡ Some (length bytes) }
 {
+    let padding = padding.taken_off();
     if padding == Padding::Unpadded {
         return Some(8);
     }

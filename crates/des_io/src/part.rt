@@ -65,9 +65,9 @@ fn is_at_end<R: Read>(reader: &mut R) -> Result<bool, StreamError>
 }
 
 /// Decrypts a part of `limit` blocks, or up to the end of the reader, and writes it. One byte more
-/// is read, where there is one. Where the reader is then at its end, the padding is taken off, and
-/// there must be a block. The buffer has one block at least; what it holds afterwards, which can be
-/// plaintext, is not said. The writer is not flushed.
+/// is read, where there is one. Where the reader is then at its end, the padding is taken off, none
+/// where it is `Zeros`, and there must be a block. The buffer has one block at least; what it holds
+/// afterwards, which can be plaintext, is not said. The writer is not flushed.
 ///
 /// The error is `Start` where there is no block, `Padding` where the padding is wrong, `Length` where
 /// what was read is not whole blocks, and `Read` or `Write` where the reader or the writer failed.

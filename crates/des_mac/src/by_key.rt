@@ -5,14 +5,14 @@ ghost use Rattle.des.specs.Blocks.{IsKey};
 
 use des::cipher::{KeyBytes, KeyedCipher, are_bytes};
 
-// The bytes of a key are one.
+/// The bytes of a key are one: as many as the key size, each below 256.
 pub fn are_key_bytes<K: KeyBytes>(key: &K)
     ensures { IsKey K.LEN (K.bytes_of key.now) }
 {
     key.as_bytes();
 }
 
-// Encrypts a block.
+/// Encrypts a block.
 pub fn encrypt<C: KeyedCipher>(cipher: &C, block: &mut [u8; 8])
     ensures { (key : List ℕ) → IsKey C.KEY_SIZE key → C.is_made_from cipher.now key
         → block.new ≡ C.encryption key block.old }
@@ -21,7 +21,7 @@ pub fn encrypt<C: KeyedCipher>(cipher: &C, block: &mut [u8; 8])
     cipher.encrypt_block(block);
 }
 
-// Decrypts a block.
+/// Decrypts a block.
 pub fn decrypt<C: KeyedCipher>(cipher: &C, block: &mut [u8; 8])
     ensures { (key : List ℕ) → IsKey C.KEY_SIZE key → C.is_made_from cipher.now key
         → block.new ≡ C.decryption key block.old }

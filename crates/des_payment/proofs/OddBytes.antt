@@ -7,7 +7,7 @@ use Rattle.des.proofs.ParityBits.{same_from_upper_bits, count_ones-xor_one}
 use Rattle.des_payment.specs.Components.{odd}
 
 -- it is one
-odd-parts : (byte : ℕ) → (odd byte / 2 ≡ byte / 2) × (count_ones (odd byte) % 2 ≡ 1)
+pub odd-parts : (byte : ℕ) → (odd byte / 2 ≡ byte / 2) × (count_ones (odd byte) % 2 ≡ 1)
 odd-parts byte =
     cond_both (count_ones byte % 2 == 1) byte (bit_xor byte 1)
     (λ other. (other / 2 ≡ byte / 2) × (count_ones other % 2 ≡ 1))

@@ -1,7 +1,7 @@
 -- The keys of a transaction: DUKPT, derived unique key per transaction, with triple DES (ANSI
 -- X9.24-1:2009, Annex A). A key has two halves of eight bytes. A key serial number has ten bytes,
 -- of which the last 21 bits are the transaction counter.
-use Rattle.std.specs.Prelude.{ℕ, zero, suc, ◌+◌, ◌-◌, ◌*◌, ◌/◌, ◌%◌, ◌^◌, ◌<◌, ◌≤◌, ◌==◌, if◌then◌else◌, List, [], ◌∷◌, ◌++◌, take, drop, bit_or, count_ones}
+use Rattle.std.specs.Prelude.{◌≢◌, ℕ, zero, suc, ◌+◌, ◌-◌, ◌*◌, ◌/◌, ◌%◌, ◌^◌, ◌<◌, ◌≤◌, ◌==◌, if◌then◌else◌, List, [], ◌∷◌, ◌++◌, take, drop, bit_or, count_ones}
 use Rattle.std.specs.Int.{w64, bit_at, to_be_bytes, from_be_bytes}
 use Rattle.des.specs.Blocks.{part}
 use Rattle.des.specs.Cbc.{xor_blocks}
@@ -98,6 +98,10 @@ data_key message key = encrypted_under_itself (masked (data_mask message) key)
 -- a transaction's counter: 21 bits, at most ten of them ones
 abbrev pub IsUsable : ℕ → Type 0
 IsUsable counter = (counter < 2 ^ 21) × (count_ones counter ≤ 10)
+
+-- the serial number is that of a transaction: counter 0 is that of the initial key
+abbrev pub IsOfTransaction : List ℕ → Type 0
+IsOfTransaction serial = (counter_of serial ≢ 0) × IsUsable (counter_of serial)
 
 -- the next counter: the least one after this that is usable
 pub record IsNextCounter (counter next : ℕ) : Type 0 where

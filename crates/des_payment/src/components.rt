@@ -19,7 +19,9 @@ fn sum_of<const N: usize>(first: &[u8; N], others: &[[u8; N]]) -> [u8; N]
     sum
 }
 
-fn set_odd_parity(key: &mut [u8])
+/// Sets in each byte of a key, of any length, the lowest bit, its parity bit, such that the number
+/// of ones is odd (FIPS 46-3, key schedule). The other bits stay.
+pub fn set_odd_parity(key: &mut [u8])
     ensures { key.new ≡ map odd key.old }
 {
     for byte in key.iter_mut() {

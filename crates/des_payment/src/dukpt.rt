@@ -4,13 +4,13 @@
 //! A key has 16 bytes, two halves of 8. A key serial number has ten bytes, of which the last 21
 //! bits are the transaction counter.
 
-ghost use Rattle.std.specs.Prelude.{◌≡◌, ℕ, ◌+◌, ◌^◌, ◌<◌, ◌++◌, take, IfSome, IfNone};
+ghost use Rattle.std.specs.Prelude.{◌≡◌, ◌↔◌, ℕ, ◌+◌, ◌^◌, ◌<◌, ◌++◌, take, IfSome, IfNone, IsTrue};
 ghost use Rattle.std.specs.Int.{w64, to_be_bytes};
 ghost use Rattle.des_payment.specs.Dukpt.{masked as masked_by, last_bytes as last_bytes_of, counter_of, first_bytes as first_bytes_of};
 ghost use Rattle.des_payment.specs.Dukpt.{initial_key as initial_key_of, next_half as next_half_of, next_key as next_key_of};
 ghost use Rattle.des_payment.specs.Dukpt.{transaction_key as transaction_key_of, pin_key as pin_key_of, mac_mask as mac_mask_of};
 ghost use Rattle.des_payment.specs.Dukpt.{mac_key as mac_key_of, data_mask as data_mask_of, encrypted_under_itself as under_itself};
-ghost use Rattle.des_payment.specs.Dukpt.{data_key as data_key_of, IsUsable, IsNextCounter, with_counter};
+ghost use Rattle.des_payment.specs.Dukpt.{data_key as data_key_of, IsUsable, IsNextCounter, with_counter, IsOfTransaction};
 
 use crate::passes::{encrypted_by_des, encrypted_by_ede2};
 use crate::xor::xored;
@@ -158,6 +158,15 @@ pub fn data_key(transaction: &[u8; 16], message: Message) -> [u8; 16]
     let left = encrypted_by_ede2(&key, &key_part(&key, 1));
     let right = encrypted_by_ede2(&key, &key_part(&key, 2));
     joined(&left, &right)
+}
+
+/// Whether a transaction can have this key serial number: its counter is not 0, whose key is the
+/// initial key, and has at most ten one bits (ANSI X9.24-1:2009, Annex A).
+pub fn is_usable(serial: &[u8; 10]) -> bool
+    ensures { IsTrue result ↔ IsOfTransaction serial.now }
+{
+    let counter = last_bytes(serial) % COUNTERS;
+    counter != 0 && counter.count_ones() <= MOST_ONES
 }
 
 /// The next key serial number: that whose counter is the least one above, of 21 bits, with at most

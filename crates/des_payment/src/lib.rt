@@ -23,7 +23,7 @@ mod xor;
 
 pub use card_verification::cvv;
 pub use check_values::check_value;
-pub use components::combine;
+pub use components::{combine, set_odd_parity};
 pub use cvv_error::CvvError;
 pub use pin::Pin;
 pub use pin_error::PinError;
