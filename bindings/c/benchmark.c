@@ -1,21 +1,29 @@
 /*
  * Nanoseconds for a block of 8 bytes, beside OpenSSL's EVP and libgcrypt: DES and triple DES (EDE, three parts), each block
- * by itself (ECB) and chained (CBC), each way, in messages of 16 bytes to 1 MiB. Keys are set before the clock runs, which is
- * that of the process; the least of a few runs counts. An empty cell is a call that there is not.
+ * by itself (ECB) and chained (CBC), each way, in messages of 8 bytes to 1 MiB. Then, for lists of few blocks and of about a batch,
+ * the nanoseconds of a whole call, beside those of each of the ways that it chooses from. Keys are set before the clock runs, which is
+ * that of the process; the least of a hundred short runs counts (of ten for 1 MiB). An empty cell is a way that there is not.
  */
-#include <cukvashe_des.h>
-#include <gcrypt.h>
+#include "internal.h"
 #include <openssl/evp.h>
 #include <openssl/provider.h>
 #include <stdio.h>
 #include <stdlib.h>
-#include <string.h>
 #include <time.h>
+#ifdef HAS_GCRYPT
+#include <gcrypt.h>
+#endif
 
-enum { MOST = 1 << 20, RUNS = 5 };
+enum { MOST = 1 << 20, RUNS = 100 };
 
-static const size_t sizes[] = {16, 1024, 8192, MOST};
-static uint8_t message[MOST], key[24], vector[8];
+static const size_t sizes[] = {8, 16, 64, 136, 256, 1024, 8192, MOST};
+static uint8_t message[MOST], key[24], iv[8];
+static bool is_v3;
+
+static void fail(const char *what) {
+  fprintf(stderr, "benchmark: %s\n", what);
+  exit(1);
+}
 
 /* What is timed: a call on a message of this number of bytes. */
 typedef void call(void *state, size_t bytes);
@@ -26,58 +34,84 @@ static double now(void) {
   return (double)t.tv_sec * 1e9 + (double)t.tv_nsec;
 }
 
-/* The least time for a block, of runs of some 8 ms. */
-static double time_of(call *timed, void *state, size_t bytes) {
-  double least = 1e18;
-  for (int run = 0; run < RUNS; run++) {
-    size_t calls = 0;
-    double start = now(), end = start;
-    while (end - start < 8e6) {
-      for (int i = 0; i < 8; i++) timed(state, bytes);
-      calls += 8;
-      end = now();
-    }
-    double each = (end - start) / ((double)calls * (double)bytes / 8);
-    if (each < least) least = each;
+/* A call with its state, and the least time that it took; none is an empty cell. */
+struct timed {
+  call *call;
+  void *state;
+  double least;
+};
+
+/* The time of a call, over a short run. */
+static double run_of(const struct timed *timed, size_t bytes) {
+  const size_t each = bytes > 4096 ? 1 : 16;
+  size_t calls = 0;
+  double start = now(), end = start;
+  while (end - start < 5e5) {
+    for (size_t i = 0; i < each; i++) timed->call(timed->state, bytes);
+    calls += each;
+    end = now();
   }
-  return least;
+  return (end - start) / (double)calls;
 }
 
-/* The calls of this library, one by one, 128 at a time and 256 at a time. */
-#define CALLS(name)                                                                                   \
-  static cukvashe_##name name##_context;                                                              \
-  static void name##_ecb(void *encrypts, size_t bytes) {                                              \
-    if (*(int *)encrypts) cukvashe_##name##_encrypt_blocks(&name##_context, message, bytes / 8);      \
-    else cukvashe_##name##_decrypt_blocks(&name##_context, message, bytes / 8);                       \
-  }                                                                                                   \
-  static void name##_ecb_many(void *encrypts, size_t bytes) {                                         \
-    if (*(int *)encrypts) cukvashe_##name##_encrypt_many(&name##_context, message, bytes / 8);        \
-    else cukvashe_##name##_decrypt_many(&name##_context, message, bytes / 8);                         \
-  }                                                                                                   \
-  static void name##_ecb_wide(void *encrypts, size_t bytes) {                                         \
-    if (*(int *)encrypts) cukvashe_wide_##name##_encrypt_many(&name##_context, message, bytes / 8);   \
-    else cukvashe_wide_##name##_decrypt_many(&name##_context, message, bytes / 8);                    \
-  }                                                                                                   \
-  static void name##_cbc(void *encrypts, size_t bytes) {                                              \
-    if (*(int *)encrypts) cukvashe_##name##_encrypt_cbc(&name##_context, vector, message, bytes / 8); \
-    else cukvashe_##name##_decrypt_cbc(&name##_context, vector, message, bytes / 8);                  \
-  }                                                                                                   \
-  static void name##_cbc_many(void *encrypts, size_t bytes) {                                         \
-    (void)encrypts;                                                                                   \
-    cukvashe_##name##_decrypt_cbc_many(&name##_context, vector, message, bytes / 8);                  \
-  }                                                                                                   \
-  static void name##_cbc_wide(void *encrypts, size_t bytes) {                                         \
-    (void)encrypts;                                                                                   \
-    cukvashe_wide_##name##_decrypt_cbc_many(&name##_context, vector, message, bytes / 8);             \
+/* The cells of a row, over a number of blocks. The calls run in turn, so that what slows the processor for a while, as another
+   virtual machine on it, slows all of them. */
+static void cells(struct timed *row, size_t count, size_t bytes, size_t blocks) {
+  for (size_t n = 0; n < count; n++) row[n].least = 1e18;
+  for (int run = 0; run < (bytes > 65536 ? RUNS / 10 : RUNS); run++)
+    for (size_t n = 0; n < count; n++) {
+      double time = row[n].call ? run_of(&row[n], bytes) : 0;
+      if (time < row[n].least) row[n].least = time;
+    }
+  for (size_t n = 0; n < count; n++)
+    if (row[n].call) printf(" %8.1f |", row[n].least / (double)blocks);
+    else printf("          |");
+  printf("\n");
+  fflush(stdout);
+}
+
+/* What a call of this library is: the names of its tables below, and the way that it goes. */
+struct ours {
+  int is_chained, encrypts, way;
+};
+
+enum { PUBLIC, ONE_BY_ONE, NARROW, WIDE };
+
+/* Pieces that are too short for a batch. */
+enum { FEW = 8 * 18 };
+
+/* The calls of a cipher: ECB both ways, CBC both ways, and by one way or another where there are several. */
+#define CALLS(name)                                                                                            \
+  static cukvashe_##name name##_context;                                                                       \
+  static int name##_ecb(const struct ours *by, uint8_t *data, size_t length) {                                 \
+    const cukvashe_##name *c = &name##_context;                                                                \
+    if (by->way == NARROW)                                                                                     \
+      return by->encrypts ? cukvashe_narrow_##name##_encrypt_ecb(c, data, length)                              \
+                          : cukvashe_narrow_##name##_decrypt_ecb(c, data, length);                             \
+    if (by->way == WIDE)                                                                                       \
+      return by->encrypts ? cukvashe_wide_##name##_encrypt_ecb(c, data, length)                                \
+                          : cukvashe_wide_##name##_decrypt_ecb(c, data, length);                               \
+    return by->encrypts ? cukvashe_##name##_encrypt_ecb(c, data, length)                                       \
+                        : cukvashe_##name##_decrypt_ecb(c, data, length);                                      \
+  }                                                                                                            \
+  static int name##_cbc(const struct ours *by, uint8_t *data, size_t length) {                                 \
+    const cukvashe_##name *c = &name##_context;                                                                \
+    if (by->encrypts) return cukvashe_##name##_encrypt_cbc(c, iv, data, length);                               \
+    if (by->way == NARROW) return cukvashe_narrow_##name##_decrypt_cbc(c, iv, data, length);                   \
+    if (by->way == WIDE) return cukvashe_wide_##name##_decrypt_cbc(c, iv, data, length);                       \
+    return cukvashe_##name##_decrypt_cbc(c, iv, data, length);                                                 \
+  }                                                                                                            \
+  static void name##_call(void *state, size_t bytes) {                                                         \
+    const struct ours *by = (const struct ours *)state;                                                        \
+    const size_t most = by->way == ONE_BY_ONE ? FEW : bytes;                                                   \
+    for (size_t from = 0; from < bytes; from += most) {                                                        \
+      size_t length = bytes - from < most ? bytes - from : most;                                               \
+      if ((by->is_chained ? name##_cbc : name##_ecb)(by, message + from, length)) fail(#name);                 \
+    }                                                                                                          \
   }
 
 CALLS(des)
 CALLS(tdes_ede3)
-
-static void fail(const char *what) {
-  fprintf(stderr, "benchmark: %s\n", what);
-  exit(1);
-}
 
 static void openssl_call(void *state, size_t bytes) {
   int count;
@@ -87,12 +121,13 @@ static void openssl_call(void *state, size_t bytes) {
 static EVP_CIPHER_CTX *openssl_of(const char *name, int encrypts) {
   EVP_CIPHER *cipher = EVP_CIPHER_fetch(NULL, name, NULL);
   EVP_CIPHER_CTX *state = EVP_CIPHER_CTX_new();
-  if (!cipher || !state || !EVP_CipherInit_ex(state, cipher, NULL, key, vector, encrypts)) fail(name);
+  if (!cipher || !state || !EVP_CipherInit_ex(state, cipher, NULL, key, iv, encrypts)) fail(name);
   EVP_CIPHER_CTX_set_padding(state, 0);
   EVP_CIPHER_free(cipher);
   return state;
 }
 
+#ifdef HAS_GCRYPT
 struct gcrypt {
   gcry_cipher_hd_t handle;
   int encrypts;
@@ -110,54 +145,77 @@ static struct gcrypt gcrypt_of(int is_triple, int is_chained, int encrypts) {
   if (gcry_cipher_open(&made.handle, is_triple ? GCRY_CIPHER_3DES : GCRY_CIPHER_DES,
                        is_chained ? GCRY_CIPHER_MODE_CBC : GCRY_CIPHER_MODE_ECB, 0) ||
       gcry_cipher_setkey(made.handle, key, is_triple ? 24 : 8) ||
-      (is_chained && gcry_cipher_setiv(made.handle, vector, 8)))
+      (is_chained && gcry_cipher_setiv(made.handle, iv, 8)))
     fail("gcry_cipher_open");
   return made;
 }
-
-static void cell(call *timed, void *state, size_t bytes) {
-  if (timed)
-    printf(" %8.1f |", time_of(timed, state, bytes));
-  else
-    printf("          |");
-}
+#endif
 
 static void rows(int is_triple, int is_chained, int encrypts) {
-  static const char *names[2][2] = {{"DES-ECB", "DES-CBC"}, {"DES-EDE3-ECB", "DES-EDE3-CBC"}};
-  call *one = is_chained ? (is_triple ? tdes_ede3_cbc : des_cbc) : (is_triple ? tdes_ede3_ecb : des_ecb);
-  call *many = is_chained ? (is_triple ? tdes_ede3_cbc_many : des_cbc_many) : (is_triple ? tdes_ede3_ecb_many : des_ecb_many);
-  call *wide = is_chained ? (is_triple ? tdes_ede3_cbc_wide : des_cbc_wide) : (is_triple ? tdes_ede3_ecb_wide : des_ecb_wide);
-  int is_serial = is_chained && encrypts;
-  EVP_CIPHER_CTX *openssl = openssl_of(is_triple && !is_chained ? "DES-EDE3" : names[is_triple][is_chained], encrypts);
+  static const char *names[2][2] = {{"DES-ECB", "DES-CBC"}, {"DES-EDE3", "DES-EDE3-CBC"}};
+  struct ours ours = {is_chained, encrypts, PUBLIC};
+  EVP_CIPHER_CTX *openssl = openssl_of(names[is_triple][is_chained], encrypts);
+  struct timed row[3] = {{is_triple ? tdes_ede3_call : des_call, &ours, 0}, {openssl_call, openssl, 0}, {NULL, NULL, 0}};
+#ifdef HAS_GCRYPT
   struct gcrypt gcrypt = gcrypt_of(is_triple, is_chained, encrypts);
+  row[2].call = gcrypt_call;
+  row[2].state = &gcrypt;
+#endif
   for (size_t i = 0; i < sizeof sizes / sizeof *sizes; i++) {
     printf("| %s | %s | %s | %7zu |", is_triple ? "EDE3" : "DES ", is_chained ? "CBC" : "ECB", encrypts ? "encrypt" : "decrypt",
            sizes[i]);
-    cell(one, &encrypts, sizes[i]);
-    cell(is_serial ? NULL : many, &encrypts, sizes[i]);
-    cell(is_serial || !cukvashe_has_wide() ? NULL : wide, &encrypts, sizes[i]);
-    cell(openssl_call, openssl, sizes[i]);
-    cell(gcrypt_call, &gcrypt, sizes[i]);
-    printf("\n");
-    fflush(stdout);
+    cells(row, 3, sizes[i], sizes[i] / 8);
   }
   EVP_CIPHER_CTX_free(openssl);
+#ifdef HAS_GCRYPT
   gcry_cipher_close(gcrypt.handle);
+#endif
+}
+
+/* One by one up to some 300 blocks; a batch from 19 blocks on, since fewer go one by one. */
+static void ways(int is_triple, int is_chained, int encrypts) {
+  static const size_t counts[] = {14, 16, 17, 18, 19, 20, 22, 64, 127, 128, 129, 146, 147, 256, 257, 274, 275, 300};
+  for (size_t i = 0; i < sizeof counts / sizeof *counts; i++) {
+    struct ours ours[4];
+    struct timed row[4];
+    for (int way = PUBLIC; way <= WIDE; way++) {
+      const struct ours by = {is_chained, encrypts, way};
+      const bool is_none = (way == WIDE && !is_v3) || (way >= NARROW && counts[i] < 19);
+      ours[way] = by;
+      row[way].call = is_none ? NULL : is_triple ? tdes_ede3_call : des_call;
+      row[way].state = &ours[way];
+    }
+    printf("| %s | %s | %s | %7zu |", is_triple ? "EDE3" : "DES ", is_chained ? "CBC" : "ECB", encrypts ? "encrypt" : "decrypt",
+           counts[i]);
+    cells(row, 4, 8 * counts[i], 1);
+  }
 }
 
 int main(void) {
   OSSL_PROVIDER *legacy = OSSL_PROVIDER_load(NULL, "legacy"), *usual = OSSL_PROVIDER_load(NULL, "default");
+  const struct processor words = cukvashe_internal_processor();
+  const char *gcrypt = "without libgcrypt";
+  is_v3 = cukvashe_internal_is_v3(&words);
   if (!legacy || !usual) fail("OpenSSL's providers default and legacy");
-  gcry_check_version(NULL);
+#ifdef HAS_GCRYPT
+  gcrypt = gcry_check_version(NULL);
   gcry_control(GCRYCTL_INITIALIZATION_FINISHED, 0);
+#endif
   for (size_t i = 0; i < sizeof key; i++) key[i] = (uint8_t)(17 * i * i + 59 * i + 3);
-  cukvashe_des_init(&des_context, key, 8);
-  cukvashe_tdes_ede3_init(&tdes_ede3_context, key, 24);
-  printf("Nanoseconds for a block; %s, libgcrypt %s\n\n", OpenSSL_version(OPENSSL_VERSION), gcry_check_version(NULL));
-  printf("| cipher | mode | direction | bytes | one by one | 128 at a time | 256 at a time | OpenSSL | libgcrypt |\n");
-  printf("|---|---|---|---|---|---|---|---|---|\n");
+  if (cukvashe_des_init(&des_context, key, 8) || cukvashe_tdes_ede3_init(&tdes_ede3_context, key, 24)) fail("init");
+  printf("Nanoseconds for a block; %s, libgcrypt %s\n\n", OpenSSL_version(OPENSSL_VERSION), gcrypt);
+  printf("| cipher | mode | direction | bytes | Cukvashe | OpenSSL | libgcrypt |\n");
+  printf("|---|---|---|---|---|---|---|\n");
   for (int is_triple = 0; is_triple < 2; is_triple++)
     for (int is_chained = 0; is_chained < 2; is_chained++)
       for (int encrypts = 1; encrypts >= 0; encrypts--) rows(is_triple, is_chained, encrypts);
+  printf("\nNanoseconds for a list, by the call and by each way\n\n");
+  printf("| cipher | mode | direction | blocks | the call | one by one | 128 at a time | 256 at a time |\n");
+  printf("|---|---|---|---|---|---|---|---|\n");
+  for (int is_triple = 0; is_triple < 2; is_triple++) {
+    ways(is_triple, 0, 1);
+    ways(is_triple, 0, 0);
+    ways(is_triple, 1, 0);
+  }
   return 0;
 }

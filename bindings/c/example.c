@@ -7,13 +7,18 @@ int main(void) {
       0x01, 0x23, 0x45, 0x67, 0x89, 0xab, 0xcd, 0xef, 0x23, 0x45, 0x67, 0x89,
       0xab, 0xcd, 0xef, 0x01, 0x45, 0x67, 0x89, 0xab, 0xcd, 0xef, 0x01, 0x23,
   };
-  uint8_t blocks[24] = {
+  uint8_t data[24] = {
       0xa8, 0x26, 0xfd, 0x8c, 0xe5, 0x3b, 0x85, 0x5f, 0xcc, 0xe2, 0x1c, 0x81,
       0x12, 0x25, 0x6f, 0xe6, 0x68, 0xd5, 0xc0, 0x5d, 0xd9, 0xb6, 0xb9, 0x00,
   };
   cukvashe_tdes_ede3 context;
-  if (cukvashe_tdes_ede3_init(&context, key, sizeof key) != CUKVASHE_OK) return 1;
-  cukvashe_tdes_ede3_decrypt_blocks(&context, blocks, 3);
-  printf("%.24s\n", (const char *)blocks);
+  int status = cukvashe_tdes_ede3_init(&context, key, sizeof key);
+  if (status == CUKVASHE_OK) status = cukvashe_tdes_ede3_decrypt_ecb(&context, data, sizeof data);
+  cukvashe_wipe(&context, sizeof context);
+  if (status != CUKVASHE_OK) {
+    fprintf(stderr, "%s\n", cukvashe_strerror(status));
+    return 1;
+  }
+  printf("%.24s\n", (const char *)data);
   return 0;
 }

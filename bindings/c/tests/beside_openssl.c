@@ -6,53 +6,37 @@
 
 enum { MOST = 600, BATCHES = 300, LONG = 65536, AFTER = 8 * MOST };
 
-/* The parts of a key of two or three parts, as OpenSSL's schedules. */
+/* The parts of a key, as OpenSSL's schedules. */
 struct schedules {
   DES_key_schedule part[3];
 };
 
 static struct schedules schedules_of(int cipher, const uint8_t *key) {
   struct schedules made;
-  for (int i = 0; i < 3; i++) {
-    int from = cipher == DES || (i == 2 && ciphers[cipher].key_size == 16) ? 0 : i;
-    DES_set_key_unchecked((const_DES_cblock *)(key + 8 * from), &made.part[i]);
-  }
+  for (size_t i = 0; i < 3; i++)
+    DES_set_key_unchecked((const_DES_cblock *)(key + 8 * i % ciphers[cipher].key_size), &made.part[i]);
   return made;
 }
 
-static void pass(uint8_t *block, struct schedules *by, int part, int direction) {
-  DES_ecb_encrypt((const_DES_cblock *)block, (DES_cblock *)block, &by->part[part], direction);
-}
-
-/* What OpenSSL makes of a block: one pass, DES_ecb3_encrypt for EDE, three passes for EEE. */
+/* What OpenSSL makes of a block. */
 static void answer(int cipher, struct schedules *by, uint8_t *block, int direction) {
-  if (cipher == DES) {
-    pass(block, by, 0, direction);
-  } else if (cipher == EDE3 || cipher == EDE2) {
-    DES_ecb3_encrypt((const_DES_cblock *)block, (DES_cblock *)block, &by->part[0], &by->part[1], &by->part[2], direction);
-  } else {
-    for (int i = 0; i < 3; i++) pass(block, by, direction ? i : 2 - i, direction);
-  }
+  const_DES_cblock *from = (const_DES_cblock *)block;
+  DES_cblock *to = (DES_cblock *)block;
+  if (cipher == DES) DES_ecb_encrypt(from, to, &by->part[0], direction);
+  else DES_ecb3_encrypt(from, to, &by->part[0], &by->part[1], &by->part[2], direction);
 }
 
 static void answer_list(int cipher, struct schedules *by, uint8_t *blocks, size_t count, int direction) {
   for (size_t n = 0; n < count; n++) answer(cipher, by, blocks + 8 * n, direction);
 }
 
-/* CBC by its definition, over OpenSSL's blocks; DES and EDE by OpenSSL's own CBC. */
 static void chain(int cipher, struct schedules *by, const uint8_t *iv, uint8_t *blocks, size_t count) {
   DES_cblock vector;
   memcpy(vector, iv, 8);
-  if (cipher == DES) {
+  if (cipher == DES)
     DES_ncbc_encrypt(blocks, blocks, (long)(8 * count), &by->part[0], &vector, DES_ENCRYPT);
-  } else if (cipher == EDE3 || cipher == EDE2) {
+  else
     DES_ede3_cbc_encrypt(blocks, blocks, (long)(8 * count), &by->part[0], &by->part[1], &by->part[2], &vector, DES_ENCRYPT);
-  } else {
-    for (size_t n = 0; n < count; n++) {
-      for (int i = 0; i < 8; i++) blocks[8 * n + i] ^= n ? blocks[8 * n - 8 + i] : vector[i];
-      answer(cipher, by, blocks + 8 * n, DES_ENCRYPT);
-    }
-  }
 }
 
 /* Lists of up to 40 blocks mostly, and sometimes of up to 600: no batch, a part of one, several. */
@@ -84,79 +68,78 @@ static int is(const struct list *list, const uint8_t *wanted) {
 
 static struct list list, other;
 
-/* Lists in place and from one to another, one by one and by the calls for lists. */
-static void lists_of(int cipher, const union context *context, const uint8_t *plain, const uint8_t *wanted, size_t count) {
-  const struct calls *calls = &ciphers[cipher];
+/* A list in place, and from one list to another. */
+static void is_list(const struct way *way, const union context *context, const uint8_t *plain, const uint8_t *wanted,
+                    size_t count) {
+  const size_t length = 8 * count;
   put(&list, plain, count);
-  calls->encrypt_blocks(context, list.blocks, count);
-  CHECK(is(&list, wanted));
-  calls->decrypt_blocks(context, list.blocks, count);
-  CHECK(is(&list, plain));
-  for (int width = 0; width < 2; width++) {
-    const struct lists *by = &calls->lists[width];
-    by->encrypt(context, list.blocks, count);
-    CHECK(is(&list, wanted));
-    by->decrypt(context, list.blocks, count);
-    CHECK(is(&list, plain));
-    put(&other, wanted, count);
-    CHECK(by->decrypt_b2b(context, other.blocks, count, list.blocks, count) == CUKVASHE_OK);
-    CHECK(is(&list, plain) && is(&other, wanted));
-    memset(other.blocks, 0, 8 * count);
-    CHECK(by->encrypt_b2b(context, list.blocks, count, other.blocks, count) == CUKVASHE_OK);
-    CHECK(is(&list, plain) && is(&other, wanted));
-  }
+  CHECK(way->encrypt_ecb(context, list.blocks, length) == CUKVASHE_OK && is(&list, wanted));
+  CHECK(way->decrypt_ecb(context, list.blocks, length) == CUKVASHE_OK && is(&list, plain));
+  put(&other, wanted, count);
+  CHECK(way->decrypt_ecb_to(context, other.blocks, list.blocks, length) == CUKVASHE_OK);
+  CHECK(is(&list, plain) && is(&other, wanted));
+  memset(other.blocks, 0, length);
+  CHECK(way->encrypt_ecb_to(context, list.blocks, other.blocks, length) == CUKVASHE_OK);
+  CHECK(is(&list, plain) && is(&other, wanted));
 }
 
-/* CBC in pieces: the calls follow each other, each with the vector that the one before it left. */
-static void chains_of(int cipher, const union context *context, const uint8_t *iv, const uint8_t *plain,
-                      const uint8_t *wanted, size_t count) {
-  const struct calls *calls = &ciphers[cipher];
-  size_t cut = count ? random_word() % (count + 1) : 0;
-  uint8_t vector[8], last[8];
-  memcpy(last, count ? wanted + 8 * count - 8 : iv, 8);
+/* CBC in two pieces, in place and from one list to another: the second piece begins with the vector that the first left. */
+static void is_chain(const struct way *way, const union context *context, const uint8_t *iv, const uint8_t *plain,
+                     const uint8_t *wanted, size_t count) {
+  const size_t length = 8 * count, cut = count ? 8 * (random_word() % (count + 1)) : 0, rest = length - cut;
+  uint8_t vector[8];
+  const uint8_t *last = count ? wanted + length - 8 : iv;
   put(&list, plain, count);
   memcpy(vector, iv, 8);
-  calls->encrypt_cbc(context, vector, list.blocks, cut);
-  calls->encrypt_cbc(context, vector, list.blocks + 8 * cut, count - cut);
+  CHECK(way->encrypt_cbc(context, vector, list.blocks, cut) == CUKVASHE_OK);
+  CHECK(way->encrypt_cbc(context, vector, list.blocks + cut, rest) == CUKVASHE_OK);
   CHECK(is(&list, wanted) && memcmp(vector, last, 8) == 0);
-  for (int way = 0; way < 3; way++) {
-    void (*decrypt)(const union context *, uint8_t *, uint8_t *, size_t) =
-        way == 2 ? calls->decrypt_cbc : calls->lists[way].decrypt_cbc;
-    put(&list, wanted, count);
-    memcpy(vector, iv, 8);
-    decrypt(context, vector, list.blocks, cut);
-    decrypt(context, vector, list.blocks + 8 * cut, count - cut);
-    CHECK(is(&list, plain) && memcmp(vector, last, 8) == 0);
+  put(&other, plain, count);
+  memcpy(vector, iv, 8);
+  CHECK(way->decrypt_cbc_to(context, vector, list.blocks, other.blocks, cut) == CUKVASHE_OK);
+  CHECK(way->decrypt_cbc_to(context, vector, list.blocks + cut, other.blocks + cut, rest) == CUKVASHE_OK);
+  CHECK(is(&list, wanted) && is(&other, plain) && memcmp(vector, last, 8) == 0);
+  memcpy(vector, iv, 8);
+  CHECK(way->decrypt_cbc(context, vector, list.blocks, cut) == CUKVASHE_OK);
+  CHECK(way->decrypt_cbc(context, vector, list.blocks + cut, rest) == CUKVASHE_OK);
+  CHECK(is(&list, plain) && memcmp(vector, last, 8) == 0);
+  memset(other.blocks, 0, length);
+  memcpy(vector, iv, 8);
+  CHECK(way->encrypt_cbc_to(context, vector, list.blocks, other.blocks, cut) == CUKVASHE_OK);
+  CHECK(way->encrypt_cbc_to(context, vector, list.blocks + cut, other.blocks + cut, rest) == CUKVASHE_OK);
+  CHECK(is(&list, plain) && is(&other, wanted) && memcmp(vector, last, 8) == 0);
+}
+
+/* A list under a key by all calls and ways: each block by itself, and as a chain. */
+static void list_under(int n, const uint8_t *key, const uint8_t *iv, const uint8_t *plain, size_t count) {
+  static uint8_t wanted[8 * LONG], chained[8 * LONG];
+  const struct cipher *cipher = &ciphers[n];
+  union context context;
+  CHECK(cipher->init(&context, key, cipher->key_size) == CUKVASHE_OK);
+  struct schedules by = schedules_of(n, key);
+  memcpy(wanted, plain, 8 * count);
+  answer_list(n, &by, wanted, count, DES_ENCRYPT);
+  memcpy(chained, plain, 8 * count);
+  chain(n, &by, iv, chained, count);
+  for (int way = 0; way < count_of_ways(); way++) {
+    is_list(&cipher->ways[way], &context, plain, wanted, count);
+    is_chain(&cipher->ways[way], &context, iv, plain, chained, count);
   }
 }
 
-/* A list under a key by all calls: each block by itself, and as a chain. */
-static void list_under(int cipher, const uint8_t *key, const uint8_t *iv, const uint8_t *plain, size_t count) {
-  static uint8_t wanted[8 * LONG];
-  const struct calls *calls = &ciphers[cipher];
-  union context made, copied;
-  CHECK(calls->init(&made, key, calls->key_size) == CUKVASHE_OK);
-  /* A context is its bytes. */
-  memcpy(&copied, &made, calls->context_size);
-  memset(&made, 0x5a, sizeof made);
-
-  struct schedules by = schedules_of(cipher, key);
-  memcpy(wanted, plain, 8 * count);
-  answer_list(cipher, &by, wanted, count, DES_ENCRYPT);
-  lists_of(cipher, &copied, plain, wanted, count);
-  memcpy(wanted, plain, 8 * count);
-  chain(cipher, &by, iv, wanted, count);
-  chains_of(cipher, &copied, iv, plain, wanted, count);
-}
-
-/* A random list of `count` blocks under a random key. */
+/* A random list of `count` blocks under a random key, and the key's check value. */
 static void random_list(int cipher, size_t count) {
+  static const uint8_t zeros[8] = {0};
   static uint8_t plain[8 * LONG];
-  uint8_t key[24], iv[8];
+  uint8_t key[24], iv[8], value[3], block[8];
   random_bytes(key, sizeof key);
   random_bytes(iv, sizeof iv);
   random_bytes(plain, 8 * count);
   list_under(cipher, key, iv, plain, count);
+  struct schedules by = schedules_of(cipher, key);
+  memcpy(block, zeros, 8);
+  answer(cipher, &by, block, DES_ENCRYPT);
+  CHECK(ciphers[cipher].check_value(key, ciphers[cipher].key_size, value) == CUKVASHE_OK && memcmp(value, block, 3) == 0);
 }
 
 /* Under the key of a known answer, 32 blocks, each of them the answer to the one before it, and the block before the first. */
@@ -180,12 +163,12 @@ int main(int count, char **words) {
   int cases = each_case(words[2], blocks_in_turn);
   size_t longest = count > 3 ? (size_t)atoi(words[3]) : 0;
   CHECK(longest <= LONG);
-  for (int cipher = 0; longest > 0 && cipher < CIPHERS; cipher++) {
-    for (size_t length = 0; length <= BATCHES; length++) random_list(cipher, length);
-    random_list(cipher, longest);
+  for (int cipher = 0; cipher < CIPHERS; cipher++) {
+    for (int i = 0; i < COUNTS; i++) random_list(cipher, counts[i]);
+    for (size_t length = 0; longest > 0 && length <= BATCHES; length++) random_list(cipher, length);
+    if (longest > 0) random_list(cipher, longest);
   }
-  printf("beside OpenSSL: %d keys for each of %d ciphers, %d keys of known answers, lists of up to %zu blocks, ", keys, CIPHERS,
-         cases, longest > MOST ? longest : MOST);
-  printf("vectors of 256 bits: %s\n", cukvashe_has_wide() ? "yes" : "no");
+  printf("beside OpenSSL: %d keys for each of %d ciphers, %d keys of known answers, lists of up to %zu blocks, by %d of %d ways\n",
+         keys, (int)CIPHERS, cases, longest > MOST ? longest : (size_t)MOST, count_of_ways(), (int)MOST_WAYS);
   return 0;
 }

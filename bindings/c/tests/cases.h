@@ -7,6 +7,9 @@
 
 enum { CASE_BLOCKS = 8 };
 
+/* `cipher` is OTHER_CIPHER for the EEE forms, which the library does not have. */
+enum { OTHER_CIPHER = -1 };
+
 struct known_case {
   int cipher, is_chain;
   uint8_t key[24], vector[8], plain[8 * CASE_BLOCKS], answer[8 * CASE_BLOCKS];
@@ -25,13 +28,14 @@ static size_t put_digits(uint8_t *bytes, const char *digits) {
 }
 
 static void put_cipher(struct known_case *known, const char *name) {
-  static const char *const names[CIPHERS] = {"des", "ede3", "eee3", "ede2", "eee2"};
+  static const char *const names[CIPHERS] = {"des", "ede2", "ede3"};
   size_t length = strcspn(name, "-");
   known->is_chain = strcmp(name + length, "-cbc") == 0;
   CHECK(known->is_chain || name[length] == 0);
   for (known->cipher = 0; known->cipher < CIPHERS; known->cipher++)
     if (strlen(names[known->cipher]) == length && memcmp(name, names[known->cipher], length) == 0) return;
-  CHECK(!"a cipher of this name");
+  CHECK(strncmp(name, "eee", 3) == 0);
+  known->cipher = OTHER_CIPHER;
 }
 
 static void put_blocks(struct known_case *known, const char *plain, const char *answer) {
@@ -52,7 +56,8 @@ static void put_line(struct known_case *known, const char *line) {
   int words = sscanf(line, "%16s %48s %16s %16s %16s", cipher, key, plain, answer, vector);
   put_cipher(known, cipher);
   CHECK(words == 4 + known->is_chain);
-  CHECK(put_digits(known->key, key) == ciphers[known->cipher].key_size);
+  size_t size = put_digits(known->key, key);
+  CHECK(known->cipher == OTHER_CIPHER || size == ciphers[known->cipher].key_size);
   known->count = 0;
   put_blocks(known, plain, answer);
   if (known->is_chain) CHECK(put_digits(known->vector, vector) == 8);
@@ -62,17 +67,23 @@ static void put_line(struct known_case *known, const char *line) {
 static int each_case(const char *path, void (*test)(const struct known_case *)) {
   struct known_case known;
   char line[200];
-  int cases = 0;
+  int lines = 0, cases = 0;
   FILE *file = fopen(path, "r");
   CHECK(file != NULL);
-  while (fgets(line, sizeof line, file)) {
-    if (line[0] == '#' || line[0] == '\n') continue;
-    if (line[0] != ' ' && cases++ > 0) test(&known);
-    CHECK(cases > 0);
+  memset(&known, 0, sizeof known);
+  known.cipher = OTHER_CIPHER;
+  for (;;) {
+    char *read = fgets(line, sizeof line, file);
+    if (read && (line[0] == '#' || line[0] == '\n')) continue;
+    if ((!read || line[0] != ' ') && known.cipher != OTHER_CIPHER) {
+      test(&known);
+      cases++;
+    }
+    if (!read) break;
+    CHECK(lines++ > 0 || line[0] != ' ');
     put_line(&known, line);
   }
-  CHECK(cases > 0);
-  test(&known);
+  CHECK(cases > 30);
   fclose(file);
   return cases;
 }

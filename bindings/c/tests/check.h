@@ -18,103 +18,152 @@
 /* Any of the contexts. */
 union context {
   cukvashe_des des;
-  cukvashe_tdes_ede3 tdes_ede3;
-  cukvashe_tdes_eee3 tdes_eee3;
   cukvashe_tdes_ede2 tdes_ede2;
-  cukvashe_tdes_eee2 tdes_eee2;
+  cukvashe_tdes_ede3 tdes_ede3;
 };
 
-/* The calls for lists of one width. */
-struct lists {
-  void (*encrypt)(const union context *, uint8_t *, size_t);
-  void (*decrypt)(const union context *, uint8_t *, size_t);
-  int (*encrypt_b2b)(const union context *, const uint8_t *, size_t, uint8_t *, size_t);
-  int (*decrypt_b2b)(const union context *, const uint8_t *, size_t, uint8_t *, size_t);
-  void (*decrypt_cbc)(const union context *, uint8_t *, uint8_t *, size_t);
+typedef int in_place(const union context *, uint8_t *data, size_t length);
+typedef int to_other(const union context *, const uint8_t *input, uint8_t *output, size_t length);
+typedef int in_place_cbc(const union context *, uint8_t *iv, uint8_t *data, size_t length);
+typedef int to_other_cbc(const union context *, uint8_t *iv, const uint8_t *input, uint8_t *output, size_t length);
+
+/* The calls of one cipher: those of the header, or those of one width. */
+struct way {
+  in_place *encrypt_ecb, *decrypt_ecb;
+  to_other *encrypt_ecb_to, *decrypt_ecb_to;
+  in_place_cbc *encrypt_cbc, *decrypt_cbc;
+  to_other_cbc *encrypt_cbc_to, *decrypt_cbc_to;
 };
 
-struct calls {
+/* The header's calls of one cipher over the union. */
+#define DEFINE_PUBLIC(name)                                                                                           \
+  static int name##_init(union context *c, const uint8_t *key, size_t length) {                                       \
+    return cukvashe_##name##_init(&c->name, key, length);                                                             \
+  }                                                                                                                   \
+  static int name##_encrypt_ecb(const union context *c, uint8_t *data, size_t length) {                               \
+    return cukvashe_##name##_encrypt_ecb(&c->name, data, length);                                                     \
+  }                                                                                                                   \
+  static int name##_decrypt_ecb(const union context *c, uint8_t *data, size_t length) {                               \
+    return cukvashe_##name##_decrypt_ecb(&c->name, data, length);                                                     \
+  }                                                                                                                   \
+  static int name##_encrypt_ecb_to(const union context *c, const uint8_t *input, uint8_t *output, size_t length) {    \
+    return cukvashe_##name##_encrypt_ecb_to(&c->name, input, output, length);                                         \
+  }                                                                                                                   \
+  static int name##_decrypt_ecb_to(const union context *c, const uint8_t *input, uint8_t *output, size_t length) {    \
+    return cukvashe_##name##_decrypt_ecb_to(&c->name, input, output, length);                                         \
+  }                                                                                                                   \
+  static int name##_encrypt_cbc(const union context *c, uint8_t *iv, uint8_t *data, size_t length) {                  \
+    return cukvashe_##name##_encrypt_cbc(&c->name, iv, data, length);                                                 \
+  }                                                                                                                   \
+  static int name##_decrypt_cbc(const union context *c, uint8_t *iv, uint8_t *data, size_t length) {                  \
+    return cukvashe_##name##_decrypt_cbc(&c->name, iv, data, length);                                                 \
+  }                                                                                                                   \
+  static int name##_encrypt_cbc_to(const union context *c, uint8_t *iv, const uint8_t *input, uint8_t *output,        \
+                                   size_t length) {                                                                   \
+    return cukvashe_##name##_encrypt_cbc_to(&c->name, iv, input, output, length);                                     \
+  }                                                                                                                   \
+  static int name##_decrypt_cbc_to(const union context *c, uint8_t *iv, const uint8_t *input, uint8_t *output,        \
+                                   size_t length) {                                                                   \
+    return cukvashe_##name##_decrypt_cbc_to(&c->name, iv, input, output, length);                                     \
+  }
+
+#define PUBLIC(name)                                                                                                  \
+  {                                                                                                                   \
+    name##_encrypt_ecb, name##_decrypt_ecb, name##_encrypt_ecb_to, name##_decrypt_ecb_to, name##_encrypt_cbc,         \
+        name##_decrypt_cbc, name##_encrypt_cbc_to, name##_decrypt_cbc_to                                              \
+  }
+
+DEFINE_PUBLIC(des)
+DEFINE_PUBLIC(tdes_ede2)
+DEFINE_PUBLIC(tdes_ede3)
+
+#ifdef FORCED
+/* The two widths as well, whatever the length: names that the library hides. */
+#include "../internal.h"
+
+#define DEFINE_FORCED(name, width)                                                                                    \
+  static int name##_##width##_encrypt_ecb(const union context *c, uint8_t *data, size_t length) {                     \
+    return cukvashe_##width##_##name##_encrypt_ecb(&c->name, data, length);                                           \
+  }                                                                                                                   \
+  static int name##_##width##_decrypt_ecb(const union context *c, uint8_t *data, size_t length) {                     \
+    return cukvashe_##width##_##name##_decrypt_ecb(&c->name, data, length);                                           \
+  }                                                                                                                   \
+  static int name##_##width##_encrypt_ecb_to(const union context *c, const uint8_t *input, uint8_t *output,           \
+                                             size_t length) {                                                         \
+    return cukvashe_##width##_##name##_encrypt_ecb_to(&c->name, input, length, output, length);                       \
+  }                                                                                                                   \
+  static int name##_##width##_decrypt_ecb_to(const union context *c, const uint8_t *input, uint8_t *output,           \
+                                             size_t length) {                                                         \
+    return cukvashe_##width##_##name##_decrypt_ecb_to(&c->name, input, length, output, length);                       \
+  }                                                                                                                   \
+  static int name##_##width##_decrypt_cbc(const union context *c, uint8_t *iv, uint8_t *data, size_t length) {        \
+    return cukvashe_##width##_##name##_decrypt_cbc(&c->name, iv, data, length);                                       \
+  }                                                                                                                   \
+  static int name##_##width##_decrypt_cbc_to(const union context *c, uint8_t *iv, const uint8_t *input,               \
+                                             uint8_t *output, size_t length) {                                        \
+    return cukvashe_##width##_##name##_decrypt_cbc_to(&c->name, iv, input, length, output, length);                   \
+  }
+
+#define FORCED_WAY(name, width)                                                                                       \
+  , {                                                                                                                 \
+    name##_##width##_encrypt_ecb, name##_##width##_decrypt_ecb, name##_##width##_encrypt_ecb_to,                      \
+        name##_##width##_decrypt_ecb_to, name##_encrypt_cbc, name##_##width##_decrypt_cbc, name##_encrypt_cbc_to,     \
+        name##_##width##_decrypt_cbc_to                                                                               \
+  }
+#define WAYS(name) {PUBLIC(name) FORCED_WAY(name, narrow) FORCED_WAY(name, wide)}
+
+DEFINE_FORCED(des, narrow)
+DEFINE_FORCED(des, wide)
+DEFINE_FORCED(tdes_ede2, narrow)
+DEFINE_FORCED(tdes_ede2, wide)
+DEFINE_FORCED(tdes_ede3, narrow)
+DEFINE_FORCED(tdes_ede3, wide)
+
+enum { PUBLIC_WAY = 0, NARROW = 1, WIDE = 2, MOST_WAYS = 3 };
+
+/* How many ways this processor has. */
+static inline int count_of_ways(void) {
+  struct processor words = cukvashe_internal_processor();
+  return cukvashe_internal_is_v3(&words) ? 3 : 2;
+}
+#else
+#define WAYS(name) {PUBLIC(name)}
+enum { PUBLIC_WAY = 0, MOST_WAYS = 1 };
+
+static inline int count_of_ways(void) { return 1; }
+#endif
+
+struct cipher {
   const char *name;
   size_t key_size, context_size;
-  int (*init)(union context *, const uint8_t *, size_t);
-  void (*encrypt_blocks)(const union context *, uint8_t *, size_t);
-  void (*decrypt_blocks)(const union context *, uint8_t *, size_t);
-  void (*encrypt_cbc)(const union context *, uint8_t *, uint8_t *, size_t);
-  void (*decrypt_cbc)(const union context *, uint8_t *, uint8_t *, size_t);
-  struct lists lists[2]; /* 128 blocks at a time, and the widest */
+  int (*init)(union context *, const uint8_t *key, size_t length);
+  int (*check_value)(const uint8_t *key, size_t length, uint8_t *value);
+  struct way ways[MOST_WAYS];
 };
 
-/* The calls of one cipher, over the union. */
-#define DEFINE_CALLS(name)                                                                                    \
-  static int name##_init(union context *c, const uint8_t *key, size_t length) {                               \
-    return cukvashe_##name##_init(&c->name, key, length);                                                     \
-  }                                                                                                           \
-  static void name##_encrypt_blocks(const union context *c, uint8_t *blocks, size_t count) {                  \
-    cukvashe_##name##_encrypt_blocks(&c->name, blocks, count);                                                \
-  }                                                                                                           \
-  static void name##_decrypt_blocks(const union context *c, uint8_t *blocks, size_t count) {                  \
-    cukvashe_##name##_decrypt_blocks(&c->name, blocks, count);                                                \
-  }                                                                                                           \
-  static void name##_encrypt_cbc(const union context *c, uint8_t *vector, uint8_t *blocks, size_t count) {    \
-    cukvashe_##name##_encrypt_cbc(&c->name, vector, blocks, count);                                           \
-  }                                                                                                           \
-  static void name##_decrypt_cbc(const union context *c, uint8_t *vector, uint8_t *blocks, size_t count) {    \
-    cukvashe_##name##_decrypt_cbc(&c->name, vector, blocks, count);                                           \
-  }                                                                                                           \
-  DEFINE_LISTS(name, cukvashe_##name, narrow)                                                                 \
-  DEFINE_LISTS(name, cukvashe_widest_##name, widest)
+#define CIPHER(name, key_size)                                                                                        \
+  { #name, key_size, sizeof(cukvashe_##name), name##_init, cukvashe_##name##_check_value, WAYS(name) }
 
-#define DEFINE_LISTS(name, call, width)                                                                       \
-  static void name##_##width##_encrypt(const union context *c, uint8_t *blocks, size_t count) {               \
-    call##_encrypt_many(&c->name, blocks, count);                                                             \
-  }                                                                                                           \
-  static void name##_##width##_decrypt(const union context *c, uint8_t *blocks, size_t count) {               \
-    call##_decrypt_many(&c->name, blocks, count);                                                             \
-  }                                                                                                           \
-  static int name##_##width##_encrypt_b2b(const union context *c, const uint8_t *input, size_t input_count,   \
-                                          uint8_t *output, size_t output_count) {                             \
-    return call##_encrypt_many_b2b(&c->name, input, input_count, output, output_count);                       \
-  }                                                                                                           \
-  static int name##_##width##_decrypt_b2b(const union context *c, const uint8_t *input, size_t input_count,   \
-                                          uint8_t *output, size_t output_count) {                             \
-    return call##_decrypt_many_b2b(&c->name, input, input_count, output, output_count);                       \
-  }                                                                                                           \
-  static void name##_##width##_decrypt_cbc(const union context *c, uint8_t *vector, uint8_t *blocks,          \
-                                           size_t count) {                                                    \
-    call##_decrypt_cbc_many(&c->name, vector, blocks, count);                                                 \
-  }
+enum { CIPHERS = 3, DES = 0, EDE2 = 1, EDE3 = 2 };
 
-#define LISTS(name, width)                                                                                    \
-  {                                                                                                           \
-    name##_##width##_encrypt, name##_##width##_decrypt, name##_##width##_encrypt_b2b,                         \
-        name##_##width##_decrypt_b2b, name##_##width##_decrypt_cbc                                            \
-  }
-
-#define CALLS(name, key_size)                                                                                 \
-  {                                                                                                           \
-    #name, key_size, sizeof(cukvashe_##name), name##_init, name##_encrypt_blocks, name##_decrypt_blocks,      \
-        name##_encrypt_cbc, name##_decrypt_cbc, { LISTS(name, narrow), LISTS(name, widest) }                  \
-  }
-
-DEFINE_CALLS(des)
-DEFINE_CALLS(tdes_ede3)
-DEFINE_CALLS(tdes_eee3)
-DEFINE_CALLS(tdes_ede2)
-DEFINE_CALLS(tdes_eee2)
-
-enum { CIPHERS = 5, DES = 0, EDE3 = 1, EEE3 = 2, EDE2 = 3, EEE2 = 4 };
-
-static const struct calls ciphers[CIPHERS] = {
-    CALLS(des, CUKVASHE_DES_KEY_SIZE),
-    CALLS(tdes_ede3, CUKVASHE_TDES_EDE3_KEY_SIZE),
-    CALLS(tdes_eee3, CUKVASHE_TDES_EEE3_KEY_SIZE),
-    CALLS(tdes_ede2, CUKVASHE_TDES_EDE2_KEY_SIZE),
-    CALLS(tdes_eee2, CUKVASHE_TDES_EEE2_KEY_SIZE),
+static const struct cipher ciphers[CIPHERS] = {
+    CIPHER(des, CUKVASHE_DES_KEY_SIZE),
+    CIPHER(tdes_ede2, CUKVASHE_TDES_EDE2_KEY_SIZE),
+    CIPHER(tdes_ede3, CUKVASHE_TDES_EDE3_KEY_SIZE),
 };
+
+/* Lists in blocks: none, few, about a batch of 128 and one of 256, more, and what decides whether the rest goes one by one. */
+static const size_t counts[] = {0, 1, 2, 18, 19, 20, 127, 128, 129, 146, 147, 148, 255, 256, 257, 274, 275, 276, 300, 600};
+
+enum { COUNTS = sizeof counts / sizeof *counts, LONGEST = 600 };
 
 /* The eight bytes of a word, the most significant first. */
 static inline void put_word(uint8_t *bytes, uint64_t word) {
   for (int i = 0; i < 8; i++) bytes[i] = (uint8_t)(word >> (56 - 8 * i));
+}
+
+static inline void put_words(uint8_t *bytes, const uint64_t *words, size_t count) {
+  for (size_t i = 0; i < count; i++) put_word(bytes + 8 * i, words[i]);
 }
 
 /* Splitmix64: the same numbers in each run. */

@@ -27,25 +27,6 @@ static void answers_known_check_values(void) {
   CHECK(cukvashe_tdes_ede3_check_value(key, 24, value) == CUKVASHE_OK && are(value, 3, "4eba73"));
 }
 
-static void answers_check_values(void) {
-  static int (*const calls[])(const uint8_t *, size_t, uint8_t *) = {
-      cukvashe_des_check_value, cukvashe_tdes_ede3_check_value, cukvashe_tdes_eee3_check_value,
-      cukvashe_tdes_ede2_check_value, cukvashe_tdes_eee2_check_value};
-  uint8_t key[24], value[3], block[8];
-  random_bytes(key, sizeof key);
-  for (int cipher = 0; cipher < CIPHERS; cipher++) {
-    union context context;
-    memset(block, 0, sizeof block);
-    CHECK(ciphers[cipher].init(&context, key, ciphers[cipher].key_size) == CUKVASHE_OK);
-    ciphers[cipher].encrypt_blocks(&context, block, 1);
-    CHECK(calls[cipher](key, ciphers[cipher].key_size, value) == CUKVASHE_OK && memcmp(value, block, 3) == 0);
-    memset(value, 0x77, sizeof value);
-    for (size_t length = 0; length <= 24; length++)
-      if (length != ciphers[cipher].key_size) CHECK(calls[cipher](key, length, value) == CUKVASHE_KEY_LENGTH);
-    CHECK(are(value, 3, "777777"));
-  }
-}
-
 /* Components of random bytes and the one that makes the base key of them; and such as make a weak key. */
 static void combines(void) {
   uint8_t components[4][16], key[16], same[16];
@@ -57,8 +38,8 @@ static void combines(void) {
   CHECK(cukvashe_combine_16(components[0], components[1], components[2], 2, key) == CUKVASHE_OK);
   CHECK(are(key, 16, "0123456789abcdeffedcba9876543210"));
   memcpy(same, key, sizeof same);
-  CHECK(cukvashe_combine_16(key, key, NULL, 0, components[0]) == CUKVASHE_WEAK_KEY);
-  CHECK(cukvashe_combine_8(key, key, NULL, 0, same) == CUKVASHE_WEAK_KEY && memcmp(same, key, sizeof same) == 0);
+  CHECK(cukvashe_combine_16(key, key, NULL, 0, components[0]) == CUKVASHE_ERR_WEAK_KEY);
+  CHECK(cukvashe_combine_8(key, key, NULL, 0, same) == CUKVASHE_ERR_WEAK_KEY && memcmp(same, key, sizeof same) == 0);
   memset(components[0], 0, 16);
   CHECK(cukvashe_combine_8(key, components[0], NULL, 0, same + 8) == CUKVASHE_OK && memcmp(same + 8, key, 8) == 0);
 }
@@ -122,28 +103,62 @@ static void answers_transactions(void) {
   CHECK(are(key, 16, "ad7bfc8b06ad3a08a560b4105cf8d9e5"));
 }
 
-static void counts(void) {
-  uint8_t serial[10], next[10];
-  int status, serials = 0;
+static void set_counter(uint8_t serial[10], uint32_t counter) {
+  serial[7] = (uint8_t)((serial[7] & 0xe0) | counter >> 16);
+  serial[8] = (uint8_t)(counter >> 8);
+  serial[9] = (uint8_t)counter;
+}
+
+static int ones_of(uint32_t word) {
+  int ones = 0;
+  for (; word; word >>= 1) ones += (int)(word & 1);
+  return ones;
+}
+
+/* The counters that a transaction has, in order, are those that are usable: not 0, and at most ten one bits (ANSI X9.24-1:2009).
+   Whatever the other bits are, they have no part in it. */
+static void counts_transactions(void) {
+  uint8_t serial[10], next[10], other[10];
+  uint32_t last = 0;
   put(serial, "ffff9876543210e00000");
-  while ((status = cukvashe_dukpt_next_serial(serial, next)) == CUKVASHE_OK) {
-    memcpy(serial, next, sizeof serial);
-    serials++;
+  memset(other, 0, sizeof other);
+  for (uint32_t counter = 0; counter < 1 << 21; counter++) {
+    int wanted = counter != 0 && ones_of(counter) <= 10;
+    set_counter(serial, counter);
+    set_counter(other, counter);
+    CHECK(cukvashe_dukpt_is_usable(serial) == wanted && cukvashe_dukpt_is_usable(other) == wanted);
+    if (!wanted) continue;
+    set_counter(serial, last);
+    CHECK(cukvashe_dukpt_next_serial(serial, next) == CUKVASHE_OK);
+    set_counter(serial, counter);
+    CHECK(memcmp(next, serial, sizeof next) == 0);
+    last = counter;
   }
-  CHECK(status == CUKVASHE_NO_SERIAL && serials == 1048575 && memcmp(next, serial, sizeof next) == 0);
-  CHECK(are(serial, 10, "ffff9876543210fff800"));
+  CHECK(last == 0x1ff800);
+  set_counter(serial, last);
+  memset(next, 0x77, sizeof next);
+  CHECK(cukvashe_dukpt_next_serial(serial, next) == CUKVASHE_ERR_NO_SERIAL && are(next, 10, "77777777777777777777"));
+}
+
+/* At counter 0 the transaction's key is the initial key. */
+static void begins_with_the_initial_key(void) {
+  uint8_t initial[16], serial[10], key[16];
+  random_bytes(initial, sizeof initial);
+  put(serial, "ffff9876543210e00000");
+  cukvashe_dukpt_transaction_key(initial, serial, key);
+  CHECK(memcmp(key, initial, sizeof key) == 0);
 }
 
 static const char account[] = "4012345678909"; /* its twelve digits before the last: 401234567890 */
 
 /* A text and its length, the two arguments of a call. */
-#define TEXT(text) (const uint8_t *)(text), strlen(text)
+#define TEXT(text) (text), strlen(text)
 
 /* What decode gave: the digits, and zeros after them. */
-static int is_pin(const uint8_t pin[12], size_t length, const char *digits) {
-  uint8_t wanted[12] = {0};
+static int is_pin(const char pin[CUKVASHE_PIN_SIZE], const char *digits) {
+  char wanted[CUKVASHE_PIN_SIZE] = {0};
   memcpy(wanted, digits, strlen(digits));
-  return length == strlen(digits) && memcmp(pin, wanted, sizeof wanted) == 0;
+  return memcmp(pin, wanted, sizeof wanted) == 0;
 }
 
 /* The published block of format 0, and blocks by hand: the digits 1 and 4, the PIN and ten transaction digits; and the xor of
@@ -152,29 +167,29 @@ static void answers_pin_blocks(void) {
   static const uint8_t transaction[10] = {15, 14, 0, 9, 10, 5, 1, 2, 3, 4};
   static const uint8_t other[10] = {0, 1, 2, 3, 4, 5, 6, 7, 8, 15};
   static const uint8_t fill[10] = {10, 11, 12, 13, 14, 15, 10, 11, 12, 13};
-  uint8_t block[8], pin[12];
-  size_t length = 77;
+  uint8_t block[8];
+  char pin[CUKVASHE_PIN_SIZE];
   CHECK(cukvashe_pin_encode_0(TEXT("1234"), TEXT(account), block) == CUKVASHE_OK);
   CHECK(are(block, 8, "041274edcba9876f"));
   memset(pin, 0x77, sizeof pin);
-  CHECK(cukvashe_pin_decode_0(block, TEXT(account), pin, &length) == CUKVASHE_OK && is_pin(pin, length, "1234"));
-  CHECK(cukvashe_pin_decode_0(block, TEXT("9999994012345678900"), pin, &length) == CUKVASHE_OK);
-  CHECK(is_pin(pin, length, "1234"));
+  CHECK(cukvashe_pin_decode_0(block, TEXT(account), pin) == CUKVASHE_OK && is_pin(pin, "1234"));
+  CHECK(cukvashe_pin_decode_0(block, TEXT("9999994012345678900"), pin) == CUKVASHE_OK);
+  CHECK(is_pin(pin, "1234"));
 
   CHECK(cukvashe_pin_encode_1(TEXT("1234"), transaction, block) == CUKVASHE_OK);
   CHECK(are(block, 8, "141234fe09a51234"));
   memset(pin, 0x77, sizeof pin);
-  CHECK(cukvashe_pin_decode_1(block, pin, &length) == CUKVASHE_OK && is_pin(pin, length, "1234"));
+  CHECK(cukvashe_pin_decode_1(block, pin) == CUKVASHE_OK && is_pin(pin, "1234"));
   CHECK(cukvashe_pin_encode_1(TEXT("1234"), other, block) == CUKVASHE_OK && are(block, 8, "141234012345678f"));
-  CHECK(cukvashe_pin_decode_1(block, pin, &length) == CUKVASHE_OK && is_pin(pin, length, "1234"));
+  CHECK(cukvashe_pin_decode_1(block, pin) == CUKVASHE_OK && is_pin(pin, "1234"));
   CHECK(cukvashe_pin_encode_1(TEXT("123456789012"), transaction, block) == CUKVASHE_OK);
   CHECK(are(block, 8, "1c123456789012fe"));
-  CHECK(cukvashe_pin_decode_1(block, pin, &length) == CUKVASHE_OK && is_pin(pin, length, "123456789012"));
+  CHECK(cukvashe_pin_decode_1(block, pin) == CUKVASHE_OK && is_pin(pin, "123456789012"));
 
   CHECK(cukvashe_pin_encode_3(TEXT("1234"), TEXT(account), fill, block) == CUKVASHE_OK);
   CHECK(are(block, 8, "341274b9f9b9d35d"));
   memset(pin, 0x77, sizeof pin);
-  CHECK(cukvashe_pin_decode_3(block, TEXT(account), pin, &length) == CUKVASHE_OK && is_pin(pin, length, "1234"));
+  CHECK(cukvashe_pin_decode_3(block, TEXT(account), pin) == CUKVASHE_OK && is_pin(pin, "1234"));
 }
 
 /* A PIN, an account number, and the last of ten fill digits, whose others are 10; and the fault in formats 0, 1 and 3. */
@@ -183,23 +198,23 @@ static const struct {
   uint8_t fill;
   int status[3];
 } made_of[] = {
-    {"123", "401234567890", 16, {CUKVASHE_PIN_LENGTH, CUKVASHE_PIN_LENGTH, CUKVASHE_PIN_LENGTH}},
-    {"1234567890123", account, 10, {CUKVASHE_PIN_LENGTH, CUKVASHE_PIN_LENGTH, CUKVASHE_PIN_LENGTH}},
-    {"123:", "401234567890", 16, {CUKVASHE_PIN_DIGIT, CUKVASHE_PIN_DIGIT, CUKVASHE_PIN_DIGIT}},
-    {"/23456789012", account, 10, {CUKVASHE_PIN_DIGIT, CUKVASHE_PIN_DIGIT, CUKVASHE_PIN_DIGIT}},
-    {"/23", account, 10, {CUKVASHE_PIN_LENGTH, CUKVASHE_PIN_LENGTH, CUKVASHE_PIN_LENGTH}},
-    {"/234", account, 10, {CUKVASHE_PIN_DIGIT, CUKVASHE_PIN_DIGIT, CUKVASHE_PIN_DIGIT}},
-    {"1234", "401234567890", 16, {CUKVASHE_ACCOUNT_LENGTH, CUKVASHE_FILL, CUKVASHE_ACCOUNT_LENGTH}},
-    {"1234", "99999994012345678900", 10, {CUKVASHE_ACCOUNT_LENGTH, CUKVASHE_OK, CUKVASHE_ACCOUNT_LENGTH}},
-    {"1234", "401234567890:", 16, {CUKVASHE_ACCOUNT_DIGIT, CUKVASHE_FILL, CUKVASHE_ACCOUNT_DIGIT}},
-    {"1234", "/999994012345678900", 10, {CUKVASHE_ACCOUNT_DIGIT, CUKVASHE_OK, CUKVASHE_ACCOUNT_DIGIT}},
-    {"1234", "/012345678909", 9, {CUKVASHE_ACCOUNT_DIGIT, CUKVASHE_OK, CUKVASHE_ACCOUNT_DIGIT}},
-    {"1234", "/01234567890", 9, {CUKVASHE_ACCOUNT_LENGTH, CUKVASHE_OK, CUKVASHE_ACCOUNT_LENGTH}},
-    {"1234", "40123456789012345678", 9, {CUKVASHE_ACCOUNT_LENGTH, CUKVASHE_OK, CUKVASHE_ACCOUNT_LENGTH}},
+    {"123", "401234567890", 16, {CUKVASHE_ERR_PIN_LENGTH, CUKVASHE_ERR_PIN_LENGTH, CUKVASHE_ERR_PIN_LENGTH}},
+    {"1234567890123", account, 10, {CUKVASHE_ERR_PIN_LENGTH, CUKVASHE_ERR_PIN_LENGTH, CUKVASHE_ERR_PIN_LENGTH}},
+    {"123:", "401234567890", 16, {CUKVASHE_ERR_PIN_DIGIT, CUKVASHE_ERR_PIN_DIGIT, CUKVASHE_ERR_PIN_DIGIT}},
+    {"/23456789012", account, 10, {CUKVASHE_ERR_PIN_DIGIT, CUKVASHE_ERR_PIN_DIGIT, CUKVASHE_ERR_PIN_DIGIT}},
+    {"/23", account, 10, {CUKVASHE_ERR_PIN_LENGTH, CUKVASHE_ERR_PIN_LENGTH, CUKVASHE_ERR_PIN_LENGTH}},
+    {"/234", account, 10, {CUKVASHE_ERR_PIN_DIGIT, CUKVASHE_ERR_PIN_DIGIT, CUKVASHE_ERR_PIN_DIGIT}},
+    {"1234", "401234567890", 16, {CUKVASHE_ERR_ACCOUNT_LENGTH, CUKVASHE_ERR_FILL, CUKVASHE_ERR_ACCOUNT_LENGTH}},
+    {"1234", "99999994012345678900", 10, {CUKVASHE_ERR_ACCOUNT_LENGTH, CUKVASHE_OK, CUKVASHE_ERR_ACCOUNT_LENGTH}},
+    {"1234", "401234567890:", 16, {CUKVASHE_ERR_ACCOUNT_DIGIT, CUKVASHE_ERR_FILL, CUKVASHE_ERR_ACCOUNT_DIGIT}},
+    {"1234", "/999994012345678900", 10, {CUKVASHE_ERR_ACCOUNT_DIGIT, CUKVASHE_OK, CUKVASHE_ERR_ACCOUNT_DIGIT}},
+    {"1234", "/012345678909", 9, {CUKVASHE_ERR_ACCOUNT_DIGIT, CUKVASHE_OK, CUKVASHE_ERR_ACCOUNT_DIGIT}},
+    {"1234", "/01234567890", 9, {CUKVASHE_ERR_ACCOUNT_LENGTH, CUKVASHE_OK, CUKVASHE_ERR_ACCOUNT_LENGTH}},
+    {"1234", "40123456789012345678", 9, {CUKVASHE_ERR_ACCOUNT_LENGTH, CUKVASHE_OK, CUKVASHE_ERR_ACCOUNT_LENGTH}},
     {"1234", "4012345678901234567", 10, {CUKVASHE_OK, CUKVASHE_OK, CUKVASHE_OK}},
-    {"1234", "4012345678901234567", 9, {CUKVASHE_OK, CUKVASHE_OK, CUKVASHE_FILL}},
-    {"1234", account, 9, {CUKVASHE_OK, CUKVASHE_OK, CUKVASHE_FILL}},
-    {"1234", account, 16, {CUKVASHE_OK, CUKVASHE_FILL, CUKVASHE_FILL}},
+    {"1234", "4012345678901234567", 9, {CUKVASHE_OK, CUKVASHE_OK, CUKVASHE_ERR_FILL}},
+    {"1234", account, 9, {CUKVASHE_OK, CUKVASHE_OK, CUKVASHE_ERR_FILL}},
+    {"1234", account, 16, {CUKVASHE_OK, CUKVASHE_ERR_FILL, CUKVASHE_ERR_FILL}},
     {"1234", account, 15, {CUKVASHE_OK, CUKVASHE_OK, CUKVASHE_OK}},
 };
 
@@ -224,16 +239,16 @@ static void refuses_to_encode(void) {
 
 /* Each fill digit is tested, also one that the block of a PIN of twelve does not take. */
 static void refuses_fill(void) {
-  static const uint8_t *const pin = (const uint8_t *)"123456789012";
+  static const char *const pin = "123456789012";
   uint8_t above[10], below[10], block[8];
   for (int place = 0; place < 10; place++) {
     memset(above, 15, sizeof above);
     memset(below, 10, sizeof below);
     above[place] = 16;
     below[place] = 9;
-    CHECK(cukvashe_pin_encode_1(pin, 12, above, block) == CUKVASHE_FILL);
-    CHECK(cukvashe_pin_encode_3(pin, 12, TEXT(account), above, block) == CUKVASHE_FILL);
-    CHECK(cukvashe_pin_encode_3(pin, 12, TEXT(account), below, block) == CUKVASHE_FILL);
+    CHECK(cukvashe_pin_encode_1(pin, 12, above, block) == CUKVASHE_ERR_FILL);
+    CHECK(cukvashe_pin_encode_3(pin, 12, TEXT(account), above, block) == CUKVASHE_ERR_FILL);
+    CHECK(cukvashe_pin_encode_3(pin, 12, TEXT(account), below, block) == CUKVASHE_ERR_FILL);
   }
 }
 
@@ -245,49 +260,50 @@ static const struct {
   const char *block, *account;
   int status;
 } read_of[] = {
-    {0, "141274edcba9876f", "401234567890", CUKVASHE_ACCOUNT_LENGTH},
-    {0, "141274edcba9876f", "99999994012345678900", CUKVASHE_ACCOUNT_LENGTH},
-    {0, "141274edcba9876f", "401234567890:", CUKVASHE_ACCOUNT_DIGIT},
-    {0, "13a274edcba9876e", account, CUKVASHE_FORMAT},
-    {0, "03a274edcba9876e", account, CUKVASHE_PIN_LENGTH},
-    {0, "0da274edcba9876e", account, CUKVASHE_PIN_LENGTH},
-    {0, "04a274edcba9876e", account, CUKVASHE_PIN_DIGIT},
-    {0, "041274edcba9876e", account, CUKVASHE_FILL},
-    {0, "1010101010101010", "/01234567890", CUKVASHE_ACCOUNT_LENGTH},
-    {0, "1010101010101010", "/012345678909", CUKVASHE_ACCOUNT_DIGIT},
-    {0, "1010101010101010", "4012345678901234567", CUKVASHE_FORMAT},
-    {0, "141234ffffffffff", zeros, CUKVASHE_FORMAT},
-    {0, "031234ffffffffff", zeros, CUKVASHE_PIN_LENGTH},
-    {0, "0d1234567890123f", zeros, CUKVASHE_PIN_LENGTH},
-    {0, "04a234ffffffffff", zeros, CUKVASHE_PIN_DIGIT},
-    {0, "04123affffffffff", zeros, CUKVASHE_PIN_DIGIT},
-    {0, "041234efffffffff", zeros, CUKVASHE_FILL},
-    {0, "041234fffffffffe", zeros, CUKVASHE_FILL},
-    {1, "041234fe09a51234", account, CUKVASHE_FORMAT},
-    {1, "131234fe09a51234", account, CUKVASHE_PIN_LENGTH},
-    {1, "14123afe09a51234", account, CUKVASHE_PIN_DIGIT},
-    {3, "041274b9f9b9d35d", "401234567890", CUKVASHE_ACCOUNT_LENGTH},
-    {3, "041274b9f9b9d35d", "/012345678909", CUKVASHE_ACCOUNT_DIGIT},
-    {3, "041274b9f9b9d35d", account, CUKVASHE_FORMAT},
-    {3, "331274b9f9b9d35d", account, CUKVASHE_PIN_LENGTH},
-    {3, "34a274b9f9b9d359", account, CUKVASHE_PIN_DIGIT},
-    {3, "341274b9f9b9d359", account, CUKVASHE_FILL},
-    {3, "3412349aaaaaaaaa", zeros, CUKVASHE_FILL},
+    {0, "141274edcba9876f", "401234567890", CUKVASHE_ERR_ACCOUNT_LENGTH},
+    {0, "141274edcba9876f", "99999994012345678900", CUKVASHE_ERR_ACCOUNT_LENGTH},
+    {0, "141274edcba9876f", "401234567890:", CUKVASHE_ERR_ACCOUNT_DIGIT},
+    {0, "13a274edcba9876e", account, CUKVASHE_ERR_FORMAT},
+    {0, "03a274edcba9876e", account, CUKVASHE_ERR_PIN_LENGTH},
+    {0, "0da274edcba9876e", account, CUKVASHE_ERR_PIN_LENGTH},
+    {0, "04a274edcba9876e", account, CUKVASHE_ERR_PIN_DIGIT},
+    {0, "041274edcba9876e", account, CUKVASHE_ERR_FILL},
+    {0, "1010101010101010", "/01234567890", CUKVASHE_ERR_ACCOUNT_LENGTH},
+    {0, "1010101010101010", "/012345678909", CUKVASHE_ERR_ACCOUNT_DIGIT},
+    {0, "1010101010101010", "4012345678901234567", CUKVASHE_ERR_FORMAT},
+    {0, "141234ffffffffff", zeros, CUKVASHE_ERR_FORMAT},
+    {0, "031234ffffffffff", zeros, CUKVASHE_ERR_PIN_LENGTH},
+    {0, "0d1234567890123f", zeros, CUKVASHE_ERR_PIN_LENGTH},
+    {0, "04a234ffffffffff", zeros, CUKVASHE_ERR_PIN_DIGIT},
+    {0, "04123affffffffff", zeros, CUKVASHE_ERR_PIN_DIGIT},
+    {0, "041234efffffffff", zeros, CUKVASHE_ERR_FILL},
+    {0, "041234fffffffffe", zeros, CUKVASHE_ERR_FILL},
+    {1, "041234fe09a51234", account, CUKVASHE_ERR_FORMAT},
+    {1, "131234fe09a51234", account, CUKVASHE_ERR_PIN_LENGTH},
+    {1, "14123afe09a51234", account, CUKVASHE_ERR_PIN_DIGIT},
+    {3, "041274b9f9b9d35d", "401234567890", CUKVASHE_ERR_ACCOUNT_LENGTH},
+    {3, "041274b9f9b9d35d", "/012345678909", CUKVASHE_ERR_ACCOUNT_DIGIT},
+    {3, "041274b9f9b9d35d", account, CUKVASHE_ERR_FORMAT},
+    {3, "331274b9f9b9d35d", account, CUKVASHE_ERR_PIN_LENGTH},
+    {3, "34a274b9f9b9d359", account, CUKVASHE_ERR_PIN_DIGIT},
+    {3, "341274b9f9b9d359", account, CUKVASHE_ERR_FILL},
+    {3, "3412349aaaaaaaaa", zeros, CUKVASHE_ERR_FILL},
 };
 
-static int decoded(int format, const uint8_t block[8], const char *of, uint8_t pin[12], size_t *length) {
-  if (format == 1) return cukvashe_pin_decode_1(block, pin, length);
-  return (format == 0 ? cukvashe_pin_decode_0 : cukvashe_pin_decode_3)(block, TEXT(of), pin, length);
+static int decoded(int format, const uint8_t block[8], const char *of, char *pin) {
+  if (format == 1) return cukvashe_pin_decode_1(block, pin);
+  return (format == 0 ? cukvashe_pin_decode_0 : cukvashe_pin_decode_3)(block, TEXT(of), pin);
 }
 
 static void refuses_to_decode(void) {
-  uint8_t block[8], pin[12];
-  size_t length = 77;
-  memset(pin, 0x77, sizeof pin);
+  uint8_t block[8];
+  char pin[CUKVASHE_PIN_SIZE];
+  memset(pin, 'w', sizeof pin);
+  pin[12] = 0;
   for (size_t i = 0; i < sizeof read_of / sizeof *read_of; i++) {
     put(block, read_of[i].block);
-    CHECK(decoded(read_of[i].format, block, read_of[i].account, pin, &length) == read_of[i].status);
-    CHECK(length == 77 && are(pin, 12, "777777777777777777777777"));
+    CHECK(decoded(read_of[i].format, block, read_of[i].account, pin) == read_of[i].status);
+    CHECK(strlen(pin) == 12 && strspn(pin, "w") == 12);
   }
 }
 
@@ -295,19 +311,21 @@ static void refuses_to_decode(void) {
  * length fill is read as a digit, and with a shorter one a digit as fill. */
 static void reads_first_bytes(void) {
   static const char digits[] = "123456789012";
-  uint8_t block[8], pin[12];
+  uint8_t block[8];
+  char pin[CUKVASHE_PIN_SIZE];
   for (size_t right = 4; right <= 12; right++)
     for (unsigned first = 0; first < 256; first++) {
-      size_t said = first % 16, length = 77;
-      int wanted = first / 16 != 0         ? CUKVASHE_FORMAT
-                   : said < 4 || said > 12 ? CUKVASHE_PIN_LENGTH
-                   : said > right          ? CUKVASHE_PIN_DIGIT
-                   : said < right          ? CUKVASHE_FILL
+      size_t said = first % 16;
+      int wanted = first / 16 != 0         ? CUKVASHE_ERR_FORMAT
+                   : said < 4 || said > 12 ? CUKVASHE_ERR_PIN_LENGTH
+                   : said > right          ? CUKVASHE_ERR_PIN_DIGIT
+                   : said < right          ? CUKVASHE_ERR_FILL
                                            : CUKVASHE_OK;
-      CHECK(cukvashe_pin_encode_0((const uint8_t *)digits, right, TEXT(account), block) == CUKVASHE_OK && block[0] == right);
+      CHECK(cukvashe_pin_encode_0(digits, right, TEXT(account), block) == CUKVASHE_OK && block[0] == right);
       block[0] = (uint8_t)first;
-      CHECK(cukvashe_pin_decode_0(block, TEXT(account), pin, &length) == wanted);
-      CHECK(wanted == CUKVASHE_OK ? length == right && memcmp(pin, digits, right) == 0 : length == 77);
+      memset(pin, 0x77, sizeof pin);
+      CHECK(cukvashe_pin_decode_0(block, TEXT(account), pin) == wanted);
+      CHECK(wanted == CUKVASHE_OK ? strlen(pin) == right && memcmp(pin, digits, right) == 0 : pin[0] == 0x77);
     }
 }
 
@@ -315,20 +333,20 @@ static void reads_first_bytes(void) {
  * number, of which format 1 alone is filled with any digit. */
 static int fault_of(unsigned first, unsigned format) {
   unsigned length = first % 16;
-  if (first / 16 != format) return CUKVASHE_FORMAT;
-  if (length < 4 || length > 12) return CUKVASHE_PIN_LENGTH;
-  return format != 1 && length < 12 ? CUKVASHE_FILL : CUKVASHE_OK;
+  if (first / 16 != format) return CUKVASHE_ERR_FORMAT;
+  if (length < 4 || length > 12) return CUKVASHE_ERR_PIN_LENGTH;
+  return format != 1 && length < 12 ? CUKVASHE_ERR_FILL : CUKVASHE_OK;
 }
 
 static void reads_first_bytes_of_each_format(void) {
   static const int formats[] = {0, 1, 3};
-  uint8_t block[8], pin[12];
-  size_t length;
+  uint8_t block[8];
+  char pin[CUKVASHE_PIN_SIZE];
   put(block, "00123456789012ff");
   for (unsigned first = 0; first < 256; first++) {
     block[0] = (uint8_t)first;
     for (int i = 0; i < 3; i++)
-      CHECK(decoded(formats[i], block, zeros, pin, &length) == fault_of(first, (unsigned)formats[i]));
+      CHECK(decoded(formats[i], block, zeros, pin) == fault_of(first, (unsigned)formats[i]));
   }
 }
 
@@ -337,70 +355,92 @@ static const struct {
   const char *account, *expiry, *service;
   int status;
 } cards[] = {
-    {"412345678901", "870", "10", CUKVASHE_ACCOUNT_LENGTH},
-    {"41234567890123456789", "870", "10", CUKVASHE_ACCOUNT_LENGTH},
-    {"412345678901234:", "870", "10", CUKVASHE_ACCOUNT_DIGIT},
-    {"/123456789012345", "870", "101", CUKVASHE_ACCOUNT_DIGIT},
-    {"4123456789012345", "870", "10", CUKVASHE_EXPIRY_LENGTH},
-    {"4123456789012345", "87010", "10", CUKVASHE_EXPIRY_LENGTH},
-    {"4123456789012345", "870/", "10", CUKVASHE_EXPIRY_DIGIT},
-    {"4123456789012345", "870:", "10", CUKVASHE_EXPIRY_DIGIT},
-    {"4123456789012345", "/701", "101", CUKVASHE_EXPIRY_DIGIT},
-    {"4123456789012345", "8701", "10", CUKVASHE_SERVICE_LENGTH},
-    {"4123456789012345", "8701", "1011", CUKVASHE_SERVICE_LENGTH},
-    {"4123456789012345", "8701", "10:", CUKVASHE_SERVICE_DIGIT},
-    {"4123456789012345", "8701", "/01", CUKVASHE_SERVICE_DIGIT},
+    {"412345678901", "870", "10", CUKVASHE_ERR_ACCOUNT_LENGTH},
+    {"41234567890123456789", "870", "10", CUKVASHE_ERR_ACCOUNT_LENGTH},
+    {"412345678901234:", "870", "10", CUKVASHE_ERR_ACCOUNT_DIGIT},
+    {"/123456789012345", "870", "101", CUKVASHE_ERR_ACCOUNT_DIGIT},
+    {"4123456789012345", "870", "10", CUKVASHE_ERR_EXPIRY_LENGTH},
+    {"4123456789012345", "87010", "10", CUKVASHE_ERR_EXPIRY_LENGTH},
+    {"4123456789012345", "870/", "10", CUKVASHE_ERR_EXPIRY_DIGIT},
+    {"4123456789012345", "870:", "10", CUKVASHE_ERR_EXPIRY_DIGIT},
+    {"4123456789012345", "/701", "101", CUKVASHE_ERR_EXPIRY_DIGIT},
+    {"4123456789012345", "8701", "10", CUKVASHE_ERR_SERVICE_LENGTH},
+    {"4123456789012345", "8701", "1011", CUKVASHE_ERR_SERVICE_LENGTH},
+    {"4123456789012345", "8701", "10:", CUKVASHE_ERR_SERVICE_DIGIT},
+    {"4123456789012345", "8701", "/01", CUKVASHE_ERR_SERVICE_DIGIT},
 };
 
 /* OpenSSL makes dedcacbefc1acfc6 of the second card's blocks, in which two digits are below ten: so the third of the value is the
  * first letter, d, less ten. */
 static void answers_card_verification_values(void) {
-  uint8_t key[16], value[3];
+  uint8_t key[16];
+  char value[CUKVASHE_CVV_SIZE];
   put(key, base_key);
   CHECK(cukvashe_cvv(key, TEXT("4123456789025343"), TEXT("8701"), TEXT("101"), value) == CUKVASHE_OK);
-  CHECK(memcmp(value, "163", 3) == 0);
+  CHECK(memcmp(value, "163", 4) == 0);
   CHECK(cukvashe_cvv(key, TEXT("4123456789012345"), TEXT("8701"), TEXT("101"), value) == CUKVASHE_OK);
-  CHECK(memcmp(value, "561", 3) == 0);
+  CHECK(memcmp(value, "561", 4) == 0);
   for (size_t i = 0; i < sizeof cards / sizeof *cards; i++) {
     int status = cukvashe_cvv(key, TEXT(cards[i].account), TEXT(cards[i].expiry), TEXT(cards[i].service), value);
-    CHECK(status == cards[i].status && memcmp(value, "561", 3) == 0);
+    CHECK(status == cards[i].status && memcmp(value, "561", 4) == 0);
+  }
+}
+
+/* Texts of every length: the lengths that are wrong are refused, and no more characters are looked at than the length says. */
+static void takes_lengths(void) {
+  char digits[34];
+  uint8_t key[16], fill[10], block[8];
+  char value[CUKVASHE_CVV_SIZE];
+  put(key, base_key);
+  memset(fill, 10, sizeof fill);
+  for (size_t n = 0; n < sizeof digits; n++) {
+    memset(digits, '7', sizeof digits);
+    memset(digits + n, 'x', sizeof digits - n);
+    const int of_pin = 4 <= n && n <= 12 ? CUKVASHE_OK : CUKVASHE_ERR_PIN_LENGTH;
+    const int of_account = 13 <= n && n <= 19 ? CUKVASHE_OK : CUKVASHE_ERR_ACCOUNT_LENGTH;
+    CHECK(cukvashe_pin_encode_0(digits, n, TEXT(account), block) == of_pin);
+    CHECK(cukvashe_pin_encode_1(digits, n, fill, block) == of_pin);
+    CHECK(cukvashe_pin_encode_3(digits, n, TEXT(account), fill, block) == of_pin);
+    CHECK(cukvashe_pin_encode_0(TEXT("1234"), digits, n, block) == of_account);
+    CHECK(cukvashe_pin_encode_3(TEXT("1234"), digits, n, fill, block) == of_account);
+    CHECK(cukvashe_cvv(key, digits, n, TEXT("8701"), TEXT("101"), value) == of_account);
+    CHECK(cukvashe_cvv(key, TEXT(account), digits, n, TEXT("101"), value) ==
+          (n == 4 ? CUKVASHE_OK : CUKVASHE_ERR_EXPIRY_LENGTH));
+    CHECK(cukvashe_cvv(key, TEXT(account), TEXT("8701"), digits, n, value) ==
+          (n == 3 ? CUKVASHE_OK : CUKVASHE_ERR_SERVICE_LENGTH));
   }
 }
 
 /* A pointer whose length or count is 0 may be null: keys, further components and texts. */
 static void takes_null_pointers(void) {
-  static int (*const check_values[5])(const uint8_t *, size_t, uint8_t *) = {
-      cukvashe_des_check_value, cukvashe_tdes_ede3_check_value, cukvashe_tdes_eee3_check_value,
-      cukvashe_tdes_ede2_check_value, cukvashe_tdes_eee2_check_value};
-  uint8_t key[24], other[24], made[24], fill[10], block[8], pin[12], value[3];
-  size_t length = 0;
+  uint8_t key[24], other[24], made[24], fill[10], block[8];
+  char pin[CUKVASHE_PIN_SIZE], value[CUKVASHE_CVV_SIZE];
   random_bytes(key, sizeof key);
   random_bytes(other, sizeof other);
   memset(fill, 10, sizeof fill);
   memset(block, 0, sizeof block);
-  for (int i = 0; i < 5; i++) CHECK(check_values[i](NULL, 0, value) == CUKVASHE_KEY_LENGTH);
   CHECK(cukvashe_combine_8(key, other, NULL, 0, made) == CUKVASHE_OK);
   CHECK(cukvashe_combine_16(key, other, NULL, 0, made) == CUKVASHE_OK);
   CHECK(cukvashe_combine_24(key, other, NULL, 0, made) == CUKVASHE_OK);
-  CHECK(cukvashe_pin_encode_0(NULL, 0, NULL, 0, block) == CUKVASHE_PIN_LENGTH);
-  CHECK(cukvashe_pin_encode_1(NULL, 0, fill, block) == CUKVASHE_PIN_LENGTH);
-  CHECK(cukvashe_pin_encode_3(NULL, 0, NULL, 0, fill, block) == CUKVASHE_PIN_LENGTH);
-  CHECK(cukvashe_pin_encode_0(TEXT("1234"), NULL, 0, block) == CUKVASHE_ACCOUNT_LENGTH);
-  CHECK(cukvashe_pin_encode_3(TEXT("1234"), NULL, 0, fill, block) == CUKVASHE_ACCOUNT_LENGTH);
-  CHECK(cukvashe_pin_decode_0(block, NULL, 0, pin, &length) == CUKVASHE_ACCOUNT_LENGTH);
-  CHECK(cukvashe_pin_decode_3(block, NULL, 0, pin, &length) == CUKVASHE_ACCOUNT_LENGTH);
-  CHECK(cukvashe_cvv(key, NULL, 0, NULL, 0, NULL, 0, value) == CUKVASHE_ACCOUNT_LENGTH);
-  CHECK(cukvashe_cvv(key, TEXT("4123456789012345"), NULL, 0, NULL, 0, value) == CUKVASHE_EXPIRY_LENGTH);
-  CHECK(cukvashe_cvv(key, TEXT("4123456789012345"), TEXT("8701"), NULL, 0, value) == CUKVASHE_SERVICE_LENGTH);
+  CHECK(cukvashe_pin_encode_0(NULL, 0, NULL, 0, block) == CUKVASHE_ERR_PIN_LENGTH);
+  CHECK(cukvashe_pin_encode_1(NULL, 0, fill, block) == CUKVASHE_ERR_PIN_LENGTH);
+  CHECK(cukvashe_pin_encode_3(NULL, 0, NULL, 0, fill, block) == CUKVASHE_ERR_PIN_LENGTH);
+  CHECK(cukvashe_pin_encode_0(TEXT("1234"), NULL, 0, block) == CUKVASHE_ERR_ACCOUNT_LENGTH);
+  CHECK(cukvashe_pin_encode_3(TEXT("1234"), NULL, 0, fill, block) == CUKVASHE_ERR_ACCOUNT_LENGTH);
+  CHECK(cukvashe_pin_decode_0(block, NULL, 0, pin) == CUKVASHE_ERR_ACCOUNT_LENGTH);
+  CHECK(cukvashe_pin_decode_3(block, NULL, 0, pin) == CUKVASHE_ERR_ACCOUNT_LENGTH);
+  CHECK(cukvashe_cvv(key, NULL, 0, NULL, 0, NULL, 0, value) == CUKVASHE_ERR_ACCOUNT_LENGTH);
+  CHECK(cukvashe_cvv(key, TEXT("4123456789012345"), NULL, 0, NULL, 0, value) == CUKVASHE_ERR_EXPIRY_LENGTH);
+  CHECK(cukvashe_cvv(key, TEXT("4123456789012345"), TEXT("8701"), NULL, 0, value) == CUKVASHE_ERR_SERVICE_LENGTH);
 }
 
 int main(void) {
   answers_known_check_values();
-  answers_check_values();
   combines();
   sets_parity();
   answers_transactions();
-  counts();
+  counts_transactions();
+  begins_with_the_initial_key();
   answers_pin_blocks();
   refuses_to_encode();
   refuses_fill();
@@ -408,6 +448,7 @@ int main(void) {
   reads_first_bytes();
   reads_first_bytes_of_each_format();
   answers_card_verification_values();
+  takes_lengths();
   takes_null_pointers();
   printf("payment: check values, components, keys of transactions and their counters, PIN blocks, card verification values\n");
   return 0;

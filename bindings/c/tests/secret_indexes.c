@@ -1,103 +1,109 @@
 /*
- * Under valgrind, with keys, vectors and blocks marked undefined: memcheck reports where an index or a branch depends on
- * them. `secret_indexes calls` runs the calls that must give no report; `secret_indexes blocks` and `secret_indexes
- * planted` must give one each: by the calls for single blocks, which read tables so, and by a lookup that is planted here.
+ * Under valgrind, with keys, vectors and data marked undefined: memcheck reports where an index or a branch depends on them.
+ * `secret_indexes calls` runs the calls that must give no report; each other word runs one that must give one: `short`, a list that
+ * goes one by one, and `rest`, a list whose rest does, both of which read tables so; and `planted`, a lookup here.
  */
-#include "wide.h"
+#include "mac_calls.h"
 #include <valgrind/memcheck.h>
 
-/* No blocks, fewer than a batch of each width, whole batches, and more: code may be another for each. */
-static const size_t counts[] = {0, 1, 2, 19, 127, 128, 129, 257, 300};
+/* Lists of which nothing goes one by one, by the header: their number of blocks, modulo 128, is 0 or at least 19. */
+static const size_t whole[] = {0, 19, 20, 127, 128, 147, 255, 256, 275, 300, 384};
 
-enum { COUNTS = sizeof counts / sizeof *counts, LONGEST = 300 };
+enum { MOST_BLOCKS = 384 };
 
-static uint8_t key[24], vector[8], blocks[8 * LONGEST], others[8 * LONGEST];
+static uint8_t key[24], iv[8], data[8 * MOST_BLOCKS], other[8 * MOST_BLOCKS];
 
 static void hide(void *bytes, size_t count) {
   random_bytes((uint8_t *)bytes, count);
   (void)VALGRIND_MAKE_MEM_UNDEFINED(bytes, count);
 }
 
-static void lists_of(const struct lists *by, const union context *context) {
-  for (int i = 0; i < COUNTS; i++) {
-    size_t count = counts[i];
-    hide(blocks, sizeof blocks);
-    hide(vector, sizeof vector);
-    by->encrypt(context, blocks, count);
-    by->decrypt(context, blocks, count);
-    CHECK(by->encrypt_b2b(context, blocks, count, others, count) == CUKVASHE_OK);
-    CHECK(by->decrypt_b2b(context, others, count, blocks, count) == CUKVASHE_OK);
-    by->decrypt_cbc(context, vector, blocks, count);
+static void lists_by(const struct way *way, const union context *context) {
+  for (size_t i = 0; i < sizeof whole / sizeof *whole; i++) {
+    size_t length = 8 * whole[i];
+    hide(data, sizeof data);
+    hide(iv, sizeof iv);
+    CHECK(way->encrypt_ecb(context, data, length) == CUKVASHE_OK);
+    CHECK(way->decrypt_ecb(context, data, length) == CUKVASHE_OK);
+    CHECK(way->encrypt_ecb_to(context, data, other, length) == CUKVASHE_OK);
+    CHECK(way->decrypt_ecb_to(context, other, data, length) == CUKVASHE_OK);
+    CHECK(way->decrypt_cbc(context, iv, data, length) == CUKVASHE_OK);
+    CHECK(way->decrypt_cbc_to(context, iv, data, other, length) == CUKVASHE_OK);
   }
 }
 
-static void calls_of(int cipher) {
-  const struct calls *calls = &ciphers[cipher];
+static void calls_of(const struct cipher *cipher) {
   union context context;
   hide(key, sizeof key);
-  CHECK(calls->init(&context, key, calls->key_size) == CUKVASHE_OK);
-  lists_of(&calls->lists[0], &context);
-  if (cukvashe_has_wide()) lists_of(&wide[cipher], &context);
+  CHECK(cipher->init(&context, key, cipher->key_size) == CUKVASHE_OK);
+  for (int way = 0; way < count_of_ways(); way++) lists_by(&cipher->ways[way], &context);
 }
 
-static void blocks_of(const struct calls *calls) {
-  union context context;
-  hide(key, sizeof key);
-  hide(blocks, 8);
-  CHECK(calls->init(&context, key, calls->key_size) == CUKVASHE_OK);
-  calls->encrypt_blocks(&context, blocks, 1);
+/* Whether a status that came of hidden bytes is this one: only here may a branch depend on it. */
+static int is_status(int status, int wanted) {
+  (void)VALGRIND_MAKE_MEM_DEFINED(&status, sizeof status);
+  return status == wanted;
 }
 
 /* A tag is compared without a branch on its bytes. What comes before, the message's own tag, is made block by block, and reads
    tables: so nothing of key and message is hidden here. */
-#define VERIFIES(MAC, INIT)                                          \
-  do {                                                               \
-    cukvashe_##MAC mac;                                              \
-    uint8_t tag[8];                                                  \
-    int status;                                                      \
-    random_bytes(key, sizeof key);                                   \
-    CHECK(INIT == CUKVASHE_OK);                                      \
-    cukvashe_##MAC##_update(&mac, vector, sizeof vector);            \
-    cukvashe_##MAC##_final(&mac, tag);                               \
-    (void)VALGRIND_MAKE_MEM_UNDEFINED(tag, sizeof tag);              \
-    status = cukvashe_##MAC##_verify(&mac, tag, sizeof tag);         \
-    (void)VALGRIND_MAKE_MEM_DEFINED(&status, sizeof status);         \
-    CHECK(status == CUKVASHE_OK);                                    \
-    status = cukvashe_##MAC##_verify(&mac, tag, 4);                  \
-    (void)VALGRIND_MAKE_MEM_DEFINED(&status, sizeof status);         \
-    CHECK(status == CUKVASHE_OK);                                    \
-  } while (0)
-
-static void verify_tags(void) {
+static void verifies(const struct mac *mac) {
+  union mac_context context;
+  uint8_t tag[8];
+  random_bytes(key, sizeof key);
+  random_bytes(iv, sizeof iv);
   (void)VALGRIND_MAKE_MEM_DEFINED(key, sizeof key);
-  (void)VALGRIND_MAKE_MEM_DEFINED(vector, sizeof vector);
-  VERIFIES(cbc_mac_des, cukvashe_cbc_mac_des_init(&mac, key, 8, 2));
-  VERIFIES(cbc_mac_tdes_ede3, cukvashe_cbc_mac_tdes_ede3_init(&mac, key, 24, 2));
-  VERIFIES(retail_mac_des, cukvashe_retail_mac_des_init(&mac, key, 16, 2));
-  VERIFIES(cmac_tdes_ede2, cukvashe_cmac_tdes_ede2_init(&mac, key, 16));
-  VERIFIES(cmac_tdes_ede3, cukvashe_cmac_tdes_ede3_init(&mac, key, 24));
+  (void)VALGRIND_MAKE_MEM_DEFINED(iv, sizeof iv);
+  CHECK(mac->init(&context, key, mac->key_size, CUKVASHE_MAC_PADDING_2) == CUKVASHE_OK);
+  mac->update(&context, iv, sizeof iv);
+  mac->final(&context, tag);
+  (void)VALGRIND_MAKE_MEM_UNDEFINED(tag, sizeof tag);
+  CHECK(is_status(mac->verify(&context, tag, sizeof tag), CUKVASHE_OK));
+  CHECK(is_status(mac->verify(&context, tag, 4), CUKVASHE_OK));
+  tag[7] ^= 1;
+  CHECK(is_status(mac->verify(&context, tag, sizeof tag), CUKVASHE_ERR_TAG));
+}
+
+/* Padding is written without a look at the bytes before it, and keys are compared without a branch. */
+static void others(void) {
+  size_t padded;
+  hide(data, sizeof data);
+  hide(other, sizeof other);
+  CHECK(cukvashe_pad(data, 21, sizeof data, CUKVASHE_PKCS7, &padded) == CUKVASHE_OK);
+  CHECK(cukvashe_pad(data, 21, sizeof data, CUKVASHE_ISO7816, &padded) == CUKVASHE_OK);
+  cukvashe_wipe(data, sizeof data);
+}
+
+static void list_of(size_t count) {
+  union context context;
+  hide(key, sizeof key);
+  hide(data, sizeof data);
+  CHECK(ciphers[DES].init(&context, key, 8) == CUKVASHE_OK);
+  CHECK(cukvashe_des_encrypt_ecb(&context.des, data, 8 * count) == CUKVASHE_OK);
 }
 
 /* What is read has to be kept: valgrind leaves out a read that nothing uses. */
 static void planted(void) {
   static volatile uint8_t table[256];
   hide(key, 1);
-  blocks[0] = table[key[0]];
+  data[0] = table[key[0]];
 }
 
 int main(int count, char **words) {
   CHECK(count == 2);
   if (strcmp(words[1], "calls") == 0) {
-    for (int cipher = 0; cipher < CIPHERS; cipher++) calls_of(cipher);
-    verify_tags();
-  } else if (strcmp(words[1], "blocks") == 0) {
-    blocks_of(&ciphers[DES]);
+    for (int n = 0; n < CIPHERS; n++) calls_of(&ciphers[n]);
+    for (int n = 0; n < MACS; n++) verifies(&macs[n]);
+    others();
+  } else if (strcmp(words[1], "short") == 0) {
+    list_of(18);
+  } else if (strcmp(words[1], "rest") == 0) {
+    list_of(256 + 1);
   } else {
     CHECK(strcmp(words[1], "planted") == 0);
     planted();
   }
-  /* What is undefined is in the bytes of lists; the memory itself is there. */
-  printf("secret indexes: %s, run by valgrind: %s, vectors of 256 bits: %s\n", words[1], RUNNING_ON_VALGRIND ? "yes" : "no",
-         cukvashe_has_wide() ? "yes" : "no");
+  printf("secret indexes: %s, run by valgrind: %s, by %d of %d ways\n", words[1], RUNNING_ON_VALGRIND ? "yes" : "no",
+         count_of_ways(), (int)MOST_WAYS);
   return 0;
 }

@@ -13,16 +13,13 @@ void spread_tdes_ede3_encrypt(const uint8_t *key, uint8_t *blocks, size_t count)
 void spread_tdes_ede3_decrypt(const uint8_t *key, uint8_t *blocks, size_t count);
 void spread_tdes_ede3_decrypt_cbc(const uint8_t *key, const uint8_t *iv, uint8_t *blocks, size_t count);
 
-/* No blocks, fewer than a batch of each width, whole batches, and more: code may be another for each. */
-static const size_t counts[] = {0, 1, 2, 19, 127, 128, 129, 257, 300};
-
 int main(int arguments, char **words) {
-  static uint8_t key[24], vector[8], blocks[8 * 300];
+  static uint8_t key[24], vector[8], blocks[8 * LONGEST];
   CHECK(arguments == 2);
   (void)VALGRIND_MAKE_MEM_UNDEFINED(key, sizeof key);
   (void)VALGRIND_MAKE_MEM_UNDEFINED(vector, sizeof vector);
   (void)VALGRIND_MAKE_MEM_UNDEFINED(blocks, sizeof blocks);
-  for (size_t i = 0; i < sizeof counts / sizeof *counts; i++) {
+  for (int i = 0; i < COUNTS; i++) {
     spread_des_encrypt(key, blocks, counts[i]);
     spread_des_decrypt(key, blocks, counts[i]);
     spread_des_decrypt_cbc(key, vector, blocks, counts[i]);

@@ -1,38 +1,109 @@
-/* How much of the stack the calls for lists use, beside what the header says: each runs in a thread of its own, whose stack was
+/* How much of the stack each call of the header uses, beside what the header says: each runs in a thread of its own, whose stack was
    written over with one byte before, and the lowest place that has changed tells how far it came. */
 #define _POSIX_C_SOURCE 200809L
-#include "wide.h"
+#include "mac_calls.h"
 #include <pthread.h>
 
-enum { STACK = 1 << 18, LONGEST = 300, PAINT = 0xa5 };
+enum { STACK = 1 << 18, LIST = 300, PAINT = 0xa5 };
 
 /* What the header says, in bytes. */
-enum { NARROW_LIMIT = 20000, WIDE_LIMIT = 40000 };
+enum { LIMIT = 24000 };
 
-/* One call for a list, or none. */
+/* One call, by the test of its kind, or none. */
 struct work {
-  const struct lists *by;
-  const union context *context;
-  int call;
+  void (*run)(const struct work *);
+  int call, number, way;
   size_t count;
 };
 
-enum { CALLS = 5, NO_CALL = CALLS };
-
-static uint8_t vector[8], blocks[8 * LONGEST], others[8 * LONGEST];
+static uint8_t key[24], iv[8], blocks[8 * LIST], others[8 * LIST];
+static char pin[CUKVASHE_PIN_SIZE], value[CUKVASHE_CVV_SIZE];
+static union context context;
+static union mac_context mac;
 static uint8_t *stack;
 
-static void *run(void *given) {
-  const struct work *work = (const struct work *)given;
-  size_t count = work->count;
+/* What a call returns is of no interest here. */
+static volatile int returned;
+
+static void no_call(const struct work *work) { (void)work; }
+
+enum { OF_CIPHER = 10 };
+
+static void of_cipher(const struct work *work) {
+  const struct cipher *cipher = &ciphers[work->number];
+  const struct way *way = &cipher->ways[work->way];
+  size_t length = 8 * work->count;
   switch (work->call) {
-    case 0: work->by->encrypt(work->context, blocks, count); break;
-    case 1: work->by->decrypt(work->context, blocks, count); break;
-    case 2: work->by->encrypt_b2b(work->context, blocks, count, others, count); break;
-    case 3: work->by->decrypt_b2b(work->context, blocks, count, others, count); break;
-    case 4: work->by->decrypt_cbc(work->context, vector, blocks, count); break;
-    default: break;
+    case 0: returned = cipher->init(&context, key, cipher->key_size); break;
+    case 1: returned = cipher->check_value(key, cipher->key_size, blocks); break;
+    case 2: returned = way->encrypt_ecb(&context, blocks, length); break;
+    case 3: returned = way->decrypt_ecb(&context, blocks, length); break;
+    case 4: returned = way->encrypt_ecb_to(&context, blocks, others, length); break;
+    case 5: returned = way->decrypt_ecb_to(&context, blocks, others, length); break;
+    case 6: returned = way->encrypt_cbc(&context, iv, blocks, length); break;
+    case 7: returned = way->decrypt_cbc(&context, iv, blocks, length); break;
+    case 8: returned = way->encrypt_cbc_to(&context, iv, blocks, others, length); break;
+    default: returned = way->decrypt_cbc_to(&context, iv, blocks, others, length); break;
   }
+}
+
+enum { OF_MAC = 4 };
+
+static void of_mac(const struct work *work) {
+  const struct mac *calls = &macs[work->number];
+  switch (work->call) {
+    case 0: returned = calls->init(&mac, key, calls->key_size, CUKVASHE_MAC_PADDING_2); break;
+    case 1: calls->update(&mac, blocks, 8 * work->count); break;
+    case 2: calls->final(&mac, iv); break;
+    default: returned = calls->verify(&mac, iv, 8); break;
+  }
+}
+
+enum { OF_KEY = 15 };
+
+static void of_key(const struct work *work) {
+  static const uint8_t serial[10] = {0xff, 0xff, 0x98, 0x76, 0x54, 0x32, 0x10, 0xef, 0xf8};
+  switch (work->call) {
+    case 0: returned = cukvashe_weak_key_test(key, 24); break;
+    case 1: cukvashe_set_odd_parity(key, 24); break;
+    case 2: returned = cukvashe_equal_but_parity(key, others, 24); break;
+    case 3: returned = cukvashe_combine_8(key, blocks, others, 2, iv); break;
+    case 4: returned = cukvashe_combine_16(key, blocks, others + 16, 2, others); break;
+    case 5: returned = cukvashe_combine_24(key, blocks, others + 24, 2, others); break;
+    case 6: cukvashe_dukpt_initial_key(key, serial, others); break;
+    case 7: cukvashe_dukpt_transaction_key(key, serial, others); break;
+    case 8: cukvashe_dukpt_pin_key(key, others); break;
+    case 9: cukvashe_dukpt_mac_key(key, true, others); break;
+    case 10: cukvashe_dukpt_data_key(key, true, others); break;
+    case 11: returned = cukvashe_dukpt_is_usable(serial); break;
+    case 12: returned = cukvashe_dukpt_next_serial(serial, others); break;
+    case 13: cukvashe_wipe(others, sizeof others); break;
+    default: returned = cukvashe_strerror(3)[0] + cukvashe_version()[0]; break;
+  }
+}
+
+enum { OF_TEXT = 9 };
+
+static void of_text(const struct work *work) {
+  static const char *const account = "4012345678909", *const digits = "123456789012";
+  static const uint8_t fill[10] = {10, 11, 12, 13, 14, 15, 10, 11, 12, 13};
+  size_t length;
+  switch (work->call) {
+    case 0: returned = cukvashe_pin_encode_0(digits, 12, account, 13, blocks); break;
+    case 1: returned = cukvashe_pin_decode_0(blocks, account, 13, pin); break;
+    case 2: returned = cukvashe_pin_encode_1(digits, 12, fill, blocks); break;
+    case 3: returned = cukvashe_pin_decode_1(blocks, pin); break;
+    case 4: returned = cukvashe_pin_encode_3(digits, 12, account, 13, fill, blocks); break;
+    case 5: returned = cukvashe_pin_decode_3(blocks, account, 13, pin); break;
+    case 6: returned = cukvashe_cvv(key, account, 13, "8701", 4, "101", 3, value); break;
+    case 7: returned = cukvashe_pad(blocks, 77, sizeof blocks, CUKVASHE_PKCS7, &length); break;
+    default: returned = cukvashe_unpad(blocks, 80, CUKVASHE_PKCS7, &length); break;
+  }
+}
+
+static void *run(void *given) {
+  struct work *work = (struct work *)given;
+  work->run(work);
   return NULL;
 }
 
@@ -49,35 +120,43 @@ static size_t used_by(struct work *work) {
   return STACK - low;
 }
 
-/* The most that any call of a width uses, beyond what a thread with no call does. */
-static size_t most_of(int width) {
-  static const size_t counts[] = {1, 19, 128, 129, LONGEST};
-  struct work work = {NULL, NULL, NO_CALL, 0};
-  size_t none = used_by(&work), most = 0;
+/* The most that any call used so far, beyond what a thread with no call does. */
+static size_t none, most;
+
+static void measure(void (*test)(const struct work *), int call, int number, int way, size_t count) {
+  struct work work = {test, call, number, way, count};
+  size_t used = used_by(&work) - none;
+  CHECK(used <= LIMIT);
+  if (used > most) most = used;
+}
+
+static void measure_ciphers(void) {
+  static const size_t sizes[] = {1, 19, 128, 129, LIST};
   for (int cipher = 0; cipher < CIPHERS; cipher++) {
-    const struct calls *calls = &ciphers[cipher];
-    union context context;
-    uint8_t key[24];
-    random_bytes(key, sizeof key);
-    CHECK(calls->init(&context, key, calls->key_size) == CUKVASHE_OK);
-    work.by = width ? &wide[cipher] : &calls->lists[0];
-    work.context = &context;
-    for (work.call = 0; work.call < CALLS; work.call++)
-      for (size_t i = 0; i < sizeof counts / sizeof *counts; i++) {
-        work.count = counts[i];
-        size_t used = used_by(&work) - none;
-        if (used > most) most = used;
-      }
+    measure(of_cipher, 0, cipher, 0, 0);
+    for (int call = 1; call < OF_CIPHER; call++)
+      for (int way = 0; way < count_of_ways(); way++)
+        for (size_t i = 0; i < sizeof sizes / sizeof *sizes; i++) measure(of_cipher, call, cipher, way, sizes[i]);
   }
-  return most;
 }
 
 int main(void) {
   void *aligned;
+  struct work nothing = {no_call, 0, 0, 0, 0};
   CHECK(posix_memalign(&aligned, 4096, STACK) == 0);
   stack = (uint8_t *)aligned;
-  size_t narrow = most_of(0), widest = cukvashe_has_wide() ? most_of(1) : 0;
-  printf("stack: at most %zu bytes by the calls for lists, and %zu by the wide ones\n", narrow, widest);
-  CHECK(0 < narrow && narrow <= NARROW_LIMIT && widest <= WIDE_LIMIT);
+  random_bytes(key, sizeof key);
+  random_bytes(others, sizeof others);
+  none = used_by(&nothing);
+  measure_ciphers();
+  printf("stack: at most %zu bytes by calls of ciphers", most);
+  CHECK(most > 1000);
+  most = 0;
+  for (int call = 0; call < OF_KEY; call++) measure(of_key, call, 0, 0, 0);
+  for (int call = 0; call < OF_TEXT; call++) measure(of_text, call, 0, 0, 0);
+  for (int number = 0; number < MACS; number++)
+    for (int call = 0; call < OF_MAC; call++) measure(of_mac, call, number, 0, LIST);
+  CHECK(most > 100);
+  printf(", and %zu by all others\n", most);
   return 0;
 }

@@ -1,720 +1,323 @@
 //! The declarations of `cukvashe_des.h`.
 
-use crate::Block;
+use core::ffi::{c_char, c_int, c_void};
+use core::mem::size_of_val;
 
-pub const OK: i32 = 0;
-pub const KEY_LENGTH: i32 = 1;
-pub const FORMAT: i32 = 7;
-pub const PIN_LENGTH: i32 = 8;
-pub const PIN_DIGIT: i32 = 9;
-pub const ACCOUNT_LENGTH: i32 = 10;
-pub const ACCOUNT_DIGIT: i32 = 11;
-pub const EXPIRY_LENGTH: i32 = 13;
-pub const EXPIRY_DIGIT: i32 = 14;
-pub const SERVICE_LENGTH: i32 = 15;
+pub const OK: c_int = 0;
+pub const KEY_LENGTH: c_int = 1;
+pub const BLOCKS: c_int = 2;
+pub const FORMAT: c_int = 7;
+pub const PIN_LENGTH: c_int = 8;
+pub const PIN_DIGIT: c_int = 9;
+pub const ACCOUNT_LENGTH: c_int = 10;
+pub const ACCOUNT_DIGIT: c_int = 11;
+pub const EXPIRY_LENGTH: c_int = 13;
+pub const EXPIRY_DIGIT: c_int = 14;
+pub const SERVICE_LENGTH: c_int = 15;
 
-#[repr(C)]
-#[derive(Clone, Default)]
-pub struct Des {
-    words: [u64; 16],
-}
+pub const PKCS7: c_int = 1;
+pub const ISO7816: c_int = 2;
+pub const MAC_PADDING_1: c_int = 1;
+pub const MAC_PADDING_2: c_int = 2;
 
+/// A context, which is wiped when it is dropped.
 #[repr(C)]
 #[derive(Clone)]
-pub struct TdesEde3 {
-    words: [u64; 48],
+pub struct Context<const WORDS: usize> {
+    words: [u64; WORDS],
 }
 
-impl Default for TdesEde3 {
-    fn default() -> Self {
-        TdesEde3 { words: [0; 48] }
+impl<const WORDS: usize> Context<WORDS> {
+    /// Room for `init` to write.
+    pub fn empty() -> Self {
+        Context { words: [0; WORDS] }
     }
 }
 
-#[repr(C)]
-#[derive(Clone)]
-pub struct TdesEee3 {
-    words: [u64; 48],
-}
-
-impl Default for TdesEee3 {
-    fn default() -> Self {
-        TdesEee3 { words: [0; 48] }
+impl<const WORDS: usize> Drop for Context<WORDS> {
+    fn drop(&mut self) {
+        wipe(&mut self.words);
     }
 }
 
-#[repr(C)]
-#[derive(Clone, Default)]
-pub struct TdesEde2 {
-    words: [u64; 32],
+/// What zeros are a good value of.
+pub trait Plain {}
+
+impl Plain for u8 {}
+impl Plain for u64 {}
+
+/// Writes zeros over values, which no compiler leaves out.
+pub fn wipe<T: Plain>(values: &mut [T]) {
+    // SAFETY: the pointer is of a reference, good for the size of its values, for which zeros are good.
+    unsafe { cukvashe_wipe(values.as_mut_ptr().cast(), size_of_val(values)) }
 }
 
-#[repr(C)]
-#[derive(Clone, Default)]
-pub struct TdesEee2 {
-    words: [u64; 32],
-}
-
-pub const CBC_MAC_DES_KEY_SIZE: usize = 8;
-
-#[repr(C)]
-#[derive(Clone)]
-pub struct CbcMacDes {
-    words: [u64; 20],
-}
-
-impl Default for CbcMacDes {
-    fn default() -> Self {
-        CbcMacDes { words: [0; 20] }
-    }
-}
-
-pub const CBC_MAC_TDES_EDE3_KEY_SIZE: usize = 24;
-
-#[repr(C)]
-#[derive(Clone)]
-pub struct CbcMacTdesEde3 {
-    words: [u64; 52],
-}
-
-impl Default for CbcMacTdesEde3 {
-    fn default() -> Self {
-        CbcMacTdesEde3 { words: [0; 52] }
-    }
-}
-
-pub const RETAIL_MAC_DES_KEY_SIZE: usize = 16;
-
-#[repr(C)]
-#[derive(Clone)]
-pub struct RetailMacDes {
-    words: [u64; 36],
-}
-
-impl Default for RetailMacDes {
-    fn default() -> Self {
-        RetailMacDes { words: [0; 36] }
-    }
-}
-
-pub const CMAC_TDES_EDE2_KEY_SIZE: usize = 16;
-
-#[repr(C)]
-#[derive(Clone)]
-pub struct CmacTdesEde2 {
-    words: [u64; 36],
-}
-
-impl Default for CmacTdesEde2 {
-    fn default() -> Self {
-        CmacTdesEde2 { words: [0; 36] }
-    }
-}
-
-pub const CMAC_TDES_EDE3_KEY_SIZE: usize = 24;
-
-#[repr(C)]
-#[derive(Clone)]
-pub struct CmacTdesEde3 {
-    words: [u64; 52],
-}
-
-impl Default for CmacTdesEde3 {
-    fn default() -> Self {
-        CmacTdesEde3 { words: [0; 52] }
-    }
-}
+pub type Des = Context<16>;
+pub type TdesEde2 = Context<32>;
+pub type TdesEde3 = Context<48>;
+pub type CbcMacDes = Context<20>;
+pub type CbcMacTdesEde2 = Context<36>;
+pub type CbcMacTdesEde3 = Context<52>;
+pub type RetailMacDes = Context<36>;
+pub type CmacTdesEde2 = Context<36>;
+pub type CmacTdesEde3 = Context<52>;
 
 extern "C" {
-    pub fn cukvashe_des_init(context: *mut Des, key: *const u8, key_length: usize) -> i32;
-    pub fn cukvashe_des_encrypt_blocks(context: *const Des, blocks: *mut Block, count: usize);
-    pub fn cukvashe_des_decrypt_blocks(context: *const Des, blocks: *mut Block, count: usize);
-    pub fn cukvashe_des_encrypt_many(context: *const Des, blocks: *mut Block, count: usize);
-    pub fn cukvashe_des_decrypt_many(context: *const Des, blocks: *mut Block, count: usize);
-    pub fn cukvashe_des_encrypt_many_b2b(
+    pub fn cukvashe_wipe(pointer: *mut c_void, size: usize);
+
+    pub fn cukvashe_des_init(context: *mut Des, key: *const u8, key_length: usize) -> c_int;
+    pub fn cukvashe_des_encrypt_ecb(context: *const Des, data: *mut u8, length: usize) -> c_int;
+    pub fn cukvashe_des_encrypt_ecb_to(context: *const Des, input: *const u8, output: *mut u8, length: usize) -> c_int;
+    pub fn cukvashe_des_encrypt_cbc(context: *const Des, iv: *mut [u8; 8], data: *mut u8, length: usize) -> c_int;
+    pub fn cukvashe_des_encrypt_cbc_to(
         context: *const Des,
-        input: *const Block,
-        input_count: usize,
-        output: *mut Block,
-        output_count: usize,
-    ) -> i32;
-    pub fn cukvashe_des_decrypt_many_b2b(
+        iv: *mut [u8; 8],
+        input: *const u8,
+        output: *mut u8,
+        length: usize,
+    ) -> c_int;
+    pub fn cukvashe_des_decrypt_ecb(context: *const Des, data: *mut u8, length: usize) -> c_int;
+    pub fn cukvashe_des_decrypt_ecb_to(context: *const Des, input: *const u8, output: *mut u8, length: usize) -> c_int;
+    pub fn cukvashe_des_decrypt_cbc(context: *const Des, iv: *mut [u8; 8], data: *mut u8, length: usize) -> c_int;
+    pub fn cukvashe_des_decrypt_cbc_to(
         context: *const Des,
-        input: *const Block,
-        input_count: usize,
-        output: *mut Block,
-        output_count: usize,
-    ) -> i32;
-    pub fn cukvashe_des_decrypt_cbc_many(
-        context: *const Des,
-        vector: *mut Block,
-        blocks: *mut Block,
-        count: usize,
-    );
-    pub fn cukvashe_des_encrypt_cbc(
-        context: *const Des,
-        vector: *mut Block,
-        blocks: *mut Block,
-        count: usize,
-    );
-    pub fn cukvashe_des_decrypt_cbc(
-        context: *const Des,
-        vector: *mut Block,
-        blocks: *mut Block,
-        count: usize,
-    );
-    pub fn cukvashe_wide_des_encrypt_many(context: *const Des, blocks: *mut Block, count: usize);
-    pub fn cukvashe_wide_des_decrypt_many(context: *const Des, blocks: *mut Block, count: usize);
-    pub fn cukvashe_wide_des_encrypt_many_b2b(
-        context: *const Des,
-        input: *const Block,
-        input_count: usize,
-        output: *mut Block,
-        output_count: usize,
-    ) -> i32;
-    pub fn cukvashe_wide_des_decrypt_many_b2b(
-        context: *const Des,
-        input: *const Block,
-        input_count: usize,
-        output: *mut Block,
-        output_count: usize,
-    ) -> i32;
-    pub fn cukvashe_wide_des_decrypt_cbc_many(
-        context: *const Des,
-        vector: *mut Block,
-        blocks: *mut Block,
-        count: usize,
-    );
-    pub fn cukvashe_tdes_ede3_init(
-        context: *mut TdesEde3,
-        key: *const u8,
-        key_length: usize,
-    ) -> i32;
-    pub fn cukvashe_tdes_ede3_encrypt_blocks(
-        context: *const TdesEde3,
-        blocks: *mut Block,
-        count: usize,
-    );
-    pub fn cukvashe_tdes_ede3_decrypt_blocks(
-        context: *const TdesEde3,
-        blocks: *mut Block,
-        count: usize,
-    );
-    pub fn cukvashe_tdes_ede3_encrypt_many(
-        context: *const TdesEde3,
-        blocks: *mut Block,
-        count: usize,
-    );
-    pub fn cukvashe_tdes_ede3_decrypt_many(
-        context: *const TdesEde3,
-        blocks: *mut Block,
-        count: usize,
-    );
-    pub fn cukvashe_tdes_ede3_encrypt_many_b2b(
-        context: *const TdesEde3,
-        input: *const Block,
-        input_count: usize,
-        output: *mut Block,
-        output_count: usize,
-    ) -> i32;
-    pub fn cukvashe_tdes_ede3_decrypt_many_b2b(
-        context: *const TdesEde3,
-        input: *const Block,
-        input_count: usize,
-        output: *mut Block,
-        output_count: usize,
-    ) -> i32;
-    pub fn cukvashe_tdes_ede3_decrypt_cbc_many(
-        context: *const TdesEde3,
-        vector: *mut Block,
-        blocks: *mut Block,
-        count: usize,
-    );
-    pub fn cukvashe_tdes_ede3_encrypt_cbc(
-        context: *const TdesEde3,
-        vector: *mut Block,
-        blocks: *mut Block,
-        count: usize,
-    );
-    pub fn cukvashe_tdes_ede3_decrypt_cbc(
-        context: *const TdesEde3,
-        vector: *mut Block,
-        blocks: *mut Block,
-        count: usize,
-    );
-    pub fn cukvashe_wide_tdes_ede3_encrypt_many(
-        context: *const TdesEde3,
-        blocks: *mut Block,
-        count: usize,
-    );
-    pub fn cukvashe_wide_tdes_ede3_decrypt_many(
-        context: *const TdesEde3,
-        blocks: *mut Block,
-        count: usize,
-    );
-    pub fn cukvashe_wide_tdes_ede3_encrypt_many_b2b(
-        context: *const TdesEde3,
-        input: *const Block,
-        input_count: usize,
-        output: *mut Block,
-        output_count: usize,
-    ) -> i32;
-    pub fn cukvashe_wide_tdes_ede3_decrypt_many_b2b(
-        context: *const TdesEde3,
-        input: *const Block,
-        input_count: usize,
-        output: *mut Block,
-        output_count: usize,
-    ) -> i32;
-    pub fn cukvashe_wide_tdes_ede3_decrypt_cbc_many(
-        context: *const TdesEde3,
-        vector: *mut Block,
-        blocks: *mut Block,
-        count: usize,
-    );
-    pub fn cukvashe_tdes_eee3_init(
-        context: *mut TdesEee3,
-        key: *const u8,
-        key_length: usize,
-    ) -> i32;
-    pub fn cukvashe_tdes_eee3_encrypt_blocks(
-        context: *const TdesEee3,
-        blocks: *mut Block,
-        count: usize,
-    );
-    pub fn cukvashe_tdes_eee3_decrypt_blocks(
-        context: *const TdesEee3,
-        blocks: *mut Block,
-        count: usize,
-    );
-    pub fn cukvashe_tdes_eee3_encrypt_many(
-        context: *const TdesEee3,
-        blocks: *mut Block,
-        count: usize,
-    );
-    pub fn cukvashe_tdes_eee3_decrypt_many(
-        context: *const TdesEee3,
-        blocks: *mut Block,
-        count: usize,
-    );
-    pub fn cukvashe_tdes_eee3_encrypt_many_b2b(
-        context: *const TdesEee3,
-        input: *const Block,
-        input_count: usize,
-        output: *mut Block,
-        output_count: usize,
-    ) -> i32;
-    pub fn cukvashe_tdes_eee3_decrypt_many_b2b(
-        context: *const TdesEee3,
-        input: *const Block,
-        input_count: usize,
-        output: *mut Block,
-        output_count: usize,
-    ) -> i32;
-    pub fn cukvashe_tdes_eee3_decrypt_cbc_many(
-        context: *const TdesEee3,
-        vector: *mut Block,
-        blocks: *mut Block,
-        count: usize,
-    );
-    pub fn cukvashe_tdes_eee3_encrypt_cbc(
-        context: *const TdesEee3,
-        vector: *mut Block,
-        blocks: *mut Block,
-        count: usize,
-    );
-    pub fn cukvashe_tdes_eee3_decrypt_cbc(
-        context: *const TdesEee3,
-        vector: *mut Block,
-        blocks: *mut Block,
-        count: usize,
-    );
-    pub fn cukvashe_wide_tdes_eee3_encrypt_many(
-        context: *const TdesEee3,
-        blocks: *mut Block,
-        count: usize,
-    );
-    pub fn cukvashe_wide_tdes_eee3_decrypt_many(
-        context: *const TdesEee3,
-        blocks: *mut Block,
-        count: usize,
-    );
-    pub fn cukvashe_wide_tdes_eee3_encrypt_many_b2b(
-        context: *const TdesEee3,
-        input: *const Block,
-        input_count: usize,
-        output: *mut Block,
-        output_count: usize,
-    ) -> i32;
-    pub fn cukvashe_wide_tdes_eee3_decrypt_many_b2b(
-        context: *const TdesEee3,
-        input: *const Block,
-        input_count: usize,
-        output: *mut Block,
-        output_count: usize,
-    ) -> i32;
-    pub fn cukvashe_wide_tdes_eee3_decrypt_cbc_many(
-        context: *const TdesEee3,
-        vector: *mut Block,
-        blocks: *mut Block,
-        count: usize,
-    );
-    pub fn cukvashe_tdes_ede2_init(
-        context: *mut TdesEde2,
-        key: *const u8,
-        key_length: usize,
-    ) -> i32;
-    pub fn cukvashe_tdes_ede2_encrypt_blocks(
+        iv: *mut [u8; 8],
+        input: *const u8,
+        output: *mut u8,
+        length: usize,
+    ) -> c_int;
+    pub fn cukvashe_des_check_value(key: *const u8, key_length: usize, value: *mut [u8; 3]) -> c_int;
+
+    pub fn cukvashe_tdes_ede2_init(context: *mut TdesEde2, key: *const u8, key_length: usize) -> c_int;
+    pub fn cukvashe_tdes_ede2_encrypt_ecb(context: *const TdesEde2, data: *mut u8, length: usize) -> c_int;
+    pub fn cukvashe_tdes_ede2_encrypt_ecb_to(
         context: *const TdesEde2,
-        blocks: *mut Block,
-        count: usize,
-    );
-    pub fn cukvashe_tdes_ede2_decrypt_blocks(
-        context: *const TdesEde2,
-        blocks: *mut Block,
-        count: usize,
-    );
-    pub fn cukvashe_tdes_ede2_encrypt_many(
-        context: *const TdesEde2,
-        blocks: *mut Block,
-        count: usize,
-    );
-    pub fn cukvashe_tdes_ede2_decrypt_many(
-        context: *const TdesEde2,
-        blocks: *mut Block,
-        count: usize,
-    );
-    pub fn cukvashe_tdes_ede2_encrypt_many_b2b(
-        context: *const TdesEde2,
-        input: *const Block,
-        input_count: usize,
-        output: *mut Block,
-        output_count: usize,
-    ) -> i32;
-    pub fn cukvashe_tdes_ede2_decrypt_many_b2b(
-        context: *const TdesEde2,
-        input: *const Block,
-        input_count: usize,
-        output: *mut Block,
-        output_count: usize,
-    ) -> i32;
-    pub fn cukvashe_tdes_ede2_decrypt_cbc_many(
-        context: *const TdesEde2,
-        vector: *mut Block,
-        blocks: *mut Block,
-        count: usize,
-    );
+        input: *const u8,
+        output: *mut u8,
+        length: usize,
+    ) -> c_int;
     pub fn cukvashe_tdes_ede2_encrypt_cbc(
         context: *const TdesEde2,
-        vector: *mut Block,
-        blocks: *mut Block,
-        count: usize,
-    );
+        iv: *mut [u8; 8],
+        data: *mut u8,
+        length: usize,
+    ) -> c_int;
+    pub fn cukvashe_tdes_ede2_encrypt_cbc_to(
+        context: *const TdesEde2,
+        iv: *mut [u8; 8],
+        input: *const u8,
+        output: *mut u8,
+        length: usize,
+    ) -> c_int;
+    pub fn cukvashe_tdes_ede2_decrypt_ecb(context: *const TdesEde2, data: *mut u8, length: usize) -> c_int;
+    pub fn cukvashe_tdes_ede2_decrypt_ecb_to(
+        context: *const TdesEde2,
+        input: *const u8,
+        output: *mut u8,
+        length: usize,
+    ) -> c_int;
     pub fn cukvashe_tdes_ede2_decrypt_cbc(
         context: *const TdesEde2,
-        vector: *mut Block,
-        blocks: *mut Block,
-        count: usize,
-    );
-    pub fn cukvashe_wide_tdes_ede2_encrypt_many(
+        iv: *mut [u8; 8],
+        data: *mut u8,
+        length: usize,
+    ) -> c_int;
+    pub fn cukvashe_tdes_ede2_decrypt_cbc_to(
         context: *const TdesEde2,
-        blocks: *mut Block,
-        count: usize,
-    );
-    pub fn cukvashe_wide_tdes_ede2_decrypt_many(
-        context: *const TdesEde2,
-        blocks: *mut Block,
-        count: usize,
-    );
-    pub fn cukvashe_wide_tdes_ede2_encrypt_many_b2b(
-        context: *const TdesEde2,
-        input: *const Block,
-        input_count: usize,
-        output: *mut Block,
-        output_count: usize,
-    ) -> i32;
-    pub fn cukvashe_wide_tdes_ede2_decrypt_many_b2b(
-        context: *const TdesEde2,
-        input: *const Block,
-        input_count: usize,
-        output: *mut Block,
-        output_count: usize,
-    ) -> i32;
-    pub fn cukvashe_wide_tdes_ede2_decrypt_cbc_many(
-        context: *const TdesEde2,
-        vector: *mut Block,
-        blocks: *mut Block,
-        count: usize,
-    );
-    pub fn cukvashe_tdes_eee2_init(
-        context: *mut TdesEee2,
-        key: *const u8,
-        key_length: usize,
-    ) -> i32;
-    pub fn cukvashe_tdes_eee2_encrypt_blocks(
-        context: *const TdesEee2,
-        blocks: *mut Block,
-        count: usize,
-    );
-    pub fn cukvashe_tdes_eee2_decrypt_blocks(
-        context: *const TdesEee2,
-        blocks: *mut Block,
-        count: usize,
-    );
-    pub fn cukvashe_tdes_eee2_encrypt_many(
-        context: *const TdesEee2,
-        blocks: *mut Block,
-        count: usize,
-    );
-    pub fn cukvashe_tdes_eee2_decrypt_many(
-        context: *const TdesEee2,
-        blocks: *mut Block,
-        count: usize,
-    );
-    pub fn cukvashe_tdes_eee2_encrypt_many_b2b(
-        context: *const TdesEee2,
-        input: *const Block,
-        input_count: usize,
-        output: *mut Block,
-        output_count: usize,
-    ) -> i32;
-    pub fn cukvashe_tdes_eee2_decrypt_many_b2b(
-        context: *const TdesEee2,
-        input: *const Block,
-        input_count: usize,
-        output: *mut Block,
-        output_count: usize,
-    ) -> i32;
-    pub fn cukvashe_tdes_eee2_decrypt_cbc_many(
-        context: *const TdesEee2,
-        vector: *mut Block,
-        blocks: *mut Block,
-        count: usize,
-    );
-    pub fn cukvashe_tdes_eee2_encrypt_cbc(
-        context: *const TdesEee2,
-        vector: *mut Block,
-        blocks: *mut Block,
-        count: usize,
-    );
-    pub fn cukvashe_tdes_eee2_decrypt_cbc(
-        context: *const TdesEee2,
-        vector: *mut Block,
-        blocks: *mut Block,
-        count: usize,
-    );
-    pub fn cukvashe_wide_tdes_eee2_encrypt_many(
-        context: *const TdesEee2,
-        blocks: *mut Block,
-        count: usize,
-    );
-    pub fn cukvashe_wide_tdes_eee2_decrypt_many(
-        context: *const TdesEee2,
-        blocks: *mut Block,
-        count: usize,
-    );
-    pub fn cukvashe_wide_tdes_eee2_encrypt_many_b2b(
-        context: *const TdesEee2,
-        input: *const Block,
-        input_count: usize,
-        output: *mut Block,
-        output_count: usize,
-    ) -> i32;
-    pub fn cukvashe_wide_tdes_eee2_decrypt_many_b2b(
-        context: *const TdesEee2,
-        input: *const Block,
-        input_count: usize,
-        output: *mut Block,
-        output_count: usize,
-    ) -> i32;
-    pub fn cukvashe_wide_tdes_eee2_decrypt_cbc_many(
-        context: *const TdesEee2,
-        vector: *mut Block,
-        blocks: *mut Block,
-        count: usize,
-    );
-    pub fn cukvashe_weak_key_test(key: *const u8, key_length: usize) -> i32;
-    pub fn cukvashe_set_odd_parity(key: *mut [u8; 8]);
-    pub fn cukvashe_equal_but_parity(first: *const [u8; 8], second: *const [u8; 8]) -> bool;
+        iv: *mut [u8; 8],
+        input: *const u8,
+        output: *mut u8,
+        length: usize,
+    ) -> c_int;
+    pub fn cukvashe_tdes_ede2_check_value(key: *const u8, key_length: usize, value: *mut [u8; 3]) -> c_int;
+
+    pub fn cukvashe_tdes_ede3_init(context: *mut TdesEde3, key: *const u8, key_length: usize) -> c_int;
+    pub fn cukvashe_tdes_ede3_encrypt_ecb(context: *const TdesEde3, data: *mut u8, length: usize) -> c_int;
+    pub fn cukvashe_tdes_ede3_encrypt_ecb_to(
+        context: *const TdesEde3,
+        input: *const u8,
+        output: *mut u8,
+        length: usize,
+    ) -> c_int;
+    pub fn cukvashe_tdes_ede3_encrypt_cbc(
+        context: *const TdesEde3,
+        iv: *mut [u8; 8],
+        data: *mut u8,
+        length: usize,
+    ) -> c_int;
+    pub fn cukvashe_tdes_ede3_encrypt_cbc_to(
+        context: *const TdesEde3,
+        iv: *mut [u8; 8],
+        input: *const u8,
+        output: *mut u8,
+        length: usize,
+    ) -> c_int;
+    pub fn cukvashe_tdes_ede3_decrypt_ecb(context: *const TdesEde3, data: *mut u8, length: usize) -> c_int;
+    pub fn cukvashe_tdes_ede3_decrypt_ecb_to(
+        context: *const TdesEde3,
+        input: *const u8,
+        output: *mut u8,
+        length: usize,
+    ) -> c_int;
+    pub fn cukvashe_tdes_ede3_decrypt_cbc(
+        context: *const TdesEde3,
+        iv: *mut [u8; 8],
+        data: *mut u8,
+        length: usize,
+    ) -> c_int;
+    pub fn cukvashe_tdes_ede3_decrypt_cbc_to(
+        context: *const TdesEde3,
+        iv: *mut [u8; 8],
+        input: *const u8,
+        output: *mut u8,
+        length: usize,
+    ) -> c_int;
+    pub fn cukvashe_tdes_ede3_check_value(key: *const u8, key_length: usize, value: *mut [u8; 3]) -> c_int;
+
     pub fn cukvashe_cbc_mac_des_init(
         context: *mut CbcMacDes,
         key: *const u8,
         key_length: usize,
-        padding: u32,
-    ) -> i32;
-    pub fn cukvashe_cbc_mac_des_update(context: *mut CbcMacDes, bytes: *const u8, length: usize);
+        method: c_int,
+    ) -> c_int;
+    pub fn cukvashe_cbc_mac_des_update(context: *mut CbcMacDes, message: *const u8, length: usize);
     pub fn cukvashe_cbc_mac_des_final(context: *const CbcMacDes, tag: *mut [u8; 8]);
-    pub fn cukvashe_cbc_mac_des_verify(
-        context: *const CbcMacDes,
+    pub fn cukvashe_cbc_mac_des_verify(context: *const CbcMacDes, tag: *const u8, tag_length: usize) -> c_int;
+
+    pub fn cukvashe_cbc_mac_tdes_ede2_init(
+        context: *mut CbcMacTdesEde2,
+        key: *const u8,
+        key_length: usize,
+        method: c_int,
+    ) -> c_int;
+    pub fn cukvashe_cbc_mac_tdes_ede2_update(context: *mut CbcMacTdesEde2, message: *const u8, length: usize);
+    pub fn cukvashe_cbc_mac_tdes_ede2_final(context: *const CbcMacTdesEde2, tag: *mut [u8; 8]);
+    pub fn cukvashe_cbc_mac_tdes_ede2_verify(
+        context: *const CbcMacTdesEde2,
         tag: *const u8,
         tag_length: usize,
-    ) -> i32;
+    ) -> c_int;
+
     pub fn cukvashe_cbc_mac_tdes_ede3_init(
         context: *mut CbcMacTdesEde3,
         key: *const u8,
         key_length: usize,
-        padding: u32,
-    ) -> i32;
-    pub fn cukvashe_cbc_mac_tdes_ede3_update(context: *mut CbcMacTdesEde3, bytes: *const u8, length: usize);
+        method: c_int,
+    ) -> c_int;
+    pub fn cukvashe_cbc_mac_tdes_ede3_update(context: *mut CbcMacTdesEde3, message: *const u8, length: usize);
     pub fn cukvashe_cbc_mac_tdes_ede3_final(context: *const CbcMacTdesEde3, tag: *mut [u8; 8]);
     pub fn cukvashe_cbc_mac_tdes_ede3_verify(
         context: *const CbcMacTdesEde3,
         tag: *const u8,
         tag_length: usize,
-    ) -> i32;
+    ) -> c_int;
+
     pub fn cukvashe_retail_mac_des_init(
         context: *mut RetailMacDes,
         key: *const u8,
         key_length: usize,
-        padding: u32,
-    ) -> i32;
-    pub fn cukvashe_retail_mac_des_update(context: *mut RetailMacDes, bytes: *const u8, length: usize);
+        method: c_int,
+    ) -> c_int;
+    pub fn cukvashe_retail_mac_des_update(context: *mut RetailMacDes, message: *const u8, length: usize);
     pub fn cukvashe_retail_mac_des_final(context: *const RetailMacDes, tag: *mut [u8; 8]);
-    pub fn cukvashe_retail_mac_des_verify(
-        context: *const RetailMacDes,
-        tag: *const u8,
-        tag_length: usize,
-    ) -> i32;
-    pub fn cukvashe_cmac_tdes_ede2_init(
-        context: *mut CmacTdesEde2,
-        key: *const u8,
-        key_length: usize,
-    ) -> i32;
-    pub fn cukvashe_cmac_tdes_ede2_update(context: *mut CmacTdesEde2, bytes: *const u8, length: usize);
+    pub fn cukvashe_retail_mac_des_verify(context: *const RetailMacDes, tag: *const u8, tag_length: usize) -> c_int;
+
+    pub fn cukvashe_cmac_tdes_ede2_init(context: *mut CmacTdesEde2, key: *const u8, key_length: usize) -> c_int;
+    pub fn cukvashe_cmac_tdes_ede2_update(context: *mut CmacTdesEde2, message: *const u8, length: usize);
     pub fn cukvashe_cmac_tdes_ede2_final(context: *const CmacTdesEde2, tag: *mut [u8; 8]);
-    pub fn cukvashe_cmac_tdes_ede2_verify(
-        context: *const CmacTdesEde2,
-        tag: *const u8,
-        tag_length: usize,
-    ) -> i32;
-    pub fn cukvashe_cmac_tdes_ede3_init(
-        context: *mut CmacTdesEde3,
-        key: *const u8,
-        key_length: usize,
-    ) -> i32;
-    pub fn cukvashe_cmac_tdes_ede3_update(context: *mut CmacTdesEde3, bytes: *const u8, length: usize);
+    pub fn cukvashe_cmac_tdes_ede2_verify(context: *const CmacTdesEde2, tag: *const u8, tag_length: usize) -> c_int;
+
+    pub fn cukvashe_cmac_tdes_ede3_init(context: *mut CmacTdesEde3, key: *const u8, key_length: usize) -> c_int;
+    pub fn cukvashe_cmac_tdes_ede3_update(context: *mut CmacTdesEde3, message: *const u8, length: usize);
     pub fn cukvashe_cmac_tdes_ede3_final(context: *const CmacTdesEde3, tag: *mut [u8; 8]);
-    pub fn cukvashe_cmac_tdes_ede3_verify(
-        context: *const CmacTdesEde3,
-        tag: *const u8,
-        tag_length: usize,
-    ) -> i32;
-    pub fn cukvashe_des_check_value(
-        key: *const u8,
-        key_length: usize,
-        value: *mut [u8; 3],
-    ) -> i32;
-    pub fn cukvashe_tdes_ede3_check_value(
-        key: *const u8,
-        key_length: usize,
-        value: *mut [u8; 3],
-    ) -> i32;
-    pub fn cukvashe_tdes_eee3_check_value(
-        key: *const u8,
-        key_length: usize,
-        value: *mut [u8; 3],
-    ) -> i32;
-    pub fn cukvashe_tdes_ede2_check_value(
-        key: *const u8,
-        key_length: usize,
-        value: *mut [u8; 3],
-    ) -> i32;
-    pub fn cukvashe_tdes_eee2_check_value(
-        key: *const u8,
-        key_length: usize,
-        value: *mut [u8; 3],
-    ) -> i32;
-    pub fn cukvashe_dukpt_initial_key(
-        base: *const [u8; 16],
-        serial: *const [u8; 10],
-        key: *mut [u8; 16],
-    );
-    pub fn cukvashe_dukpt_transaction_key(
-        initial: *const [u8; 16],
-        serial: *const [u8; 10],
-        key: *mut [u8; 16],
-    );
-    pub fn cukvashe_dukpt_pin_key(transaction: *const [u8; 16], key: *mut [u8; 16]);
-    pub fn cukvashe_dukpt_mac_key(
-        transaction: *const [u8; 16],
-        is_response: bool,
-        key: *mut [u8; 16],
-    );
-    pub fn cukvashe_dukpt_data_key(
-        transaction: *const [u8; 16],
-        is_response: bool,
-        key: *mut [u8; 16],
-    );
-    pub fn cukvashe_dukpt_next_serial(serial: *const [u8; 10], next: *mut [u8; 10]) -> i32;
-    pub fn cukvashe_pin_encode_0(
-        pin: *const u8,
-        pin_length: usize,
-        account: *const u8,
-        account_length: usize,
-        block: *mut Block,
-    ) -> i32;
-    pub fn cukvashe_pin_encode_1(
-        pin: *const u8,
-        pin_length: usize,
-        transaction: *const [u8; 10],
-        block: *mut Block,
-    ) -> i32;
-    pub fn cukvashe_pin_encode_3(
-        pin: *const u8,
-        pin_length: usize,
-        account: *const u8,
-        account_length: usize,
-        fill: *const [u8; 10],
-        block: *mut Block,
-    ) -> i32;
-    pub fn cukvashe_pin_decode_0(
-        block: *const Block,
-        account: *const u8,
-        account_length: usize,
-        pin: *mut [u8; 12],
-        pin_length: *mut usize,
-    ) -> i32;
-    pub fn cukvashe_pin_decode_1(
-        block: *const Block,
-        pin: *mut [u8; 12],
-        pin_length: *mut usize,
-    ) -> i32;
-    pub fn cukvashe_pin_decode_3(
-        block: *const Block,
-        account: *const u8,
-        account_length: usize,
-        pin: *mut [u8; 12],
-        pin_length: *mut usize,
-    ) -> i32;
-    pub fn cukvashe_cvv(
-        key: *const [u8; 16],
-        account: *const u8,
-        account_length: usize,
-        expiry: *const u8,
-        expiry_length: usize,
-        service: *const u8,
-        service_length: usize,
-        value: *mut [u8; 3],
-    ) -> i32;
+    pub fn cukvashe_cmac_tdes_ede3_verify(context: *const CmacTdesEde3, tag: *const u8, tag_length: usize) -> c_int;
+
+    pub fn cukvashe_pad(
+        buffer: *mut u8,
+        length: usize,
+        capacity: usize,
+        method: c_int,
+        padded_length: *mut usize,
+    ) -> c_int;
+    pub fn cukvashe_unpad(buffer: *const u8, length: usize, method: c_int, unpadded_length: *mut usize) -> c_int;
+
+    pub fn cukvashe_weak_key_test(key: *const u8, key_length: usize) -> c_int;
+    pub fn cukvashe_set_odd_parity(key: *mut u8, key_length: usize);
+    pub fn cukvashe_equal_but_parity(first: *const u8, second: *const u8, key_length: usize) -> bool;
+
     pub fn cukvashe_combine_8(
         first: *const [u8; 8],
         second: *const [u8; 8],
         others: *const [u8; 8],
         others_count: usize,
         key: *mut [u8; 8],
-    ) -> i32;
+    ) -> c_int;
     pub fn cukvashe_combine_16(
         first: *const [u8; 16],
         second: *const [u8; 16],
         others: *const [u8; 16],
         others_count: usize,
         key: *mut [u8; 16],
-    ) -> i32;
+    ) -> c_int;
     pub fn cukvashe_combine_24(
         first: *const [u8; 24],
         second: *const [u8; 24],
         others: *const [u8; 24],
         others_count: usize,
         key: *mut [u8; 24],
-    ) -> i32;
+    ) -> c_int;
+
+    pub fn cukvashe_dukpt_initial_key(base: *const [u8; 16], serial: *const [u8; 10], key: *mut [u8; 16]);
+    pub fn cukvashe_dukpt_transaction_key(initial: *const [u8; 16], serial: *const [u8; 10], key: *mut [u8; 16]);
+    pub fn cukvashe_dukpt_pin_key(transaction: *const [u8; 16], key: *mut [u8; 16]);
+    pub fn cukvashe_dukpt_mac_key(transaction: *const [u8; 16], is_response: bool, key: *mut [u8; 16]);
+    pub fn cukvashe_dukpt_data_key(transaction: *const [u8; 16], is_response: bool, key: *mut [u8; 16]);
+    pub fn cukvashe_dukpt_is_usable(serial: *const [u8; 10]) -> bool;
+    pub fn cukvashe_dukpt_next_serial(serial: *const [u8; 10], next: *mut [u8; 10]) -> c_int;
+
+    pub fn cukvashe_pin_encode_0(
+        pin: *const c_char,
+        pin_length: usize,
+        account: *const c_char,
+        account_length: usize,
+        block: *mut [u8; 8],
+    ) -> c_int;
+    pub fn cukvashe_pin_encode_1(
+        pin: *const c_char,
+        pin_length: usize,
+        transaction: *const [u8; 10],
+        block: *mut [u8; 8],
+    ) -> c_int;
+    pub fn cukvashe_pin_encode_3(
+        pin: *const c_char,
+        pin_length: usize,
+        account: *const c_char,
+        account_length: usize,
+        fill: *const [u8; 10],
+        block: *mut [u8; 8],
+    ) -> c_int;
+    pub fn cukvashe_pin_decode_0(
+        block: *const [u8; 8],
+        account: *const c_char,
+        account_length: usize,
+        pin: *mut [u8; 13],
+    ) -> c_int;
+    pub fn cukvashe_pin_decode_1(block: *const [u8; 8], pin: *mut [u8; 13]) -> c_int;
+    pub fn cukvashe_pin_decode_3(
+        block: *const [u8; 8],
+        account: *const c_char,
+        account_length: usize,
+        pin: *mut [u8; 13],
+    ) -> c_int;
+
+    pub fn cukvashe_cvv(
+        key: *const [u8; 16],
+        account: *const c_char,
+        account_length: usize,
+        expiry: *const c_char,
+        expiry_length: usize,
+        service: *const c_char,
+        service_length: usize,
+        value: *mut [u8; 4],
+    ) -> c_int;
 }

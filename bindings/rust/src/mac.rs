@@ -3,27 +3,47 @@
 //!
 //! CBC-MAC is safe only where every message under a key has one length. Padding method 1 can't tell zeros at the end of a
 //! message. All calls read tables at indexes that depend on key and message.
+//!
+//! ```
+//! use cukvashe_des::mac::{Mac, MacError, Method2, RetailMacDes};
+//!
+//! let key = 0x0123456789abcdeffedcba9876543210u128.to_be_bytes();
+//! let mut mac = RetailMacDes::<Method2>::new_from_slice(&key)?;
+//! mac.update(b"Now is the time ");
+//! mac.update(b"for it");
+//! let tag = 0x5a692ce64f404145u64.to_be_bytes();
+//! assert_eq!(mac.clone().finalize(), tag);
+//! assert_eq!(mac.clone().verify(&tag), Ok(()));
+//! assert_eq!(mac.verify(&[0; 8]), Err(MacError));
+//! # Ok::<(), cukvashe_des::InvalidLength>(())
+//! ```
 
-use crate::{ffi, InvalidLength, OK};
-use std::fmt;
-use std::marker::PhantomData;
+use crate::error::sentences;
+use crate::ffi::{self, OK};
+use crate::InvalidLength;
+use core::fmt;
+use core::marker::PhantomData;
 
 /// The error of a tag that is not the one of the message.
 #[derive(Clone, Copy, Debug, PartialEq, Eq)]
 pub struct MacError;
 
-impl fmt::Display for MacError {
-    fn fmt(&self, f: &mut fmt::Formatter<'_>) -> fmt::Result {
-        f.write_str("MacError")
-    }
+sentences!(MacError:
+    MacError => "the tag is not that of the message",
+);
+
+mod sealed {
+    /// What no other crate can say of its types.
+    pub trait Sealed {}
+
+    impl Sealed for super::Method1 {}
+    impl Sealed for super::Method2 {}
 }
 
-impl std::error::Error for MacError {}
-
-/// A padding method.
-pub trait Padding: Clone {
+/// A padding method: [`Method1`] or [`Method2`].
+pub trait Padding: Clone + sealed::Sealed {
     /// Its number.
-    const METHOD: u32;
+    const METHOD: i32;
 }
 
 /// Padding method 1: as few zeros as make whole blocks, one block at least.
@@ -31,7 +51,7 @@ pub trait Padding: Clone {
 pub struct Method1;
 
 impl Padding for Method1 {
-    const METHOD: u32 = 1;
+    const METHOD: i32 = ffi::MAC_PADDING_1;
 }
 
 /// Padding method 2: a one bit, and then as few zeros as make whole blocks.
@@ -39,7 +59,7 @@ impl Padding for Method1 {
 pub struct Method2;
 
 impl Padding for Method2 {
-    const METHOD: u32 = 2;
+    const METHOD: i32 = ffi::MAC_PADDING_2;
 }
 
 /// A message authentication code with tags of 8 bytes. A clone goes on by itself, and `Debug` writes no part of it.
@@ -74,7 +94,7 @@ pub trait Mac: Clone + fmt::Debug {
 
 /// A MAC: its type, its context, and its calls of the library. In brackets stand its parameter and what `init` takes more.
 macro_rules! mac {
-    ($(#[$doc:meta])* $name:ident [$($padding:ident)?], $text:literal, $key_size:ident, $init:ident, $update:ident,
+    ($(#[$doc:meta])* $name:ident [$($padding:ident)?], $key_size:literal, $init:ident, $update:ident,
      $finalize:ident, $verify:ident) => {
         $(#[$doc])*
         #[derive(Clone)]
@@ -86,12 +106,12 @@ macro_rules! mac {
         // SAFETY of each call below: the context is one that `init` wrote, and the other pointers are of references, good
         // for their lengths, which don't overlap where one may be written.
         impl$(<$padding: Padding>)? Mac for $name$(<$padding>)? {
-            const KEY_SIZE: usize = ffi::$key_size;
+            const KEY_SIZE: usize = $key_size;
 
             fn new_from_slice(key: &[u8]) -> Result<Self, InvalidLength> {
-                let mut context = ffi::$name::default();
-                match unsafe { ffi::$init(&mut context, key.as_ptr(), key.len() $(, $padding::METHOD)?) } {
-                    OK => Ok($name { context, padding: PhantomData }),
+                let mut mac = $name { context: ffi::$name::empty(), padding: PhantomData };
+                match unsafe { ffi::$init(&mut mac.context, key.as_ptr(), key.len() $(, $padding::METHOD)?) } {
+                    OK => Ok(mac),
                     _ => Err(InvalidLength),
                 }
             }
@@ -116,7 +136,7 @@ macro_rules! mac {
 
         impl$(<$padding: Padding>)? fmt::Debug for $name$(<$padding>)? {
             fn fmt(&self, f: &mut fmt::Formatter<'_>) -> fmt::Result {
-                f.write_str($text)
+                f.write_str(concat!(stringify!($name), " { ... }"))
             }
         }
     };
@@ -124,26 +144,31 @@ macro_rules! mac {
 
 mac!(
     /// CBC-MAC over DES.
-    CbcMacDes [P], "CbcMacDes { ... }", CBC_MAC_DES_KEY_SIZE, cukvashe_cbc_mac_des_init,
-    cukvashe_cbc_mac_des_update, cukvashe_cbc_mac_des_final, cukvashe_cbc_mac_des_verify
+    CbcMacDes [P], 8, cukvashe_cbc_mac_des_init, cukvashe_cbc_mac_des_update,
+    cukvashe_cbc_mac_des_final, cukvashe_cbc_mac_des_verify
+);
+mac!(
+    /// CBC-MAC over triple DES, EDE with two keys.
+    CbcMacTdesEde2 [P], 16, cukvashe_cbc_mac_tdes_ede2_init, cukvashe_cbc_mac_tdes_ede2_update,
+    cukvashe_cbc_mac_tdes_ede2_final, cukvashe_cbc_mac_tdes_ede2_verify
 );
 mac!(
     /// CBC-MAC over triple DES, EDE with three keys.
-    CbcMacTdesEde3 [P], "CbcMacTdesEde3 { ... }", CBC_MAC_TDES_EDE3_KEY_SIZE, cukvashe_cbc_mac_tdes_ede3_init,
-    cukvashe_cbc_mac_tdes_ede3_update, cukvashe_cbc_mac_tdes_ede3_final, cukvashe_cbc_mac_tdes_ede3_verify
+    CbcMacTdesEde3 [P], 24, cukvashe_cbc_mac_tdes_ede3_init, cukvashe_cbc_mac_tdes_ede3_update,
+    cukvashe_cbc_mac_tdes_ede3_final, cukvashe_cbc_mac_tdes_ede3_verify
 );
 mac!(
     /// The retail MAC over DES, with two keys.
-    RetailMacDes [P], "RetailMacDes { ... }", RETAIL_MAC_DES_KEY_SIZE, cukvashe_retail_mac_des_init,
-    cukvashe_retail_mac_des_update, cukvashe_retail_mac_des_final, cukvashe_retail_mac_des_verify
+    RetailMacDes [P], 16, cukvashe_retail_mac_des_init, cukvashe_retail_mac_des_update,
+    cukvashe_retail_mac_des_final, cukvashe_retail_mac_des_verify
 );
 mac!(
     /// CMAC over triple DES, EDE with two keys.
-    CmacTdesEde2 [], "CmacTdesEde2 { ... }", CMAC_TDES_EDE2_KEY_SIZE, cukvashe_cmac_tdes_ede2_init,
-    cukvashe_cmac_tdes_ede2_update, cukvashe_cmac_tdes_ede2_final, cukvashe_cmac_tdes_ede2_verify
+    CmacTdesEde2 [], 16, cukvashe_cmac_tdes_ede2_init, cukvashe_cmac_tdes_ede2_update,
+    cukvashe_cmac_tdes_ede2_final, cukvashe_cmac_tdes_ede2_verify
 );
 mac!(
     /// CMAC over triple DES, EDE with three keys.
-    CmacTdesEde3 [], "CmacTdesEde3 { ... }", CMAC_TDES_EDE3_KEY_SIZE, cukvashe_cmac_tdes_ede3_init,
-    cukvashe_cmac_tdes_ede3_update, cukvashe_cmac_tdes_ede3_final, cukvashe_cmac_tdes_ede3_verify
+    CmacTdesEde3 [], 24, cukvashe_cmac_tdes_ede3_init, cukvashe_cmac_tdes_ede3_update,
+    cukvashe_cmac_tdes_ede3_final, cukvashe_cmac_tdes_ede3_verify
 );

@@ -5,6 +5,25 @@
 //! transaction counter. PINs, account numbers, dates and codes are texts, slices of ASCII digits. Check values, `initial_key`,
 //! `transaction_key`, `data_key` and `cvv` read tables at indexes that depend on keys, the calls that make a key of components
 //! branch on it, and those of PIN blocks on the PIN.
+//!
+//! ```
+//! use cukvashe_des::payment::pin_blocks::{decode_format_0, encode_format_0, Pin};
+//! use cukvashe_des::payment::{initial_key, is_usable, pin_key, transaction_key};
+//! use cukvashe_des::{BlockCipher, TdesEde2};
+//!
+//! let base = 0x0123456789abcdeffedcba9876543210u128.to_be_bytes();
+//! let serial = [0xff, 0xff, 0x98, 0x76, 0x54, 0x32, 0x10, 0xe0, 0x00, 0x01];
+//! assert!(is_usable(&serial));
+//! let key = pin_key(&transaction_key(&initial_key(&base, &serial), &serial));
+//!
+//! let mut block = encode_format_0(&Pin::new(b"1234")?, b"4012345678909")?;
+//! TdesEde2::new(&key).encrypt_block(&mut block);
+//! assert_eq!(block, 0x1b9c1845eb993a7au64.to_be_bytes());
+//!
+//! TdesEde2::new(&key).decrypt_block(&mut block);
+//! assert_eq!(decode_format_0(&block, b"4012345678909")?.text(), b"1234");
+//! # Ok::<(), Box<dyn std::error::Error>>(())
+//! ```
 
 mod card_verification;
 pub mod pin_blocks;
@@ -12,7 +31,8 @@ pub mod pin_blocks;
 pub use card_verification::{cvv, CvvError};
 pub use pin_blocks::{Pin, PinError};
 
-use crate::{ffi, Des, InvalidLength, KeyTestError, TdesEde2, TdesEde3, TdesEee2, TdesEee3, OK};
+use crate::ffi::{self, OK};
+use crate::{Des, InvalidLength, KeyTestError, TdesEde2, TdesEde3};
 
 /// The message of a transaction that a key is for.
 #[derive(Clone, Copy, Debug, PartialEq, Eq)]
@@ -46,10 +66,8 @@ macro_rules! check_value {
 
 check_value!(
     Des: cukvashe_des_check_value,
-    TdesEde3: cukvashe_tdes_ede3_check_value,
-    TdesEee3: cukvashe_tdes_eee3_check_value,
     TdesEde2: cukvashe_tdes_ede2_check_value,
-    TdesEee2: cukvashe_tdes_eee2_check_value
+    TdesEde3: cukvashe_tdes_ede3_check_value
 );
 
 macro_rules! combine {
@@ -85,7 +103,8 @@ pub fn initial_key(base: &[u8; 16], serial: &[u8; 10]) -> [u8; 16] {
     key
 }
 
-/// The key of a transaction, from the terminal's initial key and the transaction's key serial number.
+/// The key of a transaction, from the terminal's initial key and the transaction's key serial number. Every counter is taken;
+/// that of 0 gives the initial key itself: ask [`is_usable`] first.
 pub fn transaction_key(initial: &[u8; 16], serial: &[u8; 10]) -> [u8; 16] {
     let mut key = [0; 16];
     unsafe { ffi::cukvashe_dukpt_transaction_key(initial, serial, &mut key) };
@@ -111,6 +130,11 @@ pub fn data_key(transaction: &[u8; 16], message: Message) -> [u8; 16] {
     let mut key = [0; 16];
     unsafe { ffi::cukvashe_dukpt_data_key(transaction, message == Message::Response, &mut key) };
     key
+}
+
+/// Whether a transaction has this key serial number: its counter is not 0 and has at most ten one bits.
+pub fn is_usable(serial: &[u8; 10]) -> bool {
+    unsafe { ffi::cukvashe_dukpt_is_usable(serial) }
 }
 
 /// The next key serial number with at most ten one bits in its counter, if there is one.

@@ -1,12 +1,13 @@
 -- The statuses of the faults of card verification values.
-use Rattle.std.specs.Prelude.{ℤ, pos}
+use Rattle.std.specs.Prelude.{ℤ}
+use Rattle.des_context.specs.declared.status.TheConstants.{ERR_ACCOUNT_LENGTH, ERR_ACCOUNT_DIGIT, ERR_EXPIRY_LENGTH, ERR_EXPIRY_DIGIT, ERR_SERVICE_LENGTH, ERR_SERVICE_DIGIT}
 use Rattle.des_payment.specs.declared.cvv_error.CvvError.{CvvError}
 use Rattle.des_payment.specs.declared.cvv_error.CvvError.TheVariants.{AccountLength, AccountDigit, ExpiryLength, ExpiryDigit, ServiceLength, ServiceDigit}
 
 abbrev pub status_of : CvvError → ℤ
-status_of AccountLength = pos 10
-status_of AccountDigit = pos 11
-status_of ExpiryLength = pos 13
-status_of ExpiryDigit = pos 14
-status_of ServiceLength = pos 15
-status_of ServiceDigit = pos 16
+status_of AccountLength = ERR_ACCOUNT_LENGTH
+status_of AccountDigit = ERR_ACCOUNT_DIGIT
+status_of ExpiryLength = ERR_EXPIRY_LENGTH
+status_of ExpiryDigit = ERR_EXPIRY_DIGIT
+status_of ServiceLength = ERR_SERVICE_LENGTH
+status_of ServiceDigit = ERR_SERVICE_DIGIT

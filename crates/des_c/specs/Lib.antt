@@ -4,3 +4,5 @@ pub mod Messages
 pub mod PinStatuses
 pub mod CvvStatuses
 pub mod Statuses
+pub mod Texts
+pub mod Paddings

@@ -5,6 +5,7 @@ use Rattle.des.specs.TripleCiphers.{ede3_encryption, ede2_encryption}
 use Rattle.des_context.specs.Contexts.{IsDesContextOf, IsEde3ContextOf, IsEde2ContextOf}
 use Rattle.des_mac.specs.IsProgress.{IsProgressOf}
 use Rattle.des_c.specs.declared.macs.cbc_mac_des.CbcMacDes.{CbcMacDes}
+use Rattle.des_c.specs.declared.macs.cbc_mac_tdes_ede2.CbcMacTdesEde2.{CbcMacTdesEde2}
 use Rattle.des_c.specs.declared.macs.cbc_mac_tdes_ede3.CbcMacTdesEde3.{CbcMacTdesEde3}
 use Rattle.des_c.specs.declared.macs.retail_mac_des.RetailMacDes.{RetailMacDes}
 use Rattle.des_c.specs.declared.macs.cmac_tdes_ede2.CmacTdesEde2.{CmacTdesEde2}
@@ -15,6 +16,12 @@ pub record IsCbcMacDesOf (context : CbcMacDes) (padding : ℕ) (key m : List ℕ
   pub made : IsDesContextOf context.cipher key
   pub padded_by : context.message.padding ≡ padding
   pub progress : IsProgressOf (encryption key) context.message.progress m
+
+pub record IsCbcMacTdesEde2Of (context : CbcMacTdesEde2) (padding : ℕ) (key m : List ℕ)
+    : Type 0 where
+  pub made : IsEde2ContextOf context.cipher key
+  pub padded_by : context.message.padding ≡ padding
+  pub progress : IsProgressOf (ede2_encryption key) context.message.progress m
 
 pub record IsCbcMacTdesEde3Of (context : CbcMacTdesEde3) (padding : ℕ) (key m : List ℕ)
     : Type 0 where

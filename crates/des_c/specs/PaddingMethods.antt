@@ -1,5 +1,6 @@
 -- Padding methods by their numbers (ISO/IEC 9797-1:2011, 6.3), and the statuses of the calls that take them.
-use Rattle.std.specs.Prelude.{ℕ, ℤ, pos, ◌||◌, nat_eq, List, if◌then◌else◌}
+use Rattle.std.specs.Prelude.{ℕ, ℤ, ◌||◌, nat_eq, List, if◌then◌else◌}
+use Rattle.des_context.specs.declared.status.TheConstants.{OK, ERR_KEY_LENGTH, ERR_PADDING_METHOD}
 use Rattle.des_mac.specs.Padding.{zeros_after, one_bit_after}
 
 -- what goes after n bytes, by method 1 or 2
@@ -9,4 +10,5 @@ padding_by method n = if nat_eq method 2 then one_bit_after n else zeros_after n
 -- the status of a key of n bytes, where a key has `size`, and of a number of a method
 abbrev pub status_of : ℕ → ℕ → ℕ → ℤ
 status_of size bytes method =
-    if nat_eq bytes size then (if nat_eq method 1 || nat_eq method 2 then pos 0 else pos 4) else pos 1
+    if nat_eq bytes size then (if nat_eq method 1 || nat_eq method 2 then OK else ERR_PADDING_METHOD)
+    else ERR_KEY_LENGTH

@@ -2,6 +2,7 @@
 //! triple DES.
 
 mod cbc_mac_des;
+mod cbc_mac_tdes_ede2;
 mod cbc_mac_tdes_ede3;
 mod cmac_tdes_ede2;
 mod cmac_tdes_ede3;

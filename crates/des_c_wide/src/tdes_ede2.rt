@@ -1,96 +1,129 @@
-//! The exports for lists of `TdesEde2`.
+//! The exports of `TdesEde2`, in batches of 256 blocks.
 
-ghost use Rattle.std.specs.Prelude.{◌≡◌, ◌≢◌, ◌↔◌, ℕ, List, length, pos};
+ghost use Rattle.std.specs.Prelude.{◌≡◌, ◌≢◌, ◌↔◌, ℕ, List};
 ghost use Rattle.des.specs.Blocks.{AnswersEach};
 ghost use Rattle.des.specs.Cbc.{Chains, next_vector};
 ghost use Rattle.des.specs.Triple.{EnciphersEde2};
 ghost use Rattle.des.specs.Relations.{IsTheOne};
+ghost use Rattle.des_context.specs.Bytes.{AreWhole, FitInto, blocks_of};
 ghost use Rattle.des_context.specs.Contexts.{IsEde2ContextOf};
 
 use des_context::calls;
 use des_context::contexts::TdesEde2Context;
+use des_context::status::{ERR_BLOCKS, OK};
 use std::simd::prelude::*;
 
-/// Encrypts each block in place, 256 at a time.
+/// Encrypts bytes in place, each block of eight by itself. The status is `ERR_BLOCKS` where they
+/// are not whole blocks; they then stay as they were.
 #[unsafe(no_mangle)]
-pub extern "C" fn cukvashe_wide_tdes_ede2_encrypt_many(
+pub extern "C" fn cukvashe_wide_tdes_ede2_encrypt_ecb(
     context: &TdesEde2Context,
-    blocks: &mut [[u8; 8]],
-)
-    requires { (key : List ℕ) × IsEde2ContextOf context.now key }
-    ensures { (key : List ℕ) → IsEde2ContextOf context.now key
-        → IsTheOne (λ answers. AnswersEach (λ x y. EnciphersEde2 key x y) blocks.old answers)
-        blocks.new }
-{
-    calls::encrypt_many::<u64x4, _>(context, blocks);
-}
-
-/// Decrypts each block in place, 256 at a time.
-#[unsafe(no_mangle)]
-pub extern "C" fn cukvashe_wide_tdes_ede2_decrypt_many(
-    context: &TdesEde2Context,
-    blocks: &mut [[u8; 8]],
-)
-    requires { (key : List ℕ) × IsEde2ContextOf context.now key }
-    ensures { (key : List ℕ) → IsEde2ContextOf context.now key
-        → IsTheOne (λ answers. AnswersEach (λ x y. EnciphersEde2 key x y) answers blocks.old)
-        blocks.new }
-{
-    calls::decrypt_many::<u64x4, _>(context, blocks);
-}
-
-/// Encrypts each block of `input` into the block at its place in `output`, 256 at a time. The
-/// status of two lists that differ in length is 2, and `output` stays.
-#[unsafe(no_mangle)]
-pub extern "C" fn cukvashe_wide_tdes_ede2_encrypt_many_b2b(
-    context: &TdesEde2Context,
-    input: &[[u8; 8]],
-    output: &mut [[u8; 8]],
+    bytes: &mut [u8],
 ) -> i32
     requires { (key : List ℕ) × IsEde2ContextOf context.now key }
-    ensures accepted { (result ≡ pos 0) ↔ (length input.now ≡ length output.old) }
-    ensures refused { (result ≡ pos 2) ↔ (length input.now ≢ length output.old) }
-    ensures answered { length input.now ≡ length output.old
-        → (key : List ℕ) → IsEde2ContextOf context.now key
-        → IsTheOne (λ answers. AnswersEach (λ x y. EnciphersEde2 key x y) input.now answers)
-        output.new }
-    ensures kept { length input.now ≢ length output.old → output.new ≡ output.old }
+    ensures accepted { (result ≡ OK) ↔ AreWhole bytes.old }
+    ensures refused { (result ≡ ERR_BLOCKS) ↔ ¬ (AreWhole bytes.old) }
+    ensures answered { result ≡ OK → (key : List ℕ) → IsEde2ContextOf context.now key
+        → IsTheOne (λ answers. AnswersEach (λ x y. EnciphersEde2 key x y)
+        (blocks_of bytes.old) answers) (blocks_of bytes.new) }
+    ensures kept { result ≢ OK → bytes.new ≡ bytes.old }
 {
-    calls::encrypt_many_b2b::<u64x4, _>(context, input, output)
+    calls::encrypt_ecb::<u64x4, _>(context, bytes)
 }
 
-/// Decrypts each block of `input` into the block at its place in `output`, 256 at a time. The
-/// status of two lists that differ in length is 2, and `output` stays.
+/// Decrypts bytes in place, each block of eight by itself. The status is `ERR_BLOCKS` where they
+/// are not whole blocks; they then stay as they were.
 #[unsafe(no_mangle)]
-pub extern "C" fn cukvashe_wide_tdes_ede2_decrypt_many_b2b(
+pub extern "C" fn cukvashe_wide_tdes_ede2_decrypt_ecb(
     context: &TdesEde2Context,
-    input: &[[u8; 8]],
-    output: &mut [[u8; 8]],
+    bytes: &mut [u8],
 ) -> i32
     requires { (key : List ℕ) × IsEde2ContextOf context.now key }
-    ensures accepted { (result ≡ pos 0) ↔ (length input.now ≡ length output.old) }
-    ensures refused { (result ≡ pos 2) ↔ (length input.now ≢ length output.old) }
-    ensures answered { length input.now ≡ length output.old
-        → (key : List ℕ) → IsEde2ContextOf context.now key
-        → IsTheOne (λ answers. AnswersEach (λ x y. EnciphersEde2 key x y) answers input.now)
-        output.new }
-    ensures kept { length input.now ≢ length output.old → output.new ≡ output.old }
+    ensures accepted { (result ≡ OK) ↔ AreWhole bytes.old }
+    ensures refused { (result ≡ ERR_BLOCKS) ↔ ¬ (AreWhole bytes.old) }
+    ensures answered { result ≡ OK → (key : List ℕ) → IsEde2ContextOf context.now key
+        → IsTheOne (λ answers. AnswersEach (λ x y. EnciphersEde2 key x y)
+        answers (blocks_of bytes.old)) (blocks_of bytes.new) }
+    ensures kept { result ≢ OK → bytes.new ≡ bytes.old }
 {
-    calls::decrypt_many_b2b::<u64x4, _>(context, input, output)
+    calls::decrypt_ecb::<u64x4, _>(context, bytes)
 }
 
-/// Decrypts blocks in place that CBC chained from the vector, 256 at a time; the vector becomes
-/// the one that the chain goes on with.
+/// Decrypts bytes in place that CBC chained from the vector, which becomes the last ciphertext
+/// block. The status is `ERR_BLOCKS` where the bytes are not whole blocks; they and the vector then
+/// stay.
 #[unsafe(no_mangle)]
-pub extern "C" fn cukvashe_wide_tdes_ede2_decrypt_cbc_many(
+pub extern "C" fn cukvashe_wide_tdes_ede2_decrypt_cbc(
     context: &TdesEde2Context,
-    vector: &mut [u8; 8],
-    blocks: &mut [[u8; 8]],
-)
+    iv: &mut [u8; 8],
+    bytes: &mut [u8],
+) -> i32
     requires { (key : List ℕ) × IsEde2ContextOf context.now key }
-    ensures chained { (key : List ℕ) → IsEde2ContextOf context.now key
-        → Chains (λ x y. EnciphersEde2 key x y) vector.old blocks.new blocks.old }
-    ensures goes_on { vector.new ≡ next_vector vector.old blocks.old }
+    ensures accepted { (result ≡ OK) ↔ AreWhole bytes.old }
+    ensures refused { (result ≡ ERR_BLOCKS) ↔ ¬ (AreWhole bytes.old) }
+    ensures chained { result ≡ OK → (key : List ℕ) → IsEde2ContextOf context.now key
+        → Chains (λ x y. EnciphersEde2 key x y) iv.old (blocks_of bytes.new) (blocks_of bytes.old) }
+    ensures goes_on { result ≡ OK → iv.new ≡ next_vector iv.old (blocks_of bytes.old) }
+    ensures kept { result ≢ OK → (bytes.new ≡ bytes.old) × (iv.new ≡ iv.old) }
 {
-    calls::decrypt_cbc_many::<u64x4, _>(context, vector, blocks);
+    calls::decrypt_cbc::<u64x4, _>(context, iv, bytes)
+}
+
+/// Writes the bytes of `input`, encrypted as by `encrypt_ecb`, to `output`. The status is
+/// `ERR_BLOCKS` where they are not whole blocks or the two differ in length; `output` then stays.
+#[unsafe(no_mangle)]
+pub extern "C" fn cukvashe_wide_tdes_ede2_encrypt_ecb_to(
+    context: &TdesEde2Context,
+    input: &[u8],
+    output: &mut [u8],
+) -> i32
+    requires { (key : List ℕ) × IsEde2ContextOf context.now key }
+    ensures accepted { (result ≡ OK) ↔ FitInto output.old input.now }
+    ensures refused { (result ≡ ERR_BLOCKS) ↔ ¬ (FitInto output.old input.now) }
+    ensures answered { result ≡ OK → (key : List ℕ) → IsEde2ContextOf context.now key
+        → IsTheOne (λ answers. AnswersEach (λ x y. EnciphersEde2 key x y)
+        (blocks_of input.now) answers) (blocks_of output.new) }
+    ensures kept { result ≢ OK → output.new ≡ output.old }
+{
+    calls::encrypt_ecb_to::<u64x4, _>(context, input, output)
+}
+
+/// Writes the bytes of `input`, decrypted as by `decrypt_ecb`, to `output`. The status is
+/// `ERR_BLOCKS` where they are not whole blocks or the two differ in length; `output` then stays.
+#[unsafe(no_mangle)]
+pub extern "C" fn cukvashe_wide_tdes_ede2_decrypt_ecb_to(
+    context: &TdesEde2Context,
+    input: &[u8],
+    output: &mut [u8],
+) -> i32
+    requires { (key : List ℕ) × IsEde2ContextOf context.now key }
+    ensures accepted { (result ≡ OK) ↔ FitInto output.old input.now }
+    ensures refused { (result ≡ ERR_BLOCKS) ↔ ¬ (FitInto output.old input.now) }
+    ensures answered { result ≡ OK → (key : List ℕ) → IsEde2ContextOf context.now key
+        → IsTheOne (λ answers. AnswersEach (λ x y. EnciphersEde2 key x y)
+        answers (blocks_of input.now)) (blocks_of output.new) }
+    ensures kept { result ≢ OK → output.new ≡ output.old }
+{
+    calls::decrypt_ecb_to::<u64x4, _>(context, input, output)
+}
+
+/// Writes the bytes of `input`, decrypted as by `decrypt_cbc`, to `output`. The status is
+/// `ERR_BLOCKS` where they are not whole blocks or the two differ in length; `output` and the
+/// vector then stay.
+#[unsafe(no_mangle)]
+pub extern "C" fn cukvashe_wide_tdes_ede2_decrypt_cbc_to(
+    context: &TdesEde2Context,
+    iv: &mut [u8; 8],
+    input: &[u8],
+    output: &mut [u8],
+) -> i32
+    requires { (key : List ℕ) × IsEde2ContextOf context.now key }
+    ensures accepted { (result ≡ OK) ↔ FitInto output.old input.now }
+    ensures refused { (result ≡ ERR_BLOCKS) ↔ ¬ (FitInto output.old input.now) }
+    ensures chained { result ≡ OK → (key : List ℕ) → IsEde2ContextOf context.now key
+        → Chains (λ x y. EnciphersEde2 key x y) iv.old (blocks_of output.new) (blocks_of input.now) }
+    ensures goes_on { result ≡ OK → iv.new ≡ next_vector iv.old (blocks_of input.now) }
+    ensures kept { result ≢ OK → (output.new ≡ output.old) × (iv.new ≡ iv.old) }
+{
+    calls::decrypt_cbc_to::<u64x4, _>(context, iv, input, output)
 }

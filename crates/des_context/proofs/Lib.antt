@@ -1,1 +1,3 @@
 mod RelatedChains
+mod LentBlocks
+mod BlocksOfBytes

@@ -4,9 +4,7 @@ use Rattle.des.specs.Blocks.{IsKey, part}
 use Rattle.des_fast.specs.Words.{AreRoundKeysOf}
 use Rattle.des_context.specs.declared.contexts.DesContext.{DesContext}
 use Rattle.des_context.specs.declared.contexts.TdesEde3Context.{TdesEde3Context}
-use Rattle.des_context.specs.declared.contexts.TdesEee3Context.{TdesEee3Context}
 use Rattle.des_context.specs.declared.contexts.TdesEde2Context.{TdesEde2Context}
-use Rattle.des_context.specs.declared.contexts.TdesEee2Context.{TdesEee2Context}
 
 -- the context is one of the key
 abbrev pub IsDesContextOf : DesContext → List ℕ → Type 0
@@ -17,15 +15,6 @@ IsEde3ContextOf context key =
     IsKey 24 key × AreRoundKeysOf context.first (part 1 key) × AreRoundKeysOf context.second (part 2 key)
     × AreRoundKeysOf context.third (part 3 key)
 
-abbrev pub IsEee3ContextOf : TdesEee3Context → List ℕ → Type 0
-IsEee3ContextOf context key =
-    IsKey 24 key × AreRoundKeysOf context.first (part 1 key) × AreRoundKeysOf context.second (part 2 key)
-    × AreRoundKeysOf context.third (part 3 key)
-
 abbrev pub IsEde2ContextOf : TdesEde2Context → List ℕ → Type 0
 IsEde2ContextOf context key =
-    IsKey 16 key × AreRoundKeysOf context.first (part 1 key) × AreRoundKeysOf context.second (part 2 key)
-
-abbrev pub IsEee2ContextOf : TdesEee2Context → List ℕ → Type 0
-IsEee2ContextOf context key =
     IsKey 16 key × AreRoundKeysOf context.first (part 1 key) × AreRoundKeysOf context.second (part 2 key)

@@ -1,166 +1,193 @@
-//! The calls of the libraries for C, over any context and any width: what a list becomes, by the
+//! The calls of the libraries for C, over any context and any width: what bytes become, by the
 //! relation of the key that the context is made from.
 
-ghost use Rattle.std.specs.Prelude.{◌≡◌, ◌≢◌, ◌↔◌, ℕ, List, length, pos};
+ghost use Rattle.std.specs.Prelude.{◌≡◌, ◌≢◌, ◌↔◌, ℕ, List, length};
 ghost use Rattle.des.specs.Blocks.{AnswersEach};
 ghost use Rattle.des.specs.Cbc.{Chains, next_vector};
 ghost use Rattle.des.specs.Relations.{IsTheOne};
+ghost use Rattle.des_context.specs.Bytes.{AreWhole, FitInto, blocks_of};
 
+use crate::blocks::blocks_mut;
 use crate::contexts::Context;
 use crate::lists;
+use crate::status::{ERR_BLOCKS, ERR_KEY_LENGTH, OK};
 use des::cipher::KeyInit;
 use des_fast::many::Slice;
 
-/// The status of a call that did what it is for.
-pub const DONE: i32 = 0;
-
-/// The status of a key whose length is not that of the cipher's keys.
-pub const KEY_LENGTH: i32 = 1;
-
-/// The status of two lists of blocks that differ in length.
-pub const LIST_LENGTHS: i32 = 2;
-
-/// The status of a key that the weak key test refuses.
-pub const WEAK_KEY: i32 = 3;
-
-/// Makes a context from the bytes of a key. The status is 0, or 1 where there are not as many as it
-/// needs; the context then stays as it was.
+/// Makes a context from the bytes of a key. The status is `ERR_KEY_LENGTH` where there are not as
+/// many as the cipher needs; the context then stays as it was.
 pub fn init<K: KeyInit + Drop>(context: &mut K, key: &[u8]) -> i32
-    ensures accepted { (result ≡ pos 0) ↔ (length key.now ≡ K.KEY_SIZE) }
-    ensures refused { (result ≡ pos 1) ↔ (length key.now ≢ K.KEY_SIZE) }
-    ensures made { length key.now ≡ K.KEY_SIZE → K.is_made_from context.new key.now }
-    ensures kept { length key.now ≢ K.KEY_SIZE → context.new ≡ context.old }
+    ensures accepted { (result ≡ OK) ↔ (length key.now ≡ K.KEY_SIZE) }
+    ensures refused { (result ≡ ERR_KEY_LENGTH) ↔ (length key.now ≢ K.KEY_SIZE) }
+    ensures made { result ≡ OK → K.is_made_from context.new key.now }
+    ensures kept { result ≢ OK → context.new ≡ context.old }
 {
     match K::new_from_slice(key) {
         Ok(made) => {
             *context = made;
-            DONE
+            OK
         }
-        Err(_) => KEY_LENGTH,
+        Err(_) => ERR_KEY_LENGTH,
     }
 }
 
-/// Encrypts each block in place, one by one.
-pub fn encrypt_blocks<K: Context>(context: &K, blocks: &mut [[u8; 8]])
+/// Encrypts bytes in place, each block of eight by itself. The status is `ERR_BLOCKS` where they
+/// are not whole blocks; they then stay as they were.
+pub fn encrypt_ecb<S: Slice, K: Context>(context: &K, bytes: &mut [u8]) -> i32
     requires { (key : List ℕ) × K.is_made_from context.now key }
-    ensures { (key : List ℕ) → K.is_made_from context.now key
-        → IsTheOne (λ answers. AnswersEach (K.Cipher.relation key) blocks.old answers)
-        blocks.new }
+    ensures accepted { (result ≡ OK) ↔ AreWhole bytes.old }
+    ensures refused { (result ≡ ERR_BLOCKS) ↔ ¬ (AreWhole bytes.old) }
+    ensures answered { result ≡ OK → (key : List ℕ) → K.is_made_from context.now key
+        → IsTheOne (λ answers. AnswersEach (K.Cipher.relation key) (blocks_of bytes.old) answers)
+        (blocks_of bytes.new) }
+    ensures kept { result ≢ OK → bytes.new ≡ bytes.old }
 {
-    lists::encrypt_blocks(&context.to_cipher(), blocks);
+    if bytes.len() % 8 != 0 {
+        return ERR_BLOCKS;
+    }
+    let count = bytes.len() / 8;
+    let (blocks, _) = blocks_mut(bytes, count);
+    lists::encrypt::<S, _>(&context.to_cipher(), blocks);
+    OK
 }
 
-/// Decrypts each block in place, one by one.
-pub fn decrypt_blocks<K: Context>(context: &K, blocks: &mut [[u8; 8]])
+/// Decrypts bytes in place, each block of eight by itself. The status is as of `encrypt_ecb`.
+pub fn decrypt_ecb<S: Slice, K: Context>(context: &K, bytes: &mut [u8]) -> i32
     requires { (key : List ℕ) × K.is_made_from context.now key }
-    ensures { (key : List ℕ) → K.is_made_from context.now key
-        → IsTheOne (λ answers. AnswersEach (K.Cipher.relation key) answers blocks.old)
-        blocks.new }
+    ensures accepted { (result ≡ OK) ↔ AreWhole bytes.old }
+    ensures refused { (result ≡ ERR_BLOCKS) ↔ ¬ (AreWhole bytes.old) }
+    ensures answered { result ≡ OK → (key : List ℕ) → K.is_made_from context.now key
+        → IsTheOne (λ answers. AnswersEach (K.Cipher.relation key) answers (blocks_of bytes.old))
+        (blocks_of bytes.new) }
+    ensures kept { result ≢ OK → bytes.new ≡ bytes.old }
 {
-    lists::decrypt_blocks(&context.to_cipher(), blocks);
+    if bytes.len() % 8 != 0 {
+        return ERR_BLOCKS;
+    }
+    let count = bytes.len() / 8;
+    let (blocks, _) = blocks_mut(bytes, count);
+    lists::decrypt::<S, _>(&context.to_cipher(), blocks);
+    OK
 }
 
-/// Encrypts each block in place, `S::BATCH` at a time.
-pub fn encrypt_many<S: Slice, K: Context>(context: &K, blocks: &mut [[u8; 8]])
+/// Encrypts bytes in place by CBC from the vector, which becomes the last ciphertext block. The
+/// status is `ERR_BLOCKS` where the bytes are not whole blocks; they and the vector then stay.
+pub fn encrypt_cbc<K: Context>(context: &K, iv: &mut [u8; 8], bytes: &mut [u8]) -> i32
     requires { (key : List ℕ) × K.is_made_from context.now key }
-    ensures { (key : List ℕ) → K.is_made_from context.now key
-        → IsTheOne (λ answers. AnswersEach (K.Cipher.relation key) blocks.old answers)
-        blocks.new }
+    ensures accepted { (result ≡ OK) ↔ AreWhole bytes.old }
+    ensures refused { (result ≡ ERR_BLOCKS) ↔ ¬ (AreWhole bytes.old) }
+    ensures chained { result ≡ OK → (key : List ℕ) → K.is_made_from context.now key
+        → Chains (K.Cipher.relation key) iv.old (blocks_of bytes.old) (blocks_of bytes.new) }
+    ensures goes_on { result ≡ OK → iv.new ≡ next_vector iv.old (blocks_of bytes.new) }
+    ensures kept { result ≢ OK → (bytes.new ≡ bytes.old) × (iv.new ≡ iv.old) }
 {
-    lists::encrypt_many::<S, _>(&context.to_cipher(), blocks);
+    if bytes.len() % 8 != 0 {
+        return ERR_BLOCKS;
+    }
+    let count = bytes.len() / 8;
+    let (blocks, _) = blocks_mut(bytes, count);
+    lists::encrypt_cbc(&context.to_cipher(), iv, blocks);
+    OK
 }
 
-/// Decrypts each block in place, `S::BATCH` at a time.
-pub fn decrypt_many<S: Slice, K: Context>(context: &K, blocks: &mut [[u8; 8]])
+/// Decrypts bytes in place that CBC chained from the vector, which becomes the last ciphertext
+/// block. The status is as of `encrypt_cbc`.
+pub fn decrypt_cbc<S: Slice, K: Context>(context: &K, iv: &mut [u8; 8], bytes: &mut [u8]) -> i32
     requires { (key : List ℕ) × K.is_made_from context.now key }
-    ensures { (key : List ℕ) → K.is_made_from context.now key
-        → IsTheOne (λ answers. AnswersEach (K.Cipher.relation key) answers blocks.old)
-        blocks.new }
+    ensures accepted { (result ≡ OK) ↔ AreWhole bytes.old }
+    ensures refused { (result ≡ ERR_BLOCKS) ↔ ¬ (AreWhole bytes.old) }
+    ensures chained { result ≡ OK → (key : List ℕ) → K.is_made_from context.now key
+        → Chains (K.Cipher.relation key) iv.old (blocks_of bytes.new) (blocks_of bytes.old) }
+    ensures goes_on { result ≡ OK → iv.new ≡ next_vector iv.old (blocks_of bytes.old) }
+    ensures kept { result ≢ OK → (bytes.new ≡ bytes.old) × (iv.new ≡ iv.old) }
 {
-    lists::decrypt_many::<S, _>(&context.to_cipher(), blocks);
+    if bytes.len() % 8 != 0 {
+        return ERR_BLOCKS;
+    }
+    let count = bytes.len() / 8;
+    let (blocks, _) = blocks_mut(bytes, count);
+    lists::decrypt_cbc::<S, _>(&context.to_cipher(), iv, blocks);
+    OK
 }
 
-/// Encrypts each block of `input` into the block at its place in `output`, `S::BATCH` at a time.
-/// The status is 0, or 2 where the two differ in length; `output` then stays as it was.
-pub fn encrypt_many_b2b<S: Slice, K: Context>(
-    context: &K,
-    input: &[[u8; 8]],
-    output: &mut [[u8; 8]],
-) -> i32
+/// Writes the bytes of `input`, encrypted as by `encrypt_ecb`, to `output`. The status is
+/// `ERR_BLOCKS` where they are not whole blocks or the two differ in length; `output` then stays.
+pub fn encrypt_ecb_to<S: Slice, K: Context>(context: &K, input: &[u8], output: &mut [u8]) -> i32
     requires { (key : List ℕ) × K.is_made_from context.now key }
-    ensures accepted { (result ≡ pos 0) ↔ (length input.now ≡ length output.old) }
-    ensures refused { (result ≡ pos 2) ↔ (length input.now ≢ length output.old) }
-    ensures answered { length input.now ≡ length output.old
-        → (key : List ℕ) → K.is_made_from context.now key
-        → IsTheOne (λ answers. AnswersEach (K.Cipher.relation key) input.now answers)
-        output.new }
-    ensures kept { length input.now ≢ length output.old → output.new ≡ output.old }
+    ensures accepted { (result ≡ OK) ↔ FitInto output.old input.now }
+    ensures refused { (result ≡ ERR_BLOCKS) ↔ ¬ (FitInto output.old input.now) }
+    ensures answered { result ≡ OK → (key : List ℕ) → K.is_made_from context.now key
+        → IsTheOne (λ answers. AnswersEach (K.Cipher.relation key) (blocks_of input.now) answers)
+        (blocks_of output.new) }
+    ensures kept { result ≢ OK → output.new ≡ output.old }
 {
-    if input.len() != output.len() {
-        return LIST_LENGTHS;
+    if input.len() != output.len() || input.len() % 8 != 0 {
+        return ERR_BLOCKS;
     }
     output.copy_from_slice(input);
-    encrypt_many::<S, K>(context, output);
-    DONE
+    encrypt_ecb::<S, K>(context, output)
 }
 
-/// Decrypts each block of `input` into the block at its place in `output`, `S::BATCH` at a time.
-/// The status is 0, or 2 where the two differ in length; `output` then stays as it was.
-pub fn decrypt_many_b2b<S: Slice, K: Context>(
-    context: &K,
-    input: &[[u8; 8]],
-    output: &mut [[u8; 8]],
-) -> i32
+/// Writes the bytes of `input`, decrypted as by `decrypt_ecb`, to `output`. The status is as of
+/// `encrypt_ecb_to`.
+pub fn decrypt_ecb_to<S: Slice, K: Context>(context: &K, input: &[u8], output: &mut [u8]) -> i32
     requires { (key : List ℕ) × K.is_made_from context.now key }
-    ensures accepted { (result ≡ pos 0) ↔ (length input.now ≡ length output.old) }
-    ensures refused { (result ≡ pos 2) ↔ (length input.now ≢ length output.old) }
-    ensures answered { length input.now ≡ length output.old
-        → (key : List ℕ) → K.is_made_from context.now key
-        → IsTheOne (λ answers. AnswersEach (K.Cipher.relation key) answers input.now)
-        output.new }
-    ensures kept { length input.now ≢ length output.old → output.new ≡ output.old }
+    ensures accepted { (result ≡ OK) ↔ FitInto output.old input.now }
+    ensures refused { (result ≡ ERR_BLOCKS) ↔ ¬ (FitInto output.old input.now) }
+    ensures answered { result ≡ OK → (key : List ℕ) → K.is_made_from context.now key
+        → IsTheOne (λ answers. AnswersEach (K.Cipher.relation key) answers (blocks_of input.now))
+        (blocks_of output.new) }
+    ensures kept { result ≢ OK → output.new ≡ output.old }
 {
-    if input.len() != output.len() {
-        return LIST_LENGTHS;
+    if input.len() != output.len() || input.len() % 8 != 0 {
+        return ERR_BLOCKS;
     }
     output.copy_from_slice(input);
-    decrypt_many::<S, K>(context, output);
-    DONE
+    decrypt_ecb::<S, K>(context, output)
 }
 
-/// Encrypts a list of blocks in place by CBC from the vector, which becomes the one that the chain
-/// goes on with.
-pub fn encrypt_cbc<K: Context>(context: &K, vector: &mut [u8; 8], blocks: &mut [[u8; 8]])
-    requires { (key : List ℕ) × K.is_made_from context.now key }
-    ensures chained { (key : List ℕ) → K.is_made_from context.now key
-        → Chains (K.Cipher.relation key) vector.old blocks.old blocks.new }
-    ensures goes_on { vector.new ≡ next_vector vector.old blocks.new }
-{
-    lists::encrypt_cbc(&context.to_cipher(), vector, blocks);
-}
-
-/// Decrypts a list of blocks in place that CBC chained from the vector, one block at a time; the
-/// vector becomes the one that the chain goes on with.
-pub fn decrypt_cbc<K: Context>(context: &K, vector: &mut [u8; 8], blocks: &mut [[u8; 8]])
-    requires { (key : List ℕ) × K.is_made_from context.now key }
-    ensures chained { (key : List ℕ) → K.is_made_from context.now key
-        → Chains (K.Cipher.relation key) vector.old blocks.new blocks.old }
-    ensures goes_on { vector.new ≡ next_vector vector.old blocks.old }
-{
-    lists::decrypt_cbc(&context.to_cipher(), vector, blocks);
-}
-
-/// Decrypts a list of blocks in place that CBC chained from the vector, `S::BATCH` at a time; the
-/// vector becomes the one that the chain goes on with.
-pub fn decrypt_cbc_many<S: Slice, K: Context>(
+/// Writes the bytes of `input`, encrypted as by `encrypt_cbc`, to `output`. The status is as of
+/// `encrypt_ecb_to`; where it refuses, the vector stays too.
+pub fn encrypt_cbc_to<K: Context>(
     context: &K,
-    vector: &mut [u8; 8],
-    blocks: &mut [[u8; 8]],
-)
+    iv: &mut [u8; 8],
+    input: &[u8],
+    output: &mut [u8],
+) -> i32
     requires { (key : List ℕ) × K.is_made_from context.now key }
-    ensures chained { (key : List ℕ) → K.is_made_from context.now key
-        → Chains (K.Cipher.relation key) vector.old blocks.new blocks.old }
-    ensures goes_on { vector.new ≡ next_vector vector.old blocks.old }
+    ensures accepted { (result ≡ OK) ↔ FitInto output.old input.now }
+    ensures refused { (result ≡ ERR_BLOCKS) ↔ ¬ (FitInto output.old input.now) }
+    ensures chained { result ≡ OK → (key : List ℕ) → K.is_made_from context.now key
+        → Chains (K.Cipher.relation key) iv.old (blocks_of input.now) (blocks_of output.new) }
+    ensures goes_on { result ≡ OK → iv.new ≡ next_vector iv.old (blocks_of output.new) }
+    ensures kept { result ≢ OK → (output.new ≡ output.old) × (iv.new ≡ iv.old) }
 {
-    lists::decrypt_cbc_many::<S, _>(&context.to_cipher(), vector, blocks);
+    if input.len() != output.len() || input.len() % 8 != 0 {
+        return ERR_BLOCKS;
+    }
+    output.copy_from_slice(input);
+    encrypt_cbc(context, iv, output)
+}
+
+/// Writes the bytes of `input`, decrypted as by `decrypt_cbc`, to `output`. The status is as of
+/// `encrypt_cbc_to`.
+pub fn decrypt_cbc_to<S: Slice, K: Context>(
+    context: &K,
+    iv: &mut [u8; 8],
+    input: &[u8],
+    output: &mut [u8],
+) -> i32
+    requires { (key : List ℕ) × K.is_made_from context.now key }
+    ensures accepted { (result ≡ OK) ↔ FitInto output.old input.now }
+    ensures refused { (result ≡ ERR_BLOCKS) ↔ ¬ (FitInto output.old input.now) }
+    ensures chained { result ≡ OK → (key : List ℕ) → K.is_made_from context.now key
+        → Chains (K.Cipher.relation key) iv.old (blocks_of output.new) (blocks_of input.now) }
+    ensures goes_on { result ≡ OK → iv.new ≡ next_vector iv.old (blocks_of input.now) }
+    ensures kept { result ≢ OK → (output.new ≡ output.old) × (iv.new ≡ iv.old) }
+{
+    if input.len() != output.len() || input.len() % 8 != 0 {
+        return ERR_BLOCKS;
+    }
+    output.copy_from_slice(input);
+    decrypt_cbc::<S, K>(context, iv, output)
 }

@@ -4,13 +4,13 @@
 ghost use Rattle.std.specs.Prelude.{◌≤◌, ◌*◌, ℕ, List, length};
 ghost use Rattle.des.specs.Blocks.{part};
 ghost use Rattle.des_fast.specs.Words.{AreRoundKeysOf};
-ghost use Rattle.des_context.specs.Contexts.{IsDesContextOf, IsEde3ContextOf, IsEee3ContextOf, IsEde2ContextOf, IsEee2ContextOf};
+ghost use Rattle.des_context.specs.Contexts.{IsDesContextOf, IsEde3ContextOf, IsEde2ContextOf};
 
 use des::cipher::{KeyInit, KeySizeUser, Relating};
 use des::tdes::{joined, key_part};
 use des_fast::many::ManyBlocks;
 use des_fast::words::{from_round_key_words, round_key_words};
-use des_fast::{Des, TdesEde2, TdesEde3, TdesEee2, TdesEee3};
+use des_fast::{Des, TdesEde2, TdesEde3};
 
 /// What a caller keeps of a cipher between calls.
 pub trait Context: KeyInit {
@@ -117,52 +117,6 @@ impl Context for TdesEde3Context {
     }
 }
 
-/// The context of `TdesEee3`.
-#[repr(C)]
-#[derive(Clone, Copy)]
-pub struct TdesEee3Context {
-    first: [u64; 16],
-    second: [u64; 16],
-    third: [u64; 16],
-}
-
-impl KeySizeUser for TdesEee3Context {
-    ghost use Rattle.std.specs.Prelude.{refl};
-
-    type Key = [u8; 24];
-
-    const KEY_SIZE: usize = 24;
-
-    ghost KEY_SIZE = { 24 };
-
-    ghost key_size_is_len = { refl };
-}
-
-impl KeyInit for TdesEee3Context {
-    ghost is_made_from = { IsEee3ContextOf };
-
-    /// The context of a key of 24 bytes.
-    fn new(key: &[u8; 24]) -> TdesEee3Context {
-        TdesEee3Context {
-            first: part_words(key, 1),
-            second: part_words(key, 2),
-            third: part_words(key, 3),
-        }
-    }
-}
-
-impl Context for TdesEee3Context {
-    type Cipher = TdesEee3;
-
-    fn to_cipher(&self) -> TdesEee3 {
-        joined::eee3(
-            from_round_key_words(&self.first),
-            from_round_key_words(&self.second),
-            from_round_key_words(&self.third),
-        )
-    }
-}
-
 /// The context of `TdesEde2`.
 #[repr(C)]
 #[derive(Clone, Copy)]
@@ -200,49 +154,6 @@ impl Context for TdesEde2Context {
 
     fn to_cipher(&self) -> TdesEde2 {
         joined::ede2(
-            from_round_key_words(&self.first),
-            from_round_key_words(&self.second),
-        )
-    }
-}
-
-/// The context of `TdesEee2`.
-#[repr(C)]
-#[derive(Clone, Copy)]
-pub struct TdesEee2Context {
-    first: [u64; 16],
-    second: [u64; 16],
-}
-
-impl KeySizeUser for TdesEee2Context {
-    ghost use Rattle.std.specs.Prelude.{refl};
-
-    type Key = [u8; 16];
-
-    const KEY_SIZE: usize = 16;
-
-    ghost KEY_SIZE = { 16 };
-
-    ghost key_size_is_len = { refl };
-}
-
-impl KeyInit for TdesEee2Context {
-    ghost is_made_from = { IsEee2ContextOf };
-
-    /// The context of a key of 16 bytes.
-    fn new(key: &[u8; 16]) -> TdesEee2Context {
-        TdesEee2Context {
-            first: part_words(key, 1),
-            second: part_words(key, 2),
-        }
-    }
-}
-
-impl Context for TdesEee2Context {
-    type Cipher = TdesEee2;
-
-    fn to_cipher(&self) -> TdesEee2 {
-        joined::eee2(
             from_round_key_words(&self.first),
             from_round_key_words(&self.second),
         )

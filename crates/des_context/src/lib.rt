@@ -3,6 +3,9 @@
 //! once for every cipher and every width.
 #![tactic(auto)]
 
+pub mod blocks;
 pub mod calls;
 pub mod contexts;
 pub mod lists;
+pub mod status;
+pub mod ways;

@@ -1,7 +1,7 @@
 //! Card verification values (CVV): three digits of a card's data under a key.
 
+use crate::error::sentences;
 use crate::ffi::{self, ACCOUNT_DIGIT, ACCOUNT_LENGTH, EXPIRY_DIGIT, EXPIRY_LENGTH, OK, SERVICE_LENGTH};
-use std::fmt;
 
 /// Why there is no card verification value. The first of them is reported, in this order.
 #[derive(Clone, Copy, Debug, PartialEq, Eq)]
@@ -20,33 +20,35 @@ pub enum CvvError {
     ServiceDigit,
 }
 
-impl fmt::Display for CvvError {
-    fn fmt(&self, f: &mut fmt::Formatter<'_>) -> fmt::Result {
-        fmt::Debug::fmt(self, f)
-    }
-}
-
-impl std::error::Error for CvvError {}
+sentences!(CvvError:
+    CvvError::AccountLength => "the account number does not have 13 to 19 digits",
+    CvvError::AccountDigit => "a character of the account number is not a digit",
+    CvvError::ExpiryLength => "the expiry date does not have four digits",
+    CvvError::ExpiryDigit => "a character of the expiry date is not a digit",
+    CvvError::ServiceLength => "the service code does not have three digits",
+    CvvError::ServiceDigit => "a character of the service code is not a digit",
+);
 
 /// The card verification value, three ASCII digits, of an account number of 13 to 19 digits with the check digit, an expiry
 /// date of four and a service code of three, under a key pair of 16 bytes.
 pub fn cvv(key: &[u8; 16], account: &[u8], expiry: &[u8], service: &[u8]) -> Result<[u8; 3], CvvError> {
-    let mut value = [0; 3];
+    let mut value = [0; 4];
     // SAFETY: the pointers are of references, those of texts good for their lengths, and don't overlap what is written.
     let status = unsafe {
         ffi::cukvashe_cvv(
             key,
-            account.as_ptr(),
+            account.as_ptr().cast(),
             account.len(),
-            expiry.as_ptr(),
+            expiry.as_ptr().cast(),
             expiry.len(),
-            service.as_ptr(),
+            service.as_ptr().cast(),
             service.len(),
             &mut value,
         )
     };
+    let [first, second, third, _] = value;
     match status {
-        OK => Ok(value),
+        OK => Ok([first, second, third]),
         ACCOUNT_LENGTH => Err(CvvError::AccountLength),
         ACCOUNT_DIGIT => Err(CvvError::AccountDigit),
         EXPIRY_LENGTH => Err(CvvError::ExpiryLength),

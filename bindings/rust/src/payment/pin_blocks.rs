@@ -1,9 +1,10 @@
 //! PIN blocks (ISO 9564-1): a PIN in eight bytes, in formats 0, 1 and 3. A block is not encrypted here: that is one call of
 //! a cipher.
 
+use crate::error::sentences;
 use crate::ffi::{self, ACCOUNT_DIGIT, ACCOUNT_LENGTH, FORMAT, OK, PIN_DIGIT, PIN_LENGTH};
 use crate::Block;
-use std::fmt;
+use core::fmt;
 
 /// Why a PIN block is not made, or a block holds no PIN. The first of them is reported: where a block is made, of the PIN,
 /// then of the account number, then of the fill digits; where one is read, of the account number, then in the order of the
@@ -24,13 +25,14 @@ pub enum PinError {
     Fill,
 }
 
-impl fmt::Display for PinError {
-    fn fmt(&self, f: &mut fmt::Formatter<'_>) -> fmt::Result {
-        fmt::Debug::fmt(self, f)
-    }
-}
-
-impl std::error::Error for PinError {}
+sentences!(PinError:
+    PinError::Format => "the PIN block is of another format",
+    PinError::PinLength => "the PIN does not have 4 to 12 digits",
+    PinError::PinDigit => "a character of the PIN is not a digit",
+    PinError::AccountLength => "the account number does not have 13 to 19 digits",
+    PinError::AccountDigit => "a character of the account number is not a digit",
+    PinError::Fill => "a fill digit is not one that the format allows",
+);
 
 /// What a call made, or the fault that its status says.
 fn checked<T>(status: i32, made: T) -> Result<T, PinError> {
@@ -45,27 +47,49 @@ fn checked<T>(status: i32, made: T) -> Result<T, PinError> {
     }
 }
 
-/// A personal identification number (PIN): a text of 4 to 12 digits. It has no equality: whoever compares PINs chooses how,
-/// by their texts.
+/// A personal identification number (PIN): a text of 4 to 12 digits, which is wiped when it is dropped. It has no equality:
+/// whoever compares PINs chooses how, by their texts.
+///
+/// ```
+/// # let pin = cukvashe_des::payment::Pin::new(b"1234").unwrap();
+/// assert!(pin.text() == pin.text());
+/// ```
+///
+/// ```compile_fail,E0369
+/// # let pin = cukvashe_des::payment::Pin::new(b"1234").unwrap();
+/// assert!(pin == pin);
+/// ```
 #[derive(Clone)]
 pub struct Pin {
-    text: [u8; 12],
-    length: usize,
+    /// The digits, and zeros after them.
+    text: [u8; 13],
 }
 
 impl Pin {
     /// The PIN of these ASCII digits: `PinLength` where there are not 4 to 12 of them, `PinDigit` where one is none.
     pub fn new(text: &[u8]) -> Result<Pin, PinError> {
         // The library tests a PIN where it makes a block of it, and every PIN has one of format 1.
-        encode_1(text, &[0; 10])?;
-        let mut pin = Pin { text: [0; 12], length: text.len() };
-        pin.text[..text.len()].copy_from_slice(text);
+        let mut block = encode_1(text, &[0; 10])?;
+        ffi::wipe(&mut block);
+        let mut pin = Pin::empty();
+        pin.text.iter_mut().zip(text).for_each(|(place, digit)| *place = *digit);
         Ok(pin)
+    }
+
+    /// Room for a PIN.
+    fn empty() -> Pin {
+        Pin { text: [0; 13] }
     }
 
     /// Its ASCII digits.
     pub fn text(&self) -> &[u8] {
-        &self.text[..self.length]
+        self.text.split(|digit| *digit == 0).next().unwrap_or(&[])
+    }
+}
+
+impl Drop for Pin {
+    fn drop(&mut self) {
+        ffi::wipe(&mut self.text);
     }
 }
 
@@ -81,7 +105,7 @@ impl fmt::Debug for Pin {
 
 fn encode_1(pin: &[u8], transaction: &[u8; 10]) -> Result<Block, PinError> {
     let mut block = [0; 8];
-    let status = unsafe { ffi::cukvashe_pin_encode_1(pin.as_ptr(), pin.len(), transaction, &mut block) };
+    let status = unsafe { ffi::cukvashe_pin_encode_1(pin.as_ptr().cast(), pin.len(), transaction, &mut block) };
     checked(status, block)
 }
 
@@ -89,7 +113,7 @@ fn encode_1(pin: &[u8], transaction: &[u8; 10]) -> Result<Block, PinError> {
 pub fn encode_format_0(pin: &Pin, account: &[u8]) -> Result<Block, PinError> {
     let (pin, mut block) = (pin.text(), [0; 8]);
     let status = unsafe {
-        ffi::cukvashe_pin_encode_0(pin.as_ptr(), pin.len(), account.as_ptr(), account.len(), &mut block)
+        ffi::cukvashe_pin_encode_0(pin.as_ptr().cast(), pin.len(), account.as_ptr().cast(), account.len(), &mut block)
     };
     checked(status, block)
 }
@@ -105,32 +129,35 @@ pub fn encode_format_1(pin: &Pin, transaction: &[u8; 10]) -> Result<Block, PinEr
 pub fn encode_format_3(pin: &Pin, account: &[u8], fill: &[u8; 10]) -> Result<Block, PinError> {
     let (pin, mut block) = (pin.text(), [0; 8]);
     let status = unsafe {
-        ffi::cukvashe_pin_encode_3(pin.as_ptr(), pin.len(), account.as_ptr(), account.len(), fill, &mut block)
+        ffi::cukvashe_pin_encode_3(
+            pin.as_ptr().cast(),
+            pin.len(),
+            account.as_ptr().cast(),
+            account.len(),
+            fill,
+            &mut block,
+        )
     };
     checked(status, block)
 }
 
 /// The PIN of a block of format 0 and an account number.
 pub fn decode_format_0(block: &Block, account: &[u8]) -> Result<Pin, PinError> {
-    let mut pin = Pin { text: [0; 12], length: 0 };
-    let status = unsafe {
-        ffi::cukvashe_pin_decode_0(block, account.as_ptr(), account.len(), &mut pin.text, &mut pin.length)
-    };
+    let mut pin = Pin::empty();
+    let status = unsafe { ffi::cukvashe_pin_decode_0(block, account.as_ptr().cast(), account.len(), &mut pin.text) };
     checked(status, pin)
 }
 
 /// The PIN of a block of format 1.
 pub fn decode_format_1(block: &Block) -> Result<Pin, PinError> {
-    let mut pin = Pin { text: [0; 12], length: 0 };
-    let status = unsafe { ffi::cukvashe_pin_decode_1(block, &mut pin.text, &mut pin.length) };
+    let mut pin = Pin::empty();
+    let status = unsafe { ffi::cukvashe_pin_decode_1(block, &mut pin.text) };
     checked(status, pin)
 }
 
 /// The PIN of a block of format 3 and an account number.
 pub fn decode_format_3(block: &Block, account: &[u8]) -> Result<Pin, PinError> {
-    let mut pin = Pin { text: [0; 12], length: 0 };
-    let status = unsafe {
-        ffi::cukvashe_pin_decode_3(block, account.as_ptr(), account.len(), &mut pin.text, &mut pin.length)
-    };
+    let mut pin = Pin::empty();
+    let status = unsafe { ffi::cukvashe_pin_decode_3(block, account.as_ptr().cast(), account.len(), &mut pin.text) };
     checked(status, pin)
 }

@@ -1,6 +1,6 @@
 //! The exports of CBC-MAC over DES.
 
-ghost use Rattle.std.specs.Prelude.{◌≡◌, ◌≢◌, ◌↔◌, ℕ, List, [], ◌++◌, length, pos};
+ghost use Rattle.std.specs.Prelude.{◌≡◌, ◌≢◌, ◌↔◌, ℕ, List, [], ◌++◌, length};
 ghost use Rattle.des.specs.Des.{encryption};
 ghost use Rattle.des_mac.specs.CbcMac.{cbc_mac};
 ghost use Rattle.des_mac.specs.Padding.{padded};
@@ -11,6 +11,7 @@ ghost use Rattle.des_c.specs.PaddingMethods.{padding_by, status_of};
 use super::message::{self, Message};
 use super::tags;
 use des_context::contexts::{Context, DesContext};
+use des_context::status::{ERR_TAG, OK};
 
 /// The context of CBC-MAC over DES.
 #[repr(C)]
@@ -21,7 +22,8 @@ pub struct CbcMacDes {
 }
 
 /// Makes the context of a key of 8 bytes and the message of no bytes, with padding method 1 or 2.
-/// The status of a key of another length is 1, of another padding 4, and then the context stays.
+/// The status of a key of another length is `ERR_KEY_LENGTH`, of another padding
+/// `ERR_PADDING_METHOD`, and then the context stays.
 #[unsafe(no_mangle)]
 pub extern "C" fn cukvashe_cbc_mac_des_init(
     context: &mut CbcMacDes,
@@ -29,8 +31,8 @@ pub extern "C" fn cukvashe_cbc_mac_des_init(
     padding: u32,
 ) -> i32
     ensures status { result ≡ status_of 8 (length key.now) padding }
-    ensures made { result ≡ pos 0 → IsCbcMacDesOf context.new padding key.now [] }
-    ensures kept { result ≢ pos 0 → context.new ≡ context.old }
+    ensures made { result ≡ OK → IsCbcMacDesOf context.new padding key.now [] }
+    ensures kept { result ≢ OK → context.new ≡ context.old }
 {
     message::begin(&mut context.cipher, &mut context.message, key, padding)
 }
@@ -64,15 +66,15 @@ pub extern "C" fn cukvashe_cbc_mac_des_final(context: &CbcMacDes, tag: &mut [u8;
     *tag = tag_of(context);
 }
 
-/// Accepts the first 4 to 8 bytes of the tag of the message: the status of all others is 5.
+/// Accepts the first 4 to 8 bytes of the tag of the message: the status of all others is `ERR_TAG`.
 #[unsafe(no_mangle)]
 pub extern "C" fn cukvashe_cbc_mac_des_verify(context: &CbcMacDes, tag: &[u8]) -> i32
     requires { Stands (IsCbcMacDesOf context.now) }
     ensures accepted { (padding : ℕ) (key m : List ℕ) → IsCbcMacDesOf context.now padding key m
-        → (result ≡ pos 0) ↔ IsTruncated tag.now
+        → (result ≡ OK) ↔ IsTruncated tag.now
         (cbc_mac (encryption key) (padded (padding_by padding) m)) }
     ensures refused { (padding : ℕ) (key m : List ℕ) → IsCbcMacDesOf context.now padding key m
-        → (result ≡ pos 5) ↔ (IsTruncated tag.now
+        → (result ≡ ERR_TAG) ↔ (IsTruncated tag.now
         (cbc_mac (encryption key) (padded (padding_by padding) m)) → ⊥) }
 {
     tags::verified(tag, &tag_of(context))

@@ -1,6 +1,6 @@
 //! The exports of CBC-MAC over triple DES, EDE with three keys.
 
-ghost use Rattle.std.specs.Prelude.{◌≡◌, ◌≢◌, ◌↔◌, ℕ, List, [], ◌++◌, length, pos};
+ghost use Rattle.std.specs.Prelude.{◌≡◌, ◌≢◌, ◌↔◌, ℕ, List, [], ◌++◌, length};
 ghost use Rattle.des.specs.TripleCiphers.{ede3_encryption};
 ghost use Rattle.des_mac.specs.CbcMac.{cbc_mac};
 ghost use Rattle.des_mac.specs.Padding.{padded};
@@ -11,6 +11,7 @@ ghost use Rattle.des_c.specs.PaddingMethods.{padding_by, status_of};
 use super::message::{self, Message};
 use super::tags;
 use des_context::contexts::{Context, TdesEde3Context};
+use des_context::status::{ERR_TAG, OK};
 
 /// The context of CBC-MAC over triple DES, EDE with three keys.
 #[repr(C)]
@@ -21,7 +22,8 @@ pub struct CbcMacTdesEde3 {
 }
 
 /// Makes the context of a key of 24 bytes and the message of no bytes, with padding method 1 or 2.
-/// The status of a key of another length is 1, of another padding 4, and then the context stays.
+/// The status of a key of another length is `ERR_KEY_LENGTH`, of another padding
+/// `ERR_PADDING_METHOD`, and then the context stays.
 #[unsafe(no_mangle)]
 pub extern "C" fn cukvashe_cbc_mac_tdes_ede3_init(
     context: &mut CbcMacTdesEde3,
@@ -29,8 +31,8 @@ pub extern "C" fn cukvashe_cbc_mac_tdes_ede3_init(
     padding: u32,
 ) -> i32
     ensures status { result ≡ status_of 24 (length key.now) padding }
-    ensures made { result ≡ pos 0 → IsCbcMacTdesEde3Of context.new padding key.now [] }
-    ensures kept { result ≢ pos 0 → context.new ≡ context.old }
+    ensures made { result ≡ OK → IsCbcMacTdesEde3Of context.new padding key.now [] }
+    ensures kept { result ≢ OK → context.new ≡ context.old }
 {
     message::begin(&mut context.cipher, &mut context.message, key, padding)
 }
@@ -64,15 +66,15 @@ pub extern "C" fn cukvashe_cbc_mac_tdes_ede3_final(context: &CbcMacTdesEde3, tag
     *tag = tag_of(context);
 }
 
-/// Accepts the first 4 to 8 bytes of the tag of the message: the status of all others is 5.
+/// Accepts the first 4 to 8 bytes of the tag of the message: the status of all others is `ERR_TAG`.
 #[unsafe(no_mangle)]
 pub extern "C" fn cukvashe_cbc_mac_tdes_ede3_verify(context: &CbcMacTdesEde3, tag: &[u8]) -> i32
     requires { Stands (IsCbcMacTdesEde3Of context.now) }
     ensures accepted { (padding : ℕ) (key m : List ℕ) → IsCbcMacTdesEde3Of context.now padding key m
-        → (result ≡ pos 0) ↔ IsTruncated tag.now
+        → (result ≡ OK) ↔ IsTruncated tag.now
         (cbc_mac (ede3_encryption key) (padded (padding_by padding) m)) }
     ensures refused { (padding : ℕ) (key m : List ℕ) → IsCbcMacTdesEde3Of context.now padding key m
-        → (result ≡ pos 5) ↔ (IsTruncated tag.now
+        → (result ≡ ERR_TAG) ↔ (IsTruncated tag.now
         (cbc_mac (ede3_encryption key) (padded (padding_by padding) m)) → ⊥) }
 {
     tags::verified(tag, &tag_of(context))

@@ -1,6 +1,6 @@
 //! The exports of CMAC over triple DES, EDE with two keys.
 
-ghost use Rattle.std.specs.Prelude.{◌≡◌, ◌≢◌, ◌↔◌, ℕ, List, [], ◌++◌, length, pos};
+ghost use Rattle.std.specs.Prelude.{◌≡◌, ◌≢◌, ◌↔◌, ℕ, List, [], ◌++◌, length};
 ghost use Rattle.des.specs.TripleCiphers.{ede2_encryption};
 ghost use Rattle.des_mac.specs.Cmac.{cmac};
 ghost use Rattle.des_mac.specs.Tags.{IsTruncated};
@@ -10,6 +10,7 @@ ghost use Rattle.des_c.specs.PaddingMethods.{status_of};
 use super::message::{self, Message};
 use super::tags;
 use des_context::contexts::{Context, TdesEde2Context};
+use des_context::status::{ERR_TAG, OK};
 
 /// The context of CMAC over triple DES, EDE with two keys.
 #[repr(C)]
@@ -20,12 +21,12 @@ pub struct CmacTdesEde2 {
 }
 
 /// Makes the context of a key of 16 bytes and the message of no bytes. The status of a key of
-/// another length is 1, and then the context stays.
+/// another length is `ERR_KEY_LENGTH`, and then the context stays.
 #[unsafe(no_mangle)]
 pub extern "C" fn cukvashe_cmac_tdes_ede2_init(context: &mut CmacTdesEde2, key: &[u8]) -> i32
     ensures status { result ≡ status_of 16 (length key.now) 2 }
-    ensures made { result ≡ pos 0 → IsCmacTdesEde2Of context.new key.now [] }
-    ensures kept { result ≢ pos 0 → context.new ≡ context.old }
+    ensures made { result ≡ OK → IsCmacTdesEde2Of context.new key.now [] }
+    ensures kept { result ≢ OK → context.new ≡ context.old }
 {
     message::begin(&mut context.cipher, &mut context.message, key, 2)
 }
@@ -59,14 +60,14 @@ pub extern "C" fn cukvashe_cmac_tdes_ede2_final(context: &CmacTdesEde2, tag: &mu
     *tag = tag_of(context);
 }
 
-/// Accepts the first 4 to 8 bytes of the tag of the message: the status of all others is 5.
+/// Accepts the first 4 to 8 bytes of the tag of the message: the status of all others is `ERR_TAG`.
 #[unsafe(no_mangle)]
 pub extern "C" fn cukvashe_cmac_tdes_ede2_verify(context: &CmacTdesEde2, tag: &[u8]) -> i32
     requires { StandsByKey (IsCmacTdesEde2Of context.now) }
     ensures accepted { (key m : List ℕ) → IsCmacTdesEde2Of context.now key m
-        → (result ≡ pos 0) ↔ IsTruncated tag.now (cmac (ede2_encryption key) m) }
+        → (result ≡ OK) ↔ IsTruncated tag.now (cmac (ede2_encryption key) m) }
     ensures refused { (key m : List ℕ) → IsCmacTdesEde2Of context.now key m
-        → (result ≡ pos 5) ↔ (IsTruncated tag.now (cmac (ede2_encryption key) m) → ⊥) }
+        → (result ≡ ERR_TAG) ↔ (IsTruncated tag.now (cmac (ede2_encryption key) m) → ⊥) }
 {
     tags::verified(tag, &tag_of(context))
 }

@@ -1,16 +1,13 @@
 //! What the contexts of all MACs have of a message.
 
-ghost use Rattle.std.specs.Prelude.{◌≡◌, ◌≢◌, ℕ, List, [], ◌++◌, length, pos};
+ghost use Rattle.std.specs.Prelude.{◌≡◌, ◌≢◌, ℕ, List, [], ◌++◌, length};
 ghost use Rattle.des.specs.Blocks.{IsKey};
 ghost use Rattle.des_mac.specs.IsProgress.{HoldsOneBlock, IsProgressOf};
 ghost use Rattle.des_c.specs.PaddingMethods.{status_of};
 
 use des::cipher::{KeyInit, KeyedCipher};
-use des_context::calls::{DONE, KEY_LENGTH};
+use des_context::status::{ERR_KEY_LENGTH, ERR_PADDING_METHOD, OK};
 use des_mac::{CbcMac, Mac, Method1, Progress};
-
-/// The status of a number that is no padding method's.
-pub const PADDING: i32 = 4;
 
 /// How far a MAC has come in its message, and the number of the padding method.
 #[repr(C)]
@@ -47,7 +44,7 @@ impl Message {
     }
 }
 
-// Makes the context of a cipher of the bytes of a key, and the message of no bytes with a padding.
+/// Makes the context of a cipher of the bytes of a key, and the message of no bytes with a padding.
 pub fn begin<K: KeyInit + Drop>(
     cipher: &mut K,
     message: &mut Message,
@@ -55,22 +52,22 @@ pub fn begin<K: KeyInit + Drop>(
     padding: u32,
 ) -> i32
     ensures status { result ≡ status_of K.KEY_SIZE (length key.now) padding }
-    ensures made { result ≡ pos 0 → K.is_made_from cipher.new key.now }
-    ensures begun { result ≡ pos 0 → (encryption : List ℕ → List ℕ)
+    ensures made { result ≡ OK → K.is_made_from cipher.new key.now }
+    ensures begun { result ≡ OK → (encryption : List ℕ → List ℕ)
         → IsProgressOf encryption message.new.progress [] }
-    ensures padded_by { result ≡ pos 0 → message.new.padding ≡ padding }
-    ensures kept { result ≢ pos 0 → cipher.new ≡ cipher.old }
-    ensures kept_message { result ≢ pos 0 → message.new ≡ message.old }
+    ensures padded_by { result ≡ OK → message.new.padding ≡ padding }
+    ensures kept { result ≢ OK → cipher.new ≡ cipher.old }
+    ensures kept_message { result ≢ OK → message.new ≡ message.old }
 {
     match K::new_from_slice(key) {
-        Err(_) => KEY_LENGTH,
+        Err(_) => ERR_KEY_LENGTH,
         Ok(made) => {
             if padding != 1 && padding != 2 {
-                return PADDING;
+                return ERR_PADDING_METHOD;
             }
             *cipher = made;
             *message = Message::new(padding);
-            DONE
+            OK
         }
     }
 }

@@ -1,6 +1,6 @@
 //! The exports of the retail MAC over DES.
 
-ghost use Rattle.std.specs.Prelude.{◌≡◌, ◌≢◌, ◌↔◌, ℕ, List, [], ◌++◌, length, pos};
+ghost use Rattle.std.specs.Prelude.{◌≡◌, ◌≢◌, ◌↔◌, ℕ, List, [], ◌++◌, length};
 ghost use Rattle.des.specs.Des.{encryption, decryption};
 ghost use Rattle.des_mac.specs.Padding.{padded};
 ghost use Rattle.des_mac.specs.RetailMac.{retail_mac_of};
@@ -10,8 +10,9 @@ ghost use Rattle.des_c.specs.PaddingMethods.{padding_by, status_of};
 
 use super::message::{self, Message};
 use super::tags;
-use des_context::calls::{self, DONE, KEY_LENGTH};
+use des_context::calls;
 use des_context::contexts::{Context, DesContext};
+use des_context::status::{ERR_KEY_LENGTH, ERR_TAG, OK};
 
 /// The context of the retail MAC over DES.
 #[repr(C)]
@@ -23,8 +24,8 @@ pub struct RetailMacDes {
 }
 
 /// Makes the context of a key of 16 bytes, two keys of 8, and the message of no bytes, with padding
-/// method 1 or 2. The status of a key of another length is 1, of another padding 4, and then the
-/// context stays.
+/// method 1 or 2. The status of a key of another length is `ERR_KEY_LENGTH`, of another
+/// padding `ERR_PADDING_METHOD`, and then the context stays.
 #[unsafe(no_mangle)]
 pub extern "C" fn cukvashe_retail_mac_des_init(
     context: &mut RetailMacDes,
@@ -32,15 +33,15 @@ pub extern "C" fn cukvashe_retail_mac_des_init(
     padding: u32,
 ) -> i32
     ensures status { result ≡ status_of 16 (length key.now) padding }
-    ensures made { result ≡ pos 0 → IsRetailMacDesOf context.new padding key.now [] }
-    ensures kept { result ≢ pos 0 → context.new ≡ context.old }
+    ensures made { result ≡ OK → IsRetailMacDesOf context.new padding key.now [] }
+    ensures kept { result ≢ OK → context.new ≡ context.old }
 {
     if key.len() != 16 {
-        return KEY_LENGTH;
+        return ERR_KEY_LENGTH;
     }
     let (first, second) = key.split_at(8);
     let status = message::begin(&mut context.first, &mut context.message, first, padding);
-    if status == DONE {
+    if status == OK {
         calls::init(&mut context.second, second);
     }
     status
@@ -79,15 +80,15 @@ pub extern "C" fn cukvashe_retail_mac_des_final(context: &RetailMacDes, tag: &mu
     *tag = tag_of(context);
 }
 
-/// Accepts the first 4 to 8 bytes of the tag of the message: the status of all others is 5.
+/// Accepts the first 4 to 8 bytes of the tag of the message: the status of all others is `ERR_TAG`.
 #[unsafe(no_mangle)]
 pub extern "C" fn cukvashe_retail_mac_des_verify(context: &RetailMacDes, tag: &[u8]) -> i32
     requires { Stands (IsRetailMacDesOf context.now) }
     ensures accepted { (padding : ℕ) (key m : List ℕ) → IsRetailMacDesOf context.now padding key m
-        → (result ≡ pos 0) ↔ IsTruncated tag.now
+        → (result ≡ OK) ↔ IsTruncated tag.now
         (retail_mac_of 8 encryption decryption key (padded (padding_by padding) m)) }
     ensures refused { (padding : ℕ) (key m : List ℕ) → IsRetailMacDesOf context.now padding key m
-        → (result ≡ pos 5) ↔ (IsTruncated tag.now
+        → (result ≡ ERR_TAG) ↔ (IsTruncated tag.now
         (retail_mac_of 8 encryption decryption key (padded (padding_by padding) m)) → ⊥) }
 {
     tags::verified(tag, &tag_of(context))

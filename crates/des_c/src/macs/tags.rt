@@ -1,6 +1,6 @@
 //! The tags of messages, and the statuses of calls.
 
-ghost use Rattle.std.specs.Prelude.{◌≡◌, ◌↔◌, ℕ, List, pos, take, drop};
+ghost use Rattle.std.specs.Prelude.{◌≡◌, ◌↔◌, ℕ, List, take, drop};
 ghost use Rattle.des.specs.Blocks.{IsKey};
 ghost use Rattle.des_mac.specs.CbcMac.{cbc_mac as cbc_mac_of};
 ghost use Rattle.des_mac.specs.Cmac.{cmac as cmac_of};
@@ -12,14 +12,11 @@ ghost use Rattle.des_c.specs.PaddingMethods.{padding_by};
 
 use super::message::Message;
 use des::cipher::KeyedCipher;
-use des_context::calls::DONE;
+use des_context::status::{ERR_TAG, OK};
 use des_mac::mac::verify_truncated_left;
 use des_mac::{CbcMac, Cmac, Mac, Method1, Method2, RetailMac};
 
-/// The status of a tag that is not the message's.
-pub const TAG: i32 = 5;
-
-// The tag of CBC-MAC of a message.
+/// The tag of CBC-MAC of a message.
 pub fn cbc_mac<C: KeyedCipher + Drop>(cipher: C, message: &Message) -> [u8; 8]
     requires { HoldsOneBlock message.now.progress }
     ensures { (key m : List ℕ) → IsKey C.KEY_SIZE key → C.is_made_from cipher key
@@ -33,7 +30,7 @@ pub fn cbc_mac<C: KeyedCipher + Drop>(cipher: C, message: &Message) -> [u8; 8]
     }
 }
 
-// The tag of the retail MAC of a message.
+/// The tag of the retail MAC of a message.
 pub fn retail_mac<C: KeyedCipher + Drop>(first: C, second: C, message: &Message) -> [u8; 8]
     requires { HoldsOneBlock message.now.progress }
     ensures { (key m : List ℕ)
@@ -50,7 +47,7 @@ pub fn retail_mac<C: KeyedCipher + Drop>(first: C, second: C, message: &Message)
     }
 }
 
-// The tag of CMAC of a message.
+/// The tag of CMAC of a message.
 pub fn cmac<C: KeyedCipher + Drop>(cipher: C, message: &Message) -> [u8; 8]
     requires { HoldsOneBlock message.now.progress }
     ensures { (key m : List ℕ) → IsKey C.KEY_SIZE key → C.is_made_from cipher key
@@ -60,13 +57,13 @@ pub fn cmac<C: KeyedCipher + Drop>(cipher: C, message: &Message) -> [u8; 8]
     Cmac::<C>::resume(cipher, &message.progress).finalize()
 }
 
-// The status of a tag that is to be the first 4 to 8 bytes of another.
+/// The status of a tag that is to be the first 4 to 8 bytes of another.
 pub fn verified(tag: &[u8], whole: &[u8; 8]) -> i32
-    ensures accepted { (result ≡ pos 0) ↔ IsTruncated tag.now whole.now }
-    ensures refused { (result ≡ pos 5) ↔ (IsTruncated tag.now whole.now → ⊥) }
+    ensures accepted { (result ≡ OK) ↔ IsTruncated tag.now whole.now }
+    ensures refused { (result ≡ ERR_TAG) ↔ (IsTruncated tag.now whole.now → ⊥) }
 {
     match verify_truncated_left(tag, whole) {
-        Ok(()) => DONE,
-        Err(_) => TAG,
+        Ok(()) => OK,
+        Err(_) => ERR_TAG,
     }
 }

@@ -1,17 +1,17 @@
 //! The exports of key check values.
 
-ghost use Rattle.std.specs.Prelude.{◌≡◌, ◌≢◌, ◌↔◌, length, take, replicate, pos};
+ghost use Rattle.std.specs.Prelude.{◌≡◌, ◌≢◌, ◌↔◌, length, take, replicate};
 ghost use Rattle.des.specs.Des.{encryption};
-ghost use Rattle.des.specs.TripleCiphers.{ede3_encryption, eee3_encryption, ede2_encryption, eee2_encryption};
+ghost use Rattle.des.specs.TripleCiphers.{ede3_encryption, ede2_encryption};
 
 use des::cipher::KeyedCipher;
-use des_context::calls::{DONE, KEY_LENGTH};
-use des_fast::{Des, TdesEde2, TdesEde3, TdesEee2, TdesEee3};
+use des_context::status::{ERR_KEY_LENGTH, OK};
+use des_fast::{Des, TdesEde2, TdesEde3};
 
 // The check value of a key of any cipher.
 fn check_value<C: KeyedCipher + Drop>(key: &[u8], value: &mut [u8; 3]) -> i32
-    ensures accepted { (result ≡ pos 0) ↔ (length key.now ≡ C.KEY_SIZE) }
-    ensures refused { (result ≡ pos 1) ↔ (length key.now ≢ C.KEY_SIZE) }
+    ensures accepted { (result ≡ OK) ↔ (length key.now ≡ C.KEY_SIZE) }
+    ensures refused { (result ≡ ERR_KEY_LENGTH) ↔ (length key.now ≢ C.KEY_SIZE) }
     ensures value { length key.now ≡ C.KEY_SIZE
         → value.new ≡ take 3 (C.encryption key.now (replicate 8 0)) }
     ensures kept { length key.now ≢ C.KEY_SIZE → value.new ≡ value.old }
@@ -19,18 +19,18 @@ fn check_value<C: KeyedCipher + Drop>(key: &[u8], value: &mut [u8; 3]) -> i32
     match des_payment::check_value::<C>(key) {
         Ok(made) => {
             *value = made;
-            DONE
+            OK
         }
-        Err(_) => KEY_LENGTH,
+        Err(_) => ERR_KEY_LENGTH,
     }
 }
 
-/// The check value of a key of 8 bytes under `Des`. The status of a key of another length is 1,
-/// and then `value` stays.
+/// The check value of a key of 8 bytes under `Des`. The status of a key of another length is
+/// `ERR_KEY_LENGTH`, and then `value` stays.
 #[unsafe(no_mangle)]
 pub extern "C" fn cukvashe_des_check_value(key: &[u8], value: &mut [u8; 3]) -> i32
-    ensures accepted { (result ≡ pos 0) ↔ (length key.now ≡ 8) }
-    ensures refused { (result ≡ pos 1) ↔ (length key.now ≢ 8) }
+    ensures accepted { (result ≡ OK) ↔ (length key.now ≡ 8) }
+    ensures refused { (result ≡ ERR_KEY_LENGTH) ↔ (length key.now ≢ 8) }
     ensures value { length key.now ≡ 8
         → value.new ≡ take 3 (encryption key.now (replicate 8 0)) }
     ensures kept { length key.now ≢ 8 → value.new ≡ value.old }
@@ -38,12 +38,12 @@ pub extern "C" fn cukvashe_des_check_value(key: &[u8], value: &mut [u8; 3]) -> i
     check_value::<Des>(key, value)
 }
 
-/// The check value of a key of 24 bytes under `TdesEde3`. The status of a key of another length is 1,
-/// and then `value` stays.
+/// The check value of a key of 24 bytes under `TdesEde3`. The status of a key of another length is
+/// `ERR_KEY_LENGTH`, and then `value` stays.
 #[unsafe(no_mangle)]
 pub extern "C" fn cukvashe_tdes_ede3_check_value(key: &[u8], value: &mut [u8; 3]) -> i32
-    ensures accepted { (result ≡ pos 0) ↔ (length key.now ≡ 24) }
-    ensures refused { (result ≡ pos 1) ↔ (length key.now ≢ 24) }
+    ensures accepted { (result ≡ OK) ↔ (length key.now ≡ 24) }
+    ensures refused { (result ≡ ERR_KEY_LENGTH) ↔ (length key.now ≢ 24) }
     ensures value { length key.now ≡ 24
         → value.new ≡ take 3 (ede3_encryption key.now (replicate 8 0)) }
     ensures kept { length key.now ≢ 24 → value.new ≡ value.old }
@@ -51,41 +51,15 @@ pub extern "C" fn cukvashe_tdes_ede3_check_value(key: &[u8], value: &mut [u8; 3]
     check_value::<TdesEde3>(key, value)
 }
 
-/// The check value of a key of 24 bytes under `TdesEee3`. The status of a key of another length is 1,
-/// and then `value` stays.
-#[unsafe(no_mangle)]
-pub extern "C" fn cukvashe_tdes_eee3_check_value(key: &[u8], value: &mut [u8; 3]) -> i32
-    ensures accepted { (result ≡ pos 0) ↔ (length key.now ≡ 24) }
-    ensures refused { (result ≡ pos 1) ↔ (length key.now ≢ 24) }
-    ensures value { length key.now ≡ 24
-        → value.new ≡ take 3 (eee3_encryption key.now (replicate 8 0)) }
-    ensures kept { length key.now ≢ 24 → value.new ≡ value.old }
-{
-    check_value::<TdesEee3>(key, value)
-}
-
-/// The check value of a key of 16 bytes under `TdesEde2`. The status of a key of another length is 1,
-/// and then `value` stays.
+/// The check value of a key of 16 bytes under `TdesEde2`. The status of a key of another length is
+/// `ERR_KEY_LENGTH`, and then `value` stays.
 #[unsafe(no_mangle)]
 pub extern "C" fn cukvashe_tdes_ede2_check_value(key: &[u8], value: &mut [u8; 3]) -> i32
-    ensures accepted { (result ≡ pos 0) ↔ (length key.now ≡ 16) }
-    ensures refused { (result ≡ pos 1) ↔ (length key.now ≢ 16) }
+    ensures accepted { (result ≡ OK) ↔ (length key.now ≡ 16) }
+    ensures refused { (result ≡ ERR_KEY_LENGTH) ↔ (length key.now ≢ 16) }
     ensures value { length key.now ≡ 16
         → value.new ≡ take 3 (ede2_encryption key.now (replicate 8 0)) }
     ensures kept { length key.now ≢ 16 → value.new ≡ value.old }
 {
     check_value::<TdesEde2>(key, value)
-}
-
-/// The check value of a key of 16 bytes under `TdesEee2`. The status of a key of another length is 1,
-/// and then `value` stays.
-#[unsafe(no_mangle)]
-pub extern "C" fn cukvashe_tdes_eee2_check_value(key: &[u8], value: &mut [u8; 3]) -> i32
-    ensures accepted { (result ≡ pos 0) ↔ (length key.now ≡ 16) }
-    ensures refused { (result ≡ pos 1) ↔ (length key.now ≢ 16) }
-    ensures value { length key.now ≡ 16
-        → value.new ≡ take 3 (eee2_encryption key.now (replicate 8 0)) }
-    ensures kept { length key.now ≢ 16 → value.new ≡ value.old }
-{
-    check_value::<TdesEee2>(key, value)
 }

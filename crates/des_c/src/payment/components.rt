@@ -1,10 +1,10 @@
 //! The exports of keys that are kept in components.
 
-ghost use Rattle.std.specs.Prelude.{◌≡◌, ◌≢◌, ◌↔◌, ◌⊎◌, ◌∷◌, pos};
+ghost use Rattle.std.specs.Prelude.{◌≡◌, ◌≢◌, ◌↔◌, ◌⊎◌, ◌∷◌};
 ghost use Rattle.des.specs.WeakKeys.{IsRefused};
 ghost use Rattle.des_payment.specs.Components.{combined};
 
-use des_context::calls::{DONE, WEAK_KEY};
+use des_context::status::{ERR_WEAK_KEY, OK};
 
 // The key that components make.
 fn combine<const N: usize>(
@@ -14,24 +14,24 @@ fn combine<const N: usize>(
     key: &mut [u8; N],
 ) -> i32
     requires { (N ≡ 8) ⊎ (N ≡ 16) ⊎ (N ≡ 24) }
-    ensures accepted { (result ≡ pos 0)
+    ensures accepted { (result ≡ OK)
         ↔ (IsRefused (combined (first.now ∷ second.now ∷ others.now)) → ⊥) }
-    ensures refused { (result ≡ pos 3)
+    ensures refused { (result ≡ ERR_WEAK_KEY)
         ↔ IsRefused (combined (first.now ∷ second.now ∷ others.now)) }
-    ensures key { result ≡ pos 0 → key.new ≡ combined (first.now ∷ second.now ∷ others.now) }
-    ensures kept { result ≢ pos 0 → key.new ≡ key.old }
+    ensures key { result ≡ OK → key.new ≡ combined (first.now ∷ second.now ∷ others.now) }
+    ensures kept { result ≢ OK → key.new ≡ key.old }
 {
     match des_payment::combine(first, second, others) {
         Ok(made) => {
             *key = made;
-            DONE
+            OK
         }
-        Err(_) => WEAK_KEY,
+        Err(_) => ERR_WEAK_KEY,
     }
 }
 
 /// The key of 8 bytes that two or more components make: their xor, with odd parity. The status of a
-/// key that the weak key test refuses is 3, and then `key` stays.
+/// key that the weak key test refuses is `ERR_WEAK_KEY`, and then `key` stays.
 #[unsafe(no_mangle)]
 pub extern "C" fn cukvashe_combine_8(
     first: &[u8; 8],
@@ -39,18 +39,18 @@ pub extern "C" fn cukvashe_combine_8(
     others: &[[u8; 8]],
     key: &mut [u8; 8],
 ) -> i32
-    ensures accepted { (result ≡ pos 0)
+    ensures accepted { (result ≡ OK)
         ↔ (IsRefused (combined (first.now ∷ second.now ∷ others.now)) → ⊥) }
-    ensures refused { (result ≡ pos 3)
+    ensures refused { (result ≡ ERR_WEAK_KEY)
         ↔ IsRefused (combined (first.now ∷ second.now ∷ others.now)) }
-    ensures key { result ≡ pos 0 → key.new ≡ combined (first.now ∷ second.now ∷ others.now) }
-    ensures kept { result ≢ pos 0 → key.new ≡ key.old }
+    ensures key { result ≡ OK → key.new ≡ combined (first.now ∷ second.now ∷ others.now) }
+    ensures kept { result ≢ OK → key.new ≡ key.old }
 {
     combine(first, second, others, key)
 }
 
-/// The key of 16 bytes that two or more components make: their xor, with odd parity. The status of a
-/// key that the weak key test refuses is 3, and then `key` stays.
+/// The key of 16 bytes that two or more components make: their xor, with odd parity. The status of
+/// a key that the weak key test refuses is `ERR_WEAK_KEY`, and then `key` stays.
 #[unsafe(no_mangle)]
 pub extern "C" fn cukvashe_combine_16(
     first: &[u8; 16],
@@ -58,18 +58,18 @@ pub extern "C" fn cukvashe_combine_16(
     others: &[[u8; 16]],
     key: &mut [u8; 16],
 ) -> i32
-    ensures accepted { (result ≡ pos 0)
+    ensures accepted { (result ≡ OK)
         ↔ (IsRefused (combined (first.now ∷ second.now ∷ others.now)) → ⊥) }
-    ensures refused { (result ≡ pos 3)
+    ensures refused { (result ≡ ERR_WEAK_KEY)
         ↔ IsRefused (combined (first.now ∷ second.now ∷ others.now)) }
-    ensures key { result ≡ pos 0 → key.new ≡ combined (first.now ∷ second.now ∷ others.now) }
-    ensures kept { result ≢ pos 0 → key.new ≡ key.old }
+    ensures key { result ≡ OK → key.new ≡ combined (first.now ∷ second.now ∷ others.now) }
+    ensures kept { result ≢ OK → key.new ≡ key.old }
 {
     combine(first, second, others, key)
 }
 
-/// The key of 24 bytes that two or more components make: their xor, with odd parity. The status of a
-/// key that the weak key test refuses is 3, and then `key` stays.
+/// The key of 24 bytes that two or more components make: their xor, with odd parity. The status of
+/// a key that the weak key test refuses is `ERR_WEAK_KEY`, and then `key` stays.
 #[unsafe(no_mangle)]
 pub extern "C" fn cukvashe_combine_24(
     first: &[u8; 24],
@@ -77,12 +77,12 @@ pub extern "C" fn cukvashe_combine_24(
     others: &[[u8; 24]],
     key: &mut [u8; 24],
 ) -> i32
-    ensures accepted { (result ≡ pos 0)
+    ensures accepted { (result ≡ OK)
         ↔ (IsRefused (combined (first.now ∷ second.now ∷ others.now)) → ⊥) }
-    ensures refused { (result ≡ pos 3)
+    ensures refused { (result ≡ ERR_WEAK_KEY)
         ↔ IsRefused (combined (first.now ∷ second.now ∷ others.now)) }
-    ensures key { result ≡ pos 0 → key.new ≡ combined (first.now ∷ second.now ∷ others.now) }
-    ensures kept { result ≢ pos 0 → key.new ≡ key.old }
+    ensures key { result ≡ OK → key.new ≡ combined (first.now ∷ second.now ∷ others.now) }
+    ensures kept { result ≢ OK → key.new ≡ key.old }
 {
     combine(first, second, others, key)
 }

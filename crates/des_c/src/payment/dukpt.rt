@@ -1,15 +1,12 @@
 //! The exports of the keys of a transaction (DUKPT, ANSI X9.24-1:2009).
 
-ghost use Rattle.std.specs.Prelude.{◌≡◌, ◌≢◌, ◌<◌, ℕ, pos};
+ghost use Rattle.std.specs.Prelude.{◌≡◌, ◌≢◌, ◌↔◌, ◌<◌, ℕ, IsTrue};
 ghost use Rattle.des_payment.specs.Dukpt.{initial_key, transaction_key, pin_key, mac_key, data_key};
-ghost use Rattle.des_payment.specs.Dukpt.{counter_of, IsUsable, IsNextCounter, with_counter};
+ghost use Rattle.des_payment.specs.Dukpt.{counter_of, IsUsable, IsNextCounter, IsOfTransaction, with_counter};
 ghost use Rattle.des_c.specs.Messages.{message_of as message_by};
 
-use des_context::calls::DONE;
+use des_context::status::{ERR_NO_SERIAL, OK};
 use des_payment::dukpt::{self, Message};
-
-/// The status of a key serial number that has no next one.
-pub const NO_SERIAL: i32 = 6;
 
 /// The initial key of a terminal, from the base derivation key and a key serial number.
 #[unsafe(no_mangle)]
@@ -74,22 +71,31 @@ pub extern "C" fn cukvashe_dukpt_data_key(
     *key = dukpt::data_key(transaction, message_of(is_response));
 }
 
-/// The next key serial number, with at most ten one bits in its counter. The status is 6 where
-/// there is none, and then `next` stays.
+/// Whether a transaction can have this key serial number: its counter is not 0 and has at most ten
+/// one bits.
+#[unsafe(no_mangle)]
+pub extern "C" fn cukvashe_dukpt_is_usable(serial: &[u8; 10]) -> bool
+    ensures { IsTrue result ↔ IsOfTransaction serial.now }
+{
+    dukpt::is_usable(serial)
+}
+
+/// The next key serial number, with at most ten one bits in its counter. The status is
+/// `ERR_NO_SERIAL` where there is none, and then `next` stays.
 #[unsafe(no_mangle)]
 pub extern "C" fn cukvashe_dukpt_next_serial(serial: &[u8; 10], next: &mut [u8; 10]) -> i32
-    ensures next { result ≡ pos 0 → (counter : ℕ)
+    ensures next { result ≡ OK → (counter : ℕ)
         × (IsNextCounter (counter_of serial.now) counter
         × (next.new ≡ with_counter serial.now counter)) }
-    ensures none { result ≢ pos 0 → (result ≡ pos 6) × ((counter : ℕ)
+    ensures none { result ≢ OK → (result ≡ ERR_NO_SERIAL) × ((counter : ℕ)
         → counter_of serial.now < counter → ¬ (IsUsable counter)) }
-    ensures kept { result ≢ pos 0 → next.new ≡ next.old }
+    ensures kept { result ≢ OK → next.new ≡ next.old }
 {
     match dukpt::next_serial(serial) {
         Some(found) => {
             *next = found;
-            DONE
+            OK
         }
-        None => NO_SERIAL,
+        None => ERR_NO_SERIAL,
     }
 }

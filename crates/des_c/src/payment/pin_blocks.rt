@@ -1,6 +1,6 @@
 //! The exports of PIN blocks (ISO 9564-1).
 
-ghost use Rattle.std.specs.Prelude.{◌≡◌, ◌≢◌, ◌≤◌, ◌-◌, ℕ, List, take, drop, replicate, pos, Ok};
+ghost use Rattle.std.specs.Prelude.{◌≡◌, ◌≢◌, ℕ, List, Ok};
 ghost use Rattle.std.specs.Option.{option_or};
 ghost use Rattle.std.specs.Result.{result_err};
 ghost use Rattle.des.specs.Cbc.{xor_blocks};
@@ -10,8 +10,11 @@ ghost use Rattle.des_payment.specs.PinBlocks.{account_field, IsFormat0, IsFormat
 ghost use Rattle.des_payment.specs.PinBlocks.{pin_fault, account_fault, fill_fault, field_fault};
 ghost use Rattle.des_c.specs.PinStatuses.{status_of as status_of_fault};
 ghost use Rattle.des_c.specs.Statuses.{status_after};
+ghost use Rattle.des_c.specs.Texts.{with_zeros};
 
-use des_context::calls::DONE;
+use des_context::status::{
+    ERR_ACCOUNT_DIGIT, ERR_ACCOUNT_LENGTH, ERR_FILL, ERR_FORMAT, ERR_PIN_DIGIT, ERR_PIN_LENGTH, OK,
+};
 use des_payment::pin_blocks::{
     decode_format_0, decode_format_1, decode_format_3, encode_format_0, encode_format_1,
     encode_format_3,
@@ -20,64 +23,63 @@ use des_payment::{Pin, PinError};
 
 fn status_of(fault: PinError) -> i32
     ensures status { result ≡ status_of_fault fault }
-    ensures fault { result ≢ pos 0 }
+    ensures fault { result ≢ OK }
 {
     match fault {
-        PinError::Format => 7,
-        PinError::PinLength => 8,
-        PinError::PinDigit => 9,
-        PinError::AccountLength => 10,
-        PinError::AccountDigit => 11,
-        PinError::Fill => 12,
+        PinError::Format => ERR_FORMAT,
+        PinError::PinLength => ERR_PIN_LENGTH,
+        PinError::PinDigit => ERR_PIN_DIGIT,
+        PinError::AccountLength => ERR_ACCOUNT_LENGTH,
+        PinError::AccountDigit => ERR_ACCOUNT_DIGIT,
+        PinError::Fill => ERR_FILL,
     }
 }
 
 // Writes the block that was made, if one was.
 fn write_block(made: Result<[u8; 8], PinError>, block: &mut [u8; 8]) -> i32
     ensures status { result ≡ status_after status_of_fault (result_err made) }
-    ensures block { result ≡ pos 0 → made ≡ Ok block.new }
-    ensures kept { result ≢ pos 0 → block.new ≡ block.old }
+    ensures block { result ≡ OK → made ≡ Ok block.new }
+    ensures kept { result ≢ OK → block.new ≡ block.old }
 {
     match made {
         Ok(made) => {
             *block = made;
-            DONE
+            OK
         }
         Err(fault) => status_of(fault),
     }
 }
 
-// Writes the PIN that was read, if one was, with zeros after its digits, and how many it has.
-fn write_pin(read: Result<Pin, PinError>, pin: &mut [u8; 12], digits: &mut usize) -> i32
+// Writes the PIN that was read, if one was: its digits, and then zero bytes.
+fn write_pin(read: Result<Pin, PinError>, pin: &mut [u8; 13]) -> i32
     ensures status { result ≡ status_after status_of_fault (result_err read) }
-    ensures pin { result ≡ pos 0
-        → (digits.new ≤ 12) × (read ≡ Ok (take digits.new pin.new)) }
+    ensures pin { result ≡ OK
+        → (text : List ℕ) × (read ≡ Ok text) × (pin.new ≡ with_zeros 13 text) }
     ensures complete { (text : List ℕ) → read ≡ Ok text
-        → (result ≡ pos 0) × (take digits.new pin.new ≡ text) }
-    ensures zeros { result ≡ pos 0 → drop digits.new pin.new ≡ replicate (12 - digits.new) 0 }
-    ensures kept { result ≢ pos 0 → (pin.new ≡ pin.old) × (digits.new ≡ digits.old) }
+        → (result ≡ OK) × (pin.new ≡ with_zeros 13 text) }
+    ensures kept { result ≢ OK → pin.new ≡ pin.old }
 {
     match read {
         Ok(read) => {
             let text = read.text();
-            *pin = [0; 12];
+            *pin = [0; 13];
             pin[..text.len()].copy_from_slice(text);
-            *digits = text.len();
-            DONE
+            OK
         }
         Err(fault) => status_of(fault),
     }
 }
 
-/// The block of format 0 of a PIN of 4 to 12 digits and an account number of 13 to 19, both texts of
-/// ASCII digits. The status of the first fault is 8 or 9 where it is the PIN's, 10 or 11 where it is
-/// the account number's, and then `block` stays.
+/// The block of format 0 of a PIN of 4 to 12 digits and an account number of 13 to 19, both texts
+/// of ASCII digits. The status is that of the first fault, of the PIN (`ERR_PIN_LENGTH`,
+/// `ERR_PIN_DIGIT`) and then of the account number (`ERR_ACCOUNT_LENGTH`, `ERR_ACCOUNT_DIGIT`), and
+/// then `block` stays.
 #[unsafe(no_mangle)]
 pub extern "C" fn cukvashe_pin_encode_0(pin: &[u8], account: &[u8], block: &mut [u8; 8]) -> i32
     ensures status { result ≡ status_after status_of_fault
         (option_or (pin_fault pin.now) (account_fault account.now)) }
-    ensures block { result ≡ pos 0 → IsTheOne (IsFormat0 pin.now account.now) block.new }
-    ensures kept { result ≢ pos 0 → block.new ≡ block.old }
+    ensures block { result ≡ OK → IsTheOne (IsFormat0 pin.now account.now) block.new }
+    ensures kept { result ≢ OK → block.new ≡ block.old }
 {
     match Pin::new(pin) {
         Ok(pin) => write_block(encode_format_0(&pin, account), block),
@@ -86,8 +88,8 @@ pub extern "C" fn cukvashe_pin_encode_0(pin: &[u8], account: &[u8], block: &mut 
 }
 
 /// The block of format 1 of a PIN of 4 to 12 ASCII digits and ten transaction digits from 0 to 15.
-/// The status of the first fault is 8 or 9 where it is the PIN's, and 12 where it is a transaction
-/// digit's, and then `block` stays.
+/// The status is that of the first fault, of the PIN and then of the transaction digits
+/// (`ERR_FILL`), and then `block` stays.
 #[unsafe(no_mangle)]
 pub extern "C" fn cukvashe_pin_encode_1(
     pin: &[u8],
@@ -96,9 +98,9 @@ pub extern "C" fn cukvashe_pin_encode_1(
 ) -> i32
     ensures status { result ≡ status_after status_of_fault
         (option_or (pin_fault pin.now) (fill_fault 0 transaction.now)) }
-    ensures block { result ≡ pos 0
+    ensures block { result ≡ OK
         → IsTheOne (IsFormat1 pin.now transaction.now) block.new }
-    ensures kept { result ≢ pos 0 → block.new ≡ block.old }
+    ensures kept { result ≢ OK → block.new ≡ block.old }
 {
     match Pin::new(pin) {
         Ok(pin) => write_block(encode_format_1(&pin, transaction), block),
@@ -106,9 +108,9 @@ pub extern "C" fn cukvashe_pin_encode_1(
     }
 }
 
-/// The block of format 3 of a PIN, an account number, as in format 0, and ten fill digits from 10 to
-/// 15. The status of the first fault is 8 or 9, 10 or 11, and 12 where it is a fill digit's, and then
-/// `block` stays.
+/// The block of format 3 of a PIN, an account number, as in format 0, and ten fill digits from 10
+/// to 15. The status is that of the first fault, of the PIN, of the account number and then of the
+/// fill digits (`ERR_FILL`), and then `block` stays.
 #[unsafe(no_mangle)]
 pub extern "C" fn cukvashe_pin_encode_3(
     pin: &[u8],
@@ -119,9 +121,9 @@ pub extern "C" fn cukvashe_pin_encode_3(
     ensures status { result ≡ status_after status_of_fault
         (option_or (pin_fault pin.now)
         (option_or (account_fault account.now) (fill_fault 10 fill.now))) }
-    ensures block { result ≡ pos 0
+    ensures block { result ≡ OK
         → IsTheOne (IsFormat3 pin.now account.now fill.now) block.new }
-    ensures kept { result ≢ pos 0 → block.new ≡ block.old }
+    ensures kept { result ≢ OK → block.new ≡ block.old }
 {
     match Pin::new(pin) {
         Ok(pin) => write_block(encode_format_3(&pin, account, fill), block),
@@ -129,67 +131,50 @@ pub extern "C" fn cukvashe_pin_encode_3(
     }
 }
 
-/// The PIN of a block of format 0 and an account number: its ASCII digits, with zeros after
-/// them. The status of the first fault is 10 or 11 where it is the account number's, 7 where the
-/// block has another format, 8 or 9 where its PIN has another length or a digit above 9, and 12
-/// where it is not filled with 15, and then nothing is written.
+/// The PIN of a block of format 0 and an account number: its ASCII digits, and then zero bytes. The
+/// status is that of the first fault: the account number's; `ERR_FORMAT` where the block has
+/// another format; `ERR_PIN_LENGTH` or `ERR_PIN_DIGIT` where its PIN has another length or a digit
+/// above 9; `ERR_FILL` where it is not filled with 15. Then `pin` stays.
 #[unsafe(no_mangle)]
-pub extern "C" fn cukvashe_pin_decode_0(
-    block: &[u8; 8],
-    account: &[u8],
-    pin: &mut [u8; 12],
-    digits: &mut usize,
-) -> i32
+pub extern "C" fn cukvashe_pin_decode_0(block: &[u8; 8], account: &[u8], pin: &mut [u8; 13]) -> i32
     ensures status { result ≡ status_after status_of_fault
         (option_or (account_fault account.now)
         (field_fault 0 15 (xor_blocks (digits_in block.now) (account_field account.now)))) }
-    ensures decoded { result ≡ pos 0
-        → (digits.new ≤ 12) × IsFormat0 (take digits.new pin.new) account.now block.now }
+    ensures decoded { result ≡ OK → (text : List ℕ)
+        × IsFormat0 text account.now block.now × (pin.new ≡ with_zeros 13 text) }
     ensures complete { (text : List ℕ) → IsFormat0 text account.now block.now
-        → (result ≡ pos 0) × (take digits.new pin.new ≡ text) }
-    ensures zeros { result ≡ pos 0 → drop digits.new pin.new ≡ replicate (12 - digits.new) 0 }
-    ensures kept { result ≢ pos 0 → (pin.new ≡ pin.old) × (digits.new ≡ digits.old) }
+        → (result ≡ OK) × (pin.new ≡ with_zeros 13 text) }
+    ensures kept { result ≢ OK → pin.new ≡ pin.old }
 {
-    write_pin(decode_format_0(block, account), pin, digits)
+    write_pin(decode_format_0(block, account), pin)
 }
 
-/// The PIN of a block of format 1, as of one of format 0. The status of the first fault is 7 where
-/// the block has another format, and 8 or 9 where its PIN has another length or a digit above 9.
+/// The PIN of a block of format 1, as of one of format 0. The status of the first fault is
+/// `ERR_FORMAT`, `ERR_PIN_LENGTH` or `ERR_PIN_DIGIT`.
 #[unsafe(no_mangle)]
-pub extern "C" fn cukvashe_pin_decode_1(
-    block: &[u8; 8],
-    pin: &mut [u8; 12],
-    digits: &mut usize,
-) -> i32
+pub extern "C" fn cukvashe_pin_decode_1(block: &[u8; 8], pin: &mut [u8; 13]) -> i32
     ensures status { result ≡ status_after status_of_fault (field_fault 1 0 (digits_in block.now)) }
-    ensures decoded { result ≡ pos 0 → (digits.new ≤ 12)
-        × ((transaction : List ℕ) × IsFormat1 (take digits.new pin.new) transaction block.now) }
+    ensures decoded { result ≡ OK → (text : List ℕ) × (transaction : List ℕ)
+        × IsFormat1 text transaction block.now × (pin.new ≡ with_zeros 13 text) }
     ensures complete { (text transaction : List ℕ) → IsFormat1 text transaction block.now
-        → (result ≡ pos 0) × (take digits.new pin.new ≡ text) }
-    ensures zeros { result ≡ pos 0 → drop digits.new pin.new ≡ replicate (12 - digits.new) 0 }
-    ensures kept { result ≢ pos 0 → (pin.new ≡ pin.old) × (digits.new ≡ digits.old) }
+        → (result ≡ OK) × (pin.new ≡ with_zeros 13 text) }
+    ensures kept { result ≢ OK → pin.new ≡ pin.old }
 {
-    write_pin(decode_format_1(block), pin, digits)
+    write_pin(decode_format_1(block), pin)
 }
 
-/// The PIN of a block of format 3 and an account number, as of one of format 0; the status is 12
-/// where the block is filled with a digit below 10.
+/// The PIN of a block of format 3 and an account number, as of one of format 0; the status is
+/// `ERR_FILL` where the block is filled with a digit below 10.
 #[unsafe(no_mangle)]
-pub extern "C" fn cukvashe_pin_decode_3(
-    block: &[u8; 8],
-    account: &[u8],
-    pin: &mut [u8; 12],
-    digits: &mut usize,
-) -> i32
+pub extern "C" fn cukvashe_pin_decode_3(block: &[u8; 8], account: &[u8], pin: &mut [u8; 13]) -> i32
     ensures status { result ≡ status_after status_of_fault
         (option_or (account_fault account.now)
         (field_fault 3 10 (xor_blocks (digits_in block.now) (account_field account.now)))) }
-    ensures decoded { result ≡ pos 0 → (digits.new ≤ 12) × ((fill : List ℕ)
-        × IsFormat3 (take digits.new pin.new) account.now fill block.now) }
+    ensures decoded { result ≡ OK → (text : List ℕ) × (fill : List ℕ)
+        × IsFormat3 text account.now fill block.now × (pin.new ≡ with_zeros 13 text) }
     ensures complete { (text fill : List ℕ) → IsFormat3 text account.now fill block.now
-        → (result ≡ pos 0) × (take digits.new pin.new ≡ text) }
-    ensures zeros { result ≡ pos 0 → drop digits.new pin.new ≡ replicate (12 - digits.new) 0 }
-    ensures kept { result ≢ pos 0 → (pin.new ≡ pin.old) × (digits.new ≡ digits.old) }
+        → (result ≡ OK) × (pin.new ≡ with_zeros 13 text) }
+    ensures kept { result ≢ OK → pin.new ≡ pin.old }
 {
-    write_pin(decode_format_3(block, account), pin, digits)
+    write_pin(decode_format_3(block, account), pin)
 }

@@ -3,13 +3,13 @@ use Rattle.std.proofs.lemmas.Int.{ints}
 use Rattle.des.specs.Des.{encryption}
 use Rattle.des_c.proofs.macs.retail_mac_des.cukvashe_retail_mac_des_init.Goals as goal
 
-pub returns-then-status-eq-DONE-clause-made : goal.returns-then-status-eq-DONE-clause-made
-returns-then-status-eq-DONE-clause-made c = λ done.
+pub returns-then-status-eq-OK-clause-made : goal.returns-then-status-eq-OK-clause-made
+returns-then-status-eq-OK-clause-made c = λ done.
     let was : c.begin-status.result ≡ pos 0 = omega (arith, ints) in
     let long : length c.split_at.result.1.now ≡ 8 = omega (arith, c.split_at.ensures.back_len) in
     record {
       first = rw c.split_at.ensures.front at (c.begin-status.ensures.made was);
-      second = rw c.split_at.ensures.back at (c.init.ensures.made long);
+      second = rw c.split_at.ensures.back at (c.init.ensures.made (c.init.ensures.accepted.1 long));
       padded_by = c.begin-status.ensures.padded_by was;
       progress = c.begin-status.ensures.begun was (encryption (take 8 c.args.key.now));
     }

@@ -1,11 +1,13 @@
-use Rattle.std.proofs.Common.{rules, ◌≡◌, pos}
+use Rattle.std.proofs.Common.{rules, ◌≡◌}
+use Rattle.des_context.specs.declared.status.TheConstants.{OK}
 use Rattle.des_c.proofs.payment.pin_blocks.cukvashe_pin_decode_3.Goals as goal
 
 pub returns-clause-decoded : goal.returns-clause-decoded
 returns-clause-decoded c = λ done.
-    let same : c.write_pin.result ≡ pos 0 = search (rules, done) in
+    let same : c.write_pin.result ≡ OK = search (rules, done) in
     let written = c.write_pin.ensures.pin same in
-    (written.0, (c.decode_format_3.ensures.decoded _).0 written.1)
+    let made = (c.decode_format_3.ensures.decoded written.0).0 written.1 in
+    (written.0, made.0, made.1, written.2)
 
 pub returns-clause-complete : goal.returns-clause-complete
 returns-clause-complete c = λ text fill made.

@@ -1,0 +1,11 @@
+# Until 1.0.0 names may change between minor versions, so a version answers only a request for its first two numbers.
+set(PACKAGE_VERSION "@VERSION@")
+set(PACKAGE_VERSION_COMPATIBLE FALSE)
+string(REGEX MATCH "^[0-9]+\\.[0-9]+" _cukvashe_des_minor "${PACKAGE_VERSION}")
+if("${PACKAGE_FIND_VERSION}." MATCHES "^${_cukvashe_des_minor}\\." AND NOT PACKAGE_FIND_VERSION VERSION_GREATER PACKAGE_VERSION)
+  set(PACKAGE_VERSION_COMPATIBLE TRUE)
+endif()
+if(PACKAGE_FIND_VERSION STREQUAL PACKAGE_VERSION)
+  set(PACKAGE_VERSION_EXACT TRUE)
+endif()
+unset(_cukvashe_des_minor)

@@ -1,0 +1,99 @@
+/*
+ * What of the library is C: which of two proved calls is taken, by length and processor; proved calls in the header's order of
+ * arguments; texts; and wiping.
+ */
+#include "internal.h"
+#include <string.h>
+
+/* The processor is asked once, since a virtual one may take long to answer. Threads that ask at once all store one answer. */
+static bool has_wide(void) {
+  enum { NOT_ASKED, NO, YES };
+  static int answer = NOT_ASKED;
+  int known = __atomic_load_n(&answer, __ATOMIC_RELAXED);
+  if (known == NOT_ASKED) {
+    struct processor words = cukvashe_internal_processor();
+    known = cukvashe_internal_is_v3(&words) ? YES : NO;
+    __atomic_store_n(&answer, known, __ATOMIC_RELAXED);
+  }
+  return known == YES;
+}
+
+/* Up to 128 blocks, one narrow batch is faster than one wide batch. */
+static bool takes_wide(size_t length) { return length > 128 * CUKVASHE_BLOCK_SIZE && has_wide(); }
+
+#define CHOOSE(NAME, CALL, ...)                                                                                       \
+  (takes_wide(length) ? cukvashe_wide_##NAME##_##CALL(__VA_ARGS__) : cukvashe_narrow_##NAME##_##CALL(__VA_ARGS__))
+
+#define DEFINE_CIPHER(NAME)                                                                                           \
+  int cukvashe_##NAME##_encrypt_ecb(const cukvashe_##NAME *context, uint8_t *data, size_t length) {                   \
+    return CHOOSE(NAME, encrypt_ecb, context, data, length);                                                          \
+  }                                                                                                                   \
+  int cukvashe_##NAME##_decrypt_ecb(const cukvashe_##NAME *context, uint8_t *data, size_t length) {                   \
+    return CHOOSE(NAME, decrypt_ecb, context, data, length);                                                          \
+  }                                                                                                                   \
+  int cukvashe_##NAME##_encrypt_ecb_to(const cukvashe_##NAME *context, const uint8_t *input, uint8_t *output,         \
+                                       size_t length) {                                                               \
+    return CHOOSE(NAME, encrypt_ecb_to, context, input, length, output, length);                                      \
+  }                                                                                                                   \
+  int cukvashe_##NAME##_decrypt_ecb_to(const cukvashe_##NAME *context, const uint8_t *input, uint8_t *output,         \
+                                       size_t length) {                                                               \
+    return CHOOSE(NAME, decrypt_ecb_to, context, input, length, output, length);                                      \
+  }                                                                                                                   \
+  int cukvashe_##NAME##_encrypt_cbc_to(const cukvashe_##NAME *context, uint8_t iv[8], const uint8_t *input,           \
+                                       uint8_t *output, size_t length) {                                              \
+    return cukvashe_narrow_##NAME##_encrypt_cbc_to(context, iv, input, length, output, length);                       \
+  }                                                                                                                   \
+  int cukvashe_##NAME##_decrypt_cbc(const cukvashe_##NAME *context, uint8_t iv[8], uint8_t *data, size_t length) {    \
+    return CHOOSE(NAME, decrypt_cbc, context, iv, data, length);                                                      \
+  }                                                                                                                   \
+  int cukvashe_##NAME##_decrypt_cbc_to(const cukvashe_##NAME *context, uint8_t iv[8], const uint8_t *input,           \
+                                       uint8_t *output, size_t length) {                                              \
+    return CHOOSE(NAME, decrypt_cbc_to, context, iv, input, length, output, length);                                  \
+  }
+
+DEFINE_CIPHER(des)
+DEFINE_CIPHER(tdes_ede2)
+DEFINE_CIPHER(tdes_ede3)
+
+int cukvashe_pad(uint8_t *buffer, size_t length, size_t capacity, int method, size_t *padded_length) {
+  return cukvashe_narrow_pad(buffer, capacity, length, method, padded_length);
+}
+
+bool cukvashe_equal_but_parity(const uint8_t *first, const uint8_t *second, size_t key_length) {
+  return cukvashe_narrow_equal_but_parity(first, key_length, second, key_length);
+}
+
+const char *cukvashe_version(void) { return CUKVASHE_VERSION; }
+
+const char *cukvashe_strerror(int status) {
+  static const char *const texts[] = {
+      [CUKVASHE_OK] = "success",
+      [CUKVASHE_ERR_KEY_LENGTH] = "the key does not have a length that the call takes",
+      [CUKVASHE_ERR_BLOCKS] = "the length is not a multiple of 8 bytes",
+      [CUKVASHE_ERR_WEAK_KEY] = "the key is weak",
+      [CUKVASHE_ERR_PADDING_METHOD] = "there is no padding method of this number",
+      [CUKVASHE_ERR_TAG] = "the tag is not that of the message",
+      [CUKVASHE_ERR_NO_SERIAL] = "there is no next key serial number",
+      [CUKVASHE_ERR_FORMAT] = "the block is not of this PIN block format",
+      [CUKVASHE_ERR_PIN_LENGTH] = "the PIN does not have 4 to 12 digits",
+      [CUKVASHE_ERR_PIN_DIGIT] = "a character of the PIN is not a digit",
+      [CUKVASHE_ERR_ACCOUNT_LENGTH] = "the account number does not have 13 to 19 digits",
+      [CUKVASHE_ERR_ACCOUNT_DIGIT] = "a character of the account number is not a digit",
+      [CUKVASHE_ERR_FILL] = "a fill digit is not one that the format allows",
+      [CUKVASHE_ERR_EXPIRY_LENGTH] = "the expiry date does not have four digits",
+      [CUKVASHE_ERR_EXPIRY_DIGIT] = "a character of the expiry date is not a digit",
+      [CUKVASHE_ERR_SERVICE_LENGTH] = "the service code does not have three digits",
+      [CUKVASHE_ERR_SERVICE_DIGIT] = "a character of the service code is not a digit",
+      [CUKVASHE_ERR_PADDING] = "the last block does not end with the padding",
+      [CUKVASHE_ERR_CAPACITY] = "the buffer has no room for the padding",
+  };
+  const size_t place = (size_t)status; /* of a negative number, beyond all */
+  return place < sizeof texts / sizeof *texts ? texts[place] : "there is no status of this number";
+}
+
+/* The empty statement may read what `pointer` points to, for all that a compiler knows: so the zeros must be there. */
+void cukvashe_wipe(void *pointer, size_t size) {
+  if (size == 0) return;
+  memset(pointer, 0, size);
+  __asm__ __volatile__("" : : "r"(pointer) : "memory");
+}

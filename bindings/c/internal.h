@@ -1,0 +1,46 @@
+/* Names that the library hides: the exports that cukvashe_des.c chooses from, and the question which of them the processor has. */
+#ifndef INTERNAL_H
+#define INTERNAL_H
+
+#include <cukvashe_des.h>
+
+/* What decides whether a processor is of x86-64-v3: words that `cpuid` writes, and 0 for those that it does not have. */
+struct processor {
+  uint32_t leaf_1_ecx, leaf_7_ebx, leaf_80000001_ecx;
+  uint32_t xcr0; /* what the operating system saves (XGETBV of 0), or 0 if OSXSAVE is not set */
+};
+
+bool cukvashe_internal_is_v3(const struct processor *words);
+struct processor cukvashe_internal_processor(void);
+
+/*
+ * Proved exports take a slice as a pointer and a length, so each of two slices has a length of its own. `narrow` calls are for
+ * any processor and take 128 blocks at a time, `wide` ones are for x86-64-v3 and take 256.
+ */
+#define DECLARE_WIDTH(NAME, WIDTH)                                                                                    \
+  int cukvashe_##WIDTH##_##NAME##_encrypt_ecb(const cukvashe_##NAME *context, uint8_t *data, size_t length);          \
+  int cukvashe_##WIDTH##_##NAME##_decrypt_ecb(const cukvashe_##NAME *context, uint8_t *data, size_t length);          \
+  int cukvashe_##WIDTH##_##NAME##_encrypt_ecb_to(const cukvashe_##NAME *context, const uint8_t *input,                \
+                                                 size_t input_length, uint8_t *output, size_t output_length);         \
+  int cukvashe_##WIDTH##_##NAME##_decrypt_ecb_to(const cukvashe_##NAME *context, const uint8_t *input,                \
+                                                 size_t input_length, uint8_t *output, size_t output_length);         \
+  int cukvashe_##WIDTH##_##NAME##_decrypt_cbc(const cukvashe_##NAME *context, uint8_t iv[8], uint8_t *data,           \
+                                              size_t length);                                                         \
+  int cukvashe_##WIDTH##_##NAME##_decrypt_cbc_to(const cukvashe_##NAME *context, uint8_t iv[8], const uint8_t *input, \
+                                                 size_t input_length, uint8_t *output, size_t output_length);
+
+#define DECLARE_CIPHER(NAME)                                                                                          \
+  DECLARE_WIDTH(NAME, narrow)                                                                                         \
+  DECLARE_WIDTH(NAME, wide)                                                                                           \
+  int cukvashe_narrow_##NAME##_encrypt_cbc_to(const cukvashe_##NAME *context, uint8_t iv[8], const uint8_t *input,    \
+                                              size_t input_length, uint8_t *output, size_t output_length);
+
+DECLARE_CIPHER(des)
+DECLARE_CIPHER(tdes_ede2)
+DECLARE_CIPHER(tdes_ede3)
+
+int cukvashe_narrow_pad(uint8_t *buffer, size_t capacity, size_t length, int method, size_t *padded_length);
+bool cukvashe_narrow_equal_but_parity(const uint8_t *first, size_t first_length, const uint8_t *second,
+                                      size_t second_length);
+
+#endif

@@ -1,0 +1,207 @@
+/* What the library's own C hands on: instead of the proved exports there are functions here that write down what they were given. So
+   each call of the header is seen to take the right export with the right arguments, on a processor with the wide calls (`dispatch
+   wide`) and on one without (`dispatch narrow`), which is asked once, and not before a call needs the answer. The library's C is a
+   part of this file, so that the compiler sees cukvashe_wipe where it is called, and could leave it out. */
+#define _POSIX_C_SOURCE 200809L
+#include "../cukvashe_des.c"
+#include <pthread.h>
+#include <stdio.h>
+#include <stdlib.h>
+
+#define CHECK(holds)                                                   \
+  do {                                                                 \
+    if (!(holds)) {                                                    \
+      fprintf(stderr, "%s:%d: %s\n", __FILE__, __LINE__, #holds);      \
+      exit(1);                                                         \
+    }                                                                  \
+  } while (0)
+
+/* A call that was made: its name, and each argument by its place among those that any export has. */
+struct call {
+  const char *name;
+  const void *context, *iv, *input, *output;
+  size_t input_length, output_length;
+};
+
+static struct call last;
+static int calls, questions, is_v3;
+
+/* A status that no call has: it must come back as it is. */
+enum { STATUS = 4711 };
+
+struct processor cukvashe_internal_processor(void) {
+  const struct processor words = {1, 2, 3, 4};
+  questions++;
+  return words;
+}
+
+bool cukvashe_internal_is_v3(const struct processor *words) {
+  CHECK(words->leaf_1_ecx == 1 && words->leaf_7_ebx == 2 && words->leaf_80000001_ecx == 3 && words->xcr0 == 4);
+  return is_v3;
+}
+
+static int made(const char *name, const void *context, const void *iv, const void *input, size_t input_length,
+                const void *output, size_t output_length) {
+  const struct call call = {name, context, iv, input, output, input_length, output_length};
+  last = call;
+  calls++;
+  return STATUS;
+}
+
+#define PLACE(NAME, WIDTH, CALL)                                                                                      \
+  int cukvashe_##WIDTH##_##NAME##_##CALL(const cukvashe_##NAME *context, uint8_t *data, size_t length) {              \
+    return made(#WIDTH " " #NAME " " #CALL, context, NULL, NULL, 0, data, length);                                    \
+  }                                                                                                                   \
+  int cukvashe_##WIDTH##_##NAME##_##CALL##_to(const cukvashe_##NAME *context, const uint8_t *input,                   \
+                                              size_t input_length, uint8_t *output, size_t output_length) {           \
+    return made(#WIDTH " " #NAME " " #CALL "_to", context, NULL, input, input_length, output, output_length);         \
+  }
+#define CHAIN(NAME, WIDTH, CALL)                                                                                      \
+  int cukvashe_##WIDTH##_##NAME##_##CALL(const cukvashe_##NAME *context, uint8_t iv[8], uint8_t *data,                \
+                                         size_t length) {                                                             \
+    return made(#WIDTH " " #NAME " " #CALL, context, iv, NULL, 0, data, length);                                      \
+  }
+#define CHAIN_TO(NAME, WIDTH, CALL)                                                                                   \
+  int cukvashe_##WIDTH##_##NAME##_##CALL##_to(const cukvashe_##NAME *context, uint8_t iv[8], const uint8_t *input,    \
+                                              size_t input_length, uint8_t *output, size_t output_length) {           \
+    return made(#WIDTH " " #NAME " " #CALL "_to", context, iv, input, input_length, output, output_length);           \
+  }
+#define EXPORTS_OF_WIDTH(NAME, WIDTH)                                                                                 \
+  PLACE(NAME, WIDTH, encrypt_ecb)                                                                                     \
+  PLACE(NAME, WIDTH, decrypt_ecb)                                                                                     \
+  CHAIN(NAME, WIDTH, decrypt_cbc)                                                                                     \
+  CHAIN_TO(NAME, WIDTH, decrypt_cbc)
+#define EXPORTS(NAME)                                                                                                 \
+  EXPORTS_OF_WIDTH(NAME, narrow)                                                                                      \
+  EXPORTS_OF_WIDTH(NAME, wide)                                                                                        \
+  CHAIN_TO(NAME, narrow, encrypt_cbc)
+
+EXPORTS(des)
+EXPORTS(tdes_ede2)
+EXPORTS(tdes_ede3)
+
+int cukvashe_narrow_pad(uint8_t *buffer, size_t capacity, size_t length, int method, size_t *padded_length) {
+  *padded_length = (size_t)method;
+  return made("pad", NULL, NULL, NULL, length, buffer, capacity);
+}
+
+static bool answer;
+
+bool cukvashe_narrow_equal_but_parity(const uint8_t *first, size_t first_length, const uint8_t *second,
+                                      size_t second_length) {
+  made("equal", NULL, NULL, first, first_length, second, second_length);
+  return answer;
+}
+
+/* The one call that was made since the last check had this name and these arguments. */
+static void was(const char *width, const char *cipher, const char *name, const void *context, const void *iv,
+                const void *input, const void *output, size_t length) {
+  char wanted[80];
+  snprintf(wanted, sizeof wanted, "%s %s %s", width, cipher, name);
+  CHECK(calls == 1 && strcmp(last.name, wanted) == 0);
+  CHECK(last.context == context && last.iv == iv && last.input == input && last.output == output);
+  CHECK(last.output_length == length && last.input_length == (input ? length : 0));
+  calls = 0;
+}
+
+static uint8_t iv[8], input[8], output[8];
+
+/* The calls of a cipher with a length; what the mocks are given is never read. */
+#define HANDS_ON(NAME)                                                                                                \
+  static void NAME##_hands_on(size_t length) {                                                                        \
+    static cukvashe_##NAME context;                                                                                   \
+    const char *width = is_v3 && length > 1024 ? "wide" : "narrow";                                                   \
+    CHECK(cukvashe_##NAME##_encrypt_ecb(&context, output, length) == STATUS);                                         \
+    was(width, #NAME, "encrypt_ecb", &context, NULL, NULL, output, length);                                           \
+    CHECK(cukvashe_##NAME##_decrypt_ecb(&context, output, length) == STATUS);                                         \
+    was(width, #NAME, "decrypt_ecb", &context, NULL, NULL, output, length);                                           \
+    CHECK(cukvashe_##NAME##_encrypt_ecb_to(&context, input, output, length) == STATUS);                               \
+    was(width, #NAME, "encrypt_ecb_to", &context, NULL, input, output, length);                                       \
+    CHECK(cukvashe_##NAME##_decrypt_ecb_to(&context, input, output, length) == STATUS);                               \
+    was(width, #NAME, "decrypt_ecb_to", &context, NULL, input, output, length);                                       \
+    CHECK(cukvashe_##NAME##_decrypt_cbc(&context, iv, output, length) == STATUS);                                     \
+    was(width, #NAME, "decrypt_cbc", &context, iv, NULL, output, length);                                             \
+    CHECK(cukvashe_##NAME##_decrypt_cbc_to(&context, iv, input, output, length) == STATUS);                           \
+    was(width, #NAME, "decrypt_cbc_to", &context, iv, input, output, length);                                         \
+    CHECK(cukvashe_##NAME##_encrypt_cbc_to(&context, iv, input, output, length) == STATUS);                           \
+    was("narrow", #NAME, "encrypt_cbc_to", &context, iv, input, output, length);                                      \
+  }
+
+HANDS_ON(des)
+HANDS_ON(tdes_ede2)
+HANDS_ON(tdes_ede3)
+
+static void hands_on(size_t length) {
+  des_hands_on(length);
+  tdes_ede2_hands_on(length);
+  tdes_ede3_hands_on(length);
+}
+
+static void hands_on_the_rest(void) {
+  size_t padded;
+  CHECK(cukvashe_pad(output, 5, 16, 2, &padded) == STATUS && padded == 2 && calls == 1 && strcmp(last.name, "pad") == 0);
+  CHECK(last.output == output && last.input_length == 5 && last.output_length == 16);
+  for (int i = 0; i < 2; i++) {
+    answer = i == 1;
+    CHECK(cukvashe_equal_but_parity(input, output, 24) == answer && strcmp(last.name, "equal") == 0);
+    CHECK(last.input == input && last.output == output && last.input_length == 24 && last.output_length == 24);
+  }
+}
+
+/* A secret on the stack of a thread of its own, which is wiped or not before the function returns. */
+enum { STACK = 1 << 17, SECRET = 64 };
+
+static uint8_t secret[SECRET];
+static volatile uint8_t used;
+
+/* So far down that the end of the thread does not write over it; a compiler can't cut an array whose length it does not know. */
+static volatile size_t depth = 1 << 14;
+
+static void uses_secret(bool wipes) {
+  uint8_t copy[depth];
+  for (size_t i = 0; i < SECRET; i++) copy[i] = secret[i];
+  for (size_t i = 0; i < SECRET; i++) used = *(volatile uint8_t *)(copy + i);
+  if (wipes) cukvashe_wipe(copy, SECRET);
+}
+
+static void *wipes_secret(void *given) {
+  uses_secret(true);
+  return given;
+}
+
+static void *keeps_secret(void *given) {
+  uses_secret(false);
+  return given;
+}
+
+/* Whether the secret is left on the stack. */
+static bool leaves_secret(void *(*run)(void *)) {
+  void *stack;
+  pthread_attr_t attributes;
+  pthread_t thread;
+  bool found = false;
+  CHECK(posix_memalign(&stack, 4096, STACK) == 0);
+  memset(stack, 0, STACK);
+  CHECK(pthread_attr_init(&attributes) == 0 && pthread_attr_setstack(&attributes, stack, STACK) == 0);
+  CHECK(pthread_create(&thread, &attributes, run, NULL) == 0 && pthread_join(thread, NULL) == 0);
+  CHECK(pthread_attr_destroy(&attributes) == 0);
+  for (size_t at = 0; at + SECRET <= STACK; at++) found |= memcmp((uint8_t *)stack + at, secret, SECRET) == 0;
+  free(stack);
+  return found;
+}
+
+int main(int count, char **words) {
+  static const size_t lengths[] = {0, 1, 7, 8, 120, 1016, 1017, 1023, 1024, 1025, 1032, 2048, 4096, (size_t)1 << 32, SIZE_MAX};
+  CHECK(count == 2);
+  is_v3 = strcmp(words[1], "wide") == 0;
+  CHECK(is_v3 || strcmp(words[1], "narrow") == 0);
+  for (size_t length = 0; length <= 1024; length++) hands_on(length);
+  CHECK(questions == 0);
+  for (size_t i = 0; i < sizeof lengths / sizeof *lengths; i++) hands_on(lengths[i]);
+  CHECK(questions == 1);
+  hands_on_the_rest();
+  for (size_t i = 0; i < SECRET; i++) secret[i] = (uint8_t)(3 * i + 101);
+  CHECK(leaves_secret(keeps_secret) && !leaves_secret(wipes_secret));
+  printf("dispatch: %s calls above 1,024 bytes, and the processor was asked once\n", words[1]);
+  return 0;
+}

@@ -1,0 +1,76 @@
+/* The calls of each MAC in a table. */
+#ifndef MAC_CALLS_H
+#define MAC_CALLS_H
+
+#include "check.h"
+
+/* Any of the contexts. */
+union mac_context {
+  cukvashe_cbc_mac_des cbc_mac_des;
+  cukvashe_cbc_mac_tdes_ede2 cbc_mac_tdes_ede2;
+  cukvashe_cbc_mac_tdes_ede3 cbc_mac_tdes_ede3;
+  cukvashe_retail_mac_des retail_mac_des;
+  cukvashe_cmac_tdes_ede2 cmac_tdes_ede2;
+  cukvashe_cmac_tdes_ede3 cmac_tdes_ede3;
+};
+
+struct mac {
+  const char *name;
+  size_t key_size, context_size;
+  int is_padded; /* whether `init` takes a padding method */
+  int (*init)(union mac_context *, const uint8_t *key, size_t length, int method);
+  void (*update)(union mac_context *, const uint8_t *message, size_t length);
+  void (*final)(const union mac_context *, uint8_t *tag);
+  int (*verify)(const union mac_context *, const uint8_t *tag, size_t length);
+};
+
+#define PADDED_INIT(name)                                                                          \
+  static int name##_init(union mac_context *c, const uint8_t *key, size_t length, int method) {            \
+    return cukvashe_##name##_init(&c->name, key, length, method);                                  \
+  }
+#define INIT(name)                                                                                 \
+  static int name##_init(union mac_context *c, const uint8_t *key, size_t length, int method) {            \
+    (void)method;                                                                                  \
+    return cukvashe_##name##_init(&c->name, key, length);                                          \
+  }
+#define DEFINE_MAC(name)                                                                           \
+  static void name##_update(union mac_context *c, const uint8_t *message, size_t length) {                 \
+    cukvashe_##name##_update(&c->name, message, length);                                           \
+  }                                                                                                \
+  static void name##_final(const union mac_context *c, uint8_t *tag) {                                     \
+    cukvashe_##name##_final(&c->name, tag);                                                        \
+  }                                                                                                \
+  static int name##_verify(const union mac_context *c, const uint8_t *tag, size_t length) {                \
+    return cukvashe_##name##_verify(&c->name, tag, length);                                        \
+  }
+#define MAC(name, key_size, is_padded)                                                             \
+  {                                                                                                \
+    #name, key_size, sizeof(cukvashe_##name), is_padded, name##_init, name##_update, name##_final, \
+        name##_verify                                                                              \
+  }
+
+PADDED_INIT(cbc_mac_des)
+PADDED_INIT(cbc_mac_tdes_ede2)
+PADDED_INIT(cbc_mac_tdes_ede3)
+PADDED_INIT(retail_mac_des)
+INIT(cmac_tdes_ede2)
+INIT(cmac_tdes_ede3)
+DEFINE_MAC(cbc_mac_des)
+DEFINE_MAC(cbc_mac_tdes_ede2)
+DEFINE_MAC(cbc_mac_tdes_ede3)
+DEFINE_MAC(retail_mac_des)
+DEFINE_MAC(cmac_tdes_ede2)
+DEFINE_MAC(cmac_tdes_ede3)
+
+enum { MACS = 6, CBC_MAC_DES = 0, CBC_MAC_EDE2 = 1, CBC_MAC_EDE3 = 2, RETAIL_MAC = 3, CMAC_EDE2 = 4, CMAC_EDE3 = 5 };
+
+static const struct mac macs[MACS] = {
+    MAC(cbc_mac_des, CUKVASHE_CBC_MAC_DES_KEY_SIZE, 1),
+    MAC(cbc_mac_tdes_ede2, CUKVASHE_CBC_MAC_TDES_EDE2_KEY_SIZE, 1),
+    MAC(cbc_mac_tdes_ede3, CUKVASHE_CBC_MAC_TDES_EDE3_KEY_SIZE, 1),
+    MAC(retail_mac_des, CUKVASHE_RETAIL_MAC_DES_KEY_SIZE, 1),
+    MAC(cmac_tdes_ede2, CUKVASHE_CMAC_TDES_EDE2_KEY_SIZE, 0),
+    MAC(cmac_tdes_ede3, CUKVASHE_CMAC_TDES_EDE3_KEY_SIZE, 0),
+};
+
+#endif

@@ -1,0 +1,222 @@
+/* What is refused, and that nothing is changed then: every wrong length from 0 to 33, other padding methods, tags; every status once,
+   and its sentence; the header's numbers; null pointers where a length is 0. */
+#include "mac_calls.h"
+#include <limits.h>
+
+enum { MOST = 33, PAINT = 0x77 };
+
+/* The statuses that a call returned. */
+static int was_returned[CUKVASHE_ERR_CAPACITY + 1];
+
+static int seen(int status) {
+  CHECK(0 <= status && status <= CUKVASHE_ERR_CAPACITY);
+  was_returned[status] = 1;
+  return status;
+}
+
+static int is_painted(const void *bytes, size_t count) {
+  for (size_t i = 0; i < count; i++)
+    if (((const uint8_t *)bytes)[i] != PAINT) return 0;
+  return 1;
+}
+
+static void refuses_keys(const struct cipher *cipher) {
+  uint8_t key[MOST], value[3];
+  random_bytes(key, sizeof key);
+  for (size_t length = 0; length <= MOST; length++) {
+    union context context;
+    int wanted = length == cipher->key_size ? CUKVASHE_OK : CUKVASHE_ERR_KEY_LENGTH;
+    memset(&context, PAINT, sizeof context);
+    memset(value, PAINT, sizeof value);
+    CHECK(seen(cipher->init(&context, key, length)) == wanted);
+    CHECK(is_painted(&context, sizeof context) == (wanted != CUKVASHE_OK));
+    CHECK(is_painted((uint8_t *)&context + cipher->context_size, sizeof context - cipher->context_size));
+    CHECK(cipher->check_value(key, length, value) == wanted && is_painted(value, 3) == (wanted != CUKVASHE_OK));
+  }
+  union context context;
+  CHECK(cipher->init(&context, NULL, 0) == CUKVASHE_ERR_KEY_LENGTH);
+  CHECK(cipher->check_value(NULL, 0, value) == CUKVASHE_ERR_KEY_LENGTH);
+}
+
+enum { BYTES = 8 * 600 + 8 };
+
+/* One length by each call of a way: with part of a block nothing is changed, and else all of it and nothing after it. */
+static void takes_length(const struct way *way, const union context *context, size_t length) {
+  static uint8_t old[BYTES], data[BYTES];
+  const int wanted = length % 8 == 0 ? CUKVASHE_OK : CUKVASHE_ERR_BLOCKS;
+  const size_t changed = wanted == CUKVASHE_OK ? length : 0;
+  in_place *const in[] = {way->encrypt_ecb, way->decrypt_ecb};
+  to_other *const to[] = {way->encrypt_ecb_to, way->decrypt_ecb_to};
+  in_place_cbc *const in_cbc[] = {way->encrypt_cbc, way->decrypt_cbc};
+  to_other_cbc *const to_cbc[] = {way->encrypt_cbc_to, way->decrypt_cbc_to};
+  random_bytes(old, sizeof old);
+  for (int call = 0; call < 8; call++) {
+    uint8_t iv[8];
+    memset(iv, PAINT, sizeof iv);
+    memcpy(data, old, sizeof data);
+    if (call == 2 || call == 3 || call > 5) memset(data, PAINT, sizeof data);
+    switch (call / 2) {
+      case 0: CHECK(seen(in[call % 2](context, data, length)) == wanted); break;
+      case 1: CHECK(seen(to[call % 2](context, old, data, length)) == wanted); break;
+      case 2: CHECK(seen(in_cbc[call % 2](context, iv, data, length)) == wanted); break;
+      default: CHECK(seen(to_cbc[call % 2](context, iv, old, data, length)) == wanted); break;
+    }
+    const uint8_t *rest = data + changed;
+    if (call / 2 % 2 == 0) CHECK(memcmp(rest, old + changed, sizeof data - changed) == 0);
+    else CHECK(is_painted(rest, sizeof data - changed));
+    CHECK(is_painted(iv, sizeof iv) == (call < 4 || changed == 0));
+  }
+}
+
+static void takes_null(const struct way *way, const union context *context) {
+  uint8_t iv[8];
+  memset(iv, PAINT, sizeof iv);
+  CHECK(way->encrypt_ecb(context, NULL, 0) == CUKVASHE_OK && way->decrypt_ecb(context, NULL, 0) == CUKVASHE_OK);
+  CHECK(way->encrypt_ecb_to(context, NULL, NULL, 0) == CUKVASHE_OK);
+  CHECK(way->decrypt_ecb_to(context, NULL, NULL, 0) == CUKVASHE_OK);
+  CHECK(way->encrypt_cbc(context, iv, NULL, 0) == CUKVASHE_OK && way->decrypt_cbc(context, iv, NULL, 0) == CUKVASHE_OK);
+  CHECK(way->encrypt_cbc_to(context, iv, NULL, NULL, 0) == CUKVASHE_OK);
+  CHECK(way->decrypt_cbc_to(context, iv, NULL, NULL, 0) == CUKVASHE_OK);
+  CHECK(is_painted(iv, sizeof iv));
+}
+
+static void takes_lengths(const struct cipher *cipher) {
+  static const size_t blocks[] = {18, 19, 127, 128, 129, 255, 256, 300, 600};
+  uint8_t key[24];
+  union context context;
+  random_bytes(key, sizeof key);
+  CHECK(cipher->init(&context, key, cipher->key_size) == CUKVASHE_OK);
+  for (int n = 0; n < count_of_ways(); n++) {
+    const struct way *way = &cipher->ways[n];
+    for (size_t length = 0; length <= MOST; length++) takes_length(way, &context, length);
+    for (size_t i = 0; i < sizeof blocks / sizeof *blocks; i++)
+      for (size_t more = 0; more < 8; more++) takes_length(way, &context, 8 * blocks[i] + more);
+    takes_null(way, &context);
+  }
+}
+
+/* Other key lengths, and else other methods, are refused, and the context stays. */
+static void refuses_macs(const struct mac *mac) {
+  static const int methods[] = {0, 3, 4, 257, 258, -1, INT_MAX, INT_MIN, INT_MIN + 1, INT_MIN + 2};
+  uint8_t key[MOST], tag[MOST];
+  union mac_context context;
+  random_bytes(key, sizeof key);
+  memset(&context, PAINT, sizeof context);
+  for (size_t length = 0; length <= MOST; length++)
+    if (length != mac->key_size) {
+      CHECK(seen(mac->init(&context, key, length, CUKVASHE_MAC_PADDING_1)) == CUKVASHE_ERR_KEY_LENGTH);
+      CHECK(seen(mac->init(&context, key, length, 3)) == CUKVASHE_ERR_KEY_LENGTH);
+    }
+  CHECK(mac->init(&context, NULL, 0, CUKVASHE_MAC_PADDING_2) == CUKVASHE_ERR_KEY_LENGTH);
+  for (size_t i = 0; mac->is_padded && i < sizeof methods / sizeof *methods; i++)
+    CHECK(seen(mac->init(&context, key, mac->key_size, methods[i])) == CUKVASHE_ERR_PADDING_METHOD);
+  CHECK(is_painted(&context, sizeof context));
+  CHECK(mac->init(&context, key, mac->key_size, CUKVASHE_MAC_PADDING_1) == CUKVASHE_OK);
+  CHECK(is_painted((uint8_t *)&context + mac->context_size, sizeof context - mac->context_size));
+  mac->update(&context, NULL, 0);
+  memset(tag, 0, sizeof tag);
+  mac->final(&context, tag);
+  for (size_t length = 0; length <= MOST; length++) {
+    int status = seen(mac->verify(&context, tag, length));
+    CHECK(status == (4 <= length && length <= 8 ? CUKVASHE_OK : CUKVASHE_ERR_TAG));
+  }
+  CHECK(mac->verify(&context, NULL, 0) == CUKVASHE_ERR_TAG);
+}
+
+/* The statuses of the calls that have no context. What they are for is tested with the calls. */
+static void returns_statuses(void) {
+  static const uint8_t key[16] = {0}, fill[10] = {0};
+  static const char *const account = "4012345678909";
+  uint8_t serial[10], made[16], block[8] = {0x14, 0x12, 0x34};
+  char text[13];
+  size_t length;
+  CHECK(seen(cukvashe_weak_key_test(key, 8)) == CUKVASHE_ERR_WEAK_KEY);
+  memset(serial, 0xff, sizeof serial);
+  CHECK(seen(cukvashe_dukpt_next_serial(serial, made)) == CUKVASHE_ERR_NO_SERIAL);
+  CHECK(seen(cukvashe_pin_decode_0(block, account, 13, text)) == CUKVASHE_ERR_FORMAT);
+  CHECK(seen(cukvashe_pin_encode_0("123", 3, account, 13, block)) == CUKVASHE_ERR_PIN_LENGTH);
+  CHECK(seen(cukvashe_pin_encode_0("123a", 4, account, 13, block)) == CUKVASHE_ERR_PIN_DIGIT);
+  CHECK(seen(cukvashe_pin_encode_0("1234", 4, account, 12, block)) == CUKVASHE_ERR_ACCOUNT_LENGTH);
+  CHECK(seen(cukvashe_pin_encode_0("1234", 4, "401234567890a", 13, block)) == CUKVASHE_ERR_ACCOUNT_DIGIT);
+  CHECK(seen(cukvashe_pin_encode_3("1234", 4, account, 13, fill, block)) == CUKVASHE_ERR_FILL);
+  CHECK(seen(cukvashe_cvv(key, account, 13, "870", 3, "101", 3, text)) == CUKVASHE_ERR_EXPIRY_LENGTH);
+  CHECK(seen(cukvashe_cvv(key, account, 13, "870a", 4, "101", 3, text)) == CUKVASHE_ERR_EXPIRY_DIGIT);
+  CHECK(seen(cukvashe_cvv(key, account, 13, "8701", 4, "10", 2, text)) == CUKVASHE_ERR_SERVICE_LENGTH);
+  CHECK(seen(cukvashe_cvv(key, account, 13, "8701", 4, "10a", 3, text)) == CUKVASHE_ERR_SERVICE_DIGIT);
+  CHECK(seen(cukvashe_unpad(block, 0, CUKVASHE_PKCS7, &length)) == CUKVASHE_ERR_PADDING);
+  CHECK(seen(cukvashe_pad(block, 8, 8, CUKVASHE_PKCS7, &length)) == CUKVASHE_ERR_CAPACITY);
+}
+
+/* Words that the sentence of each status has. */
+static const char *const words[] = {
+    "success", "key does not have a length", "multiple of 8", "key is weak", "no padding method", "tag is not that",
+    "no next key serial number", "PIN block format", "PIN does not have 4 to 12 digits", "character of the PIN",
+    "account number does not have 13 to 19 digits", "character of the account number", "fill digit",
+    "expiry date does not have four digits", "character of the expiry date", "service code does not have three digits",
+    "character of the service code", "does not end with the padding", "no room for the padding",
+};
+
+/* Every status was returned by some call, and has a sentence of its own; other numbers have one sentence. */
+static void has_sentences(void) {
+  static const int others[] = {CUKVASHE_ERR_CAPACITY + 1, -1, INT_MIN, INT_MAX, 256, 65536};
+  const char *unknown = cukvashe_strerror(CUKVASHE_ERR_CAPACITY + 1);
+  CHECK(strstr(unknown, "no status") != NULL);
+  for (int status = 0; status <= CUKVASHE_ERR_CAPACITY; status++) {
+    const char *sentence = cukvashe_strerror(status);
+    CHECK(was_returned[status]);
+    CHECK(strstr(sentence, words[status]) != NULL && strcmp(sentence, unknown) != 0);
+    for (int other = 0; other < status; other++) CHECK(strcmp(sentence, cukvashe_strerror(other)) != 0);
+  }
+  for (size_t i = 0; i < sizeof others / sizeof *others; i++) CHECK(cukvashe_strerror(others[i]) == unknown);
+}
+
+/* The numbers are part of the interface: programs that were built with others would go wrong. */
+static void has_numbers(void) {
+  const int statuses[] = {
+      CUKVASHE_OK, CUKVASHE_ERR_KEY_LENGTH, CUKVASHE_ERR_BLOCKS, CUKVASHE_ERR_WEAK_KEY, CUKVASHE_ERR_PADDING_METHOD,
+      CUKVASHE_ERR_TAG, CUKVASHE_ERR_NO_SERIAL, CUKVASHE_ERR_FORMAT, CUKVASHE_ERR_PIN_LENGTH, CUKVASHE_ERR_PIN_DIGIT,
+      CUKVASHE_ERR_ACCOUNT_LENGTH, CUKVASHE_ERR_ACCOUNT_DIGIT, CUKVASHE_ERR_FILL, CUKVASHE_ERR_EXPIRY_LENGTH,
+      CUKVASHE_ERR_EXPIRY_DIGIT, CUKVASHE_ERR_SERVICE_LENGTH, CUKVASHE_ERR_SERVICE_DIGIT, CUKVASHE_ERR_PADDING,
+      CUKVASHE_ERR_CAPACITY};
+  for (int i = 0; i < 19; i++) CHECK(statuses[i] == i);
+  CHECK(sizeof statuses / sizeof *statuses == 19);
+  CHECK(CUKVASHE_BLOCK_SIZE == 8 && CUKVASHE_TAG_SIZE == 8);
+  CHECK(CUKVASHE_DES_KEY_SIZE == 8 && CUKVASHE_TDES_EDE2_KEY_SIZE == 16 && CUKVASHE_TDES_EDE3_KEY_SIZE == 24);
+  CHECK(CUKVASHE_CBC_MAC_DES_KEY_SIZE == 8 && CUKVASHE_CBC_MAC_TDES_EDE2_KEY_SIZE == 16);
+  CHECK(CUKVASHE_CBC_MAC_TDES_EDE3_KEY_SIZE == 24 && CUKVASHE_RETAIL_MAC_DES_KEY_SIZE == 16);
+  CHECK(CUKVASHE_CMAC_TDES_EDE2_KEY_SIZE == 16 && CUKVASHE_CMAC_TDES_EDE3_KEY_SIZE == 24);
+  CHECK(CUKVASHE_CHECK_VALUE_SIZE == 3 && CUKVASHE_DUKPT_KEY_SIZE == 16 && CUKVASHE_DUKPT_SERIAL_SIZE == 10);
+  CHECK(CUKVASHE_FILL_SIZE == 10 && CUKVASHE_PIN_SIZE == 13 && CUKVASHE_CVV_SIZE == 4);
+  CHECK(CUKVASHE_PKCS7 == 1 && CUKVASHE_ISO7816 == 2);
+  CHECK(CUKVASHE_MAC_PADDING_1 == 1 && CUKVASHE_MAC_PADDING_2 == 2);
+  CHECK(sizeof(cukvashe_des) == 128 && sizeof(cukvashe_tdes_ede2) == 256 && sizeof(cukvashe_tdes_ede3) == 384);
+  CHECK(sizeof(cukvashe_cbc_mac_des) == 160 && sizeof(cukvashe_cbc_mac_tdes_ede2) == 288);
+  CHECK(sizeof(cukvashe_cbc_mac_tdes_ede3) == 416 && sizeof(cukvashe_retail_mac_des) == 288);
+  CHECK(sizeof(cukvashe_cmac_tdes_ede2) == 288 && sizeof(cukvashe_cmac_tdes_ede3) == 416);
+  CHECK(strcmp(cukvashe_version(), CUKVASHE_VERSION) == 0);
+}
+
+/* All of a buffer, a part of it, and nothing. */
+static void wipes(void) {
+  uint8_t bytes[40];
+  for (size_t size = 0; size <= MOST; size++) {
+    memset(bytes, PAINT, sizeof bytes);
+    cukvashe_wipe(bytes + 3, size);
+    for (size_t i = 0; i < sizeof bytes; i++) CHECK(bytes[i] == (3 <= i && i < 3 + size ? 0 : PAINT));
+  }
+  cukvashe_wipe(NULL, 0);
+}
+
+int main(void) {
+  for (int n = 0; n < CIPHERS; n++) {
+    refuses_keys(&ciphers[n]);
+    takes_lengths(&ciphers[n]);
+  }
+  for (int n = 0; n < MACS; n++) refuses_macs(&macs[n]);
+  returns_statuses();
+  has_sentences();
+  has_numbers();
+  wipes();
+  printf("refusals: every length from 0 to %d, every status and its sentence, every number of the header\n", MOST);
+  return 0;
+}

@@ -1,0 +1,89 @@
+"""DES and triple DES (FIPS 46-3), proved, over the shared library `libcukvashe_des.so`.
+
+    import cukvashe_des
+    cipher = cukvashe_des.TdesEde3(key)            # 24 bytes
+    plaintext = cipher.decrypt_cbc(iv, ciphertext)
+
+The library is the one in this package's folder, else the file that the environment variable CUKVASHE_DES_LIBRARY names, else
+that of `bindings/build`, else the one that the system finds.
+
+Data are bytes, bytearray, memoryview or anything else with a buffer; they are read once, and never changed but by the calls
+named `_into`, which work in place in anything writable and contiguous. Ciphers take whole blocks of 8 bytes: `pad` and `unpad`
+make them of other data.
+
+Messages are authenticated by objects as those of `hmac`, with `update`, `digest`, `hexdigest`, `copy` and `verify`:
+
+    mac = cukvashe_des.CmacTdesEde3(key)
+    mac.update(message)
+    mac.verify(tag)                                # TagMismatch, a ValueError, if it is not the tag
+
+`check_value` and `combine` make check values and keys of components, the calls named `dukpt_` the keys of a transaction,
+those named `pin_` PIN blocks, which are not encrypted, and `cvv` card verification values.
+
+A fault is a ValueError of its own name, an argument of the wrong type a TypeError. The texts of both tell lengths, and no other
+value that was given.
+
+Ciphers and MACs can be shared by threads. `close()` wipes the context of one, and so does the end of a `with` block, or of its
+last use. Python itself can't wipe `bytes` and `str`, neither those that you pass nor those that you get: keys that you pass in
+a `bytearray` you can overwrite.
+"""
+
+from __future__ import annotations
+
+from ._ciphers import Des, TdesEde2, TdesEde3
+from ._data import BLOCK_SIZE
+from ._faults import (
+    AccountDigit,
+    AccountLength,
+    BlockLength,
+    Closed,
+    ExpiryDigit,
+    ExpiryLength,
+    Fill,
+    FillLength,
+    Format,
+    KeyLength,
+    PaddingMethod,
+    PaddingMismatch,
+    PinDigit,
+    PinLength,
+    SerialLength,
+    ServiceDigit,
+    ServiceLength,
+    TagMismatch,
+    VectorLength,
+    WeakKey,
+)
+from ._keys import (
+    check_value,
+    combine,
+    dukpt_data_key,
+    dukpt_initial_key,
+    dukpt_is_usable,
+    dukpt_mac_key,
+    dukpt_next_serial,
+    dukpt_pin_key,
+    dukpt_transaction_key,
+    equal_but_parity,
+    is_weak_key,
+    with_odd_parity,
+)
+from ._macs import TAG_SIZE, CbcMacDes, CbcMacTdesEde2, CbcMacTdesEde3, CmacTdesEde2, CmacTdesEde3, RetailMacDes
+from ._padding import pad, unpad
+from ._payment import cvv, pin_decode_0, pin_decode_1, pin_decode_3, pin_encode_0, pin_encode_1, pin_encode_3
+from ._version import __version__
+
+__all__ = [
+    "AccountDigit", "AccountLength", "BLOCK_SIZE", "BlockLength", "CbcMacDes", "CbcMacTdesEde2", "CbcMacTdesEde3", "Closed",
+    "CmacTdesEde2", "CmacTdesEde3", "Des", "ExpiryDigit", "ExpiryLength", "Fill", "FillLength", "Format", "KeyLength",
+    "PaddingMethod", "PaddingMismatch", "PinDigit", "PinLength", "RetailMacDes", "SerialLength", "ServiceDigit",
+    "ServiceLength", "TAG_SIZE", "TagMismatch", "TdesEde2", "TdesEde3", "VectorLength", "WeakKey", "__version__", "check_value",
+    "combine", "cvv", "dukpt_data_key", "dukpt_initial_key", "dukpt_is_usable", "dukpt_mac_key", "dukpt_next_serial",
+    "dukpt_pin_key", "dukpt_transaction_key", "equal_but_parity", "is_weak_key", "pad", "pin_decode_0", "pin_decode_1",
+    "pin_decode_3", "pin_encode_0", "pin_encode_1", "pin_encode_3", "unpad", "with_odd_parity",
+]
+
+# Texts of errors and of `help` name the package, and not the file that defines a class.
+for _name in __all__:
+    if isinstance(globals()[_name], type):
+        globals()[_name].__module__ = __name__

@@ -1,0 +1,127 @@
+"""How bytes come in and go out, and how what holds a key is wiped."""
+
+from __future__ import annotations
+
+import contextlib
+import ctypes
+from typing import TYPE_CHECKING, Any, Iterator, NoReturn, Optional, Tuple, TypeVar, Union
+
+from ._faults import BlockLength, Closed, KeyLength, VectorLength
+from ._library import wipe
+
+if TYPE_CHECKING:
+    from _typeshed import ReadableBuffer, WriteableBuffer
+
+BLOCK_SIZE = 8
+
+
+def bytes_of(data: ReadableBuffer) -> bytes:
+    """The bytes of an object that has some. They are taken once, and what is given is not asked again, since another thread
+    may change it meanwhile, and a class of the caller's may say another length."""
+    if type(data) is bytes:
+        return data
+    with memoryview(data) as view:
+        return view.tobytes()
+
+
+@contextlib.contextmanager
+def key_of(key: ReadableBuffer, *sizes: int) -> Iterator[Any]:
+    """A copy of a key for one call, which is wiped then; a length that is none of the sizes is KeyLength."""
+    with memoryview(key) as view:
+        if view.nbytes not in sizes:
+            listed = " or ".join(map(str, sizes))
+            raise KeyLength(f"a key has {listed} bytes, not {view.nbytes}")
+        copied = bytearray(view)
+    held = (ctypes.c_uint8 * len(copied)).from_buffer(copied)
+    try:
+        yield held
+    finally:
+        wipe(held, len(copied))
+
+
+def vector_of(iv: ReadableBuffer) -> Any:
+    """A copy of an initialization vector, which a call may change."""
+    taken = bytes_of(iv)
+    if len(taken) != BLOCK_SIZE:
+        raise VectorLength(f"an initialization vector has {BLOCK_SIZE} bytes, not {len(taken)}")
+    return (ctypes.c_uint8 * BLOCK_SIZE).from_buffer_copy(taken)
+
+
+def block_of(block: ReadableBuffer) -> bytes:
+    """The bytes of one block."""
+    taken = bytes_of(block)
+    if len(taken) != BLOCK_SIZE:
+        raise BlockLength(f"a PIN block has {BLOCK_SIZE} bytes, not {len(taken)}")
+    return taken
+
+
+def text_of(digits: Union[str, ReadableBuffer]) -> Tuple[bytes, int]:
+    """A text, of str or of bytes, and its length. A character beyond ASCII becomes one that is no digit either."""
+    text = str.encode(digits, "ascii", "replace") if isinstance(digits, str) else bytes_of(digits)
+    return text, len(text)
+
+
+def room(size: int) -> Any:
+    """Memory of `size` bytes, for a call to write."""
+    return (ctypes.c_uint8 * size)()
+
+
+def bytes_from(made: Any) -> bytes:
+    """The bytes that a call wrote; the memory that it wrote is wiped."""
+    answer = bytes(made)
+    wipe(made, len(answer))
+    return answer
+
+
+def pointer_to(data: WriteableBuffer) -> Any:
+    """Where data begin that a call may write. As long as the call has this pointer, nobody changes their length."""
+    return ctypes.byref(ctypes.c_uint8.from_buffer(data))
+
+
+def is_writable(view: memoryview) -> bool:
+    """Whether a call can work on the data in place."""
+    return not view.readonly and view.c_contiguous
+
+
+def _wipe_context(context: Any) -> None:
+    wipe(context, ctypes.sizeof(context))
+
+
+def context_type(words: int) -> Any:
+    """A type of contexts. A context is wiped when the last that uses it lets it go, be it an object or a call that still
+    runs in another thread."""
+    return type("Context", (ctypes.c_uint64 * words,), {"__del__": _wipe_context})
+
+
+_Self = TypeVar("_Self", bound="Keyed")
+
+
+class Keyed:
+    """What holds a context, and so a key."""
+
+    __slots__ = ("_context",)
+
+    _context: Optional[Any]
+
+    def _open(self) -> Any:
+        """The context. The caller keeps it in use until its call has ended, which keeps it from being wiped."""
+        context = self._context
+        if context is None:
+            raise Closed("the object was closed")
+        return context
+
+    def close(self) -> None:
+        """Forgets the key: the context is wiped, once no call uses it. Every later call raises Closed."""
+        self._context = None
+
+    def __enter__(self: _Self) -> _Self:
+        return self
+
+    def __exit__(self, *_: object) -> None:
+        self.close()
+
+    def __repr__(self) -> str:
+        return f"{type(self).__name__} {{ ... }}"
+
+    def __reduce__(self) -> NoReturn:
+        raise TypeError("what holds a key is neither pickled nor copied by the module copy")

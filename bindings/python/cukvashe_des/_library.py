@@ -1,0 +1,74 @@
+"""Finds the shared library and declares its calls."""
+
+from __future__ import annotations
+
+import ctypes
+import os
+from typing import Any, Callable
+
+from ._version import __version__
+
+# The statuses of the header.
+OK = 0
+KEY_LENGTH = 1
+BLOCKS = 2
+WEAK_KEY = 3
+PADDING_METHOD = 4
+TAG = 5
+NO_SERIAL = 6
+FORMAT = 7
+PIN_LENGTH = 8
+PIN_DIGIT = 9
+ACCOUNT_LENGTH = 10
+ACCOUNT_DIGIT = 11
+FILL = 12
+EXPIRY_LENGTH = 13
+EXPIRY_DIGIT = 14
+SERVICE_LENGTH = 15
+SERVICE_DIGIT = 16
+PADDING = 17
+CAPACITY = 18
+
+POINTER, SIZE, INT, BOOL = ctypes.c_void_p, ctypes.c_size_t, ctypes.c_int, ctypes.c_bool
+
+_FILE = "libcukvashe_des.so"
+
+
+def _place() -> str:
+    """The library in the package, else the one that is named, else the one that is built, else the system's."""
+    package = os.path.dirname(os.path.abspath(__file__))
+    packaged = os.path.join(package, _FILE)
+    built = os.path.join(package, os.pardir, os.pardir, "out", "lib", _FILE)
+    named = os.environ.get("CUKVASHE_DES_LIBRARY")
+    if os.path.exists(packaged):
+        return packaged
+    return named or (built if os.path.exists(built) else _FILE + ".1")
+
+
+def _load() -> ctypes.CDLL:
+    """The library. Another version could need more memory for a context than this package gives it."""
+    place = _place()
+    try:
+        loaded = ctypes.CDLL(place)
+        ask = loaded.cukvashe_version
+    except (OSError, AttributeError) as error:
+        raise ImportError(f"{place} is not the library: run bindings/build, or name it by CUKVASHE_DES_LIBRARY") from error
+    ask.restype = ctypes.c_char_p
+    version = ask().decode("ascii")
+    if version.split(".")[:2] != __version__.split(".")[:2]:
+        raise ImportError(f"{place} has version {version}, and the package version {__version__}")
+    return loaded
+
+
+_library = _load()
+
+
+def function(name: str, result: Any, *arguments: Any) -> Callable[..., Any]:
+    """A call of the library, by its name without `cukvashe_`."""
+    call = getattr(_library, "cukvashe_" + name)
+    call.restype = result
+    call.argtypes = arguments
+    return call  # type: ignore[no-any-return]
+
+
+wipe = function("wipe", None, POINTER, SIZE)

@@ -1,0 +1,49 @@
+"""Padding of data to whole blocks, and back."""
+
+from __future__ import annotations
+
+import ctypes
+from typing import TYPE_CHECKING
+
+from ._data import BLOCK_SIZE, bytes_of, pointer_to
+from ._faults import BlockLength, PaddingMethod, PaddingMismatch
+from ._library import BLOCKS, INT, OK, POINTER, SIZE, function
+
+if TYPE_CHECKING:
+    from _typeshed import ReadableBuffer
+
+_METHODS = {"pkcs7": 1, "iso7816": 2}
+
+_pad = function("pad", INT, POINTER, SIZE, SIZE, INT, POINTER)
+_unpad = function("unpad", INT, POINTER, SIZE, INT, POINTER)
+
+
+def _method_of(method: str) -> int:
+    """The number of a method. What is given in its place may be a secret, so no text tells it."""
+    if not isinstance(method, str):
+        raise TypeError('the padding method, the second argument, is "pkcs7" or "iso7816"')
+    number = _METHODS.get(method)
+    if number is None:
+        raise PaddingMethod('padding is by "pkcs7" or "iso7816"')
+    return number
+
+
+def pad(data: ReadableBuffer, method: str) -> bytes:
+    """The data with 1 to 8 bytes after them that make whole blocks: by "pkcs7" (RFC 5652, section 6.3) each the number of
+    these bytes, by "iso7816" (ISO/IEC 7816-4) 80 in hexadecimal digits and then zeros."""
+    number, given, length = _method_of(method), bytes_of(data), SIZE()
+    buffer = bytearray(given) + bytes(BLOCK_SIZE)
+    _pad(pointer_to(buffer), len(given), len(buffer), number, ctypes.byref(length))
+    return bytes(buffer[: length.value])
+
+
+def unpad(data: ReadableBuffer, method: str) -> bytes:
+    """The data before the padding. PaddingMismatch where they do not end with it: whoever can send you data and learns which
+    of them raise it, by a message or by the time that it takes, can decrypt. Verify a MAC first."""
+    number, given, length = _method_of(method), bytes_of(data), SIZE()
+    status = _unpad(given, len(given), number, ctypes.byref(length))
+    if status == BLOCKS:
+        raise BlockLength(f"{len(given)} bytes are not whole blocks of {BLOCK_SIZE}")
+    if status != OK:
+        raise PaddingMismatch("the data do not end with the padding")
+    return given[: length.value]

@@ -1,0 +1,94 @@
+"""PIN blocks (ISO 9564-1) and card verification values."""
+
+from __future__ import annotations
+
+from typing import TYPE_CHECKING, Any, Callable, Union
+
+from ._data import BLOCK_SIZE, block_of, bytes_from, bytes_of, key_of, room, text_of
+from ._faults import FillLength, check
+from ._library import INT, POINTER, SIZE, function
+
+if TYPE_CHECKING:
+    from _typeshed import ReadableBuffer
+
+    _Text = Union[str, ReadableBuffer]
+
+_PIN_SIZE = 13
+_CVV_SIZE = 4
+
+_encode_0 = function("pin_encode_0", INT, POINTER, SIZE, POINTER, SIZE, POINTER)
+_encode_1 = function("pin_encode_1", INT, POINTER, SIZE, POINTER, POINTER)
+_encode_3 = function("pin_encode_3", INT, POINTER, SIZE, POINTER, SIZE, POINTER, POINTER)
+_decode_0 = function("pin_decode_0", INT, POINTER, POINTER, SIZE, POINTER)
+_decode_1 = function("pin_decode_1", INT, POINTER, POINTER)
+_decode_3 = function("pin_decode_3", INT, POINTER, POINTER, SIZE, POINTER)
+_cvv = function("cvv", INT, POINTER, POINTER, SIZE, POINTER, SIZE, POINTER, SIZE, POINTER)
+
+
+def _fill_of(digits: ReadableBuffer) -> bytes:
+    """Ten digits of four bits, one in a byte."""
+    taken = bytes_of(digits)
+    if len(taken) != 10:
+        raise FillLength(f"there are ten fill digits, not {len(taken)}")
+    return taken
+
+
+def _encoded(call: Callable[..., Any], *arguments: Any) -> bytes:
+    """The PIN block that a call makes."""
+    block = room(BLOCK_SIZE)
+    check(call(*arguments, block))
+    return bytes_from(block)
+
+
+def _text(made: Any) -> str:
+    """The text that a call wrote, up to its zero byte."""
+    return bytes_from(made).partition(b"\0")[0].decode("ascii")
+
+
+def _decoded(call: Callable[..., Any], block: ReadableBuffer, *account: Any) -> str:
+    """The PIN that a call reads from a block."""
+    pin = room(_PIN_SIZE)
+    check(call(block_of(block), *account, pin))
+    return _text(pin)
+
+
+def pin_encode_0(pin: _Text, account: _Text) -> bytes:
+    """The PIN block of format 0, 8 bytes, of a PIN of 4 to 12 digits and an account number of 13 to 19 with the check digit,
+    as str or bytes of digits. It is not encrypted."""
+    return _encoded(_encode_0, *text_of(pin), *text_of(account))
+
+
+def pin_encode_1(pin: _Text, transaction: ReadableBuffer) -> bytes:
+    """The PIN block of format 1 of a PIN and ten transaction digits, bytes from 0 to 15, of which it uses the first ones
+    that there is room for."""
+    return _encoded(_encode_1, *text_of(pin), _fill_of(transaction))
+
+
+def pin_encode_3(pin: _Text, account: _Text, fill: ReadableBuffer) -> bytes:
+    """The PIN block of format 3 of a PIN, an account number, and ten fill digits, random bytes from 10 to 15, of which it uses
+    the first ones that there is room for."""
+    return _encoded(_encode_3, *text_of(pin), *text_of(account), _fill_of(fill))
+
+
+def pin_decode_0(block: ReadableBuffer, account: _Text) -> str:
+    """The PIN of a block of format 0 and an account number. Which error is raised tells of the PIN: show no one."""
+    return _decoded(_decode_0, block, *text_of(account))
+
+
+def pin_decode_1(block: ReadableBuffer) -> str:
+    """The PIN of a block of format 1."""
+    return _decoded(_decode_1, block)
+
+
+def pin_decode_3(block: ReadableBuffer, account: _Text) -> str:
+    """The PIN of a block of format 3 and an account number."""
+    return _decoded(_decode_3, block, *text_of(account))
+
+
+def cvv(key: ReadableBuffer, account: _Text, expiry: _Text, service: _Text) -> str:
+    """The card verification value, three digits, under a key pair of 16 bytes, of an account number of 13 to 19 digits,
+    an expiry date of four and a service code of three, as str or bytes of digits."""
+    value = room(_CVV_SIZE)
+    with key_of(key, 16) as held:
+        check(_cvv(held, *text_of(account), *text_of(expiry), *text_of(service), value))
+    return _text(value)

@@ -1,0 +1,3 @@
+"""The version of the package, which is that of its library."""
+
+__version__ = "0.1.0"

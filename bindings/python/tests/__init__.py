@@ -1,0 +1,1 @@
+"""Tests of the package: answers beside known ones, kinds of data, texts, threads, and what is refused."""

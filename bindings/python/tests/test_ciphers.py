@@ -1,0 +1,108 @@
+"""The ciphers: one table over all of them, beside known answers."""
+
+import unittest
+
+from cukvashe_des import BlockLength, Des, KeyLength, VectorLength
+
+from .values import ANSWERS, CIPHERS, COUNTS, IV, KEY, LENGTHS, TEXT, known_ciphertexts
+
+# The first byte is 0, which the end of a text would be.
+CHAIN_IV = bytes.fromhex("0034567890abcdef")
+
+
+class KnownAnswers(unittest.TestCase):
+    """Each call of a cipher makes the answer, and the call of the other direction takes it back."""
+
+    def electronic_codebook(self, cipher, plain, answer):
+        self.assertEqual(cipher.encrypt_ecb(plain), answer)
+        self.assertEqual(cipher.decrypt_ecb(answer), plain)
+        data = bytearray(plain)
+        self.assertIsNone(cipher.encrypt_ecb_into(data))
+        self.assertEqual(data, answer)
+        self.assertIsNone(cipher.decrypt_ecb_into(data))
+        self.assertEqual(data, plain)
+
+    def chain(self, cipher, iv, plain, answer):
+        self.assertEqual(cipher.encrypt_cbc(iv, plain), answer)
+        self.assertEqual(cipher.decrypt_cbc(iv, answer), plain)
+        data, last = bytearray(plain), (iv + answer)[-8:]
+        self.assertEqual(cipher.encrypt_cbc_into(iv, data), last)
+        self.assertEqual(data, answer)
+        self.assertEqual(cipher.decrypt_cbc_into(iv, data), last)
+        self.assertEqual(data, plain)
+
+    def test_published(self):
+        met = set()
+        for name, key, plain, answer, iv in known_ciphertexts():
+            kind = CIPHERS.get(name.partition("-")[0])
+            if kind is None:
+                continue
+            met.add(name)
+            if iv:
+                self.chain(kind(key), iv, plain, answer)
+            else:
+                self.electronic_codebook(kind(key), plain, answer)
+        self.assertLessEqual({"des", "ede2", "ede3", "des-cbc", "ede3-cbc"}, met)
+
+    def test_lists(self):
+        """The published blocks, again and again. A chain of their answers is decrypted to each block xor the answer before it,
+        so its encryption gives the answers back."""
+        for kind, answer in ANSWERS.items():
+            cipher = kind(KEY[: kind.key_size])
+            for count in COUNTS:
+                plain, encrypted = (TEXT * 200)[: 8 * count], (answer * 200)[: 8 * count]
+                before = (CHAIN_IV + encrypted)[: 8 * count]
+                self.electronic_codebook(cipher, plain, encrypted)
+                self.chain(cipher, CHAIN_IV, bytes(byte ^ other for byte, other in zip(plain, before)), encrypted)
+
+    def test_chain_in_pieces(self):
+        """What the calls in place make of pieces is what the call of the whole makes, in both directions."""
+        for kind in ANSWERS:
+            cipher, blocks = kind(KEY[: kind.key_size]), bytes(range(256)) * 24
+            chained = cipher.encrypt_cbc(IV, blocks)
+            for call, whole, made in ((cipher.encrypt_cbc_into, blocks, chained), (cipher.decrypt_cbc_into, chained, blocks)):
+                vector, pieces = IV, bytearray(whole)
+                for start, end in ((0, 8), (8, 8), (8, 2056), (2056, len(pieces))):
+                    vector = call(vector, memoryview(pieces)[start:end])
+                self.assertEqual((pieces, vector), (made, chained[-8:]))
+
+
+class Lengths(unittest.TestCase):
+    def test_keys(self):
+        for kind in ANSWERS:
+            for length in LENGTHS:
+                if length == kind.key_size:
+                    self.assertIsInstance(kind(bytes(length)), kind)
+                else:
+                    self.assertRaisesRegex(KeyLength, f"not {length}$", kind, bytes(length))
+
+    def test_data(self):
+        """Each call refuses each length that is not whole blocks, and those in place change nothing."""
+        for kind in ANSWERS:
+            cipher = kind(KEY[: kind.key_size])
+            for length in [length for length in (*LENGTHS, 1023, 1025, 2047, 4801) if length % 8]:
+                for call in (cipher.encrypt_ecb, cipher.decrypt_ecb, cipher.encrypt_ecb_into, cipher.decrypt_ecb_into):
+                    data = bytearray(b"\x5a" * length)
+                    self.assertRaisesRegex(BlockLength, f"^{length} bytes", call, data)
+                    self.assertEqual(data, b"\x5a" * length)
+                for call in (cipher.encrypt_cbc, cipher.decrypt_cbc, cipher.encrypt_cbc_into, cipher.decrypt_cbc_into):
+                    data, iv = bytearray(b"\x5a" * length), bytearray(IV)
+                    self.assertRaisesRegex(BlockLength, f"^{length} bytes", call, iv, data)
+                    self.assertEqual((data, iv), (b"\x5a" * length, IV))
+
+    def test_vectors(self):
+        for kind in ANSWERS:
+            cipher = kind(KEY[: kind.key_size])
+            for length in LENGTHS:
+                for call in (cipher.encrypt_cbc, cipher.decrypt_cbc, cipher.encrypt_cbc_into, cipher.decrypt_cbc_into):
+                    data = bytearray(TEXT)
+                    if length == 8:
+                        call(bytes(length), data)
+                    else:
+                        self.assertRaisesRegex(VectorLength, f"not {length}$", call, bytes(length), data)
+                        self.assertEqual(data, TEXT)
+
+    def test_sizes(self):
+        """What the classes say of themselves."""
+        self.assertEqual([(kind.key_size, kind.block_size) for kind in ANSWERS], [(8, 8), (16, 8), (24, 8)])
+        self.assertEqual(Des(bytearray(KEY[:8])).encrypt_ecb(TEXT), ANSWERS[Des])

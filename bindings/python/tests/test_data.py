@@ -1,0 +1,422 @@
+"""What is given: data of every kind, read once and never changed; and what becomes of memory that held a key."""
+
+import array
+import copy
+import ctypes
+import gc
+import pickle
+import sys
+import threading
+import unittest
+from unittest import mock
+
+from cukvashe_des import (
+    BlockLength,
+    Closed,
+    CmacTdesEde3,
+    Des,
+    TagMismatch,
+    TdesEde3,
+    _ciphers,
+    _data,
+    _library,
+)
+
+from .values import ANSWERS, CALLS, CMACS, FUNCTIONS, IV, KEY, MESSAGE, OBJECTS, PADDED_MACS, TEXT
+
+
+def views(value):
+    """The same bytes as data of other kinds: in the middle of others, of every second byte, turned round, in rows, in words."""
+    yield bytearray(value)
+    yield memoryview(value)
+    yield memoryview(bytearray(b"head" + value + b"tail"))[4 : 4 + len(value)].toreadonly()
+    yield memoryview(bytes(byte for pair in zip(value, value[::-1]) for byte in pair))[::2]
+    yield memoryview(value[::-1])[::-1]
+    yield (ctypes.c_uint8 * len(value)).from_buffer_copy(value)
+    if value and len(value) % 2 == 0:
+        yield memoryview(value).cast("B", (2, len(value) // 2))
+        yield array.array("H", value)
+    if len(value) % 8 == 0:
+        yield array.array("Q", value)
+        yield (ctypes.c_uint64 * (len(value) // 8)).from_buffer_copy(value)
+
+
+class Kinds(unittest.TestCase):
+    def test_every_call(self):
+        """Each argument of each call as data of each kind, which stay as they were."""
+        for call, arguments in CALLS:
+            answer = call(*arguments)
+            for at, value in enumerate(arguments):
+                for view in views(value) if isinstance(value, bytes) else ():
+                    self.assertEqual(call(*arguments[:at], view, *arguments[at + 1 :]), answer)
+                    self.assertEqual(memoryview(view).tobytes(), value)
+
+    def test_every_object(self):
+        for kind, arguments in OBJECTS:
+            answer = kind(*arguments)
+            for at, value in enumerate(arguments):
+                for view in views(value) if isinstance(value, bytes) else ():
+                    made = kind(*arguments[:at], view, *arguments[at + 1 :])
+                    self.assertEqual(memoryview(view).tobytes(), value)
+                    if kind in ANSWERS:
+                        self.assertEqual(made.encrypt_ecb(TEXT), answer.encrypt_ecb(TEXT))
+                    else:
+                        self.assertEqual(made.digest(), answer.digest())
+
+    def test_update(self):
+        for kind, arguments in OBJECTS[len(ANSWERS) :]:
+            for view in views(MESSAGE):
+                made = kind(*arguments[:-1])
+                made.update(view)
+                self.assertEqual(made.digest(), kind(*arguments).digest())
+                self.assertEqual(memoryview(view).tobytes(), MESSAGE)
+
+    def test_other_types(self):
+        """What has no buffer is a TypeError in each place for data."""
+        for call, arguments in CALLS + OBJECTS:
+            for at, value in enumerate(arguments):
+                for other in (None, 3, [1, 2, 3], 1.5) if isinstance(value, bytes) else ():
+                    self.assertRaises(TypeError, call, *arguments[:at], other, *arguments[at + 1 :])
+        for kind in ANSWERS:
+            self.assertRaises(TypeError, kind, "0123456789abcdef01234567"[: kind.key_size])
+            self.assertRaises(TypeError, kind(KEY[: kind.key_size]).encrypt_ecb, "text of 16 bytes")
+
+
+class InPlace(unittest.TestCase):
+    def calls(self):
+        """Of each cipher the calls in place, each with what it makes of TEXT."""
+        for kind in ANSWERS:
+            cipher = kind(KEY[: kind.key_size])
+            yield cipher.encrypt_ecb_into, cipher.encrypt_ecb(TEXT)
+            yield cipher.decrypt_ecb_into, cipher.decrypt_ecb(TEXT)
+            yield lambda data, cipher=cipher: cipher.encrypt_cbc_into(IV, data), cipher.encrypt_cbc(IV, TEXT)
+            yield lambda data, cipher=cipher: cipher.decrypt_cbc_into(IV, data), cipher.decrypt_cbc(IV, TEXT)
+
+    def test_writable(self):
+        for call, answer in self.calls():
+            around = bytearray(b"head" + TEXT + b"tail")
+            call(memoryview(around)[4:28])
+            self.assertEqual(around, b"head" + answer + b"tail")
+            for data in (bytearray(TEXT), array.array("Q", TEXT), (ctypes.c_uint64 * 3).from_buffer_copy(TEXT)):
+                call(data)
+                self.assertEqual(bytes(data), answer)
+            data = bytearray(TEXT)
+            call(memoryview(data).cast("B", (3, 8)))
+            self.assertEqual(data, answer)
+
+    def test_refused(self):
+        """What can't be written, or lies in pieces, is a TypeError and stays as it was."""
+        for call, _ in self.calls():
+            spread = bytearray(byte for pair in zip(TEXT, TEXT) for byte in pair)
+            data = bytearray(TEXT)
+            for view in (TEXT, memoryview(TEXT), memoryview(data).toreadonly(), memoryview(spread)[::2], memoryview(data)[::-1]):
+                self.assertRaises(TypeError, call, view)
+            self.assertEqual((data, spread[::2], spread[1::2]), (TEXT, TEXT, TEXT))
+            for view in (TEXT[:7], "text of 24 bytes, quite", None, 8):
+                self.assertRaises(TypeError, call, view)
+
+    def test_nothing(self):
+        for kind in ANSWERS:
+            cipher = kind(KEY[: kind.key_size])
+            cipher.encrypt_ecb_into(bytearray())
+            self.assertEqual(cipher.encrypt_cbc_into(IV, array.array("Q")), IV)
+            self.assertEqual((cipher.encrypt_ecb(b""), cipher.decrypt_cbc(IV, b"")), (b"", b""))
+
+    def test_length_is_kept(self):
+        """As long as a call works on a bytearray, nobody can make it shorter."""
+        cipher, data, tried = Des(KEY[:8]), bytearray(TEXT), []
+
+        def shortening(*_):
+            self.assertRaises(BufferError, data.clear)
+            tried.append(True)
+            return _library.OK
+
+        with mock.patch.object(Des, "_encrypt_ecb", shortening), mock.patch.object(Des, "_decrypt_cbc", shortening):
+            cipher.encrypt_ecb_into(data)
+            cipher.decrypt_cbc_into(IV, data)
+        self.assertEqual(len(tried), 2)
+        data.clear()
+
+
+class OnceAlone(unittest.TestCase):
+    """What is given is read once: what becomes of it later, by another thread, changes no answer and is read nowhere."""
+
+    READERS = {_data.bytes_of.__code__: "data", _data.key_of.__wrapped__.__code__: "key"}
+
+    def emptied(self, call, arguments):
+        """The answer of a call whose arguments are emptied as soon as one function of the package has read them."""
+
+        def profile(frame, event, _):
+            if event == "return" and frame.f_code in self.READERS:
+                given = frame.f_locals[self.READERS[frame.f_code]]
+                if isinstance(given, bytearray):
+                    given.clear()
+
+        sys.setprofile(profile)
+        try:
+            return call(*arguments)
+        finally:
+            sys.setprofile(None)
+
+    def test_emptied(self):
+        for call, arguments in CALLS:
+            given = [bytearray(value) if isinstance(value, bytes) else value for value in arguments]
+            self.assertEqual(self.emptied(call, given), call(*arguments))
+            self.assertFalse(any(value for value in given if isinstance(value, bytearray)))
+        for kind, arguments in OBJECTS:
+            given = [bytearray(value) if isinstance(value, bytes) else value for value in arguments]
+            one, other = self.emptied(kind, given), kind(*arguments)
+            self.assertFalse(any(value for value in given if isinstance(value, bytearray)))
+            if kind in ANSWERS:
+                self.assertEqual(one.encrypt_ecb(TEXT), other.encrypt_ecb(TEXT))
+            else:
+                self.emptied(one.update, [bytearray(TEXT)])
+                other.update(TEXT)
+                self.assertEqual(one.digest(), other.digest())
+
+    def test_one_view(self):
+        """No function takes the buffer of an argument twice, between which another thread could change it."""
+        taken = []
+
+        def counting(data):
+            taken.append(id(data))
+            return memoryview(data)
+
+        with mock.patch.object(_data, "memoryview", counting, create=True), \
+                mock.patch.object(_ciphers, "memoryview", counting, create=True):
+            for call, arguments in CALLS + OBJECTS:
+                given = [bytearray(value) if isinstance(value, bytes) else value for value in arguments]
+                taken.clear()
+                call(*given)
+                self.assertEqual(sorted(taken), sorted(id(value) for value in given if isinstance(value, bytearray)))
+            for kind in ANSWERS:
+                iv, data = bytearray(IV), bytearray(TEXT)
+                cipher = kind(KEY[: kind.key_size])
+                taken.clear()
+                cipher.decrypt_cbc_into(iv, data)
+                self.assertEqual(sorted(taken), sorted([id(iv), id(data)]))
+
+    def test_other_lengths(self):
+        """A class that says another length than it has, in `len`, is taken for the bytes that it has."""
+
+        class Said(bytes):
+            def __len__(self):
+                return self.said
+
+            said = 24
+
+        for call, arguments in OBJECTS + CALLS:
+            for at, value in enumerate(arguments):
+                for said in (0, 7, 8, 10, 16, 24, 32) if isinstance(value, bytes) else ():
+                    lying, short = Said(value), Said(value[:-3])
+                    lying.said = short.said = said
+                    for given, same in ((lying, value), (short, value[:-3])):
+                        one, other = (self.outcome(call, arguments, at, data) for data in (given, same))
+                        self.assertEqual(one, other)
+
+    def outcome(self, call, arguments, at, value):
+        """What a call answers with another value at a place, or its error; of an object what it makes of a text."""
+        try:
+            answer = call(*arguments[:at], value, *arguments[at + 1 :])
+        except ValueError as error:
+            return type(error), str(error)
+        if hasattr(answer, "encrypt_ecb"):
+            return answer.encrypt_ecb(TEXT)
+        return answer.digest() if hasattr(answer, "digest") else answer
+
+
+class Threads(unittest.TestCase):
+    """ctypes lets other threads run while a call works."""
+
+    def together(self, count, work):
+        """Runs work in threads that begin at once; an error of one fails the test."""
+        begin, errors = threading.Barrier(count), []
+
+        def run(number):
+            try:
+                begin.wait()
+                work(number)
+            except BaseException as error:
+                errors.append(error)
+
+        threads = [threading.Thread(target=run, args=(number,)) for number in range(count)]
+        for thread in threads:
+            thread.start()
+        for thread in threads:
+            thread.join()
+        if errors:
+            raise errors[0]
+
+    def test_cipher(self):
+        """One cipher in four threads, both ways."""
+        cipher, plain = TdesEde3(KEY), TEXT * 2000
+        encrypted, chained = cipher.encrypt_ecb(plain), cipher.encrypt_cbc(IV, plain)
+
+        def work(_):
+            for _ in range(8):
+                self.assertEqual(cipher.encrypt_ecb(plain), encrypted)
+                self.assertEqual(cipher.decrypt_ecb(encrypted), plain)
+                self.assertEqual(cipher.decrypt_cbc(IV, chained), plain)
+
+        self.together(4, work)
+
+    def test_mac(self):
+        """One MAC, to which four threads add the same bytes in pieces that are no whole blocks."""
+        for kind in PADDED_MACS + CMACS:
+            method = () if kind in CMACS else (2,)
+            mac, piece = kind(KEY[: kind.key_size], *method), b"x" * 30011
+
+            def work(_):
+                for _ in range(10):
+                    mac.update(piece)
+                    mac.copy().digest()
+
+            self.together(4, work)
+            self.assertEqual(mac.digest(), kind(KEY[: kind.key_size], *method, piece * 40).digest())
+
+    def test_closing(self):
+        """A cipher that another thread closes answers right, or not at all."""
+        for _ in range(20):
+            cipher, plain = TdesEde3(KEY), TEXT * 500
+            answer = ANSWERS[TdesEde3] * 500
+
+            def work(number):
+                if number == 0:
+                    cipher.close()
+                    return
+                try:
+                    for _ in range(20):
+                        self.assertEqual(cipher.encrypt_ecb(plain), answer)
+                except Closed:
+                    pass
+
+            self.together(4, work)
+
+
+class Wiped(unittest.TestCase):
+    """Memory that held a key is wiped as soon as nothing uses it."""
+
+    def setUp(self):
+        self.wiped = []
+        real = _data.wipe
+
+        def wipe(memory, size):
+            self.assertEqual(ctypes.sizeof(memory), size)
+            real(memory, size)
+            self.assertFalse(any(bytes(memory)))
+            self.wiped.append(size)
+
+        patched = mock.patch.object(_data, "wipe", wipe)
+        patched.start()
+        self.addCleanup(patched.stop)
+
+    def test_objects(self):
+        """The copy of the key at once; the context by close, by the end of `with`, and by the end of the last use."""
+        for kind, arguments in OBJECTS:
+            size = ctypes.sizeof(kind._context_type)
+            self.assertEqual(size, 8 * kind._words)
+
+            def closed():
+                made = kind(*arguments)
+                made.close()
+                self.assertEqual(self.wiped, [kind.key_size, size])
+
+            def left():
+                with kind(*arguments) as made:
+                    self.assertIsInstance(made, kind)
+                    self.assertEqual(self.wiped, [kind.key_size])
+                self.assertEqual(self.wiped, [kind.key_size, size])
+
+            def dropped():
+                kind(*arguments)
+
+            for use in (closed, left, dropped):
+                self.wiped.clear()
+                use()
+                gc.collect()
+                self.assertEqual(self.wiped, [kind.key_size, size])
+
+    def test_copies(self):
+        """A copy of a MAC has a context of its own, which stays when the other is closed."""
+        for kind, arguments in OBJECTS[len(ANSWERS) :]:
+            one = kind(*arguments)
+            other, tag = one.copy(), one.digest()
+            self.wiped.clear()
+            one.close()
+            self.assertEqual(self.wiped, [8 * kind._words])
+            self.assertEqual(other.digest(), tag)
+
+    def test_refused_key(self):
+        self.assertRaises(ValueError, CmacTdesEde3, KEY[:16])
+        self.assertRaises(ValueError, PADDED_MACS[0], KEY[:8], 3)
+        gc.collect()
+        self.assertIn(8, self.wiped)
+
+    def test_functions(self):
+        """Each function that takes keys wipes its copies, and the memory in which a key or a PIN was made."""
+        for call, arguments in FUNCTIONS:
+            self.wiped.clear()
+            answer = call(*arguments)
+            name = call.__name__
+            if name in ("dukpt_next_serial", "dukpt_is_usable", "pad", "unpad"):
+                continue
+            self.assertTrue(self.wiped, name)
+            if name.startswith("dukpt_"):
+                self.assertEqual(sorted(self.wiped), [16, len(answer)])
+            if name.startswith("pin_decode"):
+                self.assertEqual(self.wiped, [13])
+
+    def test_while_a_call_runs(self):
+        """Where another thread closes a cipher, its context stays until the call is done."""
+        for call, name in (("encrypt_ecb", "_encrypt_ecb_to"), ("encrypt_ecb_into", "_encrypt_ecb")):
+            cipher = Des(KEY[:8])
+            self.wiped.clear()
+
+            def closing(context, *_):
+                cipher.close()
+                gc.collect()
+                self.assertTrue(any(context))
+                self.assertEqual(self.wiped, [])
+                return _library.OK
+
+            with mock.patch.object(Des, name, closing):
+                getattr(cipher, call)(bytearray(TEXT))
+            gc.collect()
+            self.assertEqual(self.wiped, [8 * Des._words])
+
+    def test_closed(self):
+        """A closed object refuses each call, and can be closed again."""
+        for kind, arguments in OBJECTS:
+            made = kind(*arguments)
+            made.close()
+            made.close()
+            data = bytearray(TEXT)
+            if kind in ANSWERS:
+                calls = [(made.encrypt_ecb, data), (made.decrypt_ecb, data), (made.encrypt_ecb_into, data)]
+                calls += [(made.decrypt_ecb_into, data), (made.encrypt_cbc, IV, data), (made.decrypt_cbc, IV, data)]
+                calls += [(made.encrypt_cbc_into, IV, data), (made.decrypt_cbc_into, IV, data)]
+            else:
+                calls = [(made.update, data), (made.digest,), (made.hexdigest,), (made.verify, data), (made.copy,)]
+            for call, *arguments in calls:
+                self.assertRaises(Closed, call, *arguments)
+            self.assertEqual(data, TEXT)
+            self.assertRaises(Closed, made.__enter__().copy if kind not in ANSWERS else lambda: made.encrypt_ecb(b""))
+
+    def test_not_pickled(self):
+        for kind, arguments in OBJECTS:
+            made = kind(*arguments)
+            for call in (pickle.dumps, copy.copy, copy.deepcopy):
+                self.assertRaises(TypeError, call, made)
+
+
+class Faults(unittest.TestCase):
+    def test_message_goes_on(self):
+        """A refused call leaves a MAC and a cipher as they were."""
+        mac = CmacTdesEde3(KEY, TEXT)
+        tag = mac.digest()
+        self.assertRaises(TagMismatch, mac.verify, bytes(8))
+        self.assertRaises(TypeError, mac.update, "text")
+        self.assertEqual(mac.digest(), tag)
+        cipher = TdesEde3(KEY)
+        self.assertRaises(BlockLength, cipher.encrypt_ecb, TEXT[:-1])
+        self.assertEqual(cipher.encrypt_ecb(TEXT), ANSWERS[TdesEde3])

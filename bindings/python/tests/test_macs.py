@@ -1,0 +1,97 @@
+"""The message authentication codes: one table over all of them, beside known answers."""
+
+import unittest
+
+import cukvashe_des
+from cukvashe_des import CmacTdesEde2, CmacTdesEde3, KeyLength, PaddingMethod, TagMismatch
+
+from .values import CMACS, COUNTS, KEY, LENGTHS, PADDED_MACS, TEXT, known_macs
+
+# The examples of CMAC over triple DES that go with NIST SP 800-38B: the length of the message, the tags under three keys and two.
+THREE = bytes.fromhex("8aa83bf8cbda10620bc1bf19fbb6cd58bc313d4a371ca8b5")
+TWO = bytes.fromhex("4cf15134a2850dd58a3d10ba80570d38")
+MESSAGE = bytes.fromhex("6bc1bee22e409f96e93d7e117393172aae2d8a571e03ac9c9eb76fac45af8e51")
+CMAC = [
+    (0, "b7a688e122ffaf95", "bd2ebf9a3ba00361"),
+    (8, "8e8f293136283797", "4ff2ab813c53ce83"),
+    (20, "743ddbe0ce2dc2ed", "62dd1b471902bd4e"),
+    (32, "33e6b1092400eae5", "31b1e431dabc4eb8"),
+]
+
+
+class Tags(unittest.TestCase):
+    def answers(self, kind, arguments, message, tag):
+        """The tag of the message at once, and cut at some places: by pieces, by a copy, and after tags of what came before."""
+        self.assertEqual(kind(*arguments, message).digest(), tag)
+        for cut in sorted({0, 1, 7, 8, 9, len(message) // 2, len(message)}):
+            mac = kind(*arguments)
+            mac.update(message[:cut])
+            other = mac.copy()
+            mac.digest()
+            self.assertNotEqual(mac.hexdigest(), "")
+            mac.update(message[cut:])
+            for byte in message[cut : cut + 40]:
+                other.update(bytes([byte]))
+            other.update(message[cut + 40 :])
+            self.assertEqual((mac.digest(), other.hexdigest()), (tag, tag.hex()))
+        self.verifies(mac, tag)
+
+    def verifies(self, mac, tag):
+        """The first 4 to 8 bytes of the tag, and nothing else of any length or with a bit turned."""
+        for length in LENGTHS:
+            part = (tag + bytes(33))[:length]
+            if 4 <= length <= 8:
+                self.assertIsNone(mac.verify(part))
+                for place in range(length):
+                    turned = bytearray(part)
+                    turned[place] ^= 1
+                    self.assertRaises(TagMismatch, mac.verify, turned)
+            else:
+                self.assertRaises(TagMismatch, mac.verify, part)
+        self.assertRaises(TagMismatch, mac.verify, tag + tag)
+        self.assertEqual(mac.digest(), tag)
+
+    def test_known(self):
+        met = set()
+        for kind, arguments, message, tag in known_macs():
+            met.add((kind, *arguments[1:], len(message)))
+            self.answers(kind, arguments, message, tag)
+        for kind in PADDED_MACS + CMACS:
+            for method in ((), ) if kind in CMACS else ((1,), (2,)):
+                self.assertLessEqual({(kind, *method, 8 * count) for count in COUNTS}, met)
+
+    def test_published(self):
+        for length, three, two in CMAC:
+            self.answers(CmacTdesEde3, (THREE,), MESSAGE[:length], bytes.fromhex(three))
+            self.answers(CmacTdesEde2, (TWO,), MESSAGE[:length], bytes.fromhex(two))
+
+    def test_method_by_name(self):
+        for kind in PADDED_MACS:
+            key = KEY[: kind.key_size]
+            for method in (1, 2):
+                self.assertEqual(kind(key, padding=method, data=TEXT).digest(), kind(key, method, TEXT).digest())
+
+
+class Refused(unittest.TestCase):
+    def test_keys(self):
+        for kind in PADDED_MACS + CMACS:
+            method = () if kind in CMACS else (1,)
+            for length in LENGTHS:
+                if length == kind.key_size:
+                    self.assertIsInstance(kind(bytes(length), *method), kind)
+                else:
+                    self.assertRaisesRegex(KeyLength, f"not {length}$", kind, bytes(length), *method)
+
+    def test_methods(self):
+        for kind in PADDED_MACS:
+            key = KEY[: kind.key_size]
+            for number in (0, 3, -1, 257, 2**32 + 1, 2**64 + 2, 10**30):
+                self.assertRaises(PaddingMethod, kind, key, number)
+            for other in (b"1", "1", 1.0, None, key):
+                self.assertRaises(TypeError, kind, key, other)
+
+    def test_sizes(self):
+        for kind in PADDED_MACS + CMACS:
+            self.assertEqual((kind.digest_size, kind.block_size), (8, 8))
+        self.assertEqual([kind.key_size for kind in PADDED_MACS + CMACS], [8, 16, 24, 16, 16, 24])
+        self.assertEqual(cukvashe_des.TAG_SIZE, 8)

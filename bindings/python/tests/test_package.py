@@ -1,0 +1,121 @@
+"""The package itself: versions, statuses, type hints, and how the library is found."""
+
+import ast
+import ctypes
+import glob
+import os
+import re
+import subprocess
+import sys
+import unittest
+from unittest import mock
+
+import cukvashe_des
+from cukvashe_des import _library
+
+from .values import OBJECTS, TOP
+
+PACKAGE = os.path.dirname(os.path.abspath(cukvashe_des.__file__))
+
+
+def read(*place):
+    with open(os.path.join(TOP, *place), encoding="utf-8") as file:
+        return file.read()
+
+
+def c_type(text):
+    """The type of ctypes for one of the header."""
+    if "*" in text or "[" in text:
+        return ctypes.c_void_p
+    return {"size_t": ctypes.c_size_t, "int": ctypes.c_int, "bool": ctypes.c_bool, "void": None}[text.split()[0]]
+
+
+class Package(unittest.TestCase):
+    def test_version(self):
+        self.assertEqual(cukvashe_des.__version__, read("VERSION").strip())
+        self.assertEqual(_library._library.cukvashe_version().decode(), cukvashe_des.__version__)
+
+    def test_statuses(self):
+        """The numbers are those of the header, all of them."""
+        defined = dict(re.findall(r"#define CUKVASHE_(?:ERR_)?(\w+) +(\d+) *(?:/\*.*\*/)?\n", read("bindings", "c", "cukvashe_des.h")))
+        statuses = {name: value for name, value in vars(_library).items() if name.isupper() and isinstance(value, int)}
+        self.assertEqual(statuses, {name: int(defined[name]) for name in statuses})
+        errors = re.findall(r"#define CUKVASHE_ERR_(\w+)", read("bindings", "c", "cukvashe_des.h"))
+        self.assertEqual(set(statuses), {"OK", *errors})
+
+    def test_calls(self):
+        """Each call of the header is declared as it is there, but for strerror; and contexts have the size that is there."""
+        header = re.sub(r"/\*.*?\*/", "", read("bindings", "c", "cukvashe_des.h"), flags=re.S)
+        declared = re.findall(r"^(?:CUKVASHE_CHECK )?([\w *]+?)\bcukvashe_(\w+)\(([^)]*)\)", header, flags=re.M)
+        self.assertGreater(len(declared), 70)
+        for result, name, arguments in declared:
+            call = vars(_library._library).get("cukvashe_" + name)
+            if name == "strerror":
+                self.assertIsNone(call)
+                continue
+            self.assertIsNotNone(call, name)
+            expected = [] if arguments == "void" else [c_type(argument) for argument in arguments.split(",")]
+            self.assertEqual(list(call.argtypes or ()), expected, name)
+            self.assertIs(call.restype, ctypes.c_char_p if name == "version" else c_type(result), name)
+        sizes = {name: int(words) for words, name in re.findall(r"uint64_t words\[(\d+)\];\s*} cukvashe_(\w+);", header)}
+        self.assertEqual(sizes, {kind.name: kind._words for kind, _ in OBJECTS})
+
+    def test_names(self):
+        """What the package offers is listed, and each fault is a ValueError of the package."""
+        self.assertEqual(sorted(cukvashe_des.__all__), cukvashe_des.__all__)
+        offered = {name for name in vars(cukvashe_des) if not name.startswith("_") and name != "annotations"}
+        self.assertEqual(offered, {*cukvashe_des.__all__} - {"__version__"})
+        for name in cukvashe_des.__all__:
+            value = getattr(cukvashe_des, name)
+            if isinstance(value, type):
+                self.assertEqual((value.__module__, value.__name__), ("cukvashe_des", name))
+                self.assertTrue(value.__doc__)
+            elif callable(value):
+                self.assertTrue(value.__doc__)
+
+    def test_hints(self):
+        """Each function of the package has a type for each argument and for its answer, and the package says so."""
+        self.assertTrue(os.path.exists(os.path.join(PACKAGE, "py.typed")))
+        functions = 0
+        for place in glob.glob(os.path.join(PACKAGE, "*.py")):
+            with open(place, encoding="utf-8") as file:
+                tree = ast.parse(file.read())
+            for node in ast.walk(tree):
+                if isinstance(node, ast.FunctionDef):
+                    functions += 1
+                    arguments = node.args.args + node.args.kwonlyargs + [node.args.vararg, node.args.kwarg]
+                    for argument in arguments:
+                        if argument is not None and argument.arg not in ("self", "cls"):
+                            self.assertIsNotNone(argument.annotation, f"{place}: {node.name}, {argument.arg}")
+                    self.assertIsNotNone(node.returns, f"{place}: {node.name}")
+        self.assertGreater(functions, 60)
+
+    def run_with(self, library):
+        environment = dict(os.environ, CUKVASHE_DES_LIBRARY=library, PYTHONDONTWRITEBYTECODE="1",
+                           PYTHONPATH=os.path.dirname(PACKAGE))
+        return subprocess.run([sys.executable, "-c", "import cukvashe_des"], env=environment, capture_output=True, text=True, check=False)
+
+    def test_library(self):
+        """The one that is named is taken; what is none, or not there, is an ImportError that says what to do."""
+        self.assertEqual(self.run_with(_library._place()).returncode, 0)
+        for place in ("/nowhere/libcukvashe_des.so", "libc.so.6"):
+            done = self.run_with(place)
+            self.assertEqual(done.returncode, 1)
+            self.assertRegex(done.stderr, "ImportError: .* is not the library: run bindings/build, or name it by CUKVASHE_DES_LIBRARY\n$")
+
+    def test_other_version(self):
+        """A library whose contexts could be larger is refused."""
+        first, second, third = map(int, cukvashe_des.__version__.split("."))
+        others = ((first, second + 1, third), (first + 1, second, third), (first, 10 * second + 10, third))
+        for version in ((first, second, third + 1), *others):
+            library = mock.Mock()
+            library.cukvashe_version.return_value = ".".join(map(str, version)).encode()
+            with mock.patch.object(ctypes, "CDLL", return_value=library):
+                if version in others:
+                    self.assertRaisesRegex(ImportError, "and the package version", _library._load)
+                else:
+                    self.assertIs(_library._load(), library)
+
+
+if __name__ == "__main__":
+    unittest.main()

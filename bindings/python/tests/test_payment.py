@@ -1,0 +1,111 @@
+"""PIN blocks and card verification values: known ones, and each fault."""
+
+import unittest
+
+import cukvashe_des
+from cukvashe_des import BlockLength, FillLength, KeyLength
+
+from .values import ACCOUNT, CARD, DIGITS, FILL, LENGTHS, PAIR
+
+
+class PinBlocks(unittest.TestCase):
+    def test_format_0(self):
+        """The block that ISO 9564-1 gives; and of a longer account number with the same twelve digits before its last."""
+        for account in (ACCOUNT, ACCOUNT.encode(), bytearray(ACCOUNT.encode()), "9999994012345678900"):
+            for pin in ("1234", b"1234", memoryview(b"1234")):
+                self.assertEqual(cukvashe_des.pin_encode_0(pin, account).hex(), "041274edcba9876f")
+            self.assertEqual(cukvashe_des.pin_decode_0(bytearray.fromhex("041274edcba9876f"), account), "1234")
+
+    def test_format_1(self):
+        """By hand: the digits 1 and 4, the PIN, and ten digits of the transaction; and, for a PIN of twelve, two."""
+        for pin, block in (("1234", "141234fe09a51234"), ("123456789012", "1c123456789012fe")):
+            self.assertEqual(cukvashe_des.pin_encode_1(pin, DIGITS).hex(), block)
+            self.assertEqual(cukvashe_des.pin_decode_1(bytes.fromhex(block)), pin)
+
+    def test_format_3(self):
+        """By hand: 341234abcdefabcd, xored with 0000401234567890."""
+        self.assertEqual(cukvashe_des.pin_encode_3("1234", ACCOUNT, FILL).hex(), "341274b9f9b9d35d")
+        self.assertEqual(cukvashe_des.pin_decode_3(bytes.fromhex("341274b9f9b9d35d"), ACCOUNT), "1234")
+
+    def test_every_length(self):
+        """PINs of 4 to 12 digits, zeros too, come back from each format."""
+        for length in range(4, 13):
+            for digits in ("908172635441", "000000000000"):
+                pin = digits[:length]
+                self.assertEqual(cukvashe_des.pin_decode_0(cukvashe_des.pin_encode_0(pin, ACCOUNT), ACCOUNT), pin)
+                self.assertEqual(cukvashe_des.pin_decode_1(cukvashe_des.pin_encode_1(pin, DIGITS)), pin)
+                self.assertEqual(cukvashe_des.pin_decode_3(cukvashe_des.pin_encode_3(pin, ACCOUNT, FILL), ACCOUNT), pin)
+
+    def test_first_bytes(self):
+        """Of blocks of PINs of 4 to 12 digits with each of the 256 first bytes the right one alone is accepted."""
+        for right in range(4, 13):
+            pin = "123456789012"[:right]
+            block = bytearray(cukvashe_des.pin_encode_0(pin, ACCOUNT))
+            accepted = []
+            for block[0] in range(256):
+                try:
+                    accepted.append((block[0], cukvashe_des.pin_decode_0(block, ACCOUNT)))
+                except (cukvashe_des.Format, cukvashe_des.PinLength, cukvashe_des.PinDigit, cukvashe_des.Fill):
+                    pass
+            self.assertEqual(accepted, [(right, pin)])
+
+    def test_encoding_refused(self):
+        for pin, fault in (("123:", "PinDigit"), ("/234", "PinDigit"), ("123\uff14", "PinDigit"), ("12\x0034", "PinDigit"),
+                           *(("1" * length, "PinLength") for length in LENGTHS if not 4 <= length <= 12)):
+            fault = getattr(cukvashe_des, fault)
+            self.assertRaises(fault, cukvashe_des.pin_encode_0, pin, "")
+            self.assertRaises(fault, cukvashe_des.pin_encode_1, pin, DIGITS)
+            self.assertRaises(fault, cukvashe_des.pin_encode_3, pin, "", FILL)
+        for account, fault in ((ACCOUNT[1:] + ":", "AccountDigit"), ("\uff14" + ACCOUNT[1:], "AccountDigit"),
+                               *(("4" * length, "AccountLength") for length in LENGTHS if not 13 <= length <= 19)):
+            fault = getattr(cukvashe_des, fault)
+            self.assertRaises(fault, cukvashe_des.pin_encode_0, "1234", account)
+            self.assertRaises(fault, cukvashe_des.pin_encode_3, "1234", account, bytes(10))
+            self.assertRaises(fault, cukvashe_des.pin_decode_0, bytes(8), account)
+            self.assertRaises(fault, cukvashe_des.pin_decode_3, bytes(8), account)
+        for at in range(10):
+            self.assertRaises(cukvashe_des.Fill, cukvashe_des.pin_encode_1, "1234", DIGITS[:at] + b"\x10" + DIGITS[at + 1 :])
+            for digit in (b"\x09", b"\x10"):
+                fill = FILL[:at] + digit + FILL[at + 1 :]
+                self.assertRaises(cukvashe_des.Fill, cukvashe_des.pin_encode_3, "1234", ACCOUNT, fill)
+
+    def test_decoding_refused(self):
+        for block, fault in (("141274edcba9876f", "Format"), ("031274edcba9876f", "PinLength"), ("0d1274edcba9876f", "PinLength"),
+                             ("04a274edcba9876f", "PinDigit"), ("041274edcba9876e", "Fill")):
+            self.assertRaises(getattr(cukvashe_des, fault), cukvashe_des.pin_decode_0, bytes.fromhex(block), ACCOUNT)
+        for block, fault in (("041234fe09a51234", "Format"), ("131234fe09a51234", "PinLength"), ("14123afe09a51234", "PinDigit")):
+            self.assertRaises(getattr(cukvashe_des, fault), cukvashe_des.pin_decode_1, bytes.fromhex(block))
+        for block, fault in (("041274b9f9b9d35d", "Format"), ("341274b9f9b9d359", "Fill")):
+            self.assertRaises(getattr(cukvashe_des, fault), cukvashe_des.pin_decode_3, bytes.fromhex(block), ACCOUNT)
+
+    def test_lengths(self):
+        for length in LENGTHS:
+            if length != 8:
+                self.assertRaisesRegex(BlockLength, f"not {length}$", cukvashe_des.pin_decode_0, bytes(length), ACCOUNT)
+                self.assertRaisesRegex(BlockLength, f"not {length}$", cukvashe_des.pin_decode_1, bytes(length))
+                self.assertRaisesRegex(BlockLength, f"not {length}$", cukvashe_des.pin_decode_3, bytes(length), ACCOUNT)
+            if length != 10:
+                self.assertRaisesRegex(FillLength, f"not {length}$", cukvashe_des.pin_encode_1, "1234", bytes(length))
+                self.assertRaisesRegex(FillLength, f"not {length}$", cukvashe_des.pin_encode_3, "1234", ACCOUNT, bytes(length))
+
+
+class CardVerification(unittest.TestCase):
+    def test_value(self):
+        self.assertEqual(cukvashe_des.cvv(PAIR, *CARD), "561")
+        self.assertEqual(cukvashe_des.cvv(bytearray(PAIR), *(text.encode() for text in CARD)), "561")
+
+    def test_refused(self):
+        account, expiry, service = CARD
+        cards = [((account[1:] + ":", "", ""), "AccountDigit"), ((account, "870/", ""), "ExpiryDigit"),
+                 ((account, expiry, "10:"), "ServiceDigit")]
+        for length in LENGTHS:
+            if not 13 <= length <= 19:
+                cards.append((("4" * length, "", ""), "AccountLength"))
+            if length != 4:
+                cards.append(((account, "8" * length, ""), "ExpiryLength"))
+            if length != 3:
+                cards.append(((account, expiry, "1" * length), "ServiceLength"))
+            if length != 16:
+                self.assertRaises(KeyLength, cukvashe_des.cvv, bytes(length), *CARD)
+        for card, fault in cards:
+            self.assertRaises(getattr(cukvashe_des, fault), cukvashe_des.cvv, PAIR, *card)

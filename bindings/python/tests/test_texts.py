@@ -1,0 +1,101 @@
+"""No text of an error or an object tells three bytes, or three characters, of what was given."""
+
+import traceback
+import unittest
+
+import cukvashe_des
+
+from .values import ACCOUNT, CALLS, IV, KEY, MESSAGE, OBJECTS, PADDED_MACS
+
+
+def pieces_of(value):
+    """Each three bytes of a value, or three characters of a text, as an error might show them."""
+    if isinstance(value, str):
+        return {value[at : at + 3] for at in range(len(value) - 2)}
+    pieces = [bytes(value)[at : at + 3] for at in range(len(value) - 2)]
+    forms = (bytes.hex, lambda piece: str(list(piece))[1:-1], lambda piece: repr(piece)[2:-1])
+    return {form(piece) for piece in pieces for form in forms}
+
+
+class Texts(unittest.TestCase):
+    def tells_nothing(self, teller, given):
+        texts = [form(teller) for form in (str, repr, format, ascii, "{!s}".format, "%s".__mod__)]
+        if isinstance(teller, BaseException):
+            while teller is not None:
+                texts += [str(teller), repr(teller.args), "".join(traceback.format_exception_only(type(teller), teller))]
+                texts += getattr(teller, "__notes__", [])
+                teller = teller.__cause__ or teller.__context__
+        for value in given:
+            if isinstance(value, (bytes, bytearray, str)) and value not in ("pkcs7", "iso7816"):
+                for piece in pieces_of(value):
+                    for text in texts:
+                        self.assertNotIn(piece.lower(), text.lower())
+
+    def faults(self, call, *arguments):
+        """The error of a call, if it has one, tells nothing of the arguments, and is a ValueError or a TypeError."""
+        try:
+            call(*arguments)
+        except (TypeError, ValueError) as error:
+            self.tells_nothing(error, arguments)
+            return {type(error).__name__}
+        return set()
+
+    def calls(self):
+        """Every call of the package, those in place and those of closed objects too."""
+        calls = OBJECTS + CALLS
+        for kind, arguments in OBJECTS:
+            made, closed = kind(*arguments), kind(*arguments)
+            closed.close()
+            for one in (made, closed):
+                if hasattr(one, "encrypt_ecb"):
+                    calls += [(one.encrypt_ecb_into, (MESSAGE,)), (one.decrypt_cbc_into, (IV, MESSAGE)), (one.encrypt_cbc, (IV, MESSAGE))]
+                else:
+                    calls += [(one.update, (MESSAGE,)), (one.verify, (MESSAGE[:8],))]
+        return calls
+
+    def test_objects(self):
+        for kind, arguments in OBJECTS:
+            made = kind(*arguments)
+            self.tells_nothing(made, arguments)
+            for form in (str, repr, format, ascii, "{}".format, "%s".__mod__):
+                self.assertEqual(form(made), kind.__name__ + " { ... }")
+            self.assertFalse(hasattr(made, "__dict__"))
+
+    def test_errors(self):
+        """Each argument cut, made longer, and changed, as bytes and as a text; all turned round; and one too many."""
+        names = set()
+        for call, arguments in self.calls():
+            names |= self.faults(call, *reversed(arguments))
+            names |= self.faults(call, *arguments, KEY)
+            for at, value in enumerate(arguments):
+                for wrong in (MESSAGE, MESSAGE.hex(), KEY, bytearray(KEY), None, 3):
+                    names |= self.faults(call, *arguments[:at], wrong, *arguments[at + 1 :])
+                if isinstance(value, bytes):
+                    turned = bytes([value[0] ^ 0xA0]) + value[1:] if value else b"\x80"
+                    for wrong in (value[:-1], value + b"7", value.hex(), turned, turned.decode("latin-1")):
+                        names |= self.faults(call, *arguments[:at], wrong, *arguments[at + 1 :])
+        for call in (cukvashe_des.pin_decode_0, cukvashe_des.pin_decode_3):
+            for first in range(256):
+                names |= self.faults(call, bytes([first]) + bytes.fromhex("a274edcba9876e"), ACCOUNT)
+        names |= self.faults(cukvashe_des.combine, KEY, KEY)
+        names |= self.faults(PADDED_MACS[0], KEY[:8], 3)
+        names |= self.faults(cukvashe_des.cvv, KEY[:16], ACCOUNT, "87:1", "101") | self.faults(
+            cukvashe_des.cvv, KEY[:16], ACCOUNT, "8701", "1:1")
+        faults = {name for name in cukvashe_des.__all__ if name[0].isupper() and isinstance(getattr(cukvashe_des, name), type)
+                  and issubclass(getattr(cukvashe_des, name), ValueError)}
+        self.assertEqual(names, faults | {"TypeError"})
+
+    def test_method(self):
+        """A key, or a message, in the place of the padding method."""
+        for kind in PADDED_MACS:
+            key = KEY[: kind.key_size]
+            number = int.from_bytes(key, "big")
+            for arguments in ((1, key), (key, MESSAGE), (key, key), (key, key.hex()), (key, number), (number, key)):
+                with self.assertRaises((TypeError, ValueError)) as caught:
+                    kind(*arguments)
+                self.tells_nothing(caught.exception, [*arguments, str(number)])
+        for call in (cukvashe_des.pad, cukvashe_des.unpad):
+            for arguments in ((MESSAGE, KEY.hex()), (MESSAGE, KEY), ("pkcs7", MESSAGE)):
+                with self.assertRaises((TypeError, ValueError)) as caught:
+                    call(*arguments)
+                self.tells_nothing(caught.exception, arguments)

@@ -1,0 +1,126 @@
+"""Known answers, and every object and call of the package with arguments that it takes."""
+
+import os
+
+import cukvashe_des
+from cukvashe_des import (
+    CbcMacDes,
+    CbcMacTdesEde2,
+    CbcMacTdesEde3,
+    CmacTdesEde2,
+    CmacTdesEde3,
+    Des,
+    RetailMacDes,
+    TdesEde2,
+    TdesEde3,
+)
+
+TOP = os.path.join(os.path.dirname(os.path.abspath(__file__)), os.pardir, os.pardir, os.pardir)
+
+KEY = bytes.fromhex("0123456789abcdef23456789abcdef01456789abcdef0123")
+PAIR = bytes.fromhex("0123456789abcdeffedcba9876543210")
+IV = bytes.fromhex("1234567890abcdef")
+TEXT = b"The qufck brown fox jump"
+
+# Bytes of which no three are characters of an error's text.
+MESSAGE = bytes.fromhex("6bc1bee22e409f96e93d7e117393172aae2d8a571e03ac9c")
+SERIAL = bytes.fromhex("ffff9876543210e00001")
+ACCOUNT = "4012345678909"
+DIGITS = bytes([15, 14, 0, 9, 10, 5, 1, 2, 3, 4])
+FILL = bytes([10, 11, 12, 13, 14, 15, 10, 11, 12, 13])
+CARD = ("4123456789012345", "8701", "101")
+
+# Lists shorter than a batch of either width, whole ones, and longer ones, in blocks.
+COUNTS = (0, 1, 2, 127, 128, 129, 300, 600)
+
+# Every length that a caller might take for a right one.
+LENGTHS = range(34)
+
+CIPHERS = {"des": Des, "ede2": TdesEde2, "ede3": TdesEde3}
+PADDED_MACS = (CbcMacDes, CbcMacTdesEde2, CbcMacTdesEde3, RetailMacDes)
+CMACS = (CmacTdesEde2, CmacTdesEde3)
+
+# NIST Special Publication 800-67, appendix B, of TEXT; the answers of `des` and `ede2` are OpenSSL's.
+ANSWERS = {
+    Des: bytes.fromhex("a28e91724c4bba31167e47ec24f71d632c1a917234425365"),
+    TdesEde2: bytes.fromhex("c44862f70cf2fbdc9077d0909fa91b884cabd61fc58e0cbb"),
+    TdesEde3: bytes.fromhex("a826fd8ce53b855fcce21c8112256fe668d5c05dd9b6b900"),
+}
+
+
+def lines_of(*place):
+    """The lines of a file of known answers, in words."""
+    with open(os.path.join(TOP, *place), encoding="ascii") as file:
+        return [line for line in file if line.strip() and not line.startswith("#")]
+
+
+def known_ciphertexts():
+    """Of each list of known_answers.txt the name, the key, the plaintext, the ciphertext, and of chains the vector."""
+    lists = []
+    for line in lines_of("crates", "des_tests", "known_answers.txt"):
+        words = line.split()
+        if line.startswith(" "):
+            lists[-1][2] += bytes.fromhex(words[0])
+            lists[-1][3] += bytes.fromhex(words[1])
+        else:
+            lists.append([words[0], *map(bytes.fromhex, words[1:4]), bytes.fromhex("".join(words[4:]))])
+    return lists
+
+
+def known_macs():
+    """Of each line of known_macs.txt what makes the MAC, the message and the tag."""
+    kinds = {kind.name: kind for kind in PADDED_MACS + CMACS}
+    rows = []
+    for line in lines_of("bindings", "known_macs.txt"):
+        name, method, key, length, tag = line.split()
+        key = bytes.fromhex(key)
+        arguments = (key,) if method == "-" else (key, int(method))
+        rows.append((kinds[name], arguments, bytes(i % 251 for i in range(int(length))), bytes.fromhex(tag)))
+    return rows
+
+
+# Of each cipher and MAC the arguments that make an object.
+OBJECTS = [(kind, (KEY[: kind.key_size],)) for kind in ANSWERS]
+OBJECTS += [(kind, (KEY[: kind.key_size], 2, MESSAGE)) for kind in PADDED_MACS]
+OBJECTS += [(kind, (KEY[: kind.key_size], MESSAGE)) for kind in CMACS]
+
+# Of each function its arguments. Of the numbers of card and PIN no three digits are a length that a text may tell.
+FUNCTIONS = [
+    (cukvashe_des.is_weak_key, (KEY,)),
+    (cukvashe_des.with_odd_parity, (KEY[:8],)),
+    (cukvashe_des.equal_but_parity, (KEY[:8], KEY[8:16])),
+    (cukvashe_des.check_value, (TdesEde3, KEY)),
+    (cukvashe_des.combine, (KEY, bytes(range(24)), bytes(range(100, 124)))),
+    (cukvashe_des.dukpt_initial_key, (PAIR, SERIAL)),
+    (cukvashe_des.dukpt_transaction_key, (PAIR, SERIAL)),
+    (cukvashe_des.dukpt_pin_key, (PAIR,)),
+    (cukvashe_des.dukpt_mac_key, (PAIR, True)),
+    (cukvashe_des.dukpt_data_key, (PAIR, True)),
+    (cukvashe_des.dukpt_next_serial, (SERIAL,)),
+    (cukvashe_des.dukpt_is_usable, (SERIAL,)),
+    (cukvashe_des.pad, (MESSAGE[:21], "pkcs7")),
+    (cukvashe_des.unpad, (MESSAGE[:22] + b"\x02\x02", "pkcs7")),
+    (cukvashe_des.pin_encode_0, (b"8765", b"4012345678909")),
+    (cukvashe_des.pin_encode_1, (b"8765", DIGITS)),
+    (cukvashe_des.pin_encode_3, (b"8765", b"4012345678909", FILL)),
+    (cukvashe_des.pin_decode_0, (bytes.fromhex("041274edcba9876f"), b"4012345678909")),
+    (cukvashe_des.pin_decode_1, (bytes.fromhex("141234fe09a51234"),)),
+    (cukvashe_des.pin_decode_3, (bytes.fromhex("341274b9f9b9d35d"), b"4012345678909")),
+    (cukvashe_des.cvv, (PAIR, b"4123456789012345", b"8701", b"101")),
+]
+
+
+def methods():
+    """Of an object of each class its calls that return something, and their arguments."""
+    calls = []
+    for kind, arguments in OBJECTS:
+        made = kind(*arguments)
+        if kind in ANSWERS:
+            calls += [(made.encrypt_ecb, (MESSAGE,)), (made.decrypt_ecb, (MESSAGE,))]
+            calls += [(made.encrypt_cbc, (IV, MESSAGE)), (made.decrypt_cbc, (IV, MESSAGE))]
+        else:
+            calls += [(made.update, (b"",)), (made.digest, ()), (made.hexdigest, ()), (made.verify, (made.digest(),))]
+    return calls
+
+
+CALLS = FUNCTIONS + methods()

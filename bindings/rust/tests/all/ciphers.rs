@@ -1,0 +1,175 @@
+//! The ciphers: one table over all of them, beside known answers.
+
+use crate::common::*;
+use cukvashe_des::*;
+
+/// The first byte is 0, which the end of a text would be.
+const CHAIN_IV: Block = [0x00, 0x34, 0x56, 0x78, 0x90, 0xab, 0xcd, 0xef];
+
+/// Makes `answer` of `plain`, and takes it back, by each call of a cipher for single blocks.
+fn electronic_codebook(cipher: &impl BlockCipher, plain: &[u8], answer: &[u8]) {
+    let mut data = plain.to_vec();
+    assert_eq!(cipher.encrypt_ecb(&mut data), Ok(()));
+    assert_eq!(data, answer);
+    assert_eq!(cipher.decrypt_ecb(&mut data), Ok(()));
+    assert_eq!(data, plain);
+
+    let mut other = vec![0x5a; plain.len()];
+    assert_eq!(cipher.encrypt_ecb_to(plain, &mut other), Ok(()));
+    assert_eq!(other, answer);
+    assert_eq!(cipher.decrypt_ecb_to(answer, &mut other), Ok(()));
+    assert_eq!(other, plain);
+
+    let mut blocks = blocks_of(plain);
+    cipher.encrypt_blocks(&mut blocks);
+    assert_eq!(blocks, blocks_of(answer));
+    cipher.clone().decrypt_blocks(&mut blocks);
+    assert_eq!(blocks, blocks_of(plain));
+    blocks.iter_mut().for_each(|block| cipher.encrypt_block(block));
+    assert_eq!(blocks, blocks_of(answer));
+    blocks.iter_mut().for_each(|block| cipher.decrypt_block(block));
+    assert_eq!(blocks, blocks_of(plain));
+}
+
+/// The same by each call for chains, whole and in pieces.
+fn chain(cipher: &impl BlockCipher, iv: &Block, plain: &[u8], answer: &[u8]) {
+    let last = blocks_of(answer).last().copied().unwrap_or(*iv);
+    for cut in [0, 8, plain.len() / 16 * 8, plain.len()].into_iter().filter(|&cut| cut <= plain.len()) {
+        let (mut vector, mut data) = (*iv, plain.to_vec());
+        assert_eq!(cipher.encrypt_cbc(&mut vector, &mut data[..cut]), Ok(()));
+        assert_eq!(cipher.encrypt_cbc(&mut vector, &mut data[cut..]), Ok(()));
+        assert_eq!((&vector, &data[..]), (&last, answer));
+        vector = *iv;
+        assert_eq!(cipher.decrypt_cbc(&mut vector, &mut data[..cut]), Ok(()));
+        assert_eq!(cipher.decrypt_cbc(&mut vector, &mut data[cut..]), Ok(()));
+        assert_eq!((&vector, &data[..]), (&last, plain));
+
+        let (mut vector, mut other) = (*iv, vec![0x5a; plain.len()]);
+        assert_eq!(cipher.encrypt_cbc_to(&mut vector, &plain[..cut], &mut other[..cut]), Ok(()));
+        assert_eq!(cipher.encrypt_cbc_to(&mut vector, &plain[cut..], &mut other[cut..]), Ok(()));
+        assert_eq!((&vector, &other[..]), (&last, answer));
+        vector = *iv;
+        assert_eq!(cipher.decrypt_cbc_to(&mut vector, &answer[..cut], &mut other[..cut]), Ok(()));
+        assert_eq!(cipher.decrypt_cbc_to(&mut vector, &answer[cut..], &mut other[cut..]), Ok(()));
+        assert_eq!((&vector, &other[..]), (&last, plain));
+    }
+    let (mut vector, mut blocks) = (*iv, blocks_of(plain));
+    cipher.encrypt_blocks_cbc(&mut vector, &mut blocks);
+    assert_eq!((vector, &blocks), (last, &blocks_of(answer)));
+    vector = *iv;
+    cipher.decrypt_blocks_cbc(&mut vector, &mut blocks);
+    assert_eq!((vector, &blocks), (last, &blocks_of(plain)));
+}
+
+/// Known answers of one cipher, alone and in lists: the published blocks, again and again. A chain of their answers is decrypted
+/// to each block xor the answer before it, so its encryption gives the answers back.
+fn answers<C: BlockCipher>(name: &str) {
+    for list in ciphertexts(name) {
+        electronic_codebook(&C::new_from_slice(&list.key).unwrap(), &list.plain, &list.answer);
+    }
+    let text = ciphertexts(name).into_iter().find(|list| list.plain == TEXT).unwrap();
+    let cipher = C::new_from_slice(&text.key).unwrap();
+    for count in COUNTS {
+        let plain: Vec<u8> = text.plain.iter().copied().cycle().take(8 * count).collect();
+        let answer: Vec<u8> = text.answer.iter().copied().cycle().take(8 * count).collect();
+        electronic_codebook(&cipher, &plain, &answer);
+        let before = CHAIN_IV.iter().chain(&answer);
+        let chained: Vec<u8> = plain.iter().zip(before).map(|(byte, other)| byte ^ other).collect();
+        chain(&cipher, &CHAIN_IV, &chained, &answer);
+    }
+}
+
+fn chains<C: BlockCipher>(name: &str) {
+    for list in ciphertexts(name) {
+        chain(&C::new_from_slice(&list.key).unwrap(), &list.iv.unwrap(), &list.plain, &list.answer);
+    }
+}
+
+#[test]
+fn ciphers_answer() {
+    answers::<Des>("des");
+    answers::<TdesEde2>("ede2");
+    answers::<TdesEde3>("ede3");
+    chains::<Des>("des-cbc");
+    chains::<TdesEde3>("ede3-cbc");
+}
+
+/// A cipher of an array is that of the slice.
+#[test]
+fn ciphers_of_arrays_answer() {
+    fn same<C: BlockCipher, const SIZE: usize>(new: fn(&[u8; SIZE]) -> C) {
+        let key: [u8; SIZE] = KEY[..SIZE].try_into().unwrap();
+        let mut answer = *TEXT;
+        C::new_from_slice(&key).unwrap().encrypt_ecb(&mut answer).unwrap();
+        electronic_codebook(&new(&key), TEXT, &answer);
+    }
+    same(Des::new);
+    same(TdesEde2::new);
+    same(TdesEde3::new);
+}
+
+fn refuses_keys<C: BlockCipher>(size: usize) {
+    assert_eq!(C::KEY_SIZE, size);
+    for length in LENGTHS {
+        let made = C::new_from_slice(&vec![1; length]);
+        assert_eq!(made.err(), (length != size).then_some(InvalidLength));
+    }
+}
+
+#[test]
+fn lengths_of_keys_are_refused() {
+    refuses_keys::<Des>(8);
+    refuses_keys::<TdesEde2>(16);
+    refuses_keys::<TdesEde3>(24);
+}
+
+/// A refused call changes neither data nor vector.
+fn refuses_data(cipher: &impl BlockCipher) {
+    for length in LENGTHS.chain([1023, 1025, 2047, 4801]).filter(|length| length % 8 != 0) {
+        let before = vec![0x5a; length];
+        let mut data = before.clone();
+        assert_eq!(cipher.encrypt_ecb(&mut data), Err(DataError::NotBlocks));
+        assert_eq!(cipher.decrypt_ecb(&mut data), Err(DataError::NotBlocks));
+        let mut iv = CHAIN_IV;
+        assert_eq!(cipher.encrypt_cbc(&mut iv, &mut data), Err(DataError::NotBlocks));
+        assert_eq!(cipher.decrypt_cbc(&mut iv, &mut data), Err(DataError::NotBlocks));
+        let input = vec![0x11; length];
+        assert_eq!(cipher.encrypt_ecb_to(&input, &mut data), Err(DataError::NotBlocks));
+        assert_eq!(cipher.decrypt_ecb_to(&input, &mut data), Err(DataError::NotBlocks));
+        assert_eq!(cipher.encrypt_cbc_to(&mut iv, &input, &mut data), Err(DataError::NotBlocks));
+        assert_eq!(cipher.decrypt_cbc_to(&mut iv, &input, &mut data), Err(DataError::NotBlocks));
+        assert_eq!((iv, &data), (CHAIN_IV, &before));
+    }
+}
+
+/// A call from one slice to another, of single blocks and of a chain.
+type Single<C> = fn(&C, &[u8], &mut [u8]) -> Result<(), DataError>;
+type Chained<C> = fn(&C, &mut Block, &[u8], &mut [u8]) -> Result<(), DataError>;
+
+/// Two lengths are refused, whichever is the shorter one, and no byte is written, neither in the output nor behind it.
+fn refuses_two_lengths<C: BlockCipher>(cipher: &C) {
+    let single: [Single<C>; 2] = [C::encrypt_ecb_to, C::decrypt_ecb_to];
+    let chained: [Chained<C>; 2] = [C::encrypt_cbc_to, C::decrypt_cbc_to];
+    for (from, to) in
+        [(8, 0), (0, 8), (16, 8), (8, 16), (2400, 8), (8, 2400), (1032, 1024), (1024, 1032), (8, 7), (7, 8)]
+    {
+        let (input, mut room, mut iv) = (vec![0x11; from], vec![0x5a; 4800], CHAIN_IV);
+        for call in single {
+            assert_eq!(call(cipher, &input, &mut room[..to]), Err(DataError::LengthsDiffer));
+        }
+        for call in chained {
+            assert_eq!(call(cipher, &mut iv, &input, &mut room[..to]), Err(DataError::LengthsDiffer));
+        }
+        assert_eq!((iv, room), (CHAIN_IV, vec![0x5a; 4800]));
+    }
+}
+
+#[test]
+fn lengths_of_data_are_refused() {
+    refuses_data(&Des::new_from_slice(&KEY[..8]).unwrap());
+    refuses_data(&TdesEde2::new_from_slice(&KEY[..16]).unwrap());
+    refuses_data(&TdesEde3::new(&KEY));
+    refuses_two_lengths(&Des::new_from_slice(&KEY[..8]).unwrap());
+    refuses_two_lengths(&TdesEde2::new_from_slice(&KEY[..16]).unwrap());
+    refuses_two_lengths(&TdesEde3::new(&KEY));
+}

@@ -1,0 +1,101 @@
+//! The weak key test and parity, and padding.
+
+use crate::common::*;
+use cukvashe_des::padding::*;
+use cukvashe_des::*;
+
+#[test]
+fn keys_are_tested() {
+    let half = &KEY[..8];
+    let parity = [&[half[0] ^ 1], &half[1..]].concat();
+    for weak in [&[1; 8], &[0; 8], &[0xfe; 8], &[0x01, 0xfe, 0x01, 0xfe, 0x01, 0xfe, 0x01, 0xfe]] {
+        assert_eq!(weak_key_test(weak), Err(KeyTestError::WeakKey));
+    }
+    for other in [half, &parity] {
+        assert_eq!(weak_key_test(&[half, other].concat()), Err(KeyTestError::WeakKey));
+        assert_eq!(weak_key_test(&[&KEY[..16], other].concat()), Err(KeyTestError::WeakKey));
+    }
+    for good in [half, &KEY[..16], &KEY] {
+        assert_eq!(weak_key_test(good), Ok(()));
+    }
+    for length in LENGTHS.filter(|length| ![8, 16, 24].contains(length)) {
+        assert_eq!(weak_key_test(&vec![0x11; length]), Err(KeyTestError::InvalidLength));
+    }
+}
+
+fn parity_of<const SIZE: usize>() {
+    let key: [u8; SIZE] = std::array::from_fn(|at| (37 * at % 256) as u8);
+    let odd = with_odd_parity(&key);
+    assert!(odd.iter().zip(key).all(|(odd, byte)| odd.count_ones() % 2 == 1 && odd >> 1 == byte >> 1));
+    assert!(equal_but_parity(&key, &odd) && equal_but_parity(&odd, &odd.map(|byte| byte ^ 1)));
+    for at in 0..SIZE {
+        let mut other = key;
+        other[at] ^= 2;
+        assert!(!equal_but_parity(&key, &other));
+    }
+}
+
+#[test]
+fn parity_is_set() {
+    parity_of::<8>();
+    parity_of::<16>();
+    parity_of::<24>();
+}
+
+/// The data and their padding: RFC 5652, section 6.3, and ISO/IEC 7816-4.
+fn padded(data: &[u8], method: Method) -> Vec<u8> {
+    let count = 8 - data.len() % 8;
+    let padding = match method {
+        Method::Pkcs7 => vec![count as u8; count],
+        Method::Iso7816 => [&[0x80], &vec![0; count - 1][..]].concat(),
+    };
+    [data, &padding].concat()
+}
+
+#[test]
+fn padding_comes_and_goes() {
+    for method in [Method::Pkcs7, Method::Iso7816] {
+        for length in LENGTHS.chain([1023, 1024, 4800]) {
+            let data: Vec<u8> = (0..length).map(|at| (at % 255) as u8).collect();
+            let expected = padded(&data, method);
+            for room in 0..16 {
+                let mut buffer = data.clone();
+                buffer.resize(length + room, 0x5a);
+                let before = buffer.clone();
+                if length + room < expected.len() {
+                    assert_eq!(pad(&mut buffer, length, method), Err(NoRoom));
+                    assert_eq!(buffer, before);
+                } else {
+                    assert_eq!(pad(&mut buffer, length, method), Ok(&mut expected.clone()[..]));
+                    assert_eq!(buffer[expected.len()..], before[expected.len()..]);
+                }
+            }
+            assert_eq!(unpad(&expected, method), Ok(&data[..]));
+        }
+        for length in [9, 16, 17, usize::MAX - 7, usize::MAX] {
+            assert_eq!(pad(&mut [0x5a; 8], length, method), Err(NoRoom));
+        }
+    }
+}
+
+#[test]
+fn padding_is_refused() {
+    for byte in 0..=255 {
+        let block = [0x71, 0x72, 0x73, 0x74, 0x75, 0x76, 0x77, byte];
+        for (method, right) in [(Method::Pkcs7, 1), (Method::Iso7816, 0x80)] {
+            let expected = if byte == right { Ok(&block[..7]) } else { Err(UnpadError::NotPadded) };
+            assert_eq!(unpad(&block, method), expected);
+        }
+    }
+    for method in [Method::Pkcs7, Method::Iso7816] {
+        assert_eq!(unpad(&[], method), Err(UnpadError::NotPadded));
+        for (count, place) in (0..8).flat_map(|count| (count..8).map(move |place| (count, place))) {
+            let mut block = padded(&[0x99; 8][..count], method);
+            block[place] ^= 0x40;
+            assert_eq!(unpad(&block, method), Err(UnpadError::NotPadded));
+        }
+        for length in LENGTHS.filter(|length| length % 8 != 0) {
+            assert_eq!(unpad(&vec![1; length], method), Err(UnpadError::NotBlocks));
+        }
+    }
+}

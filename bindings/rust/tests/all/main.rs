@@ -1,0 +1,8 @@
+//! Tests of the crate by its public calls, in one program, which links once.
+
+mod ciphers;
+mod common;
+mod keys;
+mod macs;
+mod payment;
+mod types;

@@ -1,0 +1,131 @@
+//! What the types are, beside what they answer: shared by threads, wiped, and shown by no text; errors that are sentences.
+
+use crate::common::*;
+use cukvashe_des::mac::*;
+use cukvashe_des::padding::{NoRoom, UnpadError};
+use cukvashe_des::payment::*;
+use cukvashe_des::*;
+use std::error::Error;
+use std::fmt::Debug;
+use std::mem::{size_of, MaybeUninit};
+use std::slice;
+
+/// Calls a macro with each type that holds a secret, and a value of it.
+macro_rules! each_secret {
+    ($call:ident) => {
+        $call!(Des, Des::new_from_slice(&KEY[..8]).unwrap());
+        $call!(TdesEde2, TdesEde2::new_from_slice(&KEY[..16]).unwrap());
+        $call!(TdesEde3, TdesEde3::new(&KEY));
+        $call!(CbcMacDes, CbcMacDes::<Method1>::new_from_slice(&KEY[..8]).unwrap());
+        $call!(CbcMacTdesEde2, CbcMacTdesEde2::<Method2>::new_from_slice(&KEY[..16]).unwrap());
+        $call!(CbcMacTdesEde3, CbcMacTdesEde3::<Method1>::new_from_slice(&KEY).unwrap());
+        $call!(RetailMacDes, RetailMacDes::<Method2>::new_from_slice(&KEY[..16]).unwrap());
+        $call!(CmacTdesEde2, CmacTdesEde2::new_from_slice(&KEY[..16]).unwrap());
+        $call!(CmacTdesEde3, CmacTdesEde3::new_from_slice(&KEY).unwrap());
+        $call!(Pin, Pin::new(b"123456789012").unwrap());
+    };
+}
+
+fn shared_by_threads<T: Send + Sync + Clone>(_: &T) {}
+
+#[test]
+fn secrets_are_shared_by_threads() {
+    macro_rules! shared {
+        ($type:ident, $value:expr) => {
+            shared_by_threads(&$value);
+        };
+    }
+    each_secret!(shared);
+}
+
+fn is_shown_as<T: Debug>(value: &T, name: &str) {
+    assert_eq!(format!("{value:?}"), format!("{name} {{ ... }}"));
+    assert_eq!(format!("{value:#?}"), format!("{name} {{ ... }}"));
+    assert_eq!(format!("{:?}", [value]), format!("[{name} {{ ... }}]"));
+}
+
+#[test]
+fn secrets_are_not_shown() {
+    macro_rules! shown {
+        ($type:ident, $value:expr) => {
+            is_shown_as(&$value, stringify!($type));
+        };
+    }
+    each_secret!(shown);
+}
+
+/// Drops a value, and looks at the bytes where it was.
+fn is_wiped<T>(value: T) {
+    let mut place = MaybeUninit::new(value);
+    // SAFETY: the value is there, and is dropped once. Its types are made of words, or of bytes, which have a value still.
+    let bytes =
+        |place: &MaybeUninit<T>| unsafe { slice::from_raw_parts(place.as_ptr().cast::<u8>(), size_of::<T>()) }.to_vec();
+    assert!(bytes(&place).iter().any(|&byte| byte != 0));
+    unsafe { place.assume_init_drop() };
+    assert_eq!(bytes(&place), vec![0; size_of::<T>()]);
+}
+
+#[test]
+fn secrets_are_wiped() {
+    macro_rules! wiped {
+        ($type:ident, $value:expr) => {
+            is_wiped($value);
+            is_wiped($value.clone());
+        };
+    }
+    each_secret!(wiped);
+}
+
+/// Without an equality no one compares secrets byte by byte, and without `Display` no one prints them: where a type had one,
+/// `answer` would have two candidates here, and this file would not compile.
+#[test]
+fn secrets_have_no_equality() {
+    trait Without<Case> {
+        fn answer() {}
+    }
+    struct Equality;
+    struct Text;
+    impl<T: ?Sized> Without<()> for T {}
+    impl<T: PartialEq> Without<Equality> for T {}
+    impl<T: std::fmt::Display> Without<Text> for T {}
+    <Des as Without<_>>::answer();
+    <TdesEde2 as Without<_>>::answer();
+    <TdesEde3 as Without<_>>::answer();
+    <CbcMacDes<Method1> as Without<_>>::answer();
+    <CbcMacTdesEde2<Method1> as Without<_>>::answer();
+    <CbcMacTdesEde3<Method1> as Without<_>>::answer();
+    <RetailMacDes<Method1> as Without<_>>::answer();
+    <CmacTdesEde2 as Without<_>>::answer();
+    <CmacTdesEde3 as Without<_>>::answer();
+    <Pin as Without<_>>::answer();
+}
+
+#[test]
+fn errors_are_sentences() {
+    let errors: Vec<(Box<dyn Error + Send + Sync>, &str)> = vec![
+        (Box::new(InvalidLength), "the key does not have the key size"),
+        (Box::new(DataError::NotBlocks), "the data are not whole blocks of 8 bytes"),
+        (Box::new(DataError::LengthsDiffer), "input and output differ in length"),
+        (Box::new(KeyTestError::WeakKey), "the key is weak"),
+        (Box::new(KeyTestError::InvalidLength), "the key does not have 8, 16 or 24 bytes"),
+        (Box::new(MacError), "the tag is not that of the message"),
+        (Box::new(NoRoom), "the buffer has no room for the padding"),
+        (Box::new(UnpadError::NotBlocks), "the data are not whole blocks of 8 bytes"),
+        (Box::new(UnpadError::NotPadded), "the data do not end with the padding"),
+        (Box::new(PinError::Format), "the PIN block is of another format"),
+        (Box::new(PinError::PinLength), "the PIN does not have 4 to 12 digits"),
+        (Box::new(PinError::PinDigit), "a character of the PIN is not a digit"),
+        (Box::new(PinError::AccountLength), "the account number does not have 13 to 19 digits"),
+        (Box::new(PinError::AccountDigit), "a character of the account number is not a digit"),
+        (Box::new(PinError::Fill), "a fill digit is not one that the format allows"),
+        (Box::new(CvvError::AccountLength), "the account number does not have 13 to 19 digits"),
+        (Box::new(CvvError::AccountDigit), "a character of the account number is not a digit"),
+        (Box::new(CvvError::ExpiryLength), "the expiry date does not have four digits"),
+        (Box::new(CvvError::ExpiryDigit), "a character of the expiry date is not a digit"),
+        (Box::new(CvvError::ServiceLength), "the service code does not have three digits"),
+        (Box::new(CvvError::ServiceDigit), "a character of the service code is not a digit"),
+    ];
+    for (error, sentence) in errors {
+        assert_eq!(error.to_string(), sentence);
+    }
+}

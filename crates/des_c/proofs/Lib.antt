@@ -1,0 +1,3 @@
+mod PaddedCounts
+mod AgreeingParts
+mod OddKeys

@@ -1,0 +1,9 @@
+use Rattle.std.proofs.Common.{◌∙◌}
+use Rattle.des_c.proofs.macs.cbc_mac_tdes_ede2.cukvashe_cbc_mac_tdes_ede2_update.Goals as goal
+
+pub returns : goal.returns
+returns c padding key m is = record {
+  made = is.made;
+  padded_by = c.update.ensures.padding ∙ is.padded_by;
+  progress = c.update.ensures.progress key m is.made.0 (c.to_cipher.ensures key is.made) is.progress;
+}

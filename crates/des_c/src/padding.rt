@@ -1,0 +1,110 @@
+//! The exports of padding to whole blocks, and back.
+
+ghost use Rattle.std.specs.Prelude.{◌≡◌, ◌≢◌, ◌↔◌, ◌⊎◌, ◌+◌, ◌-◌, ◌%◌, ◌<◌, ◌≤◌, ℕ, List, length, take, drop};
+ghost use Rattle.std.specs.Prelude.{Some, IfSome, IfNone};
+ghost use Rattle.des_context.specs.Bytes.{AreWhole};
+ghost use Rattle.des_io.specs.PaddedBytes.{padded, taken_off};
+ghost use Rattle.des_io.specs.declared.padding.Padding.{Padding};
+ghost use Rattle.des_io.specs.declared.padding.Padding.TheVariants.{Unpadded};
+ghost use Rattle.des_c.specs.Paddings.{IsMethod, IsNumberOf, padded_length_of};
+
+use des_context::status::{ERR_BLOCKS, ERR_CAPACITY, ERR_PADDING, ERR_PADDING_METHOD, OK};
+use des_io::padding::{Padding, count_before, pad};
+
+/// The number of PKCS#7 padding.
+pub const PKCS7: i32 = 1;
+
+/// The number of ISO/IEC 7816-4 padding.
+pub const ISO7816: i32 = 2;
+
+// The padding of a number.
+fn padding_of(method: i32) -> Option<Padding>
+    ensures found { IfSome result (λ padding. IsNumberOf method padding) }
+    ensures none { IfNone result (¬ (IsMethod method)) }
+{
+    match method {
+        PKCS7 => Some(Padding::Pkcs7),
+        ISO7816 => Some(Padding::Iso7816),
+        _ => None,
+    }
+}
+
+/// Pads the first `count` bytes of a buffer to whole blocks, by PKCS#7 (1) or ISO/IEC 7816-4 (2).
+/// The status is `ERR_PADDING_METHOD` for another number and `ERR_CAPACITY` where the buffer is too
+/// short for the padding, and then nothing is changed.
+#[unsafe(no_mangle)]
+pub extern "C" fn cukvashe_narrow_pad(
+    buffer: &mut [u8],
+    count: usize,
+    method: i32,
+    padded_length: &mut usize,
+) -> i32
+    ensures accepted { (result ≡ OK)
+        ↔ (IsMethod method × padded_length_of count ≤ length buffer.old) }
+    ensures unknown { (result ≡ ERR_PADDING_METHOD) ↔ ¬ (IsMethod method) }
+    ensures no_room { (result ≡ ERR_CAPACITY)
+        ↔ (IsMethod method × length buffer.old < padded_length_of count) }
+    ensures padded_length { result ≡ OK → padded_length.new ≡ padded_length_of count }
+    ensures padded { result ≡ OK → (padding : Padding) → IsNumberOf method padding
+        → take padded_length.new buffer.new ≡ padded padding (take count buffer.old) }
+    ensures after { result ≡ OK
+        → drop padded_length.new buffer.new ≡ drop padded_length.new buffer.old }
+    ensures kept { result ≢ OK
+        → (buffer.new ≡ buffer.old) × (padded_length.new ≡ padded_length.old) }
+{
+    let Some(padding) = padding_of(method) else {
+        return ERR_PADDING_METHOD;
+    };
+    if count / 8 >= buffer.len() / 8 {
+        return ERR_CAPACITY;
+    }
+    let end = 8 * (count / 8) + 8;
+    *padded_length = pad(padding, &mut buffer[..end], count);
+    OK
+}
+
+// How many bytes stand before their padding; none where they are no bytes with their padding.
+fn count_unpadded(padding: Padding, bytes: &[u8]) -> Option<usize>
+    requires padding { padding ≢ Unpadded }
+    requires taken_off { taken_off padding ≡ padding }
+    requires whole { AreWhole bytes.now }
+    ensures found { IfSome result (λ count. (count ≤ length bytes.now)
+        × (padded padding (take count bytes.now) ≡ bytes.now)) }
+    ensures back { (plain : List ℕ) → padded padding plain ≡ bytes.now
+        → result ≡ Some (length plain) }
+{
+    let (prefix, last) = bytes.split_last_chunk::<8>()?;
+    let count = count_before(padding, last)?;
+    Some(prefix.len() + count)
+}
+
+/// Tells how many bytes stand before their padding, by PKCS#7 (1) or ISO/IEC 7816-4 (2). The status
+/// is `ERR_PADDING_METHOD` for another number, `ERR_BLOCKS` where the bytes are not whole blocks,
+/// and `ERR_PADDING` where they do not end with the padding, and then nothing is written.
+#[unsafe(no_mangle)]
+pub extern "C" fn cukvashe_unpad(bytes: &[u8], method: i32, unpadded_length: &mut usize) -> i32
+    ensures accepted { (result ≡ OK) ↔ ((padding : Padding) × IsNumberOf method padding
+        × ((plain : List ℕ) × padded padding plain ≡ bytes.now)) }
+    ensures unknown { (result ≡ ERR_PADDING_METHOD) ↔ ¬ (IsMethod method) }
+    ensures cut { (result ≡ ERR_BLOCKS) ↔ (IsMethod method × ¬ (AreWhole bytes.now)) }
+    ensures others { (result ≡ OK) ⊎ (result ≡ ERR_PADDING_METHOD) ⊎ (result ≡ ERR_BLOCKS)
+        ⊎ (result ≡ ERR_PADDING) }
+    ensures unpadded { result ≡ OK → (padding : Padding) → IsNumberOf method padding
+        → (unpadded_length.new ≤ length bytes.now)
+        × (padded padding (take unpadded_length.new bytes.now) ≡ bytes.now) }
+    ensures kept { result ≢ OK → unpadded_length.new ≡ unpadded_length.old }
+{
+    let Some(padding) = padding_of(method) else {
+        return ERR_PADDING_METHOD;
+    };
+    if bytes.len() % 8 != 0 {
+        return ERR_BLOCKS;
+    }
+    match count_unpadded(padding, bytes) {
+        Some(count) => {
+            *unpadded_length = count;
+            OK
+        }
+        None => ERR_PADDING,
+    }
+}

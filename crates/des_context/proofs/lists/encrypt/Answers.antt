@@ -1,0 +1,6 @@
+use Rattle.des_context.proofs.lists.encrypt.Goals as goal
+
+pub returns-clause-answered : goal.returns-clause-answered
+returns-clause-answered g c key made =
+    rw c.encrypt.ensures.encrypted
+    (c.relate_lists.ensures.encrypted key made c.args.blocks.now c.encrypt.ensures.blocks)

@@ -1,0 +1,59 @@
+//! The statuses of the calls for C. Their numbers never change, since they are compiled into the
+//! programs that call the library.
+
+/// The call did what it is for.
+pub const OK: i32 = 0;
+
+/// A key has another length than the keys of the cipher or MAC.
+pub const ERR_KEY_LENGTH: i32 = 1;
+
+/// The bytes are not whole blocks of eight.
+pub const ERR_BLOCKS: i32 = 2;
+
+/// The weak key test refuses the key.
+pub const ERR_WEAK_KEY: i32 = 3;
+
+/// No padding method has this number.
+pub const ERR_PADDING_METHOD: i32 = 4;
+
+/// The tag is not that of the message.
+pub const ERR_TAG: i32 = 5;
+
+/// No key serial number comes after this one.
+pub const ERR_NO_SERIAL: i32 = 6;
+
+/// The PIN block has another format.
+pub const ERR_FORMAT: i32 = 7;
+
+/// A PIN has fewer than 4 digits or more than 12.
+pub const ERR_PIN_LENGTH: i32 = 8;
+
+/// A character of a PIN is no digit.
+pub const ERR_PIN_DIGIT: i32 = 9;
+
+/// An account number has fewer than 13 digits or more than 19.
+pub const ERR_ACCOUNT_LENGTH: i32 = 10;
+
+/// A character of an account number is no digit.
+pub const ERR_ACCOUNT_DIGIT: i32 = 11;
+
+/// A digit that fills a PIN block is none of those that may.
+pub const ERR_FILL: i32 = 12;
+
+/// An expiry date has not four digits.
+pub const ERR_EXPIRY_LENGTH: i32 = 13;
+
+/// A character of an expiry date is no digit.
+pub const ERR_EXPIRY_DIGIT: i32 = 14;
+
+/// A service code has not three digits.
+pub const ERR_SERVICE_LENGTH: i32 = 15;
+
+/// A character of a service code is no digit.
+pub const ERR_SERVICE_DIGIT: i32 = 16;
+
+/// The last block does not end with the padding, or there is no block.
+pub const ERR_PADDING: i32 = 17;
+
+/// There is no room for the padding.
+pub const ERR_CAPACITY: i32 = 18;
