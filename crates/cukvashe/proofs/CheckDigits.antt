@@ -5,7 +5,8 @@ use Rattle.cukvashe.specs.CheckDigits.{luhn_sum, weighed, value_of}
 
 -- a digit with those after it
 pub luhn_sum-at : (digits : List ℕ) (i d : ℕ) → i < length digits
-    → luhn_sum (drop i digits) ≡ weighed (length digits - 1 - i) (value_of (get_or digits i d)) + luhn_sum (drop (i + 1) digits)
+    → luhn_sum (drop i digits)
+    ≡ weighed (length digits - 1 - i) (value_of (get_or digits i d)) + luhn_sum (drop (i + 1) digits)
 luhn_sum-at digits i d within =
     let following : length (drop (i + 1) digits) ≡ length digits - 1 - i = length-drop (i + 1) digits ∙ omega arith in
     ap luhn_sum (drop_more digits i d within)

@@ -1,3 +1,6 @@
 pub mod Prefixes
 pub mod Faults
 pub mod CheckDigits
+pub mod KeyVerdicts
+pub mod AlikeStreams
+pub mod AlikeFaults

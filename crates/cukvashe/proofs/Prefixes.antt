@@ -27,7 +27,8 @@ AppendsPrefix-second a b c first second whole part =
 
 -- the whole text
 pub AppendsPrefix-all : (a b : Option (List ℕ)) (text : List ℕ) → Appends a b text → AppendsPrefix a b text
-AppendsPrefix-all a b text whole = (length text, subst (Appends a b) (sym (take_all (length text) text (omega arith))) whole)
+AppendsPrefix-all a b text whole =
+    (length text, subst (Appends a b) (sym (take_all (length text) text (omega arith))) whole)
 
 -- and then no more
 pub AppendsPrefix-kept : (a b c : Option (List ℕ)) (text : List ℕ) → AppendsPrefix a b text → Keeps b c

@@ -1,5 +1,6 @@
 -- The check digit of an account number (ISO/IEC 7812-1, Annex B, the Luhn formula).
-use Rattle.std.specs.Prelude.{ℕ, ◌+◌, ◌-◌, ◌*◌, ◌/◌, ◌%◌, ◌==◌, Bool, if◌then◌else◌, List, [], ◌∷◌, length}
+use Rattle.std.specs.Prelude.{ℕ, ◌+◌, ◌-◌, ◌*◌, ◌/◌, ◌%◌, ◌==◌, ◌&&◌, nat_le, Bool, not, if◌then◌else◌, List, [], ◌∷◌, length}
+use Rattle.des_payment.specs.Texts.{are_digits}
 
 -- the value of a decimal digit
 abbrev pub value_of : ℕ → ℕ
@@ -22,3 +23,11 @@ luhn_sum (digit ∷ rest) = weighed (length rest) (value_of digit) + luhn_sum re
 -- the last digit is the check digit: it makes the sum a multiple of ten
 abbrev pub has_check_digit : List ℕ → Bool
 has_check_digit digits = luhn_sum digits % 10 == 0
+
+-- a text is an account number: 13 to 19 digits
+abbrev pub is_account : List ℕ → Bool
+is_account text = nat_le 13 (length text) && (nat_le (length text) 19 && are_digits text)
+
+-- it is one, and its last digit is not its check digit
+abbrev pub lacks_check_digit : List ℕ → Bool
+lacks_check_digit text = is_account text && not (has_check_digit text)

@@ -131,18 +131,26 @@ words_of Length = codes "the input ends within a block of 8 bytes"
 words_of Start = codes "the input ends before the part begins"
 words_of Padding = codes "the last block does not end with the padding of --padding"
 
--- the line that tells it: the name, what it is about, where that is not empty, and the words
-abbrev pub line_start : Kind → List ℕ
-line_start kind = concat (codes "cukvashe: " ∷ name_of kind ∷ codes ": " ∷ [])
+-- ---- lines
+
+-- what a line tells: a name, what it is about, where that is not empty, and words
+abbrev pub line_start : List ℕ → List ℕ
+line_start name = concat (codes "cukvashe: " ∷ name ∷ codes ": " ∷ [])
 
 abbrev pub separator_of : List ℕ → List ℕ
 separator_of about = if length about == 0 then [] else codes ": "
 
-abbrev pub line_end : Kind → List ℕ → List ℕ
-line_end kind about = concat (separator_of about ∷ words_of kind ∷ codes "\n" ∷ [])
+abbrev pub line_end : List ℕ → List ℕ → List ℕ
+line_end about words = concat (separator_of about ∷ words ∷ codes "\n" ∷ [])
 
+abbrev pub line_with : List ℕ → List ℕ → List ℕ → List ℕ
+line_with name about words = line_start name ++ (about ++ line_end about words)
+
+-- the line of a fault
 abbrev pub line_of : Kind → List ℕ → List ℕ
-line_of kind about = line_start kind ++ (about ++ line_end kind about)
+line_of kind about = line_with (name_of kind) about (words_of kind)
+
+-- ---- statuses
 
 -- the status of a fault: memory was refused; the input was not read, or the output not written; the
 -- input is not whole blocks, is too short or has wrong padding; or else the arguments, a key or an

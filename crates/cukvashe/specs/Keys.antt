@@ -5,6 +5,8 @@ use Rattle.des.specs.Parity.{AgreeOutsideParity}
 use Rattle.des.specs.WeakKeys.{IsRefused}
 use Rattle.cukvashe.specs.declared.fault.Kind.{Kind}
 use Rattle.cukvashe.specs.declared.fault.Kind.TheVariants.{KeyLength, KeyText}
+use Rattle.cukvashe.specs.declared.keys.Verdict.{Verdict}
+use Rattle.cukvashe.specs.declared.keys.Verdict.TheVariants.{Good, DoubleLength, Weak}
 use Rattle.cukvashe.specs.Texts.{text_fault}
 
 -- the sizes of keys
@@ -26,3 +28,9 @@ key_fault size digits =
 abbrev pub IsDoubleLength : List ℕ → Type 0
 IsDoubleLength key =
     (length key ≡ 24) × AgreeOutsideParity (part 1 key) (part 3 key) × (¬ IsRefused (take 16 key))
+
+-- what is found of a key: exactly one of the three
+abbrev pub IsVerdict : Verdict → List ℕ → Type 0
+IsVerdict Good key = ¬ IsRefused key
+IsVerdict DoubleLength key = IsDoubleLength key
+IsVerdict Weak key = IsRefused key × (¬ IsDoubleLength key)

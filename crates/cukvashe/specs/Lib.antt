@@ -4,7 +4,15 @@ pub mod Written
 pub mod Lines
 pub mod Macs
 pub mod Sources
+pub mod Inputs
 pub mod Keys
+pub mod Notices
+pub mod Progress
 pub mod Requests
 pub mod CheckDigits
 pub mod Answers
+pub mod Jobs
+pub mod JobFaults
+pub mod StreamArguments
+pub mod Parities
+pub mod Runs

@@ -15,7 +15,7 @@ use Rattle.des_payment.specs.Digits.{digits_of}
 use Rattle.des_payment.specs.Dukpt.{initial_key, transaction_key, pin_key, mac_key, data_key}
 use Rattle.des_payment.specs.PinBlocks.{IsFormat0, IsFormat1, IsFormat3, account_field, pin_fault, account_fault, fill_fault, field_fault}
 use Rattle.cukvashe.specs.declared.command.Command.{Command}
-use Rattle.cukvashe.specs.declared.command.Command.TheVariants.{Check, Combine, Encode, Decode, Transaction, Cvv}
+use Rattle.cukvashe.specs.declared.command.Command.TheVariants.{Check, Parity, Combine, Encode, Decode, Transaction, Cvv}
 use Rattle.cukvashe.specs.declared.command.Encoding.{Encoding}
 use Rattle.cukvashe.specs.declared.command.Encoding.TheVariants.{Format0, Format1, Format3}
 use Rattle.cukvashe.specs.declared.command.Decoding.{Decoding}
@@ -25,6 +25,8 @@ use Rattle.cukvashe.specs.declared.command.Purpose.TheVariants.{Pin, Mac, Data}
 use Rattle.cukvashe.specs.declared.fault.Kind.{Kind}
 use Rattle.cukvashe.specs.declared.fault.Kind.TheVariants.{KeyLength, KeyText, Components, BlockLength, BlockText, SerialLength, SerialText, FillLength, FillText, Pin as PinFault, Card}
 use Rattle.cukvashe.specs.Faults.{FailsBy, FailsOrRefuses}
+use Rattle.cukvashe.specs.Keys.{key_fault}
+use Rattle.cukvashe.specs.Parities.{parity_line}
 use Rattle.cukvashe.specs.Texts.{bytes_of, text_fault, digits_fault, hex_line}
 
 -- ---- check values
@@ -38,13 +40,6 @@ encryption_by_size digits =
 
 abbrev pub check_value_of : List ℕ → List ℕ
 check_value_of digits = take 3 (encryption_by_size digits (replicate 8 0))
-
--- the fault of such a key
-abbrev pub key_fault : List ℕ → Option Kind
-key_fault digits =
-    if length digits == 16 then text_fault KeyText digits
-    else if length digits == 32 then text_fault KeyText digits
-    else digits_fault 24 (KeyLength 0) KeyText digits
 
 -- ---- components
 
@@ -136,6 +131,7 @@ cvv_fault account expiry service digits =
 -- the line answers the command: the library's answer to the bytes of the text, in digits
 abbrev pub IsLine : Command → List ℕ → List ℕ → Type 0
 IsLine Check text line = line ≡ hex_line (check_value_of text)
+IsLine Parity text line = line ≡ parity_line text
 IsLine (Combine count) text line =
     line ≡ hex_line (key_of_components (component_size count text) text)
 IsLine (Encode format) text line =
@@ -149,7 +145,8 @@ IsLine (Cvv account expiry service) text line =
 
 -- how a command fails: by its first fault, where it has one
 abbrev pub FailsAs : Command → List ℕ → Result (Vec ℕ Global) Kind → Type 0
-FailsAs Check text result = FailsBy (key_fault text) result
+FailsAs Check text result = FailsBy (key_fault 0 text) result
+FailsAs Parity text result = FailsBy (key_fault 0 text) result
 FailsAs (Combine count) text result =
     FailsOrRefuses (components_fault count text)
     (IsRefused (key_of_components (component_size count text) text)) result

@@ -20,7 +20,7 @@ bytes_of digits = result_unwrap_or (decode_of digits) []
 abbrev pub text_fault : Kind → List ℕ → Option Kind
 text_fault fault digits = if not (is_ok (decode_of digits)) then Some fault else None
 
--- and of one that is to have two for each of so many bytes
+-- the fault of a text that is to be two hexadecimal digits for each of `size` bytes
 abbrev pub digits_fault : ℕ → Kind → Kind → List ℕ → Option Kind
 digits_fault size length_fault fault digits =
     if not (length digits == 2 * size) then Some length_fault else text_fault fault digits

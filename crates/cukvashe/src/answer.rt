@@ -17,7 +17,8 @@ pub struct Answer {
     pub is_no: bool,
 }
 
-/// The status that the program ends with, by that of what it wrote: 1 where the answer is no.
+/// The status that the program ends with: that of writing the answer, or 1 where the answer was
+/// written and is no.
 pub fn status_of(written: u8, is_no: bool) -> u8
     ensures { result ≡ status_after written is_no }
 {

@@ -1,6 +1,14 @@
 //! The command line: what its words ask for.
 
+mod forms;
 mod grammar;
+mod stream_forms;
+pub mod streams;
+
+ghost use Rattle.std.specs.Prelude.{◌≡◌, IfOk, IfErr, Some};
+ghost use Rattle.cukvashe.specs.declared.fault.Kind.TheVariants.{Usage};
+ghost use Rattle.cukvashe.specs.declared.fault.Misuse.TheVariants.{StandardInputTwice};
+ghost use Rattle.cukvashe.specs.StreamArguments.{IsInput, IsReadTwice};
 
 use crate::command::Purpose;
 use crate::fault::{Fault, Kind, Misuse};
@@ -10,9 +18,19 @@ use crate::source::Source;
 use clap::ArgMatches;
 use des_payment::dukpt::Message;
 pub use grammar::{names_of, parse};
+use streams::stream_request;
+
+// A fault, and what it is about.
+fn about<'a>(kind: Kind, about: &'a str) -> Fault<'a>
+    ensures { result.kind ≡ kind }
+{
+    Fault { kind, about }
+}
 
 // Options that don't go together.
-fn misuse<'a>(misuse: Misuse, about: &'a str) -> Fault<'a> {
+fn misuse<'a>(misuse: Misuse, about: &'a str) -> Fault<'a>
+    ensures { result.kind ≡ Usage misuse }
+{
     Fault {
         kind: Kind::Usage(misuse),
         about,
@@ -20,7 +38,9 @@ fn misuse<'a>(misuse: Misuse, about: &'a str) -> Fault<'a> {
 }
 
 // The file of a path, or standard input.
-fn file_of<'a>(path: &'a str) -> Source<'a> {
+fn file_of<'a>(path: &'a str) -> Source<'a>
+    ensures { IsInput (Some path.entry) result }
+{
     if path == "-" {
         Source::StandardInput
     } else {
@@ -59,7 +79,11 @@ fn account_of<'a>(matches: &ArgMatches<'a>) -> Result<Account<'a>, Fault<'a>> {
 }
 
 // Standard input is the place of one of two inputs at most.
-fn read_once<'a>(first: Source, second: Source) -> Result<(), Fault<'a>> {
+fn read_once<'a>(first: Source, second: Source) -> Result<(), Fault<'a>>
+    ensures once { IfOk result (λ _. ¬ IsReadTwice first.entry second.entry) }
+    ensures fault { IfErr result (λ fault.
+        IsReadTwice first.entry second.entry × (fault.kind ≡ Usage StandardInputTwice)) }
+{
     match (first, second) {
         (Source::StandardInput, Source::StandardInput) => {
             Err(misuse(Misuse::StandardInputTwice, ""))
@@ -68,7 +92,7 @@ fn read_once<'a>(first: Source, second: Source) -> Result<(), Fault<'a>> {
     }
 }
 
-// What is done, by an input and an account number.
+// The request of a form, with its input and the account number of the options.
 fn with_account<'a>(
     form: Form<'a>,
     input: Source<'a>,
@@ -86,7 +110,7 @@ fn with_account<'a>(
     })
 }
 
-// What is done, by an input alone.
+// The request of a task without an account number.
 fn without_account<'a>(task: Task<'a>, input: Source<'a>) -> Request<'a> {
     Request {
         task,
@@ -278,11 +302,21 @@ fn block_request<'a>(matches: &ArgMatches<'a>) -> Result<Request<'a>, Fault<'a>>
     }
 }
 
+// ---- streams
+
+fn streams_task<'a>(encrypts: bool, matches: &ArgMatches<'a>) -> Result<Request<'a>, Fault<'a>> {
+    let request = stream_request(encrypts, matches)?;
+    Ok(without_account(Task::Stream(request), request.key))
+}
+
 /// What the words ask for; a fault where their options don't go together.
 pub fn request_of<'a>(matches: &ArgMatches<'a>) -> Result<Request<'a>, Fault<'a>> {
     match matches.subcommand() {
+        Some(("encrypt", matches)) => streams_task(true, matches),
+        Some(("decrypt", matches)) => streams_task(false, matches),
         Some(("mac", matches)) => mac_request(matches),
         Some(("check-value", matches)) => key_request(Task::Line(Form::CheckValue), matches),
+        Some(("parity", matches)) => key_request(Task::Line(Form::Parity), matches),
         Some(("weak", matches)) => key_request(Task::Weak, matches),
         Some(("combine", matches)) => combine_request(matches),
         Some(("dukpt", matches)) => dukpt_request(matches),

@@ -1,7 +1,8 @@
 //! The check digits of account numbers (ISO/IEC 7812-1, Annex B).
 
-ghost use Rattle.std.specs.Prelude.{◌≡◌, ◌≤◌, ◌<◌, length, IsTrue};
-ghost use Rattle.cukvashe.specs.CheckDigits.{doubled as doubled_of, weighed as weighed_of, value_of, has_check_digit as has_check_digit_of};
+ghost use Rattle.std.specs.Prelude.{◌≡◌, ◌≤◌, ◌<◌, length};
+ghost use Rattle.des_payment.specs.Texts.{are_digits as are_digits_of};
+ghost use Rattle.cukvashe.specs.CheckDigits.{doubled as doubled_of, weighed as weighed_of, value_of, has_check_digit as has_check_digit_of, is_account as is_account_of};
 
 // The digits of the double of a digit, added together.
 fn doubled(value: u32) -> u32
@@ -11,7 +12,7 @@ fn doubled(value: u32) -> u32
     2 * value / 10 + 2 * value % 10
 }
 
-// What a digit counts that `following` others follow.
+// What a digit adds to the sum where `following` digits follow it.
 fn weighed(following: usize, value: u32) -> u32
     requires { value < 256 }
     ensures value { result ≡ weighed_of following value }
@@ -36,9 +37,15 @@ pub fn has_check_digit(digits: &[u8]) -> bool
     sum % 10 == 0
 }
 
+fn are_digits(text: &[u8]) -> bool
+    ensures { result ≡ are_digits_of text.now }
+{
+    text.iter().all(|character| character.is_ascii_digit())
+}
+
 /// Whether a text is an account number: 13 to 19 digits.
 pub fn is_account(text: &[u8]) -> bool
-    ensures { IsTrue result → (13 ≤ length text.now) × (length text.now ≤ 19) }
+    ensures { result ≡ is_account_of text.now }
 {
-    text.len() >= 13 && text.len() <= 19 && text.iter().all(|byte| byte.is_ascii_digit())
+    text.len() >= 13 && text.len() <= 19 && are_digits(text)
 }

@@ -7,6 +7,8 @@ use des_payment::dukpt::Message;
 pub enum Command<'a> {
     /// The check value of a key.
     Check,
+    /// The key with odd parity.
+    Parity,
     /// The key of `count` components.
     Combine {
         count: u8,
@@ -22,7 +24,7 @@ pub enum Command<'a> {
     },
     /// The card verification value of a card's data under a key pair.
     Cvv {
-        account: &'a str,
+        account: &'a [u8],
         expiry: &'a str,
         service: &'a str,
     },
@@ -31,17 +33,17 @@ pub enum Command<'a> {
 /// The format of a PIN block that is made, with what it takes beside the PIN.
 #[derive(Clone, Copy)]
 pub enum Encoding<'a> {
-    Format0 { account: &'a str },
+    Format0 { account: &'a [u8] },
     Format1 { transaction: &'a str },
-    Format3 { account: &'a str, fill: &'a str },
+    Format3 { account: &'a [u8], fill: &'a str },
 }
 
 /// The format of a PIN block that is read, with what it takes beside the block.
 #[derive(Clone, Copy)]
 pub enum Decoding<'a> {
-    Format0 { account: &'a str },
+    Format0 { account: &'a [u8] },
     Format1,
-    Format3 { account: &'a str },
+    Format3 { account: &'a [u8] },
 }
 
 /// What a key of a transaction is for.

@@ -26,7 +26,7 @@ pub enum Reason {
     Other,
 }
 
-/// Options that don't go together.
+/// What is wrong with a command line; `words` says it.
 #[derive(Clone, Copy)]
 pub enum Misuse {
     KeySource,
@@ -49,15 +49,15 @@ pub enum Misuse {
 /// What is at fault. Each has a name, under which the documents list it, and words.
 #[derive(Clone, Copy)]
 pub enum Kind {
-    /// The arguments don't go together.
+    /// The program takes no such command line.
     Usage(Misuse),
-    /// The file or descriptor of a key, a PIN or an account number can't be read.
+    /// A short input, such as a key, or the system's random bytes can't be read.
     Source(Reason),
     /// The environment has no such variable, or it is no text.
     Variable,
     /// An input is longer than what it may be.
     InputLength,
-    /// A key does not have two digits for each of its bytes: 8, 16 or 24, or one of these for 0.
+    /// A key does not have the digits of so many bytes, 8, 16 or 24, or for 0 of any of these.
     KeyLength(u8),
     /// A key has a character that is no hexadecimal digit.
     KeyText,
@@ -95,7 +95,7 @@ pub enum Kind {
     Write(Reason),
     /// The input ends within a block.
     Length,
-    /// The input ends before the part.
+    /// The input has no block where decryption begins, or ends within the vector.
     Start,
     /// The last block does not end with the padding.
     Padding,
@@ -183,7 +183,8 @@ impl Misuse {
     }
 }
 
-// What is said of a key whose bytes are of this number, or of 0 where it may be one of three.
+// What is said of a wrong number of digits: a key of `size` bytes is needed, or for 0 one of 8, 16
+// or 24.
 fn key_words(size: u8) -> &'static str
     ensures { result.now ≡ key_words size }
 {

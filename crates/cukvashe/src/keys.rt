@@ -5,13 +5,27 @@ ghost use Rattle.des.specs.Parity.{AgreeOutsideParity};
 ghost use Rattle.des.specs.WeakKeys.{IsRefused};
 ghost use Rattle.cukvashe.specs.Texts.{bytes_of as bytes_of_text};
 ghost use Rattle.cukvashe.specs.Faults.{FailsBy};
-ghost use Rattle.cukvashe.specs.Keys.{key_fault, is_key_length, IsKeySize, IsDoubleLength};
+ghost use Rattle.cukvashe.specs.Keys.{key_fault, is_key_length, IsKeySize, IsDoubleLength, IsVerdict};
+ghost use Rattle.cukvashe.specs.declared.keys.Verdict.TheVariants.{Good, DoubleLength, Weak};
 
 use crate::digits::decode;
 use crate::fault::Kind;
 use des::tdes::key_part;
 use des::weak_key::{equal_but_parity, weak_key_test};
 use std::alloc::Global;
+
+/// What is found of a key before it is used.
+#[derive(Clone, Copy)]
+pub enum Verdict {
+    /// The weak key test accepts it.
+    Good,
+    /// It is K1, K2, K1, parity aside, and the weak key test accepts K1, K2. Triple DES under it is
+    /// triple DES under the key of two parts.
+    DoubleLength,
+    /// The weak key test refuses it otherwise: a part is a listed key, or two parts beside each
+    /// other are equal, parity aside, and triple DES is single DES.
+    Weak,
+}
 
 // Whether `count` digits write a key of `size` bytes, or for 0 one of 8, 16 or 24.
 fn is_key_length(count: usize, size: u8) -> bool
@@ -49,13 +63,29 @@ pub fn is_weak(key: &[u8]) -> bool
     weak_key_test(key).is_err()
 }
 
-/// Whether a key is one of two parts in the form of three, K1, K2, K1, whose first two parts the weak
-/// key test accepts. Triple DES under it is that of two parts.
-pub fn is_double_length(key: &[u8]) -> bool
+// Whether a key is K1, K2, K1, parity aside, and the weak key test accepts K1, K2.
+fn is_double_length(key: &[u8]) -> bool
     ensures { IsTrue result ↔ IsDoubleLength key.now }
 {
     if key.len() != 24 || !equal_but_parity(&key_part(key, 1), &key_part(key, 3)) {
         return false;
     }
     !is_weak(&key[..16])
+}
+
+/// What is found of a key of 8, 16 or 24 bytes.
+pub fn verdict_of(key: &[u8]) -> Verdict
+    requires { IsKeySize (length key.now) }
+    ensures verdict { IsVerdict result key.now }
+    ensures good { (result ≡ Good) ↔ (¬ IsRefused key.now) }
+    ensures double_length { (result ≡ DoubleLength) ↔ IsDoubleLength key.now }
+    ensures weak { (result ≡ Weak) ↔ (IsRefused key.now × (¬ IsDoubleLength key.now)) }
+{
+    if is_double_length(key) {
+        Verdict::DoubleLength
+    } else if is_weak(key) {
+        Verdict::Weak
+    } else {
+        Verdict::Good
+    }
 }

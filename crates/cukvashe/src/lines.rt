@@ -5,12 +5,14 @@ ghost use Rattle.des.specs.WeakKeys.{IsRefused};
 ghost use Rattle.des_payment.specs.Components.{combined};
 ghost use Rattle.cukvashe.specs.Texts.{bytes_of as bytes_of_text, digits_fault, hex_line as hex_line_of, text_fault};
 ghost use Rattle.cukvashe.specs.Faults.{FailsBy, FailsOnlyBy, FailsOrRefuses};
-ghost use Rattle.cukvashe.specs.Lines.{key_fault, check_value_of, key_of_components, encoding_fault, IsEncoded, decoding_fault, IsDecoded};
+ghost use Rattle.cukvashe.specs.Keys.{key_fault};
+ghost use Rattle.cukvashe.specs.Lines.{check_value_of, key_of_components, encoding_fault, IsEncoded, decoding_fault, IsDecoded};
 ghost use Rattle.cukvashe.specs.Lines.{FailsAs, IsLine, key_for, transaction_key_of, transaction_fault, cvv_fault, cvv_line as cvv_line_of};
 
 use crate::command::{Command, Decoding, Encoding, Purpose};
 use crate::digits::{bytes_of, decode, fill_of, hex_line, line_of};
 use crate::fault::Kind;
+use crate::parity::parity_line;
 use des::WeakKeyError;
 use des::cipher::KeyedCipher;
 use des_fast::{Des, TdesEde2, TdesEde3};
@@ -35,6 +37,7 @@ pub fn line_of_command(alloc: Global, command: Command, text: &[u8]) -> Result<V
 {
     match command {
         Command::Check => check_line(alloc, text),
+        Command::Parity => parity_line(alloc, text),
         Command::Combine { count } => combine_line(alloc, count, text),
         Command::Encode(format) => encode_line(alloc, format, text),
         Command::Decode(format) => decode_line(alloc, format, text),
@@ -66,7 +69,7 @@ fn check_by<C: KeyedCipher + Drop, const N: usize>(
 
 // The check value of a key, of one, two or three parts.
 fn check_line(alloc: Global, digits: &[u8]) -> Result<Vec<u8>, Kind>
-    ensures fault { FailsBy (key_fault digits.now) result }
+    ensures fault { FailsBy (key_fault 0 digits.now) result }
     ensures line { IfOk result (λ line.
         line.items ≡ hex_line_of (check_value_of digits.now)) }
 {
@@ -107,7 +110,7 @@ fn combine_by<const N: usize>(digits: &[u8]) -> Result<[u8; N], Kind>
     Ok(combine_all(components)?)
 }
 
-// The line of that key.
+// The line of the key of the components, of N bytes each.
 fn combined_line<const N: usize>(alloc: Global, digits: &[u8]) -> Result<Vec<u8>, Kind>
     requires size { (N ≡ 8) ⊎ (N ≡ 16) ⊎ (N ≡ 24) }
     requires whole { length digits.now % (2 * N) ≡ 0 }
@@ -150,11 +153,9 @@ fn block_of(format: Encoding, pin: &Pin) -> Result<[u8; 8], Kind>
     ensures block { IfOk result (IsEncoded format.entry pin.now) }
 {
     let block = match format {
-        Encoding::Format0 { account } => encode_format_0(pin, account.as_bytes())?,
+        Encoding::Format0 { account } => encode_format_0(pin, account)?,
         Encoding::Format1 { transaction } => encode_format_1(pin, &fill_of(transaction)?)?,
-        Encoding::Format3 { account, fill } => {
-            encode_format_3(pin, account.as_bytes(), &fill_of(fill)?)?
-        }
+        Encoding::Format3 { account, fill } => { encode_format_3(pin, account, &fill_of(fill)?)? }
     };
     Ok(block)
 }
@@ -173,9 +174,9 @@ fn pin_of(format: Decoding, block: &[u8; 8]) -> Result<Pin, Kind>
     ensures pin { IfOk result (λ pin. IsDecoded format.entry pin block.now) }
 {
     let pin = match format {
-        Decoding::Format0 { account } => decode_format_0(block, account.as_bytes())?,
+        Decoding::Format0 { account } => decode_format_0(block, account)?,
         Decoding::Format1 => decode_format_1(block)?,
-        Decoding::Format3 { account } => decode_format_3(block, account.as_bytes())?,
+        Decoding::Format3 { account } => decode_format_3(block, account)?,
     };
     Ok(pin)
 }
@@ -226,7 +227,7 @@ fn transaction_line(
 
 fn cvv_line(
     alloc: Global,
-    account: &str,
+    account: &[u8],
     expiry: &str,
     service: &str,
     digits: &[u8],
@@ -237,11 +238,6 @@ fn cvv_line(
         ≡ cvv_line_of account.now expiry.now service.now digits.now) }
 {
     let key = bytes_of::<16>(digits, Kind::KeyLength(16), Kind::KeyText)?;
-    let value = cvv(
-        &key,
-        account.as_bytes(),
-        expiry.as_bytes(),
-        service.as_bytes(),
-    )?;
+    let value = cvv(&key, account, expiry.as_bytes(), service.as_bytes())?;
     Ok(line_of(alloc, &value)?)
 }

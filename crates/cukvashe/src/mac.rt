@@ -56,7 +56,7 @@ fn tag_of_reader<M: Mac + Drop, R: Read>(
     Err(Kind::Read(Reason::Other))
 }
 
-// The same of a method with a padding, by the key's size.
+// The tag by CBC-MAC of all that a reader has. The key's size decides the cipher.
 fn tag_of_chain<R: Read>(
     padding: PaddingMethod,
     key: &[u8],

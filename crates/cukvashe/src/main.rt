@@ -5,16 +5,27 @@ mod answer;
 mod arguments;
 mod check_digit;
 mod command;
+mod descriptors;
 mod digits;
 mod fault;
+mod inputs;
 mod keys;
+mod line;
 mod lines;
 mod mac;
+mod notices;
+mod output;
+mod parity;
 mod program;
+mod progress;
 mod report;
 mod request;
 mod source;
+mod stream_request;
+mod streams;
+mod streams_program;
 mod usage;
+mod watched;
 
 use std::process::ExitCode;
 

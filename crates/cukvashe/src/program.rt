@@ -5,20 +5,21 @@ ghost use Rattle.cukvashe.specs.Keys.{IsKeySize};
 
 use crate::answer::{Answer, status_of, tag_answer, tag_of_digits, verified, weak_answer};
 use crate::arguments::{parse, parts_of, request_of};
-use crate::check_digit::{has_check_digit, is_account};
-use crate::command::Command;
-use crate::fault::{Fault, Kind, Misuse, Reason};
+use crate::fault::{Fault, Kind, Misuse};
+use crate::inputs::{self, read_fault};
 use crate::keys::{is_weak, key_of_digits};
-use crate::lines::{LONGEST_TEXT, line_of_command};
+use crate::line::{LineRequest, run_line};
+use crate::lines::LONGEST_TEXT;
 use crate::mac::{Method, tag_of};
-use crate::report::{report, show};
-use crate::request::{Account, Form, Question, Request, Task, about_of, command_of};
+use crate::report::show;
+use crate::request::{Account, Form, Question, Request, Task};
 use crate::source::{Source, text_of};
+use crate::stream_request::StreamRequest;
+use crate::streams_program::{refuse_terminal, run_stream};
 use crate::usage::show_usage;
 use clap::ArgMatches;
 use des_payment::{CvvError, PinError};
 use std::env;
-use std::fs::File;
 use std::io::{self, Read};
 use std::process::ExitCode;
 
@@ -32,10 +33,6 @@ fn about<'a>(kind: Kind, name: &'a str) -> Fault<'a> {
         kind,
         about: if is_of_memory { "" } else { name },
     }
-}
-
-fn yes(text: Vec<u8>) -> Answer {
-    Answer { text, is_no: false }
 }
 
 // The text of a source.
@@ -76,50 +73,34 @@ fn account_in<'a>(rt: &HostRuntime, account: Account<'a>) -> Result<Vec<u8>, Fau
     }
 }
 
-// An account number whose last digit is not its check digit is refused, or else a line says so.
-fn accept_account<'a>(
-    rt: &HostRuntime,
-    request: &Request<'a>,
-    account: &[u8],
-) -> Result<(), Fault<'a>> {
-    if !is_account(account) || has_check_digit(account) {
-        return Ok(());
-    }
-    let fault = about(Kind::CheckDigit, account_name(request.account));
-    if request.refuses {
-        return Err(fault);
-    }
-    let _ = report(fault, &mut rt.stderr());
-    Ok(())
+fn write_line(rt: &HostRuntime, line: LineRequest, account: &[u8], text: &[u8]) -> u8
+    requires { length text.now ≤ LONGEST_TEXT }
+{
+    run_line(
+        rt.alloc(),
+        line,
+        account,
+        text,
+        &mut rt.stdout(),
+        &mut rt.stderr(),
+    )
 }
 
-// What a fault of a fill digit is about.
-fn fill_name<'a>(form: Form, input: &'a str) -> &'a str {
-    match form {
-        Form::Encode(_, _) => "--fill",
-        _ => input,
-    }
-}
-
-fn line_answer<'a>(
+// Writes the line of a command, and gives the status.
+fn line_status<'a>(
     rt: &HostRuntime,
     request: &Request<'a>,
     form: Form<'a>,
-) -> Result<Answer, Fault<'a>> {
+) -> Result<u8, Fault<'a>> {
     let account = account_in(rt, request.account)?;
-    accept_account(rt, request, account.as_slice())?;
     let text = text_in(rt, request.input)?;
-    let digits = str::from_utf8(account.as_slice()).unwrap_or("");
-    let command = command_of(form, digits);
-    match line_of_command(rt.alloc(), command, text.as_slice()) {
-        Ok(line) => Ok(yes(line)),
-        Err(kind) => {
-            let input = request.input.name();
-            let account = account_name(request.account);
-            let name = about_of(kind, input, account, fill_name(form, input));
-            Err(Fault { kind, about: name })
-        }
-    }
+    let line = LineRequest {
+        form,
+        input: request.input.name(),
+        account: account_name(request.account),
+        refuses: request.refuses,
+    };
+    Ok(write_line(rt, line, account.as_slice(), text.as_slice()))
 }
 
 // ---- components in files
@@ -161,16 +142,19 @@ fn parts_in<'a>(rt: &HostRuntime, paths: &[&'a str]) -> Result<Vec<u8>, Fault<'a
     Ok(digits)
 }
 
-fn parts_answer<'a>(rt: &HostRuntime, paths: &[&'a str]) -> Result<Answer, Fault<'a>> {
+// Writes the line of the key of components, each in a file, and gives the status.
+fn parts_status<'a>(rt: &HostRuntime, paths: &[&'a str]) -> Result<u8, Fault<'a>> {
     let digits = parts_in(rt, paths)?;
     if paths.len() > 255 || digits.len() > LONGEST_TEXT {
         return Err(about(Kind::InputLength, "--part-file"));
     }
-    let count = paths.len() as u8;
-    match line_of_command(rt.alloc(), Command::Combine { count }, digits.as_slice()) {
-        Ok(line) => Ok(yes(line)),
-        Err(kind) => Err(about(kind, "--part-file")),
-    }
+    let line = LineRequest {
+        form: Form::Combine(paths.len() as u8),
+        input: "--part-file",
+        account: "",
+        refuses: false,
+    };
+    Ok(write_line(rt, line, &[], digits.as_slice()))
 }
 
 // ---- keys
@@ -214,14 +198,10 @@ fn tag_of_message(
     message: Source,
 ) -> Result<[u8; 8], Kind> {
     match message {
-        Source::File(path) => match File::open(rt, path) {
-            Ok(file) => {
-                let mut file = file;
-                tag_in(rt, method, key, &mut file, BYTES_AT_A_TIME)
-            }
-            Err(error) if error.kind() == io::ErrorKind::OutOfMemory => Err(Kind::Memory),
-            Err(error) => Err(Kind::Read(Reason::of(&error))),
-        },
+        Source::File(path) => {
+            let mut input = inputs::open(rt, path).map_err(read_fault)?;
+            tag_in(rt, method, key, &mut input.file, BYTES_AT_A_TIME)
+        }
         _ => tag_in(rt, method, key, &mut rt.stdin(), BYTES_AT_A_TIME),
     }
 }
@@ -255,41 +235,63 @@ fn mac_answer<'a>(
     answer_of(rt, &tag, question).map_err(|kind| about(kind, "--verify"))
 }
 
-// ---- the program
+// ---- streams
 
-fn answer_to<'a>(
-    rt: &HostRuntime,
-    request: &Request<'a>,
-    matches: &ArgMatches<'a>,
-) -> Result<Answer, Fault<'a>> {
-    match request.task {
-        Task::Line(form) => line_answer(rt, request, form),
-        Task::Weak => key_answer(rt, request.input),
-        Task::Parts => match parts_of(matches) {
-            Some(paths) => parts_answer(rt, paths),
-            None => Err(about(Kind::Usage(Misuse::Components), "")),
-        },
-        Task::Mac {
-            method,
-            question,
-            message,
-        } => mac_answer(rt, request.input, method, question, message),
-    }
+// What `encrypt` and `decrypt` answer.
+fn stream_answer<'a>(rt: &HostRuntime, request: &StreamRequest<'a>) -> Result<Answer, Fault<'a>> {
+    refuse_terminal(rt, request.output).map_err(|kind| about(kind, ""))?;
+    let key = key_in(rt, request.key, request.cipher.key_size())?;
+    run_stream(rt, request, key.as_slice())
 }
+
+// ---- the program
 
 // Writes a text or the line of a fault, and gives the status.
 fn show_on(rt: &HostRuntime, outcome: Result<Vec<u8>, Fault>) -> u8 {
     show(&outcome, &mut rt.stdout(), &mut rt.stderr())
 }
 
+fn show_answer(rt: &HostRuntime, answer: Answer) -> u8 {
+    let Answer { text, is_no } = answer;
+    status_of(show_on(rt, Ok(text)), is_no)
+}
+
+// Does what is asked for, and gives the status.
+fn status_to<'a>(
+    rt: &HostRuntime,
+    request: &Request<'a>,
+    matches: &ArgMatches<'a>,
+) -> Result<u8, Fault<'a>> {
+    match request.task {
+        Task::Line(form) => line_status(rt, request, form),
+        Task::Weak => Ok(show_answer(rt, key_answer(rt, request.input)?)),
+        Task::Parts => match parts_of(matches) {
+            Some(paths) => parts_status(rt, paths),
+            None => Err(about(Kind::Usage(Misuse::Components), "")),
+        },
+        Task::Mac {
+            method,
+            question,
+            message,
+        } => {
+            let answer = mac_answer(rt, request.input, method, question, message)?;
+            Ok(show_answer(rt, answer))
+        }
+        Task::Stream(request) => {
+            let answer = stream_answer(rt, &request)?;
+            Ok(show_answer(rt, answer))
+        }
+    }
+}
+
 // Does what the options ask for.
 fn run_matches<'a>(rt: &HostRuntime, matches: &ArgMatches<'a>) -> u8 {
-    let outcome = match request_of(matches) {
-        Ok(request) => answer_to(rt, &request, matches),
+    let status = match request_of(matches) {
+        Ok(request) => status_to(rt, &request, matches),
         Err(fault) => Err(fault),
     };
-    match outcome {
-        Ok(Answer { text, is_no }) => status_of(show_on(rt, Ok(text)), is_no),
+    match status {
+        Ok(status) => status,
         Err(fault) => show_on(rt, Err(fault)),
     }
 }

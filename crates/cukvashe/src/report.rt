@@ -3,7 +3,7 @@
 ghost use Rattle.std.specs.Prelude.{◌≡◌, List, ℕ, OnOk};
 ghost use Rattle.std.specs.List.{flat_map};
 ghost use Rattle.std.specs.Io.KnownBytes.{Appends};
-ghost use Rattle.cukvashe.specs.Faults.{line_of, separator_of};
+ghost use Rattle.cukvashe.specs.Faults.{line_with, line_of, separator_of};
 ghost use Rattle.cukvashe.specs.Written.{AppendsPrefix, IsShown};
 
 use crate::fault::Fault;
@@ -52,8 +52,8 @@ fn write_texts<W: Write>(out: &mut W, texts: &[&str]) -> io::Result<()>
     Ok(())
 }
 
-// Writes the bytes and flushes.
-fn send<W: Write>(out: &mut W, bytes: &[u8]) -> io::Result<()>
+/// Writes the bytes and flushes. Where that fails, a prefix of them is written.
+pub fn send<W: Write>(out: &mut W, bytes: &[u8]) -> io::Result<()>
     ensures part { AppendsPrefix (W.contents out.old) (W.contents out.new) bytes.now }
     ensures whole { OnOk result (Appends (W.contents out.old) (W.contents out.new) bytes.now) }
 {
@@ -68,16 +68,33 @@ fn separator(about: &str) -> &'static str
     if about.is_empty() { "" } else { ": " }
 }
 
+/// Writes a line of a fault or a notice: its name, what it is about, where that is not empty, and
+/// its words. Name and words are of the program's own text, so neither can be a secret.
+pub fn write_line<E: Write>(
+    name: &'static str,
+    about: &str,
+    words: &'static str,
+    err: &mut E,
+) -> io::Result<()>
+    ensures part { AppendsPrefix (E.contents err.old) (E.contents err.new)
+        (line_with name.now about.now words.now) }
+    ensures whole { OnOk result (Appends (E.contents err.old) (E.contents err.new)
+        (line_with name.now about.now words.now)) }
+{
+    write_texts(err, &["cukvashe: ", name, ": "])?;
+    write_whole(err, about.as_bytes())?;
+    write_texts(err, &[separator(about), words, "\n"])?;
+    err.flush()
+}
+
 /// Writes the line of a fault.
 pub fn report<E: Write>(fault: Fault, err: &mut E) -> io::Result<()>
-    ensures part { AppendsPrefix (E.contents err.old) (E.contents err.new) (line_of fault.entry.kind fault.entry.about.now) }
-    ensures whole { OnOk result
-        (Appends (E.contents err.old) (E.contents err.new) (line_of fault.entry.kind fault.entry.about.now)) }
+    ensures part { AppendsPrefix (E.contents err.old) (E.contents err.new)
+        (line_of fault.entry.kind fault.entry.about.now) }
+    ensures whole { OnOk result (Appends (E.contents err.old) (E.contents err.new)
+        (line_of fault.entry.kind fault.entry.about.now)) }
 {
-    write_texts(err, &["cukvashe: ", fault.kind.name(), ": "])?;
-    write_whole(err, fault.about.as_bytes())?;
-    write_texts(err, &[separator(fault.about), fault.kind.words(), "\n"])?;
-    err.flush()
+    write_line(fault.kind.name(), fault.about, fault.kind.words(), err)
 }
 
 /// Writes a result to `out`, or the line of a fault to `err`, and gives the status that the program

@@ -7,6 +7,7 @@ use crate::command::{Command, Decoding, Encoding, Purpose};
 use crate::fault::Kind;
 use crate::mac::Method;
 use crate::source::Source;
+use crate::stream_request::StreamRequest;
 use des_payment::{CvvError, PinError};
 
 /// Where an account number is.
@@ -41,6 +42,7 @@ pub enum Question<'a> {
 #[derive(Clone, Copy)]
 pub enum Form<'a> {
     CheckValue,
+    Parity,
     Combine(u8),
     Encode(Format, &'a str),
     Decode(Format),
@@ -63,6 +65,8 @@ pub enum Task<'a> {
         question: Question<'a>,
         message: Source<'a>,
     },
+    /// Bytes are encrypted or decrypted.
+    Stream(StreamRequest<'a>),
 }
 
 /// What a command line asks for.
@@ -72,16 +76,18 @@ pub struct Request<'a> {
     /// Where the key, the components, the PIN or the block is.
     pub input: Source<'a>,
     pub account: Account<'a>,
-    /// An account number without its check digit is refused.
+    /// An account number whose last digit is not its check digit is refused.
     pub refuses: bool,
 }
 
-/// The command of a form with the digits of an account number, which one that takes none passes over.
-pub fn command_of<'a>(form: Form<'a>, account: &'a str) -> Command<'a>
+/// The command of a form with the digits of an account number. A form that takes no such number
+/// passes over them.
+pub fn command_of<'a>(form: Form<'a>, account: &'a [u8]) -> Command<'a>
     ensures { result ≡ command_by form.entry account.entry }
 {
     match form {
         Form::CheckValue => Command::Check,
+        Form::Parity => Command::Parity,
         Form::Combine(count) => Command::Combine { count },
         Form::Encode(Format::Zero, _) => Command::Encode(Encoding::Format0 { account }),
         Form::Encode(Format::One, transaction) => {
@@ -109,7 +115,7 @@ pub fn about_of<'a>(kind: Kind, input: &'a str, account: &'a str, fill: &'a str)
         Kind::Components => "--count",
         Kind::SerialLength | Kind::SerialText => "SERIAL",
         Kind::FillLength | Kind::FillText => "--fill",
-        Kind::Pin(PinError::AccountLength | PinError::AccountDigit) => account,
+        Kind::CheckDigit | Kind::Pin(PinError::AccountLength | PinError::AccountDigit) => account,
         Kind::Pin(PinError::Fill) => fill,
         Kind::Card(CvvError::AccountLength | CvvError::AccountDigit) => account,
         Kind::Card(CvvError::ExpiryLength | CvvError::ExpiryDigit) => "--expiry",

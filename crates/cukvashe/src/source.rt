@@ -7,12 +7,12 @@ ghost use Rattle.cukvashe.specs.Sources.{IsTextOf, FailsToGive, name_of_source};
 
 use crate::digits::strip;
 use crate::fault::{Kind, Reason};
+use crate::inputs;
 use des_io::StreamError;
 use des_io::pieces::fill;
 use std::alloc::Global;
 use std::env::{self, VarError};
-use std::fs::{self, File};
-use std::io::{self, ErrorKind, Read, Seek, SeekFrom};
+use std::io::{self, ErrorKind, Read};
 
 /// Where a text is.
 #[derive(Clone, Copy)]
@@ -54,8 +54,13 @@ fn source_fault(error: StreamError) -> Kind
     }
 }
 
-// What a reader gives up to its end, without its white space, where that is `longest` bytes at most.
-fn text_of_reader<R: Read>(alloc: Global, reader: &mut R, longest: usize) -> Result<Vec<u8>, Kind>
+/// All that a reader has, without its white space. The fault is `InputLength` where that is more
+/// than `longest` bytes, `Source` where the reader failed, or `Memory`.
+pub fn text_of_reader<R: Read>(
+    alloc: Global,
+    reader: &mut R,
+    longest: usize,
+) -> Result<Vec<u8>, Kind>
     requires { longest < 100000 }
     ensures text { IfOk result (λ text.
         IsTextOf longest text.items (R.remaining reader.old) (R.remaining reader.new)) }
@@ -75,8 +80,8 @@ fn text_of_reader<R: Read>(alloc: Global, reader: &mut R, longest: usize) -> Res
 fn text_of_file(rt: &HostRuntime, path: &str) -> Result<Vec<u8>, Kind>
     ensures { IfOk result (λ text. length text.items ≤ LONGEST_TEXT) }
 {
-    let mut file = File::open(rt, path).map_err(refused)?;
-    text_of_reader(rt.alloc(), &mut file, LONGEST_TEXT)
+    let mut input = inputs::open(rt, path).map_err(refused)?;
+    text_of_reader(rt.alloc(), &mut input.file, LONGEST_TEXT)
 }
 
 // The system refused a source.
@@ -87,29 +92,12 @@ fn refused(error: io::Error) -> Kind {
     }
 }
 
-// Where a descriptor of the process stands in its file: 0 in a pipe.
-fn place_of(rt: &HostRuntime, number: u64) -> Result<u64, Kind> {
-    let path = format!(in rt.alloc(); "/proc/self/fdinfo/{number}")?;
-    let text = fs::read_to_string(rt, path.as_str()).map_err(refused)?;
-    let place = text
-        .lines()
-        .find_map(|line| line.strip_prefix("pos:"))
-        .and_then(|digits| digits.trim().parse().ok());
-    place.ok_or(Kind::Source(Reason::Other))
-}
-
-// The system opens the file of a descriptor anew, at its beginning, so the text is read from where
-// the descriptor stands.
+// A descriptor is opened by its name, and read from where it stands.
 fn text_of_descriptor(rt: &HostRuntime, number: u64) -> Result<Vec<u8>, Kind>
     ensures { IfOk result (λ text. length text.items ≤ LONGEST_TEXT) }
 {
-    let place = place_of(rt, number)?;
     let path = format!(in rt.alloc(); "/dev/fd/{number}")?;
-    let mut file = File::open(rt, path.as_str()).map_err(refused)?;
-    if place > 0 {
-        file.seek(SeekFrom::Start(place)).map_err(refused)?;
-    }
-    text_of_reader(rt.alloc(), &mut file, LONGEST_TEXT)
+    text_of_file(rt, path.as_str())
 }
 
 // The text of a value, without its white space.

@@ -1,7 +1,7 @@
 //! What tests show of `des_payment` for callers in Rattle alone: a caller of `check_value` by the
-//! relation of the cipher, the texts that the exports for C do not reach, and the caller that
-//! `docs/CALLING.md` shows. All else is shown by `bindings/test` and by
-//! `crates/des_payment_tool/tests/run`.
+//! relation of the cipher, one of `is_usable` that makes keys of transactions alone, the texts that
+//! the exports for C do not reach, and the caller that `docs/CALLING.md` shows. All else is shown by
+//! `bindings/test` and by `crates/cukvashe/tests/payment`.
 
 mod check_values;
 mod dukpt;

@@ -6,7 +6,7 @@ use Rattle.std.proofs.KnownBytes.{Consumes-trans, Appends-trans}
 use Rattle.std.proofs.lemmas.List.Elements.{All-append}
 use Rattle.des.specs.Blocks.{IsBlock}
 use Rattle.des_io.specs.CipherModes.{Deciphered}
-use Rattle.des_io.specs.PaddedBytes.{padded}
+use Rattle.des_io.specs.PaddedBytes.{padded, taken_off}
 use Rattle.des_io.specs.Streams.{passage_of, joined, Decrypts, Skips, DecryptsPart}
 use Rattle.des_io.specs.StreamFaults.{FailsInPart}
 use Rattle.des_io.specs.declared.error.StreamError.{StreamError}
@@ -170,7 +170,7 @@ Decrypts-joined decryption mode next padding n r t s m e u v w all first_is seco
     (sym before.split ∙ split) in
     let one = first.part in
     let two = last.part in
-    let plain : joined one.p ≡ one.plain = one.whole ∙ ap (λ taken. padded taken one.plain) before.whole
+    let plain : joined one.p ≡ one.plain = one.whole ∙ ap (λ taken. padded (taken_off taken) one.plain) before.whole
     ∙ append-nil one.plain in
     let whole_blocks : length one.plain % 8 ≡ 0 = sym (ap (λ l. length l % 8) plain) ∙ one.even in
     let deciphered : Deciphered decryption mode skips.q one.p =
@@ -188,8 +188,8 @@ Decrypts-joined decryption mode next padding n r t s m e u v w all first_is seco
         deciphered = Deciphered-append decryption mode skips.q one.p two.q two.p deciphered
             (subst (λ (from : Mode). Deciphered decryption from two.q two.p) skips.after two.deciphered);
         whole = joined-append one.p two.p
-            ∙ ap₂ ◌++◌ plain (two.whole ∙ ap (λ taken. padded taken two.plain) after.padded)
-            ∙ sym (padded-append padding one.plain two.plain whole_blocks);
+            ∙ ap₂ ◌++◌ plain (two.whole ∙ ap (λ taken. padded (taken_off taken) two.plain) after.padded)
+            ∙ sym (padded-append (taken_off padding) one.plain two.plain whole_blocks);
         even = omega (
           arith,
           ap length (joined-append one.p two.p)

@@ -2,16 +2,16 @@
 //! what CBC and PKCS#7 make of what is read, a part of a list of chained blocks, and two parts that
 //! joined are the whole.
 
-ghost use Rattle.std.specs.Prelude.{◌≡◌, ◌*◌, ◌≤◌, ℕ, List, length, IfOk, IfErr};
+ghost use Rattle.std.specs.Prelude.{◌≡◌, ◌≢◌, ◌*◌, ◌≤◌, ℕ, List, length, IfOk, IfErr};
 ghost use Rattle.std.specs.Prelude.{Some, None};
 ghost use Rattle.std.specs.Io.KnownBytes.{IsAtEnd};
 ghost use Rattle.des_io.specs.Streams.{passage_of, Encrypts, EncryptsPrefix, Decrypts, DecryptsPrefix};
 ghost use Rattle.des_io.specs.Streams.{Skips, DecryptsPart, DecryptsPartPrefix};
 ghost use Rattle.des_io.specs.StreamFaults.{FailsToEncrypt, FailsToDecrypt, FailsToSkip};
 ghost use Rattle.des_io.specs.StreamFaults.{FailsInPart};
-ghost use Rattle.des_io.specs.declared.error.StreamError.TheVariants.{Start};
+ghost use Rattle.des_io.specs.declared.error.StreamError.TheVariants.{Start, Padding as WrongPadding};
 ghost use Rattle.des_io.specs.declared.mode.Mode.TheVariants.{Cbc};
-ghost use Rattle.des_io.specs.declared.padding.Padding.TheVariants.{Pkcs7};
+ghost use Rattle.des_io.specs.declared.padding.Padding.TheVariants.{Pkcs7, Zeros, Unpadded};
 
 use des_fast::many::ManyBlocks;
 use des_io::{
@@ -79,6 +79,45 @@ pub fn begin_part<R: Read>(iv: [u8; 8], from: u64, reader: &mut R) -> Result<Mod
         (R.remaining reader.old) (R.remaining reader.new)) }
 {
     skip_blocks(Mode::Cbc(iv), from, reader, &mut [[0; 8]; 512])
+}
+
+/// Encrypts by CBC what a reader gives, with zeros up to a whole block.
+pub fn encrypt_with_zeros<R: Read, W: Write, C: ManyBlocks>(
+    cipher: &C,
+    iv: [u8; 8],
+    reader: &mut R,
+    writer: &mut W,
+) -> Result<(), StreamError>
+    ensures done { IfOk result (λ _. Encrypts (C.encrypted cipher.now) (Cbc iv) Zeros
+        (passage_of (R.remaining reader.old) (R.remaining reader.new)
+        (W.contents writer.old) (W.contents writer.new))) }
+{
+    let transformation = Transformation {
+        cipher,
+        mode: Mode::Cbc(iv),
+        padding: Padding::Zeros,
+    };
+    encrypt_stream(&transformation, reader, writer, &mut [[0; 8]; 512])
+}
+
+/// Decrypts what `encrypt_with_zeros` wrote, to whole blocks: no zeros are taken off.
+pub fn decrypt_with_zeros<R: Read, W: Write, C: ManyBlocks>(
+    cipher: &C,
+    iv: [u8; 8],
+    reader: &mut R,
+    writer: &mut W,
+) -> Result<(), StreamError>
+    ensures done { IfOk result (λ _. Decrypts (C.decrypted cipher.now) (Cbc iv) Unpadded
+        (passage_of (R.remaining reader.old) (R.remaining reader.new)
+        (W.contents writer.old) (W.contents writer.new))) }
+    ensures fault { IfErr result (λ fault. fault ≢ WrongPadding) }
+{
+    let transformation = Transformation {
+        cipher,
+        mode: Mode::Cbc(iv),
+        padding: Padding::Zeros,
+    };
+    decrypt_stream(&transformation, reader, writer, &mut [[0; 8]; 512])
 }
 
 /// Decrypts a part of `count` blocks, or of fewer where the reader ends before.

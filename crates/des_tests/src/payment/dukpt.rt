@@ -1,8 +1,11 @@
-//! A PIN block under the key of its transaction.
+//! The key of a transaction, and a PIN block under it.
+
+ghost use Rattle.std.specs.Prelude.{◌≡◌, IfSome, IfNone};
+ghost use Rattle.des_payment.specs.Dukpt.{IsOfTransaction, transaction_key as transaction_key_of};
 
 use des::cipher::{BlockCipherEncrypt, KeyInit};
 use des_fast::TdesEde2;
-use des_payment::dukpt::{initial_key, pin_key, transaction_key};
+use des_payment::dukpt::{initial_key, is_usable, pin_key, transaction_key};
 use des_payment::pin_blocks::encode_format_0;
 use des_payment::{Pin, PinError};
 
@@ -26,6 +29,18 @@ fn serial(last: u32) -> [u8; 10] {
     let mut serial = [0xff, 0xff, 0x98, 0x76, 0x54, 0x32, 0, 0, 0, 0];
     serial[6..].copy_from_slice(&last.to_be_bytes());
     serial
+}
+
+// The key of a transaction; none where the key serial number is that of no transaction.
+fn key_of_transaction(initial: &[u8; 16], serial: &[u8; 10]) -> Option<[u8; 16]>
+    ensures made { IfSome result (λ key. IsOfTransaction serial.now
+        × (key ≡ transaction_key_of initial.now serial.now)) }
+    ensures none { IfNone result (¬ (IsOfTransaction serial.now)) }
+{
+    if !is_usable(serial) {
+        return None;
+    }
+    Some(transaction_key(initial, serial))
 }
 
 // The caller that `docs/CALLING.md` shows.
@@ -53,4 +68,15 @@ fn encrypts_pins(rt: HostRuntime) {
             .iter()
             .all(|&(last, block)| is_encrypted(last, block))
     );
+}
+
+// A counter of a transaction is not 0, and has at most ten one bits (ANSI X9.24-1:2009, Annex A).
+#[test]
+fn refuses_serial_numbers_of_no_transaction(rt: HostRuntime) {
+    let initial = initial_key(&BASE, &serial(0x10e00000));
+    let is_refused = |last: u32| key_of_transaction(&initial, &serial(last)).is_none();
+    assert!(rt; TRANSACTIONS.iter().all(|&(last, _)| !is_refused(last)));
+    assert!(rt; !is_refused(0x10fff800));
+    assert!(rt; is_refused(0x10e00000));
+    assert!(rt; is_refused(0x10fffc00));
 }

@@ -33,10 +33,9 @@ returns-in_err-block-in-Format3-clause-fault c =
     let p = err_from_is_err_and c.from_residual-in_err-block-in-Format3.result
     c.from_residual-in_err-block-in-Format3.ensures.1 in
     let fill = c.in-Format3.fill.now in
-    let account : c.as_bytes-in-Format3.result.now ≡ c.in-Format3.account.now = c.as_bytes-in-Format3.ensures.value in
     let passed = none_from (digits_fault 5 FillLength FillText fill) c.fill_of-in-Format3.result
     c.in_ok-fill_of-in-Format3.field-0 c.fill_of-in-Format3.ensures.fault c.in_ok-fill_of-in-Format3.was in
     let digits : c.in_ok-fill_of-in-Format3.field-0 ≡ fill_of fill = c.in_ok-fill_of-in-Format3.ensures.digits in
-    let fault = rw (account, digits) at c.encode_format_3.ensures.fault in
+    let fault = rw digits at c.encode_format_3.ensures.fault in
     let found = ap (option_map PinFault) (sym fault ∙ ap result_err c.in_err-block-in-Format3.was) in
     rw (p.1, p.2, c.in-Format3.is) (fails_second (List ℕ) _ _ _ passed found)

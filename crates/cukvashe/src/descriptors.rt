@@ -1,0 +1,62 @@
+//! Descriptors of the process under the names that the system gives them.
+
+use std::fs;
+use std::io::{self, ErrorKind};
+
+// The flag of the system for a descriptor that writes at the end of its file.
+const APPEND: u32 = 0o2000;
+
+/// How a descriptor stands in its file.
+#[derive(Clone, Copy)]
+pub struct Standing {
+    /// The byte that is read or written next: 0 in a pipe.
+    pub place: u64,
+    /// Bytes go to the end of the file, wherever the descriptor stands.
+    pub appends: bool,
+}
+
+/// The descriptor that a path names, where it names one of this process.
+pub fn descriptor_of(path: &str) -> Option<u64> {
+    match path {
+        "/dev/stdin" => Some(0),
+        "/dev/stdout" => Some(1),
+        "/dev/stderr" => Some(2),
+        _ => numbered(path),
+    }
+}
+
+// The descriptor of a path that ends with its number.
+fn numbered(path: &str) -> Option<u64> {
+    let digits = match path.strip_prefix("/dev/fd/") {
+        Some(digits) => digits,
+        None => path.strip_prefix("/proc/self/fd/")?,
+    };
+    if digits.starts_with("+") {
+        return None;
+    }
+    digits.parse().ok()
+}
+
+// The value of a line of the system's text on a descriptor.
+fn value_of<'a>(text: &'a str, name: &str) -> Option<&'a str> {
+    let value = text.lines().find_map(|line| line.strip_prefix(name))?;
+    Some(value.trim())
+}
+
+/// How a descriptor stands. The error is the system's, or `InvalidData` where its text has no
+/// position or no flags.
+pub fn standing_of(rt: &HostRuntime, number: u64) -> io::Result<Standing> {
+    let path = format!(in rt.alloc(); "/proc/self/fdinfo/{number}")?;
+    let text = fs::read_to_string(rt, path.as_str())?;
+    let place = value_of(text.as_str(), "pos:").and_then(|digits| digits.parse().ok());
+    let flags = value_of(text.as_str(), "flags:").and_then(|digits| u32::from_str_radix(
+        digits, 8,
+    ).ok());
+    match (place, flags) {
+        (Some(place), Some(flags)) => Ok(Standing {
+            place,
+            appends: flags & APPEND != 0,
+        }),
+        _ => Err(io::Error::from(ErrorKind::InvalidData)),
+    }
+}

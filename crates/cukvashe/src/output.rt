@@ -1,0 +1,227 @@
+//! Output files. A regular file is replaced when all of it is written, and not before.
+
+ghost use Rattle.std.specs.Prelude.{◌≡◌, ◌⊎◌};
+
+use crate::descriptors::{Standing, descriptor_of, standing_of};
+use crate::fault::{Kind, Reason};
+use crate::inputs::system_random;
+use std::fs::{self, File, Metadata, OpenOptions, Permissions};
+use std::io::{self, ErrorKind, Seek, SeekFrom};
+use std::os::unix::fs::{OpenOptionsExt, PermissionsExt};
+use std::path::Path;
+
+// Who may read, write and run a file, of the bits of its mode.
+const PERMISSION_BITS: u32 = 0o777;
+
+// A file is its owner's alone while it is written.
+const MODE_IN_WRITING: u32 = 0o600;
+
+// What programs ask for a new file, before the umask takes bits away.
+const MODE_OF_NEW_FILES: u32 = 0o666;
+
+// The symbolic links that are followed, as many as Linux follows.
+const LINKS_AT_MOST: u32 = 40;
+
+// The random names that are tried where there are files of these names already.
+const NAMES_AT_MOST: u32 = 16;
+
+/// A file beside the one that it is to replace, which only its owner may read.
+#[derive(Drop)]
+pub struct PrivateFile {
+    target: String,
+    beside: String,
+    // The permissions that it gets at its end.
+    mode: u32,
+    /// Where the bytes go.
+    pub file: File,
+}
+
+/// What the path of an output names.
+#[derive(Drop)]
+pub enum Target {
+    /// Standard output.
+    StandardOutput,
+    /// A pipe, a device or a descriptor, which is written to as it is.
+    AsItIs(File),
+    /// A regular file, or none, which is replaced at the end.
+    Replaced(PrivateFile),
+}
+
+// The fault of an error that says why an output can't be written.
+fn write_fault(error: io::Error) -> Kind
+    ensures { (result ≡ Kind.Memory) ⊎ ((reason : Reason) × (result ≡ Kind.Write reason)) }
+{
+    match error.kind() {
+        ErrorKind::OutOfMemory => Kind::Memory,
+        _ => Kind::Write(Reason::of(&error)),
+    }
+}
+
+/// Opens the output that a path names. The fault is `Write`, `Memory`, or `Source` where the system
+/// gives no random bytes for a name.
+pub fn open(rt: &HostRuntime, path: &str) -> Result<Target, Kind> {
+    let name = target_of(rt, path).map_err(write_fault)?;
+    if let Some(number) = descriptor_of(name.as_str()) {
+        return open_descriptor(rt, number).map_err(write_fault);
+    }
+    match fs::metadata(rt, name.as_str()) {
+        Ok(old) => open_old(rt, name, &old),
+        Err(error) if error.kind() == ErrorKind::NotFound => open_new(rt, name),
+        Err(error) => Err(write_fault(error)),
+    }
+}
+
+// A folder is refused, a regular file is replaced, and anything else is written to as it is.
+fn open_old(rt: &HostRuntime, name: String, old: &Metadata) -> Result<Target, Kind> {
+    if old.is_dir() {
+        return Err(Kind::Write(Reason::IsFolder));
+    }
+    if old.is_file() {
+        let mode = old.permissions().mode() & PERMISSION_BITS;
+        return Ok(Target::Replaced(create_beside(rt, name, mode)?));
+    }
+    let file = OpenOptions::new()
+        .write(true)
+        .open(rt, name.as_str())
+        .map_err(write_fault)?;
+    Ok(Target::AsItIs(file))
+}
+
+// A new file takes the permissions that the umask leaves. A name that ends with a slash, and an
+// empty one, are no file's.
+fn open_new(rt: &HostRuntime, name: String) -> Result<Target, Kind> {
+    if name.is_empty() {
+        return Err(Kind::Write(Reason::NotFound));
+    }
+    if name.as_str().ends_with("/") {
+        return Err(Kind::Write(Reason::NotFolder));
+    }
+    let mode = match umask(rt) {
+        Some(mask) => MODE_OF_NEW_FILES & !mask,
+        None => MODE_IN_WRITING,
+    };
+    Ok(Target::Replaced(create_beside(rt, name, mode)?))
+}
+
+// ---- descriptors and links
+
+// Standard output itself is written to: other programs may share its place. The system opens the
+// file of another descriptor anew and at its beginning: it is written to from where that stands.
+fn open_descriptor(rt: &HostRuntime, number: u64) -> io::Result<Target> {
+    if number == 1 {
+        return Ok(Target::StandardOutput);
+    }
+    let Standing { place, appends } = standing_of(rt, number)?;
+    let path = format!(in rt.alloc(); "/dev/fd/{number}")?;
+    let mut file = OpenOptions::new()
+        .write(true)
+        .append(appends)
+        .open(rt, path.as_str())?;
+    if place > 0 && !appends {
+        file.seek(SeekFrom::Start(place))?;
+    }
+    Ok(Target::AsItIs(file))
+}
+
+// What a link names, seen from the link's folder.
+fn linked(rt: &HostRuntime, link: &str) -> io::Result<String> {
+    let target = fs::read_link(rt, link)?;
+    let folder = Path::new(link).parent().unwrap_or(Path::new(""));
+    Ok(folder.join(rt.alloc(), target.as_str())?.into_string())
+}
+
+// The path without the symbolic links at its end; a descriptor's is left as it is. The error is
+// that the links don't end, or the system's.
+fn target_of(rt: &HostRuntime, path: &str) -> io::Result<String> {
+    let mut name = String::from_str(rt.alloc(), path)?;
+    for _ in 0..LINKS_AT_MOST {
+        if descriptor_of(name.as_str()).is_some() {
+            return Ok(name);
+        }
+        match fs::symlink_metadata(rt, name.as_str()) {
+            Ok(found) if found.is_symlink() => name = linked(rt, name.as_str())?,
+            _ => return Ok(name),
+        }
+    }
+    Err(io::Error::from(ErrorKind::FilesystemLoop))
+}
+
+// ---- files beside
+
+// The bits that the umask takes from a new file, where the system tells them.
+fn umask(rt: &HostRuntime) -> Option<u32> {
+    let status = fs::read_to_string(rt, "/proc/self/status").ok()?;
+    let digits = status.lines().find_map(|line| line.strip_prefix("Umask:"))?;
+    u32::from_str_radix(digits.trim(), 8).ok()
+}
+
+// A path in the folder of a target, with a name that nobody foresees. It has 26 characters, so it
+// fits beside a target whose name is as long as names may be.
+fn random_path(rt: &HostRuntime, target: &str) -> Result<String, Kind> {
+    let number = u64::from_be_bytes(system_random(rt)?);
+    let name = format!(in rt.alloc(); ".cukvashe-{number:016x}")?;
+    let path = Path::new(target).with_file_name(rt.alloc(), name.as_str())?;
+    Ok(path.into_string())
+}
+
+// A new file that only its owner may read and write, whatever the umask lets through. A file that
+// stands already, or a link, is never opened.
+fn create_private(rt: &HostRuntime, path: &str) -> io::Result<File> {
+    OpenOptions::new()
+        .write(true)
+        .create_new(true)
+        .mode(MODE_IN_WRITING)
+        .open(rt, path)
+}
+
+// A new file beside a target. Another name is tried where one is taken.
+fn create_beside(rt: &HostRuntime, target: String, mode: u32) -> Result<PrivateFile, Kind> {
+    for _ in 0..NAMES_AT_MOST {
+        let beside = random_path(rt, target.as_str())?;
+        match create_private(rt, beside.as_str()) {
+            Ok(file) => return Ok(PrivateFile {
+                target,
+                beside,
+                mode,
+                file,
+            }),
+            Err(error) if error.kind() == ErrorKind::AlreadyExists => {}
+            Err(error) => return Err(write_fault(error)),
+        }
+    }
+    Err(Kind::Write(Reason::Exists))
+}
+
+impl PrivateFile {
+    /// Ends the file. Where all went well it is flushed to the disk and takes the target's name.
+    /// Where anything failed it is removed, and the target stays as it was.
+    pub fn end(self, rt: &HostRuntime, outcome: Result<(), Kind>) -> Result<(), Kind> {
+        let outcome = match outcome {
+            Ok(()) => self.replace_target(rt).map_err(write_fault),
+            Err(kind) => Err(kind),
+        };
+        if outcome.is_err() {
+            let _ = fs::remove_file(rt, self.beside.as_str());
+        }
+        outcome
+    }
+
+    // Gives the file its permissions where the file system has any, flushes it, and renames it.
+    // Then the folder is flushed where the system lets it. One that may not be read can't be: that
+    // is no fault, since the file stands whole under its name.
+    fn replace_target(&self, rt: &HostRuntime) -> io::Result<()> {
+        let _ = self.file.set_permissions(Permissions::from_mode(self.mode));
+        self.file.sync_all()?;
+        fs::rename(rt, self.beside.as_str(), self.target.as_str())?;
+        let _ = flush_folder(rt, self.target.as_str());
+        Ok(())
+    }
+}
+
+// Flushes the folder of a path to the disk, and with it which file stands under the name.
+fn flush_folder(rt: &HostRuntime, path: &str) -> io::Result<()> {
+    match Path::new(path).parent() {
+        Some(folder) if !folder.as_os_str().is_empty() => File::open(rt, folder)?.sync_all(),
+        _ => File::open(rt, ".")?.sync_all(),
+    }
+}

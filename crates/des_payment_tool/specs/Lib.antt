@@ -1,4 +1,0 @@
-pub mod Texts
-pub mod Fault
-pub mod Answers
-pub mod Run

@@ -1,2 +1,0 @@
-pub mod AlikeStreams
-pub mod AlikeFaults

@@ -1,4 +1,0 @@
-pub mod Status
-pub mod KeyText
-pub mod Jobs
-pub mod JobFaults
