@@ -24,6 +24,7 @@ static bool takes_wide(size_t length) { return length > 128 * CUKVASHE_BLOCK_SIZ
 #define CHOOSE(NAME, CALL, ...)                                                                                       \
   (takes_wide(length) ? cukvashe_wide_##NAME##_##CALL(__VA_ARGS__) : cukvashe_narrow_##NAME##_##CALL(__VA_ARGS__))
 
+/* From a buffer to itself is the call in place: the proved calls of two buffers take two that do not overlap. */
 #define DEFINE_CIPHER(NAME)                                                                                           \
   int cukvashe_##NAME##_encrypt_ecb(const cukvashe_##NAME *context, uint8_t *data, size_t length) {                   \
     return CHOOSE(NAME, encrypt_ecb, context, data, length);                                                          \
@@ -33,14 +34,17 @@ static bool takes_wide(size_t length) { return length > 128 * CUKVASHE_BLOCK_SIZ
   }                                                                                                                   \
   int cukvashe_##NAME##_encrypt_ecb_to(const cukvashe_##NAME *context, const uint8_t *input, uint8_t *output,         \
                                        size_t length) {                                                               \
+    if (input == output) return cukvashe_##NAME##_encrypt_ecb(context, output, length);                               \
     return CHOOSE(NAME, encrypt_ecb_to, context, input, length, output, length);                                      \
   }                                                                                                                   \
   int cukvashe_##NAME##_decrypt_ecb_to(const cukvashe_##NAME *context, const uint8_t *input, uint8_t *output,         \
                                        size_t length) {                                                               \
+    if (input == output) return cukvashe_##NAME##_decrypt_ecb(context, output, length);                               \
     return CHOOSE(NAME, decrypt_ecb_to, context, input, length, output, length);                                      \
   }                                                                                                                   \
   int cukvashe_##NAME##_encrypt_cbc_to(const cukvashe_##NAME *context, uint8_t iv[8], const uint8_t *input,           \
                                        uint8_t *output, size_t length) {                                              \
+    if (input == output) return cukvashe_##NAME##_encrypt_cbc(context, iv, output, length);                           \
     return cukvashe_narrow_##NAME##_encrypt_cbc_to(context, iv, input, length, output, length);                       \
   }                                                                                                                   \
   int cukvashe_##NAME##_decrypt_cbc(const cukvashe_##NAME *context, uint8_t iv[8], uint8_t *data, size_t length) {    \
@@ -48,6 +52,7 @@ static bool takes_wide(size_t length) { return length > 128 * CUKVASHE_BLOCK_SIZ
   }                                                                                                                   \
   int cukvashe_##NAME##_decrypt_cbc_to(const cukvashe_##NAME *context, uint8_t iv[8], const uint8_t *input,           \
                                        uint8_t *output, size_t length) {                                              \
+    if (input == output) return cukvashe_##NAME##_decrypt_cbc(context, iv, output, length);                           \
     return CHOOSE(NAME, decrypt_cbc_to, context, iv, input, length, output, length);                                  \
   }
 

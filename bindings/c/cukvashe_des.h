@@ -13,13 +13,15 @@
  *
  * POINTERS
  *
- * A pointer with a length or a count beside it may be null if that is 0. No other pointer may be null. What a call
- * writes must not overlap any other argument: a call that works in place takes one pointer for both.
+ * A pointer with a length, a count or a size beside it may be null if that is 0 (of cukvashe_pad: if the capacity is 0).
+ * No other pointer may be null. What a call writes must not overlap any other argument; but `input` and `output` of a
+ * call named _to may be the same pointer.
  *
  * STATUSES
  *
  * Calls that can refuse their arguments return a status: CUKVASHE_OK or one of CUKVASHE_ERR_... A call that does not
- * return CUKVASHE_OK has changed nothing. Compilers that can warn where you ignore a status.
+ * return CUKVASHE_OK has changed nothing. GCC and Clang warn where you ignore a status. CUKVASHE_OK is 0: compare with
+ * it, since `if (cukvashe_MAC_verify(..))` is true for a wrong tag.
  *
  * WHAT YOU MUST UPHOLD
  *
@@ -31,16 +33,17 @@
  * SECRETS AND TIME
  *
  * Nothing is claimed about time. The calls that can read tables at addresses that depend on secrets, or branch on
- * secrets, say so below. What is said here of tables is tested with valgrind. At most 24,000 bytes of the stack are
- * used by any call, which is tested too.
+ * secrets, say so below. With valgrind it is tested that init, pad, and ECB and CBC decryption where this header says
+ * so, read no tables at such addresses. No call uses more than 24,000 bytes of the stack, which is tested too.
  *
  * WHAT IS PROVED
  *
  * Each call is proved safe, and proved to answer as this header says, if you uphold the above: ciphers as FIPS 46-3
  * defines, CBC as FIPS 81, and others by the standards named beside them. No standard defines cukvashe_weak_key_test,
  * cukvashe_set_odd_parity, cukvashe_equal_but_parity, check values, components and card verification values: their
- * rules are the words below. Tested and not proved are the few lines of C in the library: the choice of the vectors'
- * width, cukvashe_wipe, cukvashe_strerror and cukvashe_version.
+ * rules are the words below. Tested and not proved are the few lines of C in the library: they choose the width of the
+ * vectors, hand the arguments of some calls to proved ones in another order, and are cukvashe_wipe, cukvashe_strerror
+ * and cukvashe_version.
  */
 #ifndef CUKVASHE_DES_H
 #define CUKVASHE_DES_H
@@ -106,8 +109,8 @@ extern "C" {
 #define CUKVASHE_CVV_SIZE 4   /* three digits, and a zero byte */
 
 /* The padding methods of cukvashe_pad: PKCS#7 (RFC 5652, 6.3), and ISO/IEC 7816-4. */
-#define CUKVASHE_PKCS7 1
-#define CUKVASHE_ISO7816 2
+#define CUKVASHE_PKCS7 11
+#define CUKVASHE_ISO7816 12
 
 /* The padding methods of MACs (ISO/IEC 9797-1:2011, 6.3): zeros; and a one bit, then zeros. */
 #define CUKVASHE_MAC_PADDING_1 1
@@ -164,8 +167,8 @@ CUKVASHE_CHECK int cukvashe_tdes_ede3_init(cukvashe_tdes_ede3 *context, const ui
  * int cukvashe_NAME_encrypt_ecb_to(const cukvashe_NAME *context, const uint8_t *input, uint8_t *output, size_t length)
  * int cukvashe_NAME_decrypt_ecb_to(const cukvashe_NAME *context, const uint8_t *input, uint8_t *output, size_t length)
  *
- * Encrypts or decrypts each block of `length` bytes by itself, in place or from `input` to `output`.
- * CUKVASHE_ERR_BLOCKS if `length` is not a multiple of 8.
+ * Encrypts or decrypts each block of `length` bytes by itself, in place or from `input` to `output`, in this order.
+ * Nothing is padded (see PADDING). CUKVASHE_ERR_BLOCKS if `length` is not a multiple of 8.
  *
  * A call takes 128 blocks at a time, or 256 where the processor has wider vectors, and one by one what is left over if
  * that is fewer than 19 blocks. One by one means that tables are read at addresses that depend on the key and the block:
@@ -201,8 +204,8 @@ CUKVASHE_CHECK int cukvashe_tdes_ede3_decrypt_ecb_to(const cukvashe_tdes_ede3 *c
  *                                  size_t length)
  *
  * Encrypts or decrypts `length` bytes by cipher block chaining (FIPS 81) from the initialization vector. `iv` becomes
- * the last ciphertext block, so a record in pieces takes one call for each piece; if `length` is 0, it stays.
- * CUKVASHE_ERR_BLOCKS if `length` is not a multiple of 8.
+ * the last ciphertext block, so a record in pieces takes one call for each piece; if `length` is 0, it stays. Keep a
+ * copy of the vector if you need it again. CUKVASHE_ERR_BLOCKS if `length` is not a multiple of 8.
  *
  * Encryption goes one block at a time, since each waits for the one before it: it reads tables at addresses that depend
  * on the key and the data. Decryption takes blocks as ECB does, with the same rule for tables.
@@ -236,8 +239,8 @@ CUKVASHE_CHECK int cukvashe_tdes_ede3_decrypt_cbc_to(const cukvashe_tdes_ede3 *c
  * `method` is CUKVASHE_PKCS7 or CUKVASHE_ISO7816; CUKVASHE_ERR_PADDING_METHOD for any other.
  *
  * pad writes 1 to 8 bytes of padding after the first `length` bytes of a buffer of `capacity` bytes, and the length with
- * padding, a multiple of 8, to `padded_length`. CUKVASHE_ERR_CAPACITY if that is more than `capacity`, which must have
- * room for up to 8 bytes more.
+ * padding, a multiple of 8, to `padded_length`. CUKVASHE_ERR_CAPACITY if that is more than `capacity`; a buffer with 8
+ * bytes to spare always has room.
  *
  * unpad writes to `unpadded_length` how many of `length` bytes stand before the padding. CUKVASHE_ERR_BLOCKS if `length`
  * is not a multiple of 8; CUKVASHE_ERR_PADDING if the last block does not end with the padding of the method, or if
@@ -278,9 +281,9 @@ CUKVASHE_CHECK bool cukvashe_equal_but_parity(const uint8_t *first, const uint8_
  *     cmac_tdes_ede2      CMAC (NIST SP 800-38B) over triple DES                 a key of 16 bytes
  *     cmac_tdes_ede3      CMAC over triple DES                                   a key of 24 bytes
  *
- * CBC-MAC is safe only if every message under a key has the same length, which both sides know. Padding method 1 can't
- * tell zeros at the end of a message. Tags have 64 bits: use a key for far fewer than 2^32 messages; of a tag that is
- * cut to 4 bytes, one guess in 2^32 is right. All calls read tables at addresses that depend on the key and the message.
+ * CBC-MAC is safe only if every message under a key has the same length, which both sides know. Padding method 1 hides
+ * zeros at the end of a message. Tags have 64 bits: use a key for far fewer than 2^32 messages; of a tag that is cut to
+ * 4 bytes, one guess in 2^32 is right. All calls read tables at addresses that depend on the key and the message.
  *
  * A context holds round keys and bytes of the message. A copy is independent: for messages with the same beginning, add
  * that once and copy.
@@ -313,8 +316,8 @@ typedef struct {
  * int cukvashe_MAC_init(cukvashe_MAC *context, const uint8_t *key, size_t key_length, int method)
  *
  * Makes the context of a key and an empty message. CUKVASHE_ERR_KEY_LENGTH if the key does not have the key size, else
- * CUKVASHE_ERR_PADDING_METHOD if `method` is neither CUKVASHE_MAC_PADDING_1 nor CUKVASHE_MAC_PADDING_2. CMAC takes no
- * method.
+ * CUKVASHE_ERR_PADDING_METHOD if `method` is neither CUKVASHE_MAC_PADDING_1 nor CUKVASHE_MAC_PADDING_2. The sender has
+ * chosen the method: the other one makes another tag. CMAC takes no method.
  */
 CUKVASHE_CHECK int cukvashe_cbc_mac_des_init(cukvashe_cbc_mac_des *context, const uint8_t *key, size_t key_length,
                                              int method);
@@ -344,7 +347,8 @@ void cukvashe_cmac_tdes_ede3_update(cukvashe_cmac_tdes_ede3 *context, const uint
 /*
  * void cukvashe_MAC_final(const cukvashe_MAC *context, uint8_t tag[8])
  *
- * Writes the tag of the message. The context stays as it is, so the message may go on.
+ * Writes the tag of the message. The context stays as it is, so the message may go on. To check a tag call verify:
+ * memcmp may stop at the first wrong byte.
  */
 void cukvashe_cbc_mac_des_final(const cukvashe_cbc_mac_des *context, uint8_t tag[8]);
 void cukvashe_cbc_mac_tdes_ede2_final(const cukvashe_cbc_mac_tdes_ede2 *context, uint8_t tag[8]);
@@ -357,7 +361,8 @@ void cukvashe_cmac_tdes_ede3_final(const cukvashe_cmac_tdes_ede3 *context, uint8
  * int cukvashe_MAC_verify(const cukvashe_MAC *context, const uint8_t *tag, size_t tag_length)
  *
  * CUKVASHE_OK if `tag` is the tag of the message, or its first 4 to 7 bytes; CUKVASHE_ERR_TAG for any other bytes and any
- * other length. Every byte is compared, wherever the two differ. The context stays as it is.
+ * other length. Let `tag_length` be the length that both sides agreed on, and not the one that was sent: a forger sends
+ * 4 bytes. Every byte is compared, wherever the two differ. The context stays as it is.
  */
 CUKVASHE_CHECK int cukvashe_cbc_mac_des_verify(const cukvashe_cbc_mac_des *context, const uint8_t *tag,
                                                size_t tag_length);
@@ -414,7 +419,7 @@ CUKVASHE_CHECK int cukvashe_combine_24(const uint8_t first[24], const uint8_t se
  *
  * next_serial gives the next key serial number whose counter is usable. CUKVASHE_ERR_NO_SERIAL if there is none.
  *
- * The calls that make keys read tables at addresses that depend on keys.
+ * initial_key, transaction_key and data_key read tables at addresses that depend on keys.
  */
 void cukvashe_dukpt_initial_key(const uint8_t base[16], const uint8_t serial[10], uint8_t key[16]);
 void cukvashe_dukpt_transaction_key(const uint8_t initial[16], const uint8_t serial[10], uint8_t key[16]);
@@ -439,7 +444,7 @@ CUKVASHE_CHECK int cukvashe_dukpt_next_serial(const uint8_t serial[10], uint8_t 
  *
  * decode writes the digits of the PIN and zero bytes after them, 13 bytes in all. It gives a PIN only if encode makes
  * this block of it. The status is that of the first fault of CUKVASHE_ERR_ACCOUNT_LENGTH, _ACCOUNT_DIGIT, _FORMAT,
- * _PIN_LENGTH, _PIN_DIGIT, _FILL. It tells of the PIN: show nobody which it was.
+ * _PIN_LENGTH, _PIN_DIGIT, _FILL. It says something of the PIN: show it to nobody.
  *
  * All branch on the PIN.
  */

@@ -1,4 +1,4 @@
-/* Names that the library hides: the exports that cukvashe_des.c chooses from, and the question which of them the processor has. */
+/* Names that the library hides: the exports that cukvashe_des.c chooses from, and the test for the wide ones. */
 #ifndef INTERNAL_H
 #define INTERNAL_H
 

@@ -21,7 +21,6 @@ class WithLibrary(build_py):
     """The package's files, and beside them the library and the licenses."""
 
     def run(self):
-        shutil.rmtree(self.build_lib, ignore_errors=True)
         super().run()
         package = os.path.join(self.build_lib, "cukvashe_des")
         library = os.environ.get("CUKVASHE_DES_LIBRARY") or os.path.join(OUT, "lib", FILE)
@@ -50,8 +49,10 @@ class WithBinary(Distribution):
         return True
 
 
+# What an earlier build left there would come into the wheel too.
 work = os.path.join(OUT, "python")
-os.makedirs(work, exist_ok=True)
+shutil.rmtree(work, ignore_errors=True)
+os.makedirs(work)
 setup(
     distclass=WithBinary,
     cmdclass={"build_py": WithLibrary, "bdist_wheel": ForThisSystem},

@@ -2,16 +2,34 @@
 //! else where `pkg-config` says. The static one is taken where it is there.
 
 use std::env;
+use std::fs;
 use std::path::{Path, PathBuf};
 use std::process::Command;
 
-/// The folder of an installed library of this version or a later one.
-fn installed() -> Option<PathBuf> {
+/// What `pkg-config` prints, where it succeeds.
+fn pkg_config(words: &[&str]) -> Option<String> {
     let program = env::var_os("PKG_CONFIG").unwrap_or_else(|| "pkg-config".into());
-    let wanted = concat!("cukvashe_des >= ", env!("CARGO_PKG_VERSION"));
-    let found = Command::new(program).args(["--variable=libdir", wanted]).output().ok()?;
-    let folder = String::from_utf8(found.stdout).ok()?;
-    found.status.success().then(|| PathBuf::from(folder.trim_end_matches('\n')))
+    let found = Command::new(program).args(words).output().ok()?;
+    found.status.success().then_some(found.stdout).and_then(|text| String::from_utf8(text).ok())
+}
+
+/// The folder of an installed library of this version or a later one with the same first two numbers: contexts of another could
+/// need more memory than this crate gives them.
+fn installed() -> Option<PathBuf> {
+    let minor: u32 = env!("CARGO_PKG_VERSION_MINOR").parse().ok()?;
+    let below = format!("cukvashe_des < {}.{}", env!("CARGO_PKG_VERSION_MAJOR"), minor + 1);
+    pkg_config(&["--exists", concat!("cukvashe_des >= ", env!("CARGO_PKG_VERSION")), &below])?;
+    let folder = pkg_config(&["--variable=libdir", "cukvashe_des"])?;
+    Some(PathBuf::from(folder.trim_end_matches('\n')))
+}
+
+/// Whether the library of a folder has contexts for which this crate has room, by the version of the file for pkg-config beside it.
+fn fits(folder: &Path) -> bool {
+    let Ok(text) = fs::read_to_string(folder.join("pkgconfig/cukvashe_des.pc")) else { return true };
+    let version = text.lines().find_map(|line| line.strip_prefix("Version:")).unwrap_or("");
+    let mut numbers = version.trim().split('.');
+    let first_two = (numbers.next(), numbers.next());
+    first_two == (Some(env!("CARGO_PKG_VERSION_MAJOR")), Some(env!("CARGO_PKG_VERSION_MINOR")))
 }
 
 /// The folder of the library.
@@ -28,6 +46,14 @@ fn main() {
         eprintln!("libcukvashe_des is not found: run bindings/build, install it where pkg-config looks, or set CUKVASHE_DES_LIB_DIR");
         std::process::exit(1);
     };
+    if folder.is_relative() {
+        eprintln!("CUKVASHE_DES_LIB_DIR needs a path that begins with /: the crate is built in a folder of its own");
+        std::process::exit(1);
+    }
+    if !fits(&folder) {
+        eprintln!("the library of {} has another version than this crate", folder.display());
+        std::process::exit(1);
+    }
     let library = folder.join("libcukvashe_des.a");
     let kind = if library.exists() { "static" } else { "dylib" };
     println!("cargo:rerun-if-changed={}", library.display());

@@ -4,6 +4,7 @@
    part of this file, so that the compiler sees cukvashe_wipe where it is called, and could leave it out. */
 #define _POSIX_C_SOURCE 200809L
 #include "../cukvashe_des.c"
+#include <limits.h>
 #include <pthread.h>
 #include <stdio.h>
 #include <stdlib.h>
@@ -66,6 +67,10 @@ static int made(const char *name, const void *context, const void *iv, const voi
                                               size_t input_length, uint8_t *output, size_t output_length) {           \
     return made(#WIDTH " " #NAME " " #CALL "_to", context, iv, input, input_length, output, output_length);           \
   }
+#define CHAIN_IN_PLACE(NAME)                                                                                          \
+  int cukvashe_##NAME##_encrypt_cbc(const cukvashe_##NAME *context, uint8_t iv[8], uint8_t *data, size_t length) {    \
+    return made("narrow " #NAME " encrypt_cbc", context, iv, NULL, 0, data, length);                                  \
+  }
 #define EXPORTS_OF_WIDTH(NAME, WIDTH)                                                                                 \
   PLACE(NAME, WIDTH, encrypt_ecb)                                                                                     \
   PLACE(NAME, WIDTH, decrypt_ecb)                                                                                     \
@@ -74,6 +79,7 @@ static int made(const char *name, const void *context, const void *iv, const voi
 #define EXPORTS(NAME)                                                                                                 \
   EXPORTS_OF_WIDTH(NAME, narrow)                                                                                      \
   EXPORTS_OF_WIDTH(NAME, wide)                                                                                        \
+  CHAIN_IN_PLACE(NAME)                                                                                                \
   CHAIN_TO(NAME, narrow, encrypt_cbc)
 
 EXPORTS(des)
@@ -125,6 +131,14 @@ static uint8_t iv[8], input[8], output[8];
     was(width, #NAME, "decrypt_cbc_to", &context, iv, input, output, length);                                         \
     CHECK(cukvashe_##NAME##_encrypt_cbc_to(&context, iv, input, output, length) == STATUS);                           \
     was("narrow", #NAME, "encrypt_cbc_to", &context, iv, input, output, length);                                      \
+    CHECK(cukvashe_##NAME##_encrypt_ecb_to(&context, output, output, length) == STATUS);                              \
+    was(width, #NAME, "encrypt_ecb", &context, NULL, NULL, output, length);                                           \
+    CHECK(cukvashe_##NAME##_decrypt_ecb_to(&context, output, output, length) == STATUS);                              \
+    was(width, #NAME, "decrypt_ecb", &context, NULL, NULL, output, length);                                           \
+    CHECK(cukvashe_##NAME##_decrypt_cbc_to(&context, iv, output, output, length) == STATUS);                          \
+    was(width, #NAME, "decrypt_cbc", &context, iv, NULL, output, length);                                             \
+    CHECK(cukvashe_##NAME##_encrypt_cbc_to(&context, iv, output, output, length) == STATUS);                          \
+    was("narrow", #NAME, "encrypt_cbc", &context, iv, NULL, output, length);                                          \
   }
 
 HANDS_ON(des)
@@ -200,6 +214,8 @@ int main(int count, char **words) {
   for (size_t i = 0; i < sizeof lengths / sizeof *lengths; i++) hands_on(lengths[i]);
   CHECK(questions == 1);
   hands_on_the_rest();
+  cukvashe_wipe(NULL, 0);
+  CHECK(cukvashe_strerror(-1) == cukvashe_strerror(INT_MIN) && cukvashe_strerror(0) != cukvashe_strerror(-1));
   for (size_t i = 0; i < SECRET; i++) secret[i] = (uint8_t)(3 * i + 101);
   CHECK(leaves_secret(keeps_secret) && !leaves_secret(wipes_secret));
   printf("dispatch: %s calls above 1,024 bytes, and the processor was asked once\n", words[1]);

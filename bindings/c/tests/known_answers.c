@@ -94,6 +94,22 @@ static void is_among_others(const struct known_case *known, const struct way *wa
   CHECK(way->decrypt_ecb(context, batch, sizeof batch) == CUKVASHE_OK && memcmp(batch, old, sizeof old) == 0);
 }
 
+/* A case by the header's calls from one buffer to another, where both are one. */
+static void is_in_one_buffer(const struct known_case *known, const struct way *way, const union context *context) {
+  const size_t length = 8 * known->count;
+  uint8_t iv[8];
+  put(&here, known->plain, length);
+  memcpy(iv, known->vector, 8);
+  if (known->is_chain) {
+    CHECK(way->encrypt_cbc_to(context, iv, here.bytes, here.bytes, length) == CUKVASHE_OK && is(&here, known->answer, length));
+    memcpy(iv, known->vector, 8);
+    CHECK(way->decrypt_cbc_to(context, iv, here.bytes, here.bytes, length) == CUKVASHE_OK && is(&here, known->plain, length));
+  } else {
+    CHECK(way->encrypt_ecb_to(context, here.bytes, here.bytes, length) == CUKVASHE_OK && is(&here, known->answer, length));
+    CHECK(way->decrypt_ecb_to(context, here.bytes, here.bytes, length) == CUKVASHE_OK && is(&here, known->plain, length));
+  }
+}
+
 /* A case by each way, in lists of each length; the chains of the file as they are. A context is its bytes. */
 static void is_answered(const struct known_case *known) {
   const struct cipher *cipher = &ciphers[known->cipher];
@@ -101,6 +117,7 @@ static void is_answered(const struct known_case *known) {
   CHECK(cipher->init(&made, known->key, cipher->key_size) == CUKVASHE_OK);
   memcpy(&context, &made, cipher->context_size);
   memset(&made, PAINT, sizeof made);
+  is_in_one_buffer(known, &cipher->ways[PUBLIC_WAY], &context);
   for (int n = 0; n < count_of_ways(); n++) {
     const struct way *way = &cipher->ways[n];
     if (known->is_chain) {

@@ -75,7 +75,7 @@ static void unpads(int method, size_t length) {
 
 /* Lengths that are no whole blocks, no bytes at all, and other methods; one method's padding is not the other's. */
 static void refuses(void) {
-  static const int others[] = {0, 3, 257, -1, INT_MAX, INT_MIN, INT_MIN + 1};
+  static const int others[] = {0, CUKVASHE_MAC_PADDING_1, CUKVASHE_MAC_PADDING_2, 3, 10, 13, 267, -1, INT_MAX, INT_MIN, INT_MIN + CUKVASHE_PKCS7};
   static const uint8_t zeros[8] = {0};
   uint8_t buffer[ROOM];
   size_t padded = PAINT;

@@ -97,7 +97,7 @@ static void takes_lengths(const struct cipher *cipher) {
 
 /* Other key lengths, and else other methods, are refused, and the context stays. */
 static void refuses_macs(const struct mac *mac) {
-  static const int methods[] = {0, 3, 4, 257, 258, -1, INT_MAX, INT_MIN, INT_MIN + 1, INT_MIN + 2};
+  static const int methods[] = {0, 3, 4, CUKVASHE_PKCS7, CUKVASHE_ISO7816, 257, 258, -1, INT_MAX, INT_MIN, INT_MIN + 1, INT_MIN + 2};
   uint8_t key[MOST], tag[MOST];
   union mac_context context;
   random_bytes(key, sizeof key);
@@ -170,6 +170,29 @@ static void has_sentences(void) {
   for (size_t i = 0; i < sizeof others / sizeof *others; i++) CHECK(cukvashe_strerror(others[i]) == unknown);
 }
 
+/* A context stands where words do, and so do the library's: one of bytes could stand at any address. */
+#define IS_ALIGNED(name)                                                            \
+  do {                                                                              \
+    struct after_a_byte {                                                           \
+      char byte;                                                                    \
+      cukvashe_##name context;                                                      \
+    };                                                                              \
+    CHECK(offsetof(struct after_a_byte, context) == sizeof(uint64_t));              \
+    CHECK(sizeof ((cukvashe_##name *)0)->words[0] == sizeof(uint64_t));             \
+  } while (0)
+
+static void has_words(void) {
+  IS_ALIGNED(des);
+  IS_ALIGNED(tdes_ede2);
+  IS_ALIGNED(tdes_ede3);
+  IS_ALIGNED(cbc_mac_des);
+  IS_ALIGNED(cbc_mac_tdes_ede2);
+  IS_ALIGNED(cbc_mac_tdes_ede3);
+  IS_ALIGNED(retail_mac_des);
+  IS_ALIGNED(cmac_tdes_ede2);
+  IS_ALIGNED(cmac_tdes_ede3);
+}
+
 /* The numbers are part of the interface: programs that were built with others would go wrong. */
 static void has_numbers(void) {
   const int statuses[] = {
@@ -187,7 +210,7 @@ static void has_numbers(void) {
   CHECK(CUKVASHE_CMAC_TDES_EDE2_KEY_SIZE == 16 && CUKVASHE_CMAC_TDES_EDE3_KEY_SIZE == 24);
   CHECK(CUKVASHE_CHECK_VALUE_SIZE == 3 && CUKVASHE_DUKPT_KEY_SIZE == 16 && CUKVASHE_DUKPT_SERIAL_SIZE == 10);
   CHECK(CUKVASHE_FILL_SIZE == 10 && CUKVASHE_PIN_SIZE == 13 && CUKVASHE_CVV_SIZE == 4);
-  CHECK(CUKVASHE_PKCS7 == 1 && CUKVASHE_ISO7816 == 2);
+  CHECK(CUKVASHE_PKCS7 == 11 && CUKVASHE_ISO7816 == 12);
   CHECK(CUKVASHE_MAC_PADDING_1 == 1 && CUKVASHE_MAC_PADDING_2 == 2);
   CHECK(sizeof(cukvashe_des) == 128 && sizeof(cukvashe_tdes_ede2) == 256 && sizeof(cukvashe_tdes_ede3) == 384);
   CHECK(sizeof(cukvashe_cbc_mac_des) == 160 && sizeof(cukvashe_cbc_mac_tdes_ede2) == 288);
@@ -216,6 +239,7 @@ int main(void) {
   returns_statuses();
   has_sentences();
   has_numbers();
+  has_words();
   wipes();
   printf("refusals: every length from 0 to %d, every status and its sentence, every number of the header\n", MOST);
   return 0;

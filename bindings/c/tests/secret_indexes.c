@@ -64,7 +64,7 @@ static void verifies(const struct mac *mac) {
   CHECK(is_status(mac->verify(&context, tag, sizeof tag), CUKVASHE_ERR_TAG));
 }
 
-/* Padding is written without a look at the bytes before it, and keys are compared without a branch. */
+/* Padding is written without a look at the bytes before it. Keys for PINs and for MACs are masks of a transaction's key. */
 static void others(void) {
   size_t padded;
   hide(data, sizeof data);
@@ -72,6 +72,10 @@ static void others(void) {
   CHECK(cukvashe_pad(data, 21, sizeof data, CUKVASHE_PKCS7, &padded) == CUKVASHE_OK);
   CHECK(cukvashe_pad(data, 21, sizeof data, CUKVASHE_ISO7816, &padded) == CUKVASHE_OK);
   cukvashe_wipe(data, sizeof data);
+  hide(key, 16);
+  cukvashe_dukpt_pin_key(key, other);
+  cukvashe_dukpt_mac_key(key, false, other);
+  cukvashe_dukpt_mac_key(key, true, other);
 }
 
 static void list_of(size_t count) {

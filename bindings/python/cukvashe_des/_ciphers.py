@@ -66,7 +66,7 @@ class Cipher(Keyed):
         return self._answer(type(self)._encrypt_cbc_to, data, vector_of(iv))
 
     def decrypt_cbc(self, iv: ReadableBuffer, data: ReadableBuffer) -> bytes:
-        """The data, whole blocks, decrypted, of a chain that began with the initialization vector."""
+        """The data, whole blocks, decrypted by cipher block chaining from an initialization vector. Padding stays."""
         return self._answer(type(self)._decrypt_cbc_to, data, vector_of(iv))
 
     def encrypt_ecb_into(self, data: WriteableBuffer) -> None:
@@ -78,13 +78,13 @@ class Cipher(Keyed):
         self._change(type(self)._decrypt_ecb, data)
 
     def encrypt_cbc_into(self, iv: ReadableBuffer, data: WriteableBuffer) -> bytes:
-        """Encrypts in place by cipher block chaining; returns the vector that the chain goes on with."""
+        """Encrypts in place by cipher block chaining; returns the vector of the next piece."""
         vector = vector_of(iv)
         self._change(type(self)._encrypt_cbc, data, vector)
         return bytes(vector)
 
     def decrypt_cbc_into(self, iv: ReadableBuffer, data: WriteableBuffer) -> bytes:
-        """Decrypts in place what cipher block chaining made; returns the vector that the chain goes on with."""
+        """Decrypts in place what cipher block chaining encrypted; returns the vector of the next piece."""
         vector = vector_of(iv)
         self._change(type(self)._decrypt_cbc, data, vector)
         return bytes(vector)

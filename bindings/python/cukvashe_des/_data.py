@@ -24,19 +24,30 @@ def bytes_of(data: ReadableBuffer) -> bytes:
         return view.tobytes()
 
 
+def _copy_of(data: ReadableBuffer) -> bytearray:
+    """A copy of the bytes, taken once, which can be wiped."""
+    with memoryview(data) as view:
+        return bytearray(view)
+
+
 @contextlib.contextmanager
-def key_of(key: ReadableBuffer, *sizes: int) -> Iterator[Any]:
-    """A copy of a key for one call, which is wiped then; a length that is none of the sizes is KeyLength."""
-    with memoryview(key) as view:
-        if view.nbytes not in sizes:
-            listed = " or ".join(map(str, sizes))
-            raise KeyLength(f"a key has {listed} bytes, not {view.nbytes}")
-        copied = bytearray(view)
+def _held(copied: bytearray) -> Iterator[Any]:
+    """A secret for one call, wiped after it."""
     held = (ctypes.c_uint8 * len(copied)).from_buffer(copied)
     try:
         yield held
     finally:
-        wipe(held, len(copied))
+        wipe(held, len(held))
+
+
+@contextlib.contextmanager
+def key_of(key: ReadableBuffer, *sizes: int) -> Iterator[Any]:
+    """A copy of a key for one call, wiped after it. KeyLength if its length is none of the sizes."""
+    with _held(_copy_of(key)) as held:
+        if len(held) not in sizes:
+            listed = " or ".join(map(str, sizes))
+            raise KeyLength(f"a key has {listed} bytes, not {len(held)}")
+        yield held
 
 
 def vector_of(iv: ReadableBuffer) -> Any:
@@ -47,23 +58,36 @@ def vector_of(iv: ReadableBuffer) -> Any:
     return (ctypes.c_uint8 * BLOCK_SIZE).from_buffer_copy(taken)
 
 
-def block_of(block: ReadableBuffer) -> bytes:
-    """The bytes of one block."""
-    taken = bytes_of(block)
-    if len(taken) != BLOCK_SIZE:
-        raise BlockLength(f"a PIN block has {BLOCK_SIZE} bytes, not {len(taken)}")
-    return taken
+@contextlib.contextmanager
+def block_of(block: ReadableBuffer) -> Iterator[Any]:
+    """A copy of a PIN block for one call, wiped after it."""
+    with _held(_copy_of(block)) as held:
+        if len(held) != BLOCK_SIZE:
+            raise BlockLength(f"a PIN block has {BLOCK_SIZE} bytes, not {len(held)}")
+        yield held
 
 
-def text_of(digits: Union[str, ReadableBuffer]) -> Tuple[bytes, int]:
-    """A text, of str or of bytes, and its length. A character beyond ASCII becomes one that is no digit either."""
-    text = str.encode(digits, "ascii", "replace") if isinstance(digits, str) else bytes_of(digits)
-    return text, len(text)
+@contextlib.contextmanager
+def text_of(digits: Union[str, ReadableBuffer]) -> Iterator[Tuple[Any, int]]:
+    """A copy of a text, of str or of bytes, and its length, wiped after a call. A character beyond ASCII becomes one that is no
+    digit either."""
+    with _held(bytearray(digits, "ascii", "replace") if isinstance(digits, str) else _copy_of(digits)) as held:
+        yield held, len(held)
 
 
 def room(size: int) -> Any:
     """Memory of `size` bytes, for a call to write."""
     return (ctypes.c_uint8 * size)()
+
+
+@contextlib.contextmanager
+def wiped_room(size: int) -> Iterator[Any]:
+    """Memory for one call, wiped after it."""
+    made = room(size)
+    try:
+        yield made
+    finally:
+        wipe(made, size)
 
 
 def bytes_from(made: Any) -> bytes:

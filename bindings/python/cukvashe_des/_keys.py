@@ -6,7 +6,7 @@ import ctypes
 from typing import TYPE_CHECKING, Any, Callable, Optional, Type
 
 from ._ciphers import Cipher
-from ._data import bytes_from, bytes_of, key_of, room
+from ._data import bytes_from, bytes_of, key_of, room, wiped_room
 from ._faults import SerialLength, WeakKey
 from ._library import BOOL, INT, OK, POINTER, SIZE, WEAK_KEY, function
 
@@ -61,12 +61,12 @@ def combine(first: ReadableBuffer, second: ReadableBuffer, *others: ReadableBuff
     """The key that two or more components of 8, 16 or 24 bytes make: their xor, with odd parity. A weak one is WeakKey."""
     with key_of(first, *_SIZES) as one, key_of(second, len(one)) as other:
         size = len(one)
-        key, more = room(size), room(size * len(others))
-        for at, component in enumerate(others):
-            with key_of(component, size) as held:
-                ctypes.memmove(ctypes.byref(more, at * size), held, size)
-        status = _combine[size](one, other, more, len(others), key)
-        bytes_from(more)
+        key = room(size)
+        with wiped_room(size * len(others)) as more:
+            for at, component in enumerate(others):
+                with key_of(component, size) as held:
+                    ctypes.memmove(ctypes.byref(more, at * size), held, size)
+            status = _combine[size](one, other, more, len(others), key)
     if status != OK:
         raise WeakKey("the weak key test refuses the key that the components make")
     return bytes_from(key)

@@ -15,6 +15,7 @@ if TYPE_CHECKING:
     _Call = Callable[..., Any]
 
 TAG_SIZE = 8
+LEAST_TAG_SIZE = 4
 
 _Self = TypeVar("_Self", bound="Mac")
 
@@ -59,7 +60,7 @@ class Mac(Keyed):
             type(self)._update(self._open(), given, len(given))
 
     def digest(self) -> bytes:
-        """The tag of the message so far, 8 bytes; the message may go on."""
+        """The tag of the message so far, 8 bytes; the message may go on. To check a tag call verify, not ==."""
         tag = room(TAG_SIZE)
         with self._lock:
             type(self)._final(self._open(), tag)
@@ -70,11 +71,19 @@ class Mac(Keyed):
         return self.digest().hex()
 
     def verify(self, tag: ReadableBuffer) -> None:
-        """Accepts the tag of the message so far, or its first 4 to 7 bytes; TagMismatch is raised for anything else."""
+        """Accepts the tag of the message so far, 8 bytes; TagMismatch is raised for anything else."""
+        self._accept(tag, TAG_SIZE)
+
+    def verify_truncated_left(self, tag: ReadableBuffer) -> None:
+        """Accepts the first 4 to 8 bytes of the tag; TagMismatch is raised for anything else. Whoever may send 4 bytes has one
+        chance in 2^32: test len(tag) too if somebody else chose it."""
+        self._accept(tag, LEAST_TAG_SIZE)
+
+    def _accept(self, tag: ReadableBuffer, least: int) -> None:
         given = bytes_of(tag)
         with self._lock:
             status = type(self)._verify(self._open(), given, len(given))
-        if status != OK:
+        if status != OK or len(given) < least:
             raise TagMismatch("the tag is not that of the message")
 
     def copy(self: _Self) -> _Self:
@@ -98,7 +107,7 @@ class PaddedMac(Mac):
     _paddings = (INT,)
 
     def __init__(self, key: ReadableBuffer, padding: int, data: ReadableBuffer = b"") -> None:
-        if not isinstance(padding, int):
+        if not isinstance(padding, int) or isinstance(padding, bool):
             raise TypeError("the padding method, the second argument, is the number 1 or 2")
         # A number that C has no room for would lose bits.
         self._begin(key, padding if padding in (1, 2) else 0)

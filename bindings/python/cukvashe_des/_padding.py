@@ -12,7 +12,7 @@ from ._library import BLOCKS, INT, OK, POINTER, SIZE, function
 if TYPE_CHECKING:
     from _typeshed import ReadableBuffer
 
-_METHODS = {"pkcs7": 1, "iso7816": 2}
+_METHODS = {"pkcs7": 11, "iso7816": 12}
 
 _pad = function("pad", INT, POINTER, SIZE, SIZE, INT, POINTER)
 _unpad = function("unpad", INT, POINTER, SIZE, INT, POINTER)

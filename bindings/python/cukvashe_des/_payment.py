@@ -48,31 +48,36 @@ def _text(made: Any) -> str:
 def _decoded(call: Callable[..., Any], block: ReadableBuffer, *account: Any) -> str:
     """The PIN that a call reads from a block."""
     pin = room(_PIN_SIZE)
-    check(call(block_of(block), *account, pin))
+    with block_of(block) as held:
+        check(call(held, *account, pin))
     return _text(pin)
 
 
 def pin_encode_0(pin: _Text, account: _Text) -> bytes:
     """The PIN block of format 0, 8 bytes, of a PIN of 4 to 12 digits and an account number of 13 to 19 with the check digit,
     as str or bytes of digits. It is not encrypted."""
-    return _encoded(_encode_0, *text_of(pin), *text_of(account))
+    with text_of(pin) as digits, text_of(account) as number:
+        return _encoded(_encode_0, *digits, *number)
 
 
 def pin_encode_1(pin: _Text, transaction: ReadableBuffer) -> bytes:
     """The PIN block of format 1 of a PIN and ten transaction digits, bytes from 0 to 15, of which it uses the first ones
     that there is room for."""
-    return _encoded(_encode_1, *text_of(pin), _fill_of(transaction))
+    with text_of(pin) as digits:
+        return _encoded(_encode_1, *digits, _fill_of(transaction))
 
 
 def pin_encode_3(pin: _Text, account: _Text, fill: ReadableBuffer) -> bytes:
     """The PIN block of format 3 of a PIN, an account number, and ten fill digits, random bytes from 10 to 15, of which it uses
     the first ones that there is room for."""
-    return _encoded(_encode_3, *text_of(pin), *text_of(account), _fill_of(fill))
+    with text_of(pin) as digits, text_of(account) as number:
+        return _encoded(_encode_3, *digits, *number, _fill_of(fill))
 
 
 def pin_decode_0(block: ReadableBuffer, account: _Text) -> str:
     """The PIN of a block of format 0 and an account number. Which error is raised tells of the PIN: show no one."""
-    return _decoded(_decode_0, block, *text_of(account))
+    with text_of(account) as number:
+        return _decoded(_decode_0, block, *number)
 
 
 def pin_decode_1(block: ReadableBuffer) -> str:
@@ -82,13 +87,14 @@ def pin_decode_1(block: ReadableBuffer) -> str:
 
 def pin_decode_3(block: ReadableBuffer, account: _Text) -> str:
     """The PIN of a block of format 3 and an account number."""
-    return _decoded(_decode_3, block, *text_of(account))
+    with text_of(account) as number:
+        return _decoded(_decode_3, block, *number)
 
 
 def cvv(key: ReadableBuffer, account: _Text, expiry: _Text, service: _Text) -> str:
     """The card verification value, three digits, under a key pair of 16 bytes, of an account number of 13 to 19 digits,
     an expiry date of four and a service code of three, as str or bytes of digits."""
     value = room(_CVV_SIZE)
-    with key_of(key, 16) as held:
-        check(_cvv(held, *text_of(account), *text_of(expiry), *text_of(service), value))
+    with key_of(key, 16) as held, text_of(account) as number, text_of(expiry) as date, text_of(service) as code:
+        check(_cvv(held, *number, *date, *code, value))
     return _text(value)

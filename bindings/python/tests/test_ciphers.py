@@ -4,7 +4,7 @@ import unittest
 
 from cukvashe_des import BlockLength, Des, KeyLength, VectorLength
 
-from .values import ANSWERS, CIPHERS, COUNTS, IV, KEY, LENGTHS, TEXT, known_ciphertexts
+from .values import ANSWERS, CIPHERS, COUNTS, IV, KEY, LENGTHS, LONG, TEXT, known_ciphertexts
 
 # The first byte is 0, which the end of a text would be.
 CHAIN_IV = bytes.fromhex("0034567890abcdef")
@@ -49,8 +49,8 @@ class KnownAnswers(unittest.TestCase):
         so its encryption gives the answers back."""
         for kind, answer in ANSWERS.items():
             cipher = kind(KEY[: kind.key_size])
-            for count in COUNTS:
-                plain, encrypted = (TEXT * 200)[: 8 * count], (answer * 200)[: 8 * count]
+            for count in (*COUNTS, LONG):
+                plain, encrypted = (TEXT * LONG)[: 8 * count], (answer * LONG)[: 8 * count]
                 before = (CHAIN_IV + encrypted)[: 8 * count]
                 self.electronic_codebook(cipher, plain, encrypted)
                 self.chain(cipher, CHAIN_IV, bytes(byte ^ other for byte, other in zip(plain, before)), encrypted)

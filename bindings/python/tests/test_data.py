@@ -20,6 +20,7 @@ from cukvashe_des import (
     _ciphers,
     _data,
     _library,
+    combine,
 )
 
 from .values import ANSWERS, CALLS, CMACS, FUNCTIONS, IV, KEY, MESSAGE, OBJECTS, PADDED_MACS, TEXT
@@ -115,6 +116,15 @@ class InPlace(unittest.TestCase):
             for view in (TEXT[:7], "text of 24 bytes, quite", None, 8):
                 self.assertRaises(TypeError, call, view)
 
+    def test_vector_stays(self):
+        """The vector that is given stays; the next one is the answer."""
+        for kind in ANSWERS:
+            cipher = kind(KEY[: kind.key_size])
+            for call in (cipher.encrypt_cbc_into, cipher.decrypt_cbc_into):
+                iv = bytearray(IV)
+                self.assertNotEqual(call(iv, bytearray(TEXT)), IV)
+                self.assertEqual(iv, IV)
+
     def test_nothing(self):
         for kind in ANSWERS:
             cipher = kind(KEY[: kind.key_size])
@@ -141,14 +151,14 @@ class InPlace(unittest.TestCase):
 class OnceAlone(unittest.TestCase):
     """What is given is read once: what becomes of it later, by another thread, changes no answer and is read nowhere."""
 
-    READERS = {_data.bytes_of.__code__: "data", _data.key_of.__wrapped__.__code__: "key"}
+    READERS = (_data.bytes_of.__code__, _data._copy_of.__code__)
 
     def emptied(self, call, arguments):
         """The answer of a call whose arguments are emptied as soon as one function of the package has read them."""
 
         def profile(frame, event, _):
             if event == "return" and frame.f_code in self.READERS:
-                given = frame.f_locals[self.READERS[frame.f_code]]
+                given = frame.f_locals["data"]
                 if isinstance(given, bytearray):
                     given.clear()
 
@@ -274,6 +284,31 @@ class Threads(unittest.TestCase):
             self.together(4, work)
             self.assertEqual(mac.digest(), kind(KEY[: kind.key_size], *method, piece * 40).digest())
 
+    def test_turns(self):
+        """Each call of a MAC has the lock while the library works on the context, and gives it back."""
+        for kind, arguments in OBJECTS[len(ANSWERS) :]:
+            mac, held = kind(*arguments), []
+
+            def noting(call):
+                def noted(*given):
+                    held.append(mac._lock.locked())
+                    return call(*given)
+
+                return noted
+
+            copied = mock.Mock(from_buffer_copy=noting(kind._context_type.from_buffer_copy))
+            with mock.patch.multiple(kind, _update=noting(kind._update), _final=noting(kind._final),
+                                     _verify=noting(kind._verify), _context_type=copied):
+                mac.update(b"")
+                mac.verify(mac.digest())
+                mac.copy()
+                self.assertRaises(TagMismatch, mac.verify, b"")
+                mac.verify_truncated_left(mac.digest()[:4])
+            self.assertEqual((held, mac._lock.locked()), ([True] * 7, False))
+            mac.close()
+            self.assertRaises(Closed, mac.update, b"")
+            self.assertFalse(mac._lock.locked())
+
     def test_closing(self):
         """A cipher that another thread closes answers right, or not at all."""
         for _ in range(20):
@@ -352,19 +387,29 @@ class Wiped(unittest.TestCase):
         gc.collect()
         self.assertIn(8, self.wiped)
 
+    def test_refused_component(self):
+        """The components up to one that is refused are wiped: the third's copy and the fourth's, all others, the second and the first."""
+        self.wiped.clear()
+        self.assertRaises(ValueError, combine, bytes(8), bytes(8), bytes(8), bytes(16))
+        self.assertEqual(self.wiped, [8, 16, 16, 8, 8])
+
     def test_functions(self):
-        """Each function that takes keys wipes its copies, and the memory in which a key or a PIN was made."""
+        """Each function wipes its copies of keys, PINs, PIN blocks and other digits, and the memory in which a key or a PIN was made."""
         for call, arguments in FUNCTIONS:
             self.wiped.clear()
             answer = call(*arguments)
             name = call.__name__
             if name in ("dukpt_next_serial", "dukpt_is_usable", "pad", "unpad"):
                 continue
-            self.assertTrue(self.wiped, name)
-            if name.startswith("dukpt_"):
-                self.assertEqual(sorted(self.wiped), [16, len(answer)])
-            if name.startswith("pin_decode"):
-                self.assertEqual(self.wiped, [13])
+            sizes = {"equal_but_parity": [8, 8], "is_weak_key": [24], "with_odd_parity": [8], "check_value": [24], "cvv": [3, 4, 4, 16, 16]}
+            # a PIN of four digits, an account number of thirteen, a block, and room for the PIN
+            sizes.update({"pin_encode_0": [4, 8, 13], "pin_encode_1": [4, 8], "pin_encode_3": [4, 8, 13]})
+            sizes.update({"pin_decode_0": [8, 13, 13], "pin_decode_1": [8, 13], "pin_decode_3": [8, 13, 13]})
+            if name == "combine":  # the two components, a copy of the third, all others, and the key
+                sizes[name] = [24] * 5
+            elif name.startswith("dukpt_"):
+                sizes[name] = [16, len(answer)]
+            self.assertEqual(sorted(self.wiped), sizes[name], name)
 
     def test_while_a_call_runs(self):
         """Where another thread closes a cipher, its context stays until the call is done."""
@@ -396,11 +441,21 @@ class Wiped(unittest.TestCase):
                 calls += [(made.decrypt_ecb_into, data), (made.encrypt_cbc, IV, data), (made.decrypt_cbc, IV, data)]
                 calls += [(made.encrypt_cbc_into, IV, data), (made.decrypt_cbc_into, IV, data)]
             else:
-                calls = [(made.update, data), (made.digest,), (made.hexdigest,), (made.verify, data), (made.copy,)]
+                calls = [(made.update, data), (made.digest,), (made.hexdigest,), (made.verify, data), (made.verify_truncated_left, data),
+                         (made.copy,)]
             for call, *arguments in calls:
                 self.assertRaises(Closed, call, *arguments)
             self.assertEqual(data, TEXT)
             self.assertRaises(Closed, made.__enter__().copy if kind not in ANSWERS else lambda: made.encrypt_ecb(b""))
+
+    def test_with(self):
+        """An error inside `with` goes on, and the object is closed."""
+        for kind, arguments in OBJECTS:
+            made = kind(*arguments)
+            with self.assertRaises(ZeroDivisionError):
+                with made:
+                    raise ZeroDivisionError
+            self.assertIsNone(made._context)
 
     def test_not_pickled(self):
         for kind, arguments in OBJECTS:

@@ -98,10 +98,10 @@ class Keys(unittest.TestCase):
             self.assertRaises(TypeError, cukvashe_des.check_value, other, KEY)
 
     def test_combine(self):
-        """Two to five components, of each size: their xor, here a key that is not weak and has odd parity."""
+        """Two to nine components, of each size: their xor, here a key that is not weak and has odd parity."""
         for size in SIZES:
             key = cukvashe_des.with_odd_parity(KEY[:size])
-            for count in range(2, 6):
+            for count in range(2, 10):
                 parts = [bytes((37 * part + 11 * at) % 256 for at in range(size)) for part in range(1, count)]
                 last = key
                 for part in parts:
@@ -138,7 +138,8 @@ class Transactions(unittest.TestCase):
             number = bytes.fromhex("ffff9876543210")[:7] + (0xE00000 | int(serial, 16)).to_bytes(3, "big")
             after = bytes.fromhex("ffff9876543210")[:7] + (0xE00000 | int(following, 16)).to_bytes(3, "big")
             self.assertEqual(cukvashe_des.dukpt_next_serial(number), after)
-        self.assertIsNone(cukvashe_des.dukpt_next_serial(bytes.fromhex("ffff9876543210fff800")))
+        for last in ("fff800", "fffc00", "ffffff"):
+            self.assertIsNone(cukvashe_des.dukpt_next_serial(bytes.fromhex("ffff9876543210" + last)))
         for counter in (0, 1, 0x3FF, 0x7FF, 0x7FE, 0x1FF800, 0x1FFC00, 0x1FFFFF, 0x100000, 0xFFFFF):
             number = bytes.fromhex("00009876543210") + (0xA00000 | counter).to_bytes(3, "big")
             self.assertIs(cukvashe_des.dukpt_is_usable(number), 0 < bin(counter).count("1") <= 10)
@@ -171,7 +172,7 @@ class Padding(unittest.TestCase):
 
     def test_there_and_back(self):
         for method in ("pkcs7", "iso7816"):
-            for length in (*LENGTHS, 1023, 1024, 4800):
+            for length in (*LENGTHS, 1023, 1024, 4800, 65535, 65536, 65537):
                 data = bytes(byte % 255 for byte in range(length))
                 given = bytearray(data)
                 self.assertEqual(pad(given, method), self.padded(data, method))
@@ -202,7 +203,7 @@ class Padding(unittest.TestCase):
 
     def test_methods(self):
         for call in (pad, unpad):
-            for method in ("", "pkcs5", "PKCS7", "iso7816 ", "secret"):
+            for method in ("", "pkcs5", "PKCS7", "iso7816 ", "x923", "zeros", "none", "secret"):
                 self.assertRaises(PaddingMethod, call, b"\1" * 8, method)
             for method in (1, None, b"pkcs7"):
                 self.assertRaises(TypeError, call, b"\1" * 8, method)

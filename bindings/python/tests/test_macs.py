@@ -37,18 +37,20 @@ class Tags(unittest.TestCase):
         self.verifies(mac, tag)
 
     def verifies(self, mac, tag):
-        """The first 4 to 8 bytes of the tag, and nothing else of any length or with a bit turned."""
-        for length in LENGTHS:
-            part = (tag + bytes(33))[:length]
-            if 4 <= length <= 8:
-                self.assertIsNone(mac.verify(part))
-                for place in range(length):
-                    turned = bytearray(part)
-                    turned[place] ^= 1
-                    self.assertRaises(TagMismatch, mac.verify, turned)
-            else:
-                self.assertRaises(TagMismatch, mac.verify, part)
-        self.assertRaises(TagMismatch, mac.verify, tag + tag)
+        """The tag by `verify`, its first 4 to 8 bytes by `verify_truncated_left`, and nothing else of any length or with a bit
+        turned."""
+        for accepts, least in ((mac.verify, 8), (mac.verify_truncated_left, 4)):
+            for length in LENGTHS:
+                part = (tag + bytes(33))[:length]
+                if least <= length <= 8:
+                    self.assertIsNone(accepts(part))
+                    for place in range(length):
+                        turned = bytearray(part)
+                        turned[place] ^= 1
+                        self.assertRaises(TagMismatch, accepts, turned)
+                else:
+                    self.assertRaises(TagMismatch, accepts, part)
+            self.assertRaises(TagMismatch, accepts, tag + tag)
         self.assertEqual(mac.digest(), tag)
 
     def test_known(self):
@@ -64,6 +66,19 @@ class Tags(unittest.TestCase):
         for length, three, two in CMAC:
             self.answers(CmacTdesEde3, (THREE,), MESSAGE[:length], bytes.fromhex(three))
             self.answers(CmacTdesEde2, (TWO,), MESSAGE[:length], bytes.fromhex(two))
+
+    def test_long(self):
+        """A message longer than 16 bits count, at once and in pieces."""
+        message = bytes(range(251)) * 300
+        for kind in PADDED_MACS + CMACS:
+            arguments = (KEY[: kind.key_size],) if kind in CMACS else (KEY[: kind.key_size], 2)
+            pieces, whole = kind(*arguments), kind(*arguments)
+            for at in range(0, len(message), 1000):
+                pieces.update(message[at : at + 1000])
+            whole.update(message)
+            self.assertEqual(whole.digest(), pieces.digest())
+            self.assertEqual(kind(*arguments, message).digest(), pieces.digest())
+            self.assertRaises(TagMismatch, whole.verify, kind(*arguments, message[: len(message) % 65536]).digest())
 
     def test_method_by_name(self):
         for kind in PADDED_MACS:
@@ -87,7 +102,7 @@ class Refused(unittest.TestCase):
             key = KEY[: kind.key_size]
             for number in (0, 3, -1, 257, 2**32 + 1, 2**64 + 2, 10**30):
                 self.assertRaises(PaddingMethod, kind, key, number)
-            for other in (b"1", "1", 1.0, None, key):
+            for other in (b"1", "1", 1.0, None, True, False, key):
                 self.assertRaises(TypeError, kind, key, other)
 
     def test_sizes(self):

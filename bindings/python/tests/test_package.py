@@ -5,8 +5,10 @@ import ctypes
 import glob
 import os
 import re
+import shutil
 import subprocess
 import sys
+import tempfile
 import unittest
 from unittest import mock
 
@@ -102,6 +104,26 @@ class Package(unittest.TestCase):
             done = self.run_with(place)
             self.assertEqual(done.returncode, 1)
             self.assertRegex(done.stderr, "ImportError: .* is not the library: run bindings/build, or name it by CUKVASHE_DES_LIBRARY\n$")
+
+    def test_places(self):
+        """The library in the package comes first, then the one that is named, the one that is built, and the system's by its number."""
+        with tempfile.TemporaryDirectory() as folder:
+            package = os.path.join(folder, "bindings", "python", "cukvashe_des")
+            shutil.copytree(PACKAGE, package, ignore=shutil.ignore_patterns("*.so", "__pycache__"))
+            system, named = os.path.join(folder, "system"), os.path.join(folder, "named.so")
+            places = [os.path.join(system, "libcukvashe_des.so.1"), os.path.join(folder, "bindings", "out", "lib", "libcukvashe_des.so"),
+                      named, os.path.join(package, "libcukvashe_des.so")]
+            program = "import os, cukvashe_des._library as library; print(os.path.realpath(library._library._name))"
+            environment = dict(os.environ, LD_LIBRARY_PATH=system, PYTHONDONTWRITEBYTECODE="1", PYTHONPATH=os.path.dirname(package))
+            environment.pop("CUKVASHE_DES_LIBRARY", None)
+            for place in places:
+                os.makedirs(os.path.dirname(place), exist_ok=True)
+                shutil.copyfile(_library._place(), place)
+                if place == named:
+                    environment["CUKVASHE_DES_LIBRARY"] = named
+                done = subprocess.run([sys.executable, "-c", program], cwd=folder, env=environment, capture_output=True, text=True, check=False)
+                expected = os.path.join(folder, "libcukvashe_des.so.1") if place == places[0] else place
+                self.assertEqual((done.stdout.strip(), done.stderr), (os.path.realpath(expected), ""))
 
     def test_other_version(self):
         """A library whose contexts could be larger is refused."""

@@ -1,11 +1,42 @@
 """No text of an error or an object tells three bytes, or three characters, of what was given."""
 
+import re
 import traceback
 import unittest
 
 import cukvashe_des
 
 from .values import ACCOUNT, CALLS, IV, KEY, MESSAGE, OBJECTS, PADDED_MACS
+
+
+# Each error and its text, which tells a length, here #, and nothing else that is not the same at every call.
+SENTENCES = {
+    ("AccountDigit", "an account number has digits alone"),
+    ("AccountLength", "an account number has 13 to 19 digits"),
+    ("BlockLength", "# bytes are not whole blocks of 8"),
+    ("BlockLength", "a PIN block has 8 bytes, not #"),
+    ("Closed", "the object was closed"),
+    ("ExpiryDigit", "an expiry date has digits alone"),
+    ("ExpiryLength", "an expiry date has four digits"),
+    ("Fill", "a fill digit is none of those of the format"),
+    ("FillLength", "there are ten fill digits, not #"),
+    ("Format", "the PIN block is of another format"),
+    ("KeyLength", "a key has 8 bytes, not #"),
+    ("KeyLength", "a key has 16 bytes, not #"),
+    ("KeyLength", "a key has 24 bytes, not #"),
+    ("KeyLength", "a key has 8 or 16 or 24 bytes, not #"),
+    ("PaddingMethod", "padding is by method 1 or 2"),
+    ("PaddingMethod", 'padding is by "pkcs7" or "iso7816"'),
+    ("PaddingMismatch", "the data do not end with the padding"),
+    ("PinDigit", "a PIN has digits alone"),
+    ("PinLength", "a PIN has 4 to 12 digits"),
+    ("SerialLength", "a key serial number has 10 bytes, not #"),
+    ("ServiceDigit", "a service code has digits alone"),
+    ("ServiceLength", "a service code has three digits"),
+    ("TagMismatch", "the tag is not that of the message"),
+    ("VectorLength", "an initialization vector has 8 bytes, not #"),
+    ("WeakKey", "the weak key test refuses the key that the components make"),
+}
 
 
 def pieces_of(value):
@@ -37,8 +68,17 @@ class Texts(unittest.TestCase):
             call(*arguments)
         except (TypeError, ValueError) as error:
             self.tells_nothing(error, arguments)
+            if isinstance(error, ValueError):
+                length = re.search("(?<=not )[0-9]+$|^[0-9]+(?= bytes)", str(error))
+                if length:
+                    self.assertIn(int(length[0]), [len(value) for value in arguments if isinstance(value, (bytes, bytearray))])
+                self.sentences.add((type(error).__name__, str(error).replace(length[0] if length else "#", "#")))
+                self.assertEqual((error.args, error.__cause__, error.__context__), ((str(error),), None, None))
             return {type(error).__name__}
         return set()
+
+    def setUp(self):
+        self.sentences = set()
 
     def calls(self):
         """Every call of the package, those in place and those of closed objects too."""
@@ -50,7 +90,7 @@ class Texts(unittest.TestCase):
                 if hasattr(one, "encrypt_ecb"):
                     calls += [(one.encrypt_ecb_into, (MESSAGE,)), (one.decrypt_cbc_into, (IV, MESSAGE)), (one.encrypt_cbc, (IV, MESSAGE))]
                 else:
-                    calls += [(one.update, (MESSAGE,)), (one.verify, (MESSAGE[:8],))]
+                    calls += [(one.update, (MESSAGE,)), (one.verify, (MESSAGE[:8],)), (one.verify_truncated_left, (MESSAGE[:4],))]
         return calls
 
     def test_objects(self):
@@ -60,6 +100,9 @@ class Texts(unittest.TestCase):
             for form in (str, repr, format, ascii, "{}".format, "%s".__mod__):
                 self.assertEqual(form(made), kind.__name__ + " { ... }")
             self.assertFalse(hasattr(made, "__dict__"))
+            self.assertNotEqual(made, kind(*arguments))
+            self.assertRaises(TypeError, bytes, made)
+            self.assertRaises(TypeError, memoryview, made)
 
     def test_errors(self):
         """Each argument cut, made longer, and changed, as bytes and as a text; all turned round; and one too many."""
@@ -84,6 +127,7 @@ class Texts(unittest.TestCase):
         faults = {name for name in cukvashe_des.__all__ if name[0].isupper() and isinstance(getattr(cukvashe_des, name), type)
                   and issubclass(getattr(cukvashe_des, name), ValueError)}
         self.assertEqual(names, faults | {"TypeError"})
+        self.assertEqual(self.sentences, SENTENCES)
 
     def test_method(self):
         """A key, or a message, in the place of the padding method."""

@@ -33,6 +33,9 @@ CARD = ("4123456789012345", "8701", "101")
 # Lists shorter than a batch of either width, whole ones, and longer ones, in blocks.
 COUNTS = (0, 1, 2, 127, 128, 129, 300, 600)
 
+# More bytes in blocks than 16 bits count.
+LONG = 8200
+
 # Every length that a caller might take for a right one.
 LENGTHS = range(34)
 
@@ -119,7 +122,8 @@ def methods():
             calls += [(made.encrypt_ecb, (MESSAGE,)), (made.decrypt_ecb, (MESSAGE,))]
             calls += [(made.encrypt_cbc, (IV, MESSAGE)), (made.decrypt_cbc, (IV, MESSAGE))]
         else:
-            calls += [(made.update, (b"",)), (made.digest, ()), (made.hexdigest, ()), (made.verify, (made.digest(),))]
+            calls += [(made.update, (b"",)), (made.digest, ()), (made.hexdigest, ()), (made.verify, (made.digest(),)),
+                      (made.verify_truncated_left, (made.digest(),))]
     return calls
 
 

@@ -19,7 +19,7 @@ macro_rules! sentences {
 
 pub(crate) use sentences;
 
-/// The error of a key slice whose length is not the key size.
+/// The error of a key whose length is not the key size.
 #[derive(Clone, Copy, Debug, PartialEq, Eq)]
 pub struct InvalidLength;
 
@@ -45,7 +45,7 @@ sentences!(DataError:
     DataError::LengthsDiffer => "input and output differ in length",
 );
 
-/// The error of a key that the weak key test refuses, or to which it can't be put.
+/// Why a key does not pass the weak key test.
 #[derive(Clone, Copy, Debug, PartialEq, Eq)]
 pub enum KeyTestError {
     /// The key is weak, or has two parts that are one key.

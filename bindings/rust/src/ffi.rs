@@ -15,8 +15,8 @@ pub const EXPIRY_LENGTH: c_int = 13;
 pub const EXPIRY_DIGIT: c_int = 14;
 pub const SERVICE_LENGTH: c_int = 15;
 
-pub const PKCS7: c_int = 1;
-pub const ISO7816: c_int = 2;
+pub const PKCS7: c_int = 11;
+pub const ISO7816: c_int = 12;
 pub const MAC_PADDING_1: c_int = 1;
 pub const MAC_PADDING_2: c_int = 2;
 

@@ -74,10 +74,10 @@ pub trait BlockCipher: Clone + fmt::Debug {
     fn decrypt_ecb_to(&self, input: &[u8], output: &mut [u8]) -> Result<(), DataError>;
 
     /// Encrypts in place by cipher block chaining from the initialization vector, which becomes the last ciphertext block,
-    /// so that a record can come in pieces.
+    /// so that a record can come in pieces: copy the vector if you need it again.
     fn encrypt_cbc(&self, iv: &mut Block, data: &mut [u8]) -> Result<(), DataError>;
 
-    /// Decrypts in place what cipher block chaining made; the vector becomes the last ciphertext block.
+    /// Decrypts in place what cipher block chaining encrypted; the vector becomes the last ciphertext block. Padding stays.
     fn decrypt_cbc(&self, iv: &mut Block, data: &mut [u8]) -> Result<(), DataError>;
 
     /// As `encrypt_cbc`, from `input` to `output`; at an error `output` and the vector stay.
@@ -284,14 +284,20 @@ pub fn with_odd_parity<const SIZE: usize>(key: &[u8; SIZE]) -> [u8; SIZE] {
     changed
 }
 
-/// Whether two keys agree in all but their parity bits, and so are one key.
+/// Whether two keys agree in all but their parity bits, and so are one key. Arrays that are not whole parts of 8 bytes do not
+/// compile.
 ///
 /// ```
 /// use cukvashe_des::equal_but_parity;
 ///
 /// assert!(equal_but_parity(&[0; 16], &[1; 16]) && !equal_but_parity(&[0; 16], &[2; 16]));
 /// ```
+///
+/// ```compile_fail,E0080
+/// cukvashe_des::equal_but_parity(&[0; 7], &[0; 7]);
+/// ```
 pub fn equal_but_parity<const SIZE: usize>(first: &[u8; SIZE], second: &[u8; SIZE]) -> bool {
+    const { assert!(SIZE % 8 == 0, "a key has whole parts of 8 bytes") };
     // SAFETY: the pointers are of references, good for the length, which are only read.
     unsafe { ffi::cukvashe_equal_but_parity(first.as_ptr(), second.as_ptr(), SIZE) }
 }

@@ -1,8 +1,8 @@
 //! Message authentication codes, of a message that comes in pieces: CBC-MAC and the retail MAC (ISO/IEC 9797-1:2011,
 //! algorithms 1 and 3, with padding methods 1 and 2), and CMAC (NIST SP 800-38B).
 //!
-//! CBC-MAC is safe only where every message under a key has one length. Padding method 1 can't tell zeros at the end of a
-//! message. All calls read tables at indexes that depend on key and message.
+//! CBC-MAC is safe only where every message under a key has one length. Padding method 1 hides zeros at the end of a message.
+//! All calls read tables at indexes that depend on key and message.
 //!
 //! ```
 //! use cukvashe_des::mac::{Mac, MacError, Method2, RetailMacDes};
@@ -40,7 +40,16 @@ mod sealed {
     impl Sealed for super::Method2 {}
 }
 
-/// A padding method: [`Method1`] or [`Method2`].
+/// A padding method: [`Method1`] or [`Method2`], and no other.
+///
+/// ```compile_fail,E0277
+/// #[derive(Clone)]
+/// struct Method3;
+///
+/// impl cukvashe_des::mac::Padding for Method3 {
+///     const METHOD: i32 = 3;
+/// }
+/// ```
 pub trait Padding: Clone + sealed::Sealed {
     /// Its number.
     const METHOD: i32;
@@ -73,10 +82,11 @@ pub trait Mac: Clone + fmt::Debug {
     /// Adds bytes to the message. However it is cut into pieces, its tag is the same.
     fn update(&mut self, bytes: &[u8]);
 
-    /// The tag of the message.
+    /// The tag of the message. To check a tag call `verify`: `==` may stop at the first wrong byte.
     fn finalize(self) -> [u8; 8];
 
-    /// Accepts the first 4 to 8 bytes of the tag, and nothing else.
+    /// Accepts the first 4 to 8 bytes of the tag, and nothing else. Pass as many as both sides agreed on, not as many as were
+    /// sent: a forger sends 4.
     fn verify_truncated_left(self, tag: &[u8]) -> Result<(), MacError>;
 
     /// Accepts the tag of the message, and no other.

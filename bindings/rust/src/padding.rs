@@ -39,7 +39,7 @@ impl Method {
 #[derive(Clone, Copy, Debug, PartialEq, Eq)]
 pub struct NoRoom;
 
-/// Why data are not taken for padded ones.
+/// Why no padding is taken off.
 #[derive(Clone, Copy, Debug, PartialEq, Eq)]
 pub enum UnpadError {
     /// The data are not whole blocks of 8 bytes.

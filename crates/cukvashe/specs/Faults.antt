@@ -35,14 +35,14 @@ reason_words Other = codes "the system refused it"
 abbrev pub misuse_words : Misuse → List ℕ
 misuse_words KeySource = codes "give one of --key-file, --key-fd and --key-env"
 misuse_words StandardInputTwice = codes "only one of the files can be standard input"
-misuse_words VectorNeeded = codes "CBC takes --iv"
+misuse_words VectorNeeded = codes "CBC needs --iv"
 misuse_words VectorOfEcb = codes "ECB takes no --iv"
 misuse_words RandomToDecrypt = codes "random is for encryption; first-block reads what it wrote"
 misuse_words FirstBlockToEncrypt = codes "first-block is for decryption; random writes what it reads"
 misuse_words PartToEncrypt = codes "--from and --blocks are for decryption"
 misuse_words Terminal = codes "no bytes are written to a terminal, unless --out - asks for it"
 misuse_words PaddingOfCmac = codes "CMAC takes no --padding"
-misuse_words PaddingNeeded = codes "CBC-MAC and retail MAC take --padding"
+misuse_words PaddingNeeded = codes "CBC-MAC and retail MAC need --padding"
 misuse_words Account = codes "give one of --account and --account-file"
 misuse_words Arguments = codes "the command doesn't take these words (see --help)"
 misuse_words PartsOrCount = codes "give --part-file twice or more, or --count and one source of all"
@@ -172,7 +172,7 @@ IsOfStream (LengthError past) kind = kind ≡ Length
 IsOfStream StartError kind = kind ≡ Start
 IsOfStream PaddingError kind = kind ≡ Padding
 
--- a call gives this fault, where there is one, and else fails for want of memory alone
+-- a call gives this fault, where there is one, and else fails only if memory is refused
 abbrev pub FailsBy : {A : Type 0} → Option Kind → Result A Kind → Type 0
 FailsBy (Some kind) result = result ≡ Err kind
 FailsBy None result = IfErr result (λ kind. kind ≡ Memory)
@@ -183,7 +183,7 @@ FailsOnlyBy (Some kind) result = result ≡ Err kind
 FailsOnlyBy None result = IsOk result
 
 -- a call gives this fault, where there is one. Else it fails as `WeakKey` where the key is refused,
--- and for want of memory alone where it is not
+-- and only if memory is refused where it is not
 abbrev pub FailsOrRefuses : {A : Type 0} → Option Kind → Type 0 → Result A Kind → Type 0
 FailsOrRefuses (Some kind) Refused result = result ≡ Err kind
 FailsOrRefuses None Refused result =

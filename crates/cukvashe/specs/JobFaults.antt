@@ -29,18 +29,20 @@ LacksKeyOrMemory kind request key =
 -- ---- after it
 
 -- what was written begins the ciphertext, and what the fault says
-abbrev pub StopsEncrypting : StreamError → (List ℕ → List ℕ) → Mode → Padding → Passage → Type 0
+abbrev pub StopsEncrypting : (fault : StreamError) (answer : List ℕ → List ℕ) (mode : Mode) (padding : Padding)
+    (passage : Passage) → Type 0
 StopsEncrypting fault answer mode padding passage =
     EncryptsPrefix answer mode padding passage × FailsToEncrypt fault padding passage.read_from passage.read_to
 
 -- what was written begins the plaintext of all that is read, or of a part, and what the fault says
-abbrev pub StopsHere : StreamError → (List ℕ → List ℕ) → Mode → Padding → Option Part → Passage → Type 0
+abbrev pub StopsHere : (fault : StreamError) (answer : List ℕ → List ℕ) (mode : Mode) (padding : Padding)
+    (part : Option Part) (passage : Passage) → Type 0
 StopsHere fault answer mode padding None passage =
     DecryptsPrefix answer mode padding passage × FailsToDecrypt fault answer mode padding passage
 StopsHere fault answer mode padding (Some part) passage =
     DecryptsPartPrefix answer mode padding part.count passage × FailsInPart fault answer mode padding part.count passage
 
--- so many blocks were passed over, and the same holds from there on
+-- a number of blocks was passed over, and the same holds from there on
 pub record StopsAfter (fault : StreamError) (answer : List ℕ → List ℕ) (mode : Mode) (padding : Padding) (skipped : ℕ)
     (part : Option Part) (passage : Passage) : Type 0 where
   pub next : Mode
@@ -50,14 +52,15 @@ pub record StopsAfter (fault : StreamError) (answer : List ℕ → List ℕ) (mo
       (passage_of middle passage.read_to passage.written_from passage.written_to)
 
 -- a decryption ended where blocks are passed over, and nothing was written, or after them
-abbrev pub StopsDecrypting : StreamError → (List ℕ → List ℕ) → Mode → Padding → ℕ → Option Part → Passage → Type 0
+abbrev pub StopsDecrypting : (fault : StreamError) (answer : List ℕ → List ℕ) (mode : Mode) (padding : Padding)
+    (skipped : ℕ) (part : Option Part) (passage : Passage) → Type 0
 StopsDecrypting fault answer mode padding skipped part passage =
     (FailsToSkip fault skipped passage.read_from passage.read_to × (passage.written_to ≡ passage.written_from))
     ⊎ StopsAfter fault answer mode padding skipped part passage
 
 -- the same in the direction that is asked for
-abbrev pub Stops : Bool → StreamError → (List ℕ → List ℕ) → (List ℕ → List ℕ) → Mode → Padding → ℕ → Option Part
-    → Passage → Type 0
+abbrev pub Stops : (encrypts : Bool) (fault : StreamError) (encrypted decrypted : List ℕ → List ℕ) (mode : Mode)
+    (padding : Padding) (skipped : ℕ) (part : Option Part) (passage : Passage) → Type 0
 Stops true fault encrypted decrypted mode padding skipped part passage =
     StopsEncrypting fault encrypted mode padding passage
 Stops false fault encrypted decrypted mode padding skipped part passage =
@@ -87,15 +90,16 @@ pub record IsStopped (kind : Kind) (request : StreamRequest) (random : List ℕ)
       ⊎ StopsWithin fault request random skipped encrypted decrypted passage
 
 -- a request that can be asked for has stopped: before anything is read or written, or in its stream
-abbrev pub StopsByCipher : Kind → StreamRequest → List ℕ → List ℕ → ℕ → (List ℕ → List ℕ) → (List ℕ → List ℕ)
-    → Passage → Type 0
+abbrev pub StopsByCipher : (kind : Kind) (request : StreamRequest) (key random : List ℕ) (skipped : ℕ)
+    (encrypted decrypted : List ℕ → List ℕ) (passage : Passage) → Type 0
 StopsByCipher kind request key random skipped encrypted decrypted passage =
     (LacksKeyOrMemory kind request key × IsUntouched passage)
     ⊎ IsStopped kind request random skipped encrypted decrypted passage
 
 -- what the fault of a request says. What can't be asked for is a fault before anything is read or
 -- written
-abbrev pub HasStopped : Kind → StreamRequest → List ℕ → List ℕ → ℕ → Passage → Type 0
+abbrev pub HasStopped : (kind : Kind) (request : StreamRequest) (key random : List ℕ) (skipped : ℕ) (passage : Passage)
+    → Type 0
 HasStopped kind request key random skipped passage =
     ((misuse : Misuse) × (misuse_of request.encrypts request.vector request.part ≡ Some misuse)
     × (kind ≡ Usage misuse) × IsUntouched passage)

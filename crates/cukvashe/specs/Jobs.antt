@@ -72,19 +72,20 @@ from_of None = 0
 from_of (Some part) = part.from
 
 -- the blocks that are passed over: those before the part, and one more where the first is the
--- vector. They are counted up to 2^64 - 1, and no input has so many
+-- vector. They are counted up to 2^64 - 1; no input has more
 abbrev pub blocks_before : Vector → Option Part → ℕ
 blocks_before FirstBlock part = min (from_of part + 1) (2 ^ 64 - 1)
 blocks_before vector part = from_of part
 
 -- ---- answers
 
--- all that is left is decrypted, up to the end, or a part of so many blocks
-abbrev pub DecryptsHere : (List ℕ → List ℕ) → Mode → Padding → Option Part → Passage → Type 0
+-- all that is left is decrypted, up to the end, or the blocks of a part
+abbrev pub DecryptsHere : (answer : List ℕ → List ℕ) (mode : Mode) (padding : Padding) (part : Option Part)
+    (passage : Passage) → Type 0
 DecryptsHere answer mode padding None passage = Decrypts answer mode padding passage × IsAtEnd passage.read_to
 DecryptsHere answer mode padding (Some part) passage = DecryptsPart answer mode padding part.count passage
 
--- so many blocks are passed over, and from there on it is decrypted
+-- a number of blocks is passed over, and from there on it is decrypted
 pub record DecryptsAfter (answer : List ℕ → List ℕ) (mode : Mode) (padding : Padding) (skipped : ℕ)
     (part : Option Part) (passage : Passage) : Type 0 where
   pub next : Mode
@@ -95,8 +96,8 @@ pub record DecryptsAfter (answer : List ℕ → List ℕ) (mode : Mode) (padding
 
 -- all that is left is encrypted, up to the end, or decrypted after the blocks that are passed over,
 -- by what a cipher answers in each direction
-abbrev pub Answers : Bool → (List ℕ → List ℕ) → (List ℕ → List ℕ) → Mode → Padding → ℕ → Option Part
-    → Passage → Type 0
+abbrev pub Answers : (encrypts : Bool) (encrypted decrypted : List ℕ → List ℕ) (mode : Mode) (padding : Padding)
+    (skipped : ℕ) (part : Option Part) (passage : Passage) → Type 0
 Answers true encrypted decrypted mode padding skipped part passage =
     Encrypts encrypted mode padding passage × IsAtEnd passage.read_to
 Answers false encrypted decrypted mode padding skipped part passage =

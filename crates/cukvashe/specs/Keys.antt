@@ -13,7 +13,7 @@ use Rattle.cukvashe.specs.Texts.{text_fault}
 abbrev pub IsKeySize : ℕ → Type 0
 IsKeySize size = (size ≡ 8) ⊎ ((size ≡ 16) ⊎ (size ≡ 24))
 
--- so many digits write a key of a size, or for 0 of one of the three
+-- this number of digits writes a key of a size, or for 0 of one of the three
 abbrev pub is_key_length : ℕ → ℕ → Bool
 is_key_length count size =
     if size == 0 then (count == 16) || ((count == 32) || (count == 48)) else count == 2 * size

@@ -43,12 +43,12 @@ check_value_of digits = take 3 (encryption_by_size digits (replicate 8 0))
 
 -- ---- components
 
--- the key of components of so many bytes each, written one after another
+-- the key of components of a size in bytes, written one after another
 abbrev pub key_of_components : ℕ → List ℕ → List ℕ
 key_of_components size digits =
     combined (first_chunks size (length (bytes_of digits) / size) (bytes_of digits))
 
--- the bytes of each of so many components
+-- the bytes of each of a number of components
 abbrev pub component_size : ℕ → List ℕ → ℕ
 component_size count digits =
     if length digits == 16 * count then 8

@@ -66,7 +66,7 @@ blocks_of Unpadded bytes = bytes / 8
 blocks_of Zeros bytes = div_ceil bytes 8
 blocks_of padding bytes = bytes / 8 + 1
 
--- the limit is told of where so many bytes pass it, and then no more; what is left to be told, and
+-- the limit is told of where this number of bytes passes it, and then no more; what is left to be told, and
 -- what was written: the line, or a prefix of it
 abbrev pub TellsLimit : Option Padding → ℕ → Option Padding → Option (List ℕ) → Option (List ℕ) → Type 0
 TellsLimit None bytes rest old new = (rest ≡ None) × (new ≡ old)

@@ -1,7 +1,7 @@
 -- A run of a command that writes a line: what the output and the error writer take, and the status that the program
 -- ends with.
 use Rattle.std.specs.Borrow.{Bor}
-use Rattle.std.specs.Prelude.{◌≡◌, ◌&&◌, ℕ, Bool, false, not, if◌then◌else◌, List, codes, IsTrue, IfOk, Option, Result, Ok, Err}
+use Rattle.std.specs.Prelude.{◌≡◌, ◌&&◌, ℕ, Bool, false, not, List, codes, IsTrue, IfOk, Option, Result, Ok, Err}
 use Rattle.std.specs.declared.vec.Vec.{Vec}
 use Rattle.std.specs.declared.alloc.Global.{Global}
 use Rattle.cukvashe.specs.declared.fault.Fault.{Fault}

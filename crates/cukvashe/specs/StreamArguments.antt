@@ -88,7 +88,7 @@ FailsAsVector (Some text) false encrypts kind = kind ≡ Usage VectorOfEcb
 
 -- ---- parts
 
--- the part of two numbers: from a block on, the first being 0, and no more than so many
+-- the part of two numbers: from a block on, the first being 0, and at most this number of them
 abbrev pub part_between : (from count : Option ℕ) → Option Part
 part_between None None = None
 part_between (Some from) count = Some record { from = from; count = count }
@@ -102,11 +102,17 @@ part_for true from count = Err (Usage PartToEncrypt)
 
 -- ---- files
 
--- standard input, as `-` or no path asks for, or a file
+-- a path that means standard input: `-`, or a name that the system gives it
+abbrev pub IsNameOfStandardInput : List ℕ → Type 0
+IsNameOfStandardInput path =
+    (path ≡ codes "-") ⊎ (path ≡ codes "/dev/stdin") ⊎ (path ≡ codes "/dev/fd/0")
+    ⊎ (path ≡ codes "/proc/self/fd/0")
+
+-- standard input, as one of its names or no path asks for, or a file
 abbrev pub IsInput : Option (Bor (List ℕ)) → Source → Type 0
 IsInput None source = source ≡ StandardInput
-IsInput (Some path) StandardInput = path.now ≡ codes "-"
-IsInput (Some path) (File file) = (path.now ≢ codes "-") × (file ≡ path)
+IsInput (Some path) StandardInput = IsNameOfStandardInput path.now
+IsInput (Some path) (File file) = (¬ IsNameOfStandardInput path.now) × (file ≡ path)
 IsInput (Some path) _ = ⊥
 
 -- standard output, as `-` asks for, a file, or neither

@@ -1,9 +1,12 @@
 -- What the program writes of a result or a fault, and the status that it ends with: 0 only where
--- the whole result was written, else 4, and that of the fault.
-use Rattle.std.specs.Prelude.{◌≡◌, ◌⊎◌, ℕ, List, take, Option, Result, Ok, Err}
+-- the whole result was written, else that of the fault.
+use Rattle.std.specs.Prelude.{◌≡◌, ◌⊎◌, ℕ, List, codes, take, Option, Result, Ok, Err}
 use Rattle.std.specs.Io.KnownBytes.{Appends}
 use Rattle.std.specs.declared.vec.Vec.{Vec}
 use Rattle.std.specs.declared.alloc.Global.{Global}
+use Rattle.cukvashe.specs.declared.fault.Reason.{Reason}
+use Rattle.cukvashe.specs.declared.fault.Kind.{Kind}
+use Rattle.cukvashe.specs.declared.fault.Kind.TheVariants.{Write}
 use Rattle.cukvashe.specs.declared.fault.Fault.{Fault}
 use Rattle.cukvashe.specs.Faults.{status_of, line_of}
 
@@ -13,20 +16,19 @@ AppendsPrefix old new text = (count : ℕ) × Appends old new (take count text)
 
 -- the status is that of the fault, and the error writer took the fault's line or a prefix of it. No
 -- status tells how much of the line
-abbrev pub IsTold : {E : Type 0} → (E → Option (List ℕ)) → Fault → ℕ → E → E → Type 0
-IsTold err_contents fault status err_old err_new =
-    (status ≡ status_of fault.kind)
-    × AppendsPrefix (err_contents err_old) (err_contents err_new) (line_of fault.kind fault.about.now)
+abbrev pub IsTold : {E : Type 0} → (E → Option (List ℕ)) → Kind → (about : List ℕ) → ℕ → E → E → Type 0
+IsTold err_contents kind about status err_old err_new =
+    (status ≡ status_of kind)
+    × AppendsPrefix (err_contents err_old) (err_contents err_new) (line_of kind about)
 
--- what a status says of a result or a fault that was shown, and of the writers before and after:
--- whether the whole of the result stands in `out` or else a prefix of it, or which fault there is.
--- The other writer stays as it is
+-- what a status says of a result or a fault that was shown, and of the writers before and after: the
+-- whole of the result stands in `out`, or else a prefix of it, and the fault of that was told; or
+-- which fault there is. A writer that nothing is said of stays as it is
 abbrev pub IsShown : {W E : Type 0} → (W → Option (List ℕ)) → (E → Option (List ℕ))
     → Result (Vec ℕ Global) Fault → ℕ → W → W → E → E → Type 0
 IsShown out_contents err_contents (Ok text) status out_old out_new err_old err_new =
-    ((status ≡ 0) ⊎ (status ≡ 4))
-    × (status ≡ 0 → Appends (out_contents out_old) (out_contents out_new) text.items)
-    × AppendsPrefix (out_contents out_old) (out_contents out_new) text.items
-    × (err_new ≡ err_old)
+    ((status ≡ 0) × Appends (out_contents out_old) (out_contents out_new) text.items × (err_new ≡ err_old))
+    ⊎ (AppendsPrefix (out_contents out_old) (out_contents out_new) text.items
+    × ((reason : Reason) × IsTold err_contents (Write reason) (codes "standard output") status err_old err_new))
 IsShown out_contents err_contents (Err fault) status out_old out_new err_old err_new =
-    IsTold err_contents fault status err_old err_new × (out_new ≡ out_old)
+    IsTold err_contents fault.kind fault.about.now status err_old err_new × (out_new ≡ out_old)

@@ -1,8 +1,9 @@
 //! Answers: whether a key is weak, tags that are shown or verified, and the status of an answer.
 
-ghost use Rattle.std.specs.Prelude.{◌≡◌, ◌↔◌, ◌⊎◌, ◌≤◌, [], length, take, false, not, IfOk, IfErr};
+ghost use Rattle.std.specs.Prelude.{◌≡◌, ◌↔◌, ◌≤◌, [], length, take, false, not, IfOk};
 ghost use Rattle.des_mac.specs.Tags.{IsTruncated};
-ghost use Rattle.cukvashe.specs.Answers.{status_after, weak_line};
+ghost use Rattle.cukvashe.specs.Answers.{status_after, weak_line, tag_fault};
+ghost use Rattle.cukvashe.specs.Faults.{FailsBy};
 ghost use Rattle.cukvashe.specs.Texts.{bytes_of as bytes_of_text, hex_line as hex_line_of};
 
 use crate::digits::{decode, hex_line};
@@ -64,7 +65,7 @@ pub fn verified(alloc: Global, tag: &[u8; 8], given: &[u8]) -> Answer
 pub fn tag_of_digits(alloc: Global, digits: &[u8]) -> Result<Vec<u8>, Kind>
     ensures tag { IfOk result (λ tag. tag.items ≡ bytes_of_text digits.now) }
     ensures length { IfOk result (λ tag. (4 ≤ length tag.items) × (length tag.items ≤ 8)) }
-    ensures fault { IfErr result (λ kind. (kind ≡ Kind.Tag) ⊎ (kind ≡ Kind.Memory)) }
+    ensures fault { FailsBy (tag_fault digits.now) result }
 {
     if digits.len() < 8 || digits.len() > 16 || digits.len() % 2 != 0 {
         return Err(Kind::Tag);

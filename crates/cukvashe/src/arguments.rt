@@ -4,6 +4,7 @@ mod forms;
 mod grammar;
 mod stream_forms;
 pub mod streams;
+mod typed;
 
 ghost use Rattle.std.specs.Prelude.{◌≡◌, IfOk, IfErr, Some};
 ghost use Rattle.cukvashe.specs.declared.fault.Kind.TheVariants.{Usage};
@@ -18,7 +19,8 @@ use crate::source::Source;
 use clap::ArgMatches;
 use des_payment::dukpt::Message;
 pub use grammar::{names_of, parse};
-use streams::stream_request;
+use streams::{input_of, stream_request};
+use typed::{count_of, is_given, is_set, number_of, place_of, text_of, texts_of};
 
 // A fault, and what it is about.
 fn about<'a>(kind: Kind, about: &'a str) -> Fault<'a>
@@ -37,32 +39,24 @@ fn misuse<'a>(misuse: Misuse, about: &'a str) -> Fault<'a>
     }
 }
 
-// The file of a path, or standard input.
-fn file_of<'a>(path: &'a str) -> Source<'a>
+// The file of a path, or standard input, by the names that the system gives it.
+pub(crate) fn file_of<'a>(path: &'a str) -> Source<'a>
     ensures { IsInput (Some path.entry) result }
 {
-    if path == "-" {
-        Source::StandardInput
-    } else {
-        Source::File(path)
-    }
-}
-
-// The file that an option names, or standard input where there is none.
-fn input_of<'a>(matches: &ArgMatches<'a>, option: &str) -> Source<'a> {
-    match matches.get_str(option) {
-        Some(path) => file_of(path),
-        None => Source::StandardInput,
+    match path {
+        "-" | "/dev/stdin" | "/dev/fd/0" | "/proc/self/fd/0" => Source::StandardInput,
+        _ => Source::File(path),
     }
 }
 
 // Where the key is: one place.
 fn key_of<'a>(matches: &ArgMatches<'a>) -> Result<Source<'a>, Fault<'a>> {
-    let file = matches.get_str("key-file");
-    let descriptor = matches.get_one::<u64>("key-fd");
-    let variable = matches.get_str("key-env");
+    let file = text_of(matches, "key-file");
+    let descriptor = number_of(matches, "key-fd");
+    let variable = text_of(matches, "key-env");
     match (file, descriptor, variable) {
         (Some(path), None, None) => Ok(file_of(path)),
+        (None, Some(0), None) => Ok(Source::StandardInput),
         (None, Some(number), None) => Ok(Source::Descriptor(number)),
         (None, None, Some(name)) => Ok(Source::Variable(name)),
         _ => Err(misuse(Misuse::KeySource, "")),
@@ -71,7 +65,10 @@ fn key_of<'a>(matches: &ArgMatches<'a>) -> Result<Source<'a>, Fault<'a>> {
 
 // Where the account number is: one place.
 fn account_of<'a>(matches: &ArgMatches<'a>) -> Result<Account<'a>, Fault<'a>> {
-    match (matches.get_str("account"), matches.get_str("account-file")) {
+    match (
+        text_of(matches, "account"),
+        text_of(matches, "account-file"),
+    ) {
         (Some(digits), None) => Ok(Account::Digits(digits)),
         (None, Some(path)) => Ok(Account::In(file_of(path))),
         _ => Err(misuse(Misuse::Account, "")),
@@ -106,7 +103,7 @@ fn with_account<'a>(
         task: Task::Line(form),
         input,
         account,
-        refuses: matches.get_str("check-digit") == Some("refuse"),
+        refuses: text_of(matches, "check-digit") == Some("refuse"),
     })
 }
 
@@ -123,7 +120,7 @@ fn without_account<'a>(task: Task<'a>, input: Source<'a>) -> Request<'a> {
 // ---- mac
 
 fn padding_of(matches: &ArgMatches) -> Option<PaddingMethod> {
-    match matches.get_str("padding") {
+    match text_of(matches, "padding") {
         Some("1") => Some(PaddingMethod::One),
         Some(_) => Some(PaddingMethod::Two),
         None => None,
@@ -141,7 +138,7 @@ fn method_of<'a>(name: &str, padding: Option<PaddingMethod>) -> Result<Method, F
 }
 
 fn question_of<'a>(matches: &ArgMatches<'a>) -> Result<Question<'a>, Fault<'a>> {
-    match (matches.get_str("verify"), matches.get_one::<u8>("length")) {
+    match (text_of(matches, "verify"), count_of(matches, "length")) {
         (None, None) => Ok(Question::Print(8)),
         (None, Some(count)) => Ok(Question::Print(count)),
         (Some(digits), None) => Ok(Question::Verify(digits)),
@@ -150,11 +147,11 @@ fn question_of<'a>(matches: &ArgMatches<'a>) -> Result<Question<'a>, Fault<'a>> 
 }
 
 fn mac_request<'a>(matches: &ArgMatches<'a>) -> Result<Request<'a>, Fault<'a>> {
-    let name = matches.get_str("method").unwrap_or("");
+    let name = place_of(matches, "method");
     let method = method_of(name, padding_of(matches))?;
     let question = question_of(matches)?;
     let key = key_of(matches)?;
-    let message = input_of(matches, "in");
+    let message = input_of(text_of(matches, "in"));
     read_once(key, message)?;
     let task = Task::Mac {
         method,
@@ -172,30 +169,24 @@ fn key_request<'a>(task: Task<'a>, matches: &ArgMatches<'a>) -> Result<Request<'
 
 // Whether a source of a key is named.
 fn names_key(matches: &ArgMatches) -> bool {
-    matches.contains_id("key-file")
-        || matches.contains_id("key-fd")
-        || matches.contains_id("key-env")
+    is_given(matches, "key-file") || is_given(matches, "key-fd") || is_given(matches, "key-env")
 }
 
 // Standard input is the place of one component at most.
 fn parts_once<'a>(paths: &[&str]) -> Result<(), Fault<'a>> {
-    let mut is_read = false;
+    let mut read = Source::File("");
     for path in paths {
-        if *path == "-" {
-            if is_read {
-                return Err(misuse(Misuse::StandardInputTwice, ""));
-            }
-            is_read = true;
+        let part = file_of(path);
+        read_once(read, part)?;
+        if let Source::StandardInput = part {
+            read = part;
         }
     }
     Ok(())
 }
 
 fn combine_request<'a>(matches: &ArgMatches<'a>) -> Result<Request<'a>, Fault<'a>> {
-    match (
-        matches.get_strs("part-file"),
-        matches.get_one::<u8>("count"),
-    ) {
+    match (texts_of(matches, "part-file"), count_of(matches, "count")) {
         (None, Some(count)) => key_request(Task::Line(Form::Combine(count)), matches),
         (Some(paths), None) if paths.len() >= 2 && !names_key(matches) => {
             parts_once(paths)?;
@@ -207,7 +198,7 @@ fn combine_request<'a>(matches: &ArgMatches<'a>) -> Result<Request<'a>, Fault<'a
 
 /// The paths of files with a component each, where the command has them.
 pub fn parts_of<'m, 'a>(matches: &'m ArgMatches<'a>) -> Option<&'m [&'a str]> {
-    matches.subcommand_matches("combine")?.get_strs("part-file")
+    texts_of(matches.subcommand_matches("combine")?, "part-file")
 }
 
 fn purpose_of<'a>(name: &str, responds: bool) -> Result<Purpose, Fault<'a>> {
@@ -225,16 +216,16 @@ fn purpose_of<'a>(name: &str, responds: bool) -> Result<Purpose, Fault<'a>> {
 }
 
 fn dukpt_request<'a>(matches: &ArgMatches<'a>) -> Result<Request<'a>, Fault<'a>> {
-    let serial = matches.get_str("serial").unwrap_or("");
-    let name = matches.get_str("purpose").unwrap_or("");
-    let purpose = purpose_of(name, matches.get_flag("response"))?;
+    let serial = place_of(matches, "serial");
+    let name = place_of(matches, "purpose");
+    let purpose = purpose_of(name, is_set(matches, "response"))?;
     key_request(Task::Line(Form::Transaction(serial, purpose)), matches)
 }
 
 fn cvv_request<'a>(matches: &ArgMatches<'a>) -> Result<Request<'a>, Fault<'a>> {
     let form = Form::Cvv {
-        expiry: matches.get_str("expiry").unwrap_or(""),
-        service: matches.get_str("service").unwrap_or(""),
+        expiry: place_of(matches, "expiry"),
+        service: place_of(matches, "service"),
     };
     with_account(form, key_of(matches)?, matches)
 }
@@ -242,7 +233,7 @@ fn cvv_request<'a>(matches: &ArgMatches<'a>) -> Result<Request<'a>, Fault<'a>> {
 // ---- PIN blocks
 
 fn format_of(matches: &ArgMatches) -> Format {
-    match matches.get_str("format") {
+    match text_of(matches, "format") {
         Some("0") => Format::Zero,
         Some("1") => Format::One,
         _ => Format::Three,
@@ -251,11 +242,11 @@ fn format_of(matches: &ArgMatches) -> Format {
 
 // Format 1 takes no account number.
 fn refuse_account<'a>(matches: &ArgMatches) -> Result<(), Fault<'a>> {
-    if matches.contains_id("account") {
+    if is_given(matches, "account") {
         Err(misuse(Misuse::Fill, "--account"))
-    } else if matches.contains_id("account-file") {
+    } else if is_given(matches, "account-file") {
         Err(misuse(Misuse::Fill, "--account-file"))
-    } else if matches.contains_id("check-digit") {
+    } else if is_given(matches, "check-digit") {
         Err(misuse(Misuse::Fill, "--check-digit"))
     } else {
         Ok(())
@@ -279,18 +270,18 @@ fn pin_request<'a>(
 
 fn encode_request<'a>(matches: &ArgMatches<'a>) -> Result<Request<'a>, Fault<'a>> {
     let format = format_of(matches);
-    let fill = match (format, matches.get_str("fill")) {
+    let fill = match (format, text_of(matches, "fill")) {
         (Format::Zero, None) => "",
         (Format::One | Format::Three, Some(digits)) => digits,
         _ => return Err(misuse(Misuse::Fill, "--fill")),
     };
-    let input = input_of(matches, "pin-file");
+    let input = input_of(text_of(matches, "pin-file"));
     pin_request(format, Form::Encode(format, fill), input, matches)
 }
 
 fn decode_request<'a>(matches: &ArgMatches<'a>) -> Result<Request<'a>, Fault<'a>> {
     let format = format_of(matches);
-    let input = input_of(matches, "block-file");
+    let input = input_of(text_of(matches, "block-file"));
     pin_request(format, Form::Decode(format), input, matches)
 }
 

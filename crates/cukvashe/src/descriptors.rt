@@ -3,6 +3,12 @@
 use std::fs;
 use std::io::{self, ErrorKind};
 
+// The bits of the system's flags for what a descriptor may do, and their value where it may read
+// alone.
+const ACCESS: u32 = 0o3;
+
+const READ_ONLY: u32 = 0;
+
 // The flag of the system for a descriptor that writes at the end of its file.
 const APPEND: u32 = 0o2000;
 
@@ -11,6 +17,8 @@ const APPEND: u32 = 0o2000;
 pub struct Standing {
     /// The byte that is read or written next: 0 in a pipe.
     pub place: u64,
+    /// It may be written to.
+    pub writes: bool,
     /// Bytes go to the end of the file, wherever the descriptor stands.
     pub appends: bool,
 }
@@ -25,13 +33,13 @@ pub fn descriptor_of(path: &str) -> Option<u64> {
     }
 }
 
-// The descriptor of a path that ends with its number.
+// The descriptor of a path that ends with its number, written as the system writes it.
 fn numbered(path: &str) -> Option<u64> {
     let digits = match path.strip_prefix("/dev/fd/") {
         Some(digits) => digits,
         None => path.strip_prefix("/proc/self/fd/")?,
     };
-    if digits.starts_with("+") {
+    if digits.starts_with("+") || digits.starts_with("0") && digits != "0" {
         return None;
     }
     digits.parse().ok()
@@ -55,6 +63,7 @@ pub fn standing_of(rt: &HostRuntime, number: u64) -> io::Result<Standing> {
     match (place, flags) {
         (Some(place), Some(flags)) => Ok(Standing {
             place,
+            writes: flags & ACCESS != READ_ONLY,
             appends: flags & APPEND != 0,
         }),
         _ => Err(io::Error::from(ErrorKind::InvalidData)),

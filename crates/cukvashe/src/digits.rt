@@ -10,7 +10,7 @@ use crate::fault::Kind;
 use std::alloc::{AllocError, Global};
 
 // Whether a byte is white space.
-fn is_space(byte: u8) -> bool
+pub(crate) fn is_space(byte: u8) -> bool
     ensures { result ≡ is_space_of byte }
 {
     byte == b' ' || byte == b'\t' || byte == b'\n' || byte == b'\r'

@@ -57,7 +57,7 @@ pub enum Kind {
     Variable,
     /// An input is longer than what it may be.
     InputLength,
-    /// A key does not have the digits of so many bytes, 8, 16 or 24, or for 0 of any of these.
+    /// A key does not have the digits of this number of bytes, 8, 16 or 24, or for 0 of any of these.
     KeyLength(u8),
     /// A key has a character that is no hexadecimal digit.
     KeyText,
@@ -164,7 +164,7 @@ impl Misuse {
         match self {
             Misuse::KeySource => "give one of --key-file, --key-fd and --key-env",
             Misuse::StandardInputTwice => "only one of the files can be standard input",
-            Misuse::VectorNeeded => "CBC takes --iv",
+            Misuse::VectorNeeded => "CBC needs --iv",
             Misuse::VectorOfEcb => "ECB takes no --iv",
             Misuse::RandomToDecrypt => "random is for encryption; first-block reads what it wrote",
             Misuse::FirstBlockToEncrypt =>
@@ -172,7 +172,7 @@ impl Misuse {
             Misuse::PartToEncrypt => "--from and --blocks are for decryption",
             Misuse::Terminal => "no bytes are written to a terminal, unless --out - asks for it",
             Misuse::PaddingOfCmac => "CMAC takes no --padding",
-            Misuse::PaddingNeeded => "CBC-MAC and retail MAC take --padding",
+            Misuse::PaddingNeeded => "CBC-MAC and retail MAC need --padding",
             Misuse::Account => "give one of --account and --account-file",
             Misuse::Arguments => "the command doesn't take these words (see --help)",
             Misuse::Components =>

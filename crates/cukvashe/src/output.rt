@@ -71,19 +71,20 @@ pub fn open(rt: &HostRuntime, path: &str) -> Result<Target, Kind> {
     }
 }
 
-// A folder is refused, a regular file is replaced, and anything else is written to as it is.
+// A folder is refused, a regular file is replaced, and anything else is written to as it is. A file
+// that may not be written to is not replaced, although the system would let it be.
 fn open_old(rt: &HostRuntime, name: String, old: &Metadata) -> Result<Target, Kind> {
     if old.is_dir() {
         return Err(Kind::Write(Reason::IsFolder));
-    }
-    if old.is_file() {
-        let mode = old.permissions().mode() & PERMISSION_BITS;
-        return Ok(Target::Replaced(create_beside(rt, name, mode)?));
     }
     let file = OpenOptions::new()
         .write(true)
         .open(rt, name.as_str())
         .map_err(write_fault)?;
+    if old.is_file() {
+        let mode = old.permissions().mode() & PERMISSION_BITS;
+        return Ok(Target::Replaced(create_beside(rt, name, mode)?));
+    }
     Ok(Target::AsItIs(file))
 }
 
@@ -106,12 +107,20 @@ fn open_new(rt: &HostRuntime, name: String) -> Result<Target, Kind> {
 // ---- descriptors and links
 
 // Standard output itself is written to: other programs may share its place. The system opens the
-// file of another descriptor anew and at its beginning: it is written to from where that stands.
+// file of another descriptor anew and at its beginning: it is written to from where that stands,
+// and not where the descriptor was opened for reading alone.
 fn open_descriptor(rt: &HostRuntime, number: u64) -> io::Result<Target> {
     if number == 1 {
         return Ok(Target::StandardOutput);
     }
-    let Standing { place, appends } = standing_of(rt, number)?;
+    let Standing {
+        place,
+        writes,
+        appends,
+    } = standing_of(rt, number)?;
+    if !writes {
+        return Err(io::Error::from(ErrorKind::PermissionDenied));
+    }
     let path = format!(in rt.alloc(); "/dev/fd/{number}")?;
     let mut file = OpenOptions::new()
         .write(true)
@@ -134,7 +143,7 @@ fn linked(rt: &HostRuntime, link: &str) -> io::Result<String> {
 // that the links don't end, or the system's.
 fn target_of(rt: &HostRuntime, path: &str) -> io::Result<String> {
     let mut name = String::from_str(rt.alloc(), path)?;
-    for _ in 0..LINKS_AT_MOST {
+    for _ in 0..=LINKS_AT_MOST {
         if descriptor_of(name.as_str()).is_some() {
             return Ok(name);
         }

@@ -1,10 +1,12 @@
 //! The program: what a command line asks for is done.
 
-ghost use Rattle.std.specs.Prelude.{◌≡◌, ◌⊎◌, ◌≤◌, ◌<◌, length, IfOk};
+ghost use Rattle.std.specs.Prelude.{◌≡◌, ◌⊎◌, ◌≤◌, ◌<◌, ℕ, List, length, IfOk};
+ghost use Rattle.std.specs.Io.KnownBytes.{Consumes, IsAtEnd};
 ghost use Rattle.cukvashe.specs.Keys.{IsKeySize};
+ghost use Rattle.cukvashe.specs.Macs.{tag_by};
 
 use crate::answer::{Answer, status_of, tag_answer, tag_of_digits, verified, weak_answer};
-use crate::arguments::{parse, parts_of, request_of};
+use crate::arguments::{file_of, parse, parts_of, request_of};
 use crate::fault::{Fault, Kind, Misuse};
 use crate::inputs::{self, read_fault};
 use crate::keys::{is_weak, key_of_digits};
@@ -116,11 +118,7 @@ fn add_part<'a>(
     requires { (size ≡ 0) ⊎ IsKeySize size }
     ensures { IfOk result (λ size. IsKeySize size) }
 {
-    let source = if path == "-" {
-        Source::StandardInput
-    } else {
-        Source::File(path)
-    };
+    let source = file_of(path);
     let text = text_in(rt, source)?;
     let key = key_of_digits(rt.alloc(), text.as_slice(), size).map_err(|kind| about(
         kind,
@@ -185,6 +183,9 @@ fn tag_in<R: Read>(
     size: usize,
 ) -> Result<[u8; 8], Kind>
     requires { (0 < size) × (size ≤ 100000) }
+    ensures { IfOk result (λ tag. (bytes : List ℕ)
+        × Consumes (R.remaining reader.old) (R.remaining reader.new) bytes
+        × IsAtEnd (R.remaining reader.new) × (tag ≡ tag_by method key.now bytes)) }
 {
     let mut buffer = vec![in rt.alloc(); 0u8; size]?;
     tag_of(method, key, reader, &mut buffer)

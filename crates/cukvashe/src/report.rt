@@ -4,15 +4,13 @@ ghost use Rattle.std.specs.Prelude.{◌≡◌, List, ℕ, OnOk};
 ghost use Rattle.std.specs.List.{flat_map};
 ghost use Rattle.std.specs.Io.KnownBytes.{Appends};
 ghost use Rattle.cukvashe.specs.Faults.{line_with, line_of, separator_of};
-ghost use Rattle.cukvashe.specs.Written.{AppendsPrefix, IsShown};
+ghost use Rattle.cukvashe.specs.Written.{AppendsPrefix, IsTold, IsShown};
 
-use crate::fault::Fault;
+use crate::fault::{Fault, Kind, Reason};
 use std::io::{self, Error, ErrorKind, Write};
 
-// The statuses of a result.
+// The status of a result that was written.
 const WRITTEN: u8 = 0;
-
-const NOT_WRITTEN: u8 = 4;
 
 // Writes the bytes. Where that fails, a prefix of them is written. A write that was interrupted is
 // tried again.
@@ -97,21 +95,32 @@ pub fn report<E: Write>(fault: Fault, err: &mut E) -> io::Result<()>
     write_line(fault.kind.name(), fault.about, fault.kind.words(), err)
 }
 
+/// Writes the line of a fault, and gives its status. A line that can't be written changes no status.
+pub fn tell<E: Write>(fault: Fault, err: &mut E) -> u8
+    ensures { IsTold E.contents fault.entry.kind fault.entry.about.now result err.old err.new }
+{
+    let _ = report(fault, err);
+    fault.kind.status()
+}
+
 /// Writes a result to `out`, or the line of a fault to `err`, and gives the status that the program
-/// ends with: 0 where the whole result was written, 4 where it was not, and that of the fault. A line
-/// that can't be written changes no status. No clause says that the status is 4 only where `out`
-/// failed, since std has no word for that; runs of the program show it.
+/// ends with: 0 where the whole result was written, that of the fault `Write` where it was not, and
+/// that of the fault. No clause says that `Write` is told only where `out` failed, since std has no
+/// word for that; runs of the program show it.
 pub fn show<W: Write, E: Write>(outcome: &Result<Vec<u8>, Fault>, out: &mut W, err: &mut E) -> u8
     ensures { IsShown W.contents E.contents outcome.now result out.old out.new err.old err.new }
 {
     match outcome {
         Ok(text) => match send(out, text.as_slice()) {
             Ok(()) => WRITTEN,
-            Err(_) => NOT_WRITTEN,
+            Err(error) => {
+                let fault = Fault {
+                    kind: Kind::Write(Reason::of(&error)),
+                    about: "standard output",
+                };
+                tell(fault, err)
+            }
         },
-        Err(fault) => {
-            let _ = report(*fault, err);
-            fault.kind.status()
-        }
+        Err(fault) => tell(*fault, err),
     }
 }

@@ -1,11 +1,13 @@
 //! Secrets and other short inputs: where their texts are, and how they are read.
 
 ghost use Rattle.std.specs.Prelude.{◌≡◌, ◌≤◌, ◌<◌, ℕ, List, length, IfOk, IfErr};
+ghost use Rattle.std.specs.Char.{is_ascii_digit, is_ascii_hexdigit};
 ghost use Rattle.std.specs.Io.KnownBytes.{Consumes, IsAtEnd};
+ghost use Rattle.std.specs.List.{list_all};
 ghost use Rattle.cukvashe.specs.Texts.{written_in};
-ghost use Rattle.cukvashe.specs.Sources.{IsTextOf, FailsToGive, name_of_source};
+ghost use Rattle.cukvashe.specs.Sources.{IsTextOf, FailsToGive, shown_path, name_of_source, may_be_secret as may_be_secret_of};
 
-use crate::digits::strip;
+use crate::digits::{is_space, strip};
 use crate::fault::{Kind, Reason};
 use crate::inputs;
 use des_io::StreamError;
@@ -30,14 +32,55 @@ pub enum Source<'a> {
 /// The bytes that an input has at most, white space among them.
 pub const LONGEST_TEXT: usize = 4096;
 
+// How many characters a path has, white space left out.
+fn count_written(path: &str) -> usize
+    ensures { result ≡ length (written_in path.now) }
+{
+    path.bytes().filter(|byte| !is_space(*byte)).count()
+}
+
+fn are_decimal(path: &str) -> bool
+    ensures { result ≡ list_all is_ascii_digit (written_in path.now) }
+{
+    path.bytes().filter(|byte| !is_space(*byte)).all(|byte| byte.is_ascii_digit())
+}
+
+fn are_hexadecimal(path: &str) -> bool
+    ensures { result ≡ list_all is_ascii_hexdigit (written_in path.now) }
+{
+    path.bytes().filter(|byte| !is_space(*byte)).all(|byte| byte.is_ascii_hexdigit())
+}
+
+// Whether a path may be a secret that was typed in the place of a file's name: a PIN or an account
+// number, or a key.
+fn may_be_secret(path: &str) -> bool
+    ensures { result ≡ may_be_secret_of path.now }
+{
+    let count = count_written(path);
+    count >= 4 && are_decimal(path) || count >= 16 && are_hexadecimal(path)
+}
+
+// A path as a fault shows it.
+pub(crate) fn shown<'a>(path: &'a str) -> &'a str
+    ensures { result.now ≡ shown_path path.now }
+{
+    if path.is_empty() {
+        "an empty name"
+    } else if may_be_secret(path) {
+        "a file named by digits alone"
+    } else {
+        path
+    }
+}
+
 impl<'a> Source<'a> {
-    /// What a fault of the source is about: a file's path, or the option.
+    /// What a fault of the source is about: a file's path, unless it may be a secret, or the option.
     pub fn name(self) -> &'a str
         ensures { result.now ≡ name_of_source self.entry }
     {
         match self {
             Source::StandardInput => "standard input",
-            Source::File(path) => path,
+            Source::File(path) => shown(path),
             Source::Descriptor(_) => "--key-fd",
             Source::Variable(_) => "--key-env",
         }

@@ -92,7 +92,7 @@ pub struct StreamRequest<'a> {
 }
 
 /// The blocks of the input that stand before those that are decrypted: the vector, where it is the
-/// first block, and those before the part. They are counted up to 2^64 - 1: no input has so many.
+/// first block, and those before the part. They are counted up to 2^64 - 1: no input has more.
 pub fn blocks_before(request: &StreamRequest) -> u64
     ensures { result ≡ blocks_before_of request.now.vector request.now.part }
 {

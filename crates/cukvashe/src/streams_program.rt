@@ -8,7 +8,7 @@ use crate::fault::{Fault, Kind, Misuse};
 use crate::inputs::{self, name_in_stream, read_fault, system_random};
 use crate::notices::accept_key;
 use crate::output::{self, Target};
-use crate::source::Source;
+use crate::source::{Source, shown};
 use crate::stream_request::{Output, Part, StreamRequest, Vector, blocks_before};
 use crate::streams::{self, Job};
 use crate::watched::{Watch, Watched};
@@ -17,7 +17,7 @@ use std::io::{IsTerminal, Read};
 // What a fault of the output is about.
 fn output_name<'a>(output: Output<'a>) -> &'a str {
     match output {
-        Output::File(path) => path,
+        Output::File(path) => shown(path),
         _ => "standard output",
     }
 }

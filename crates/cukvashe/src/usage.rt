@@ -3,7 +3,7 @@
 
 use crate::arguments::{names_of, parse};
 use crate::fault::{Fault, Kind, Misuse};
-use crate::report::{report, show};
+use crate::report::{show, tell};
 use clap::error::ErrorKind;
 use std::alloc::AllocError;
 
@@ -15,12 +15,6 @@ pub fn memory_fault<'a>() -> Fault<'a> {
         kind: Kind::Memory,
         about: "",
     }
-}
-
-// Writes the line of a fault, and gives its status.
-fn tell(rt: &HostRuntime, fault: Fault) -> u8 {
-    let _ = report(fault, &mut rt.stderr());
-    fault.kind.status()
 }
 
 // Help and the version go to standard output.
@@ -59,14 +53,30 @@ fn usage_of(rt: &HostRuntime, words: &[&str]) -> Result<String, AllocError> {
     }
 }
 
+// The option or argument that a message on a value ends with. What was typed stands before it.
+fn argument_in(message: &str) -> &str {
+    match message.rsplit_once(" for '") {
+        Some((_, rest)) => match rest.split_once("'") {
+            Some((name, _)) => name,
+            None => "",
+        },
+        None => "",
+    }
+}
+
 // The message without what was typed.
-fn tell_hidden(rt: &HostRuntime, words: &[&str]) -> Result<u8, AllocError> {
+fn tell_hidden(rt: &HostRuntime, error: &clap::Error, words: &[&str]) -> Result<u8, AllocError> {
     let usage = usage_of(rt, words)?;
+    let text = format!(in rt.alloc(); "{error}")?;
+    let about = match error.kind() {
+        ErrorKind::InvalidValue | ErrorKind::ValueValidation => argument_in(text.as_str()),
+        _ => "",
+    };
     let fault = Fault {
         kind: Kind::Usage(Misuse::Arguments),
-        about: "",
+        about,
     };
-    let status = tell(rt, fault);
+    let status = tell(fault, &mut rt.stderr());
     let _ = eprint!(rt; "\n{usage}");
     Ok(status)
 }
@@ -93,7 +103,7 @@ fn show_by_kind(rt: &HostRuntime, error: &clap::Error, words: &[&str]) -> Result
         ErrorKind::DisplayHelpOnMissingArgumentOrSubcommand => tell_help(rt, error),
         ErrorKind::OutOfMemory => Err(AllocError),
         kind if hides_words(kind) => tell_message(rt, error),
-        _ => tell_hidden(rt, words),
+        _ => tell_hidden(rt, error, words),
     }
 }
 
@@ -101,6 +111,6 @@ fn show_by_kind(rt: &HostRuntime, error: &clap::Error, words: &[&str]) -> Result
 pub fn show_usage(rt: &HostRuntime, error: &clap::Error, words: &[&str]) -> u8 {
     match show_by_kind(rt, error, words) {
         Ok(status) => status,
-        Err(_) => tell(rt, memory_fault()),
+        Err(_) => tell(memory_fault(), &mut rt.stderr()),
     }
 }

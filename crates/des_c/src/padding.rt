@@ -11,11 +11,11 @@ ghost use Rattle.des_c.specs.Paddings.{IsMethod, IsNumberOf, padded_length_of};
 use des_context::status::{ERR_BLOCKS, ERR_CAPACITY, ERR_PADDING, ERR_PADDING_METHOD, OK};
 use des_io::padding::{Padding, count_before, pad};
 
-/// The number of PKCS#7 padding.
-pub const PKCS7: i32 = 1;
+/// The number of PKCS#7 padding. No number of a padding method of a MAC is one of these.
+pub const PKCS7: i32 = 11;
 
 /// The number of ISO/IEC 7816-4 padding.
-pub const ISO7816: i32 = 2;
+pub const ISO7816: i32 = 12;
 
 // The padding of a number.
 fn padding_of(method: i32) -> Option<Padding>
@@ -29,7 +29,7 @@ fn padding_of(method: i32) -> Option<Padding>
     }
 }
 
-/// Pads the first `count` bytes of a buffer to whole blocks, by PKCS#7 (1) or ISO/IEC 7816-4 (2).
+/// Pads the first `count` bytes of a buffer to whole blocks, by `PKCS7` or `ISO7816`.
 /// The status is `ERR_PADDING_METHOD` for another number and `ERR_CAPACITY` where the buffer is too
 /// short for the padding, and then nothing is changed.
 #[unsafe(no_mangle)]
@@ -78,7 +78,7 @@ fn count_unpadded(padding: Padding, bytes: &[u8]) -> Option<usize>
     Some(prefix.len() + count)
 }
 
-/// Tells how many bytes stand before their padding, by PKCS#7 (1) or ISO/IEC 7816-4 (2). The status
+/// Tells how many bytes stand before their padding, by `PKCS7` or `ISO7816`. The status
 /// is `ERR_PADDING_METHOD` for another number, `ERR_BLOCKS` where the bytes are not whole blocks,
 /// and `ERR_PADDING` where they do not end with the padding, and then nothing is written.
 #[unsafe(no_mangle)]

@@ -94,7 +94,8 @@ module _ {M : Type 1} {𝓤 : Ura M} (𝓛 : Logic 𝓤) (ℓ : Lifetime) (κ : 
       ⊛ (‵ (fobs δ.1 ((coded_list u8.coded).code [])) ⊛ ‵ (fbor κ (Body (L 0) b o δ.1)))
       ⊛ ‵ (flft κ q) ⊛ ‵ (after₂ (L 0) (Arr (mem (Array u8 8)) 0) (L 0) γ δ.0 δ.1 joined))))
       (takes_two 𝓛 (L (length xs)) Runs (L 0) joined κ q b o b o b o γ (emp 𝓤) (put exact)
-      ((coded_list u8.coded).code xs) ((coded_list u8.coded).code xs) (ys xs m) []) $ await ! tt $ pick ! (λ δ. split3 ! $
+      ((coded_list u8.coded).code xs) ((coded_list u8.coded).code xs) (ys xs m) []) $ await ! tt $
+      pick ! (λ δ. split3 ! $
       use1 𝓛 (‵ ((MutSlice ℓ κ (Array u8 8)).own_val (whole δ.0) (slice_val (b, o) (length (ys xs m)) ∷ [])))
       (slice_of 𝓛 (Array u8 8) ℓ κ b o δ.0 (ys xs m) rm) $ move ! (1 ∷ []) $
       use1 𝓛 (‵ ((MutSlice ℓ κ u8).own_val (empty δ.1) (slice_val (b, o) 0 ∷ [])))

@@ -1,17 +1,12 @@
 -- Lists out of their chain as a computation, part after part.
 use Rattle.std.proofs.Common.{◌≡◌, ℕ, zero, suc, ◌+◌, ◌-◌, ◌<◌, ◌≤◌, List, [], ◌∷◌, ◌++◌, length, take, drop, get_or, refl, ap, ap₂, sym, ◌∙◌, arith, append_assoc, length-take-le, take-add, take_at, drop_at}
 use Rattle.std.proofs.lemmas.List.{drop-drop, take_all, drop_all, append-nil, ext_get_or}
-use Rattle.des.specs.Cbc.{xor_blocks, block_at, block_before, Unchains}
+use Rattle.des.specs.Cbc.{xor_blocks, block_at, block_before, next_vector, Unchains}
 
 -- each block deciphered, xor the block before it
 abbrev pub unchained : (List ℕ → List ℕ) → List ℕ → List (List ℕ) → List (List ℕ)
 unchained f iv [] = []
 unchained f iv (block ∷ blocks) = xor_blocks (f block) iv ∷ unchained f block blocks
-
--- the block that the chain goes on from
-abbrev pub last_of : List ℕ → List (List ℕ) → List ℕ
-last_of iv [] = iv
-last_of iv (block ∷ blocks) = last_of block blocks
 
 -- ---- the relation and the computation
 
@@ -54,32 +49,26 @@ unchained-from f iv blocks answers are =
 
 -- two lists, one after the other
 unchained-append : (f : List ℕ → List ℕ) (iv : List ℕ) (blocks more : List (List ℕ))
-    → unchained f iv (blocks ++ more) ≡ unchained f iv blocks ++ unchained f (last_of iv blocks) more
+    → unchained f iv (blocks ++ more) ≡ unchained f iv blocks ++ unchained f (next_vector iv blocks) more
 unchained-append f iv [] more = refl
 unchained-append f iv (block ∷ blocks) more =
     ap (λ (rest : List (List ℕ)). xor_blocks (f block) iv ∷ rest) (unchained-append f block blocks more)
 
--- the block that the chain of two lists goes on from
-last_of-append : (iv : List ℕ) (blocks more : List (List ℕ))
-    → last_of iv (blocks ++ more) ≡ last_of (last_of iv blocks) more
-last_of-append iv [] more = refl
-last_of-append iv (block ∷ blocks) more = last_of-append block blocks more
-
 -- the last of some blocks is the one that the chain goes on from
-pub last_of-take : (iv : List ℕ) (blocks : List (List ℕ)) (k : ℕ) → k < length blocks
-    → last_of iv (take (suc k) blocks) ≡ get_or blocks k []
-last_of-take iv [] k below = absurd (omega arith)
-last_of-take iv (block ∷ blocks) zero below = refl
-last_of-take iv (block ∷ blocks) (suc k) below = last_of-take block blocks k (omega arith)
+pub next_vector-take : (iv : List ℕ) (blocks : List (List ℕ)) (k : ℕ) → k < length blocks
+    → next_vector iv (take (suc k) blocks) ≡ get_or blocks k []
+next_vector-take iv [] k below = absurd (omega arith)
+next_vector-take iv (block ∷ blocks) zero below = refl
+next_vector-take iv (block ∷ blocks) (suc k) below = next_vector-take block blocks k (omega arith)
 
 -- a list of which the first m are out of the chain, and then the next n
 pub unchained-more : (f : List ℕ → List ℕ) (iv : List ℕ) (m n : ℕ) (old now part : List (List ℕ)) → m ≤ length old
     → now ≡ unchained f iv (take m old) ++ drop m old
-    → part ≡ unchained f (last_of iv (take m old)) (take n (drop m now))
+    → part ≡ unchained f (next_vector iv (take m old)) (take n (drop m now))
     → take m now ++ (part ++ drop n (drop m now)) ≡ unchained f iv (take (m + n) old) ++ drop (m + n) old
 unchained-more f iv m n old now part within so_far made =
     let front : List (List ℕ) = unchained f iv (take m old) in
-    let last : List ℕ = last_of iv (take m old) in
+    let last : List ℕ = next_vector iv (take m old) in
     let size : length front ≡ m = length-unchained f iv (take m old) ∙ length-take-le m old within in
     let first : take m now ≡ front = ap (take m) so_far ∙ take_at front (drop m old) m size in
     let rest : drop m now ≡ drop m old = ap (drop m) so_far ∙ drop_at front (drop m old) m size in

@@ -3,10 +3,10 @@ use Rattle.std.specs.Prelude.{ℕ, ◌-◌, ◌%◌, List, [], ◌∷◌, ◌++�
 use Rattle.des_io.specs.declared.padding.Padding.{Padding}
 use Rattle.des_io.specs.declared.padding.Padding.TheVariants.{Pkcs7, Iso7816, Zeros, Unpadded}
 
--- what stands after bytes of which so many are past the last whole block: of PKCS#7 (RFC 5652,
--- section 6.3) as many bytes as are missing from a block, at least one, each their number; of
--- ISO/IEC 7816-4 a byte 80 in hexadecimal digits, and then as many zeros as are missing; and of
--- zeros as many as are missing, none after whole blocks
+-- what is put after bytes, by their number past the last whole block: of PKCS#7 (RFC 5652, section
+-- 6.3) the n bytes that complete a block, at least one, each with the value n; of ISO/IEC 7816-4 a
+-- byte 80 in hexadecimal digits, and the zeros that complete a block; and of zeros those alone, none
+-- after whole blocks
 abbrev pub padding_after : Padding → ℕ → List ℕ
 padding_after Pkcs7 past = replicate (8 - past) (8 - past)
 padding_after Iso7816 past = 128 ∷ replicate (7 - past) 0

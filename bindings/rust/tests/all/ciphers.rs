@@ -110,7 +110,7 @@ fn ciphers_of_arrays_answer() {
 
 fn refuses_keys<C: BlockCipher>(size: usize) {
     assert_eq!(C::KEY_SIZE, size);
-    for length in LENGTHS {
+    for length in LENGTHS.chain([48, 64, 256 + size]) {
         let made = C::new_from_slice(&vec![1; length]);
         assert_eq!(made.err(), (length != size).then_some(InvalidLength));
     }

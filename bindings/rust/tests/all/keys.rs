@@ -40,6 +40,9 @@ fn parity_is_set() {
     parity_of::<8>();
     parity_of::<16>();
     parity_of::<24>();
+    assert_eq!(with_odd_parity(&[0xfe; 5]), [0xfe; 5]);
+    assert_eq!(with_odd_parity(&[0; 5]), [1; 5]);
+    assert_eq!(with_odd_parity(&[]), []);
 }
 
 /// The data and their padding: RFC 5652, section 6.3, and ISO/IEC 7816-4.

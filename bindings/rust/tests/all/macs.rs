@@ -43,7 +43,7 @@ fn known<M: Mac>(name: &str, method: &str, size: usize) {
         answers::<M>(&known.key, &known.message, known.tag);
     }
     assert_eq!(M::KEY_SIZE, size);
-    for length in LENGTHS {
+    for length in LENGTHS.chain([48, 64, 256 + size]) {
         let refused = (length != size).then_some(InvalidLength);
         assert_eq!(M::new_from_slice(&vec![1; length]).err(), refused);
         assert_eq!(M::mac(&vec![1; length], b"").err(), refused);

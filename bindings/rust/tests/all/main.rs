@@ -2,6 +2,7 @@
 
 mod ciphers;
 mod common;
+mod header;
 mod keys;
 mod macs;
 mod payment;

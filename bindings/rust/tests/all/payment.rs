@@ -37,10 +37,10 @@ fn check_values_answer() {
 /// A call that makes a key of components.
 type Combine<const SIZE: usize> = fn(&[u8; SIZE], &[u8; SIZE], &[[u8; SIZE]]) -> Result<[u8; SIZE], KeyTestError>;
 
-/// Two to five components: their xor, here a key that is not weak, with odd parity.
+/// Two to nine components: their xor, here a key that is not weak, with odd parity.
 fn components_make<const SIZE: usize>(combine: Combine<SIZE>) {
     let key: [u8; SIZE] = with_odd_parity(KEY[..SIZE].try_into().unwrap());
-    for count in 1..5 {
+    for count in 1..9 {
         let mut parts: Vec<[u8; SIZE]> =
             (0..count).map(|part| std::array::from_fn(|at| (37 * part + 11 * at + 5) as u8)).collect();
         let last = std::array::from_fn(|at| parts.iter().fold(key[at] ^ 1, |xor, part| xor ^ part[at]));
@@ -152,7 +152,9 @@ fn serials_count() {
         let serial_of = |counter: u64| serial(0x9876543210e00000 | counter);
         assert_eq!(next_serial(&serial_of(counter)), Some(serial_of(next)));
     }
-    assert_eq!(next_serial(&serial(0x9876543210fff800)), None);
+    for counter in [0x1ff800, 0x1ffc00, 0x1fffff] {
+        assert_eq!(next_serial(&serial(0x9876543210e00000 | counter)), None);
+    }
     for counter in [0u64, 1, 0x3ff, 0x7ff, 0x7fe, 0x1ff800, 0x1ffc00, 0x1fffff, 0x100000, 0xfffff] {
         let usable = (1..=10).contains(&counter.count_ones());
         assert_eq!(is_usable(&serial(0x9876543210a00000 | counter)), usable);

@@ -76,8 +76,8 @@ fn secrets_are_wiped() {
     each_secret!(wiped);
 }
 
-/// Without an equality no one compares secrets byte by byte, and without `Display` no one prints them: where a type had one,
-/// `answer` would have two candidates here, and this file would not compile.
+/// Without an equality or a hash no one compares secrets byte by byte, without `Display` no one prints them, and no conversion
+/// lends their bytes: where a type had one, `answer` would have two candidates here, and this file would not compile.
 #[test]
 fn secrets_have_no_equality() {
     trait Without<Case> {
@@ -85,9 +85,15 @@ fn secrets_have_no_equality() {
     }
     struct Equality;
     struct Text;
+    struct Digest;
+    struct Bytes;
+    struct Target;
     impl<T: ?Sized> Without<()> for T {}
     impl<T: PartialEq> Without<Equality> for T {}
     impl<T: std::fmt::Display> Without<Text> for T {}
+    impl<T: std::hash::Hash> Without<Digest> for T {}
+    impl<T: AsRef<[u8]>> Without<Bytes> for T {}
+    impl<T: std::ops::Deref> Without<Target> for T {}
     <Des as Without<_>>::answer();
     <TdesEde2 as Without<_>>::answer();
     <TdesEde3 as Without<_>>::answer();

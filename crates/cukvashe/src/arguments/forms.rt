@@ -43,12 +43,12 @@ pub static KEY_LINES: [Line<'static>; 3] = [
     Line(
         "key-file",
         Takes::Text("FILE"),
-        "Read the key's hexadecimal digits from a file, or - for standard input",
+        "Read the key's hexadecimal digits from a file, or - for standard input; one of these is needed",
     ),
     Line(
         "key-fd",
         Takes::Number("N"),
-        "Read them from a descriptor, from where it stands",
+        "Read them from an open descriptor, from its current position",
     ),
     Line(
         "key-env",
@@ -62,7 +62,7 @@ pub static ACCOUNT_LINES: [Line<'static>; 3] = [
     Line(
         "account",
         Takes::Text("DIGITS"),
-        "The account number, 13 to 19 digits, its check digit the last",
+        "The account number, 13 to 19 digits, the last its check digit",
     ),
     Line(
         "account-file",
@@ -94,7 +94,7 @@ pub static KEY_FORMS: [Form<'static>; 6] = [
             Line(
                 "padding",
                 Takes::Word("METHOD", &["1", "2"]),
-                "The padding of cbc-mac and retail: 2, unless all messages have one fixed length",
+                "Needed by cbc-mac and retail: 2, unless all messages have one length",
             ),
             Line(
                 "in",
@@ -104,7 +104,7 @@ pub static KEY_FORMS: [Form<'static>; 6] = [
             Line(
                 "length",
                 Takes::Word("BYTES", &["4", "5", "6", "7", "8"]),
-                "Print so many bytes of the tag, its first [default: 8]",
+                "Print this number of the tag's first bytes [default: 8]",
             ),
             Line(
                 "verify",
@@ -136,7 +136,7 @@ pub static KEY_FORMS: [Form<'static>; 6] = [
     },
     Form {
         name: "combine",
-        about: "Print the key of components",
+        about: "Print the key of components: their xor, with odd parity",
         example: "Example:
   PARTS='0123456789abcdef 1111111111111111' cukvashe combine --count 2 --key-env PARTS",
         lines: &[
@@ -148,7 +148,7 @@ pub static KEY_FORMS: [Form<'static>; 6] = [
             Line(
                 "count",
                 Takes::Count("N"),
-                "Take so many components, one after another, from one source",
+                "Take this number of components, one after another, from one source",
             ),
         ],
     },
@@ -171,7 +171,7 @@ pub static KEY_FORMS: [Form<'static>; 6] = [
             Line(
                 "response",
                 Takes::Nothing,
-                "The key of the response, in place of the request's",
+                "The response's key, not the request's; of mac and data only",
             ),
         ],
     },
@@ -188,7 +188,7 @@ pub static CVV_FORM: Form<'static> = Form {
         Line(
             "expiry",
             Takes::Needed("DIGITS"),
-            "The expiry date, 4 digits",
+            "The expiry date, 4 digits in the issuer's order (YYMM or MMYY)",
         ),
         Line(
             "service",
@@ -214,7 +214,7 @@ pub static ENCODE_FORM: Form<'static> = Form {
         Line(
             "fill",
             Takes::Text("DIGITS"),
-            "Ten hexadecimal digits: the transaction digits of format 1, the fill digits, a to f, of 3",
+            "Needed by formats 1 and 3: ten hexadecimal digits, for 3 from a to f",
         ),
     ],
 };

@@ -31,14 +31,14 @@ const INPUT: Line<'static> = Line(
 const OUTPUT: Line<'static> = Line(
     "out",
     Takes::Text("FILE"),
-    "Write a file, replaced only when all is done, or - for standard output, also to a terminal \
-     [default: standard output]",
+    "Write to a file, which is replaced only when all is done; - is standard output, even a \
+     terminal [default: standard output]",
 );
 
 const PROGRESS: Line<'static> = Line(
     "progress",
     Takes::Nothing,
-    "Say on standard error how far it is",
+    "Show progress on standard error",
 );
 
 /// The commands for streams, in the help's order.
@@ -48,8 +48,8 @@ pub static STREAM_FORMS: [Form<'static>; 2] = [
         about: "Encrypt a file or a pipe",
         example: "\
 Limits: encrypt no more than 2^20 blocks (8 MiB) under one key (NIST SP 800-67 Rev. 2), and only
-what an old system needs: there is to be no new use after 2023 (NIST SP 800-131A Rev. 2). Nothing is
-authenticated.
+what an old system needs: NIST disallows encryption with triple DES after 2023 (SP 800-131A Rev. 2).
+Nothing is authenticated.
 
 Example:
   printf 'a message' | KEY=0123456789abcdeffedcba9876543210 cukvashe encrypt des-ede-cbc \\
@@ -59,12 +59,12 @@ Example:
             Line(
                 "iv",
                 Takes::Text("VECTOR"),
-                "CBC's vector: random, which is written first, or 16 hexadecimal digits",
+                "Needed by CBC: random, for eight random bytes that are written first, or 16 hexadecimal digits",
             ),
             Line(
                 "padding",
                 Takes::Word("PADDING", PADDINGS),
-                "How bytes are made whole blocks; none: they are [default: pkcs7]",
+                "How the last block is filled; none: the input is whole blocks [default: pkcs7]",
             ),
             Line(
                 "weak-keys",
@@ -87,18 +87,18 @@ Limits: a changed input decrypts to something, mostly with no fault, since nothi
 Example:
   printf 1234567890abcdeff99822c1263dfada7f0373c3f4b6ba03 | xxd -r -p |
     KEY=0123456789abcdeffedcba9876543210 cukvashe decrypt des-ede-cbc --iv first-block \\
-    --key-env KEY",
+    --key-env KEY --out -",
         lines: &[
             CIPHER,
             Line(
                 "iv",
                 Takes::Text("VECTOR"),
-                "CBC's vector: first-block, if the input begins with it, or 16 hexadecimal digits",
+                "Needed by CBC: first-block, if the input begins with the vector, or 16 hexadecimal digits",
             ),
             Line(
                 "padding",
                 Takes::Word("PADDING", PADDINGS),
-                "How bytes were made whole blocks; zeros: nothing is taken off [default: pkcs7]",
+                "What is taken off at the end; zeros and none: nothing [default: pkcs7]",
             ),
             Line(
                 "weak-keys",
@@ -113,7 +113,7 @@ Example:
             Line(
                 "blocks",
                 Takes::Number("COUNT"),
-                "Decrypt so many blocks at most",
+                "Decrypt at most this number of blocks",
             ),
             INPUT,
             OUTPUT,

@@ -11,6 +11,7 @@ ghost use Rattle.cukvashe.specs.StreamArguments.{cipher_name, padding_word, weak
 ghost use Rattle.cukvashe.specs.StreamArguments.{IsChainVector, FailsAsChainVector, IsVector, FailsAsVector, IsInput, IsOutput};
 ghost use Rattle.cukvashe.specs.StreamArguments.{IsRequest, FailsAsRequest};
 
+use super::typed::{is_set, number_of, place_of, text_of};
 use super::{about, file_of, key_of, misuse, read_once};
 use crate::digits::bytes_of;
 use crate::fault::{Fault, Kind, Misuse};
@@ -209,16 +210,16 @@ pub fn request_of_words<'a>(words: &StreamWords<'a>) -> Result<StreamRequest<'a>
 fn words_of<'a>(encrypts: bool, matches: &ArgMatches<'a>) -> Result<StreamWords<'a>, Fault<'a>> {
     Ok(StreamWords {
         encrypts,
-        cipher: matches.get_str("cipher").unwrap_or(""),
-        iv: matches.get_str("iv"),
-        padding: matches.get_str("padding"),
-        weak_keys: matches.get_str("weak-keys"),
-        from: matches.get_one::<u64>("from"),
-        count: matches.get_one::<u64>("blocks"),
+        cipher: place_of(matches, "cipher"),
+        iv: text_of(matches, "iv"),
+        padding: text_of(matches, "padding"),
+        weak_keys: text_of(matches, "weak-keys"),
+        from: number_of(matches, "from"),
+        count: number_of(matches, "blocks"),
         key: key_of(matches)?,
-        input: matches.get_str("in"),
-        output: matches.get_str("out"),
-        shows_progress: matches.get_flag("progress"),
+        input: text_of(matches, "in"),
+        output: text_of(matches, "out"),
+        shows_progress: is_set(matches, "progress"),
     })
 }
 

@@ -2,8 +2,9 @@
 use Rattle.std.proofs.Common.{◌≡◌, ℕ, ◌+◌, ◌-◌, ◌++◌, suc, List, [], get_or, take, drop, sym, ap, ◌∙◌, arith}
 use Rattle.std.proofs.lemmas.List.{get_or-drop, drop-drop}
 use Rattle.std.proofs.lemmas.Slice.{drop-put_mid}
+use Rattle.des.specs.Cbc.{next_vector}
 use Rattle.des_fast.specs.Passes.{block_through_passes}
-use Rattle.des_fast.proofs.UnchainedBatches.{unchained, last_of, unchained-from, unchained-more, unchained-all, last_of-take, Unchains-unchained}
+use Rattle.des_fast.proofs.UnchainedBatches.{unchained, unchained-from, unchained-more, unchained-all, next_vector-take, Unchains-unchained}
 use Rattle.des_fast.proofs.many.chains.unchain.Goals as goal
 
 pub parts-preserved : goal.parts-preserved
@@ -25,9 +26,9 @@ parts-preserved g c =
           ∙ sym (get_or-drop m now (count - 1) [])
           ∙ ap (λ (xs : List (List ℕ)). get_or xs (count - 1) []) same
           ∙ get_or-drop m old (count - 1) []
-          ∙ sym (last_of-take iv old (m + (count - 1))
+          ∙ sym (next_vector-take iv old (m + (count - 1))
           (omega (arith, c.next_count-count.ensures.some, c.next_count-count.ensures.there)))
-          ∙ ap (λ (k : ℕ). last_of iv (take k old)) last;
+          ∙ ap (λ (k : ℕ). next_vector iv (take k old)) last;
       answered = λ keys hold.
           let f : List ℕ → List ℕ = block_through_passes keys in
           unchained-more f iv m n old now part (omega (arith, c.parts.invariant.within))
