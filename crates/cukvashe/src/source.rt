@@ -42,13 +42,17 @@ fn count_written(path: &str) -> usize
 fn are_decimal(path: &str) -> bool
     ensures { result ≡ list_all is_ascii_digit (written_in path.now) }
 {
-    path.bytes().filter(|byte| !is_space(*byte)).all(|byte| byte.is_ascii_digit())
+    path.bytes()
+        .filter(|byte| !is_space(*byte))
+        .all(|byte| byte.is_ascii_digit())
 }
 
 fn are_hexadecimal(path: &str) -> bool
     ensures { result ≡ list_all is_ascii_hexdigit (written_in path.now) }
 {
-    path.bytes().filter(|byte| !is_space(*byte)).all(|byte| byte.is_ascii_hexdigit())
+    path.bytes()
+        .filter(|byte| !is_space(*byte))
+        .all(|byte| byte.is_ascii_hexdigit())
 }
 
 // Whether a path may be a secret that was typed in the place of a file's name: a PIN or an account
