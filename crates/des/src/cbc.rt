@@ -5,12 +5,15 @@
 //! Blocks are whole, 8 bytes each: padding is the caller's. So is authentication, which the mode
 //! does not give. An initialization vector must not be used twice under a key, nor be predictable.
 
-ghost use Rattle.std.specs.Prelude.{◌≡◌};
+ghost use Rattle.std.specs.Prelude.{◌≡◌, ◌≤◌, length, map, take};
 ghost use Rattle.std.specs.List.{All};
 ghost use Rattle.des.specs.Blocks.{IsBlock};
 ghost use Rattle.des.specs.Cbc.{xor_blocks, Cbc, Unchains, next_vector};
 
 use crate::cipher::{BlockCipherDecrypt, BlockCipherEncrypt, are_blocks};
+
+// The blocks that are decrypted together: a cipher may treat some of them side by side.
+const TOGETHER: usize = 24;
 
 /// The block becomes its xor with the other, byte by byte. Public for bodies of the mode that take
 /// many blocks at a time.
@@ -49,10 +52,52 @@ pub fn decrypt<C: BlockCipherDecrypt>(cipher: &C, iv: &[u8; 8], blocks: &mut [[u
 {
     are_blocks(blocks);
     let mut before = *iv;
-    for block in blocks.iter_mut() {
-        let ciphertext = *block;
-        cipher.decrypt_block(block);
-        xor(block, &before);
+    let mut from = 0;
+    'parts: while from < blocks.len() {
+        let count = next_count(blocks.len() - from);
+        let last = blocks[from + count - 1];
+        decrypt_part(cipher, &before, &mut blocks[from..from + count]);
+        before = last;
+        from += count;
+    }
+}
+
+// How many blocks are decrypted next: as many as go together, or those that are left.
+fn next_count(left: usize) -> usize
+    requires { 1 ≤ left }
+    ensures some { 1 ≤ result }
+    ensures there { result ≤ left }
+    ensures within { result ≤ 24 }
+{
+    if left < TOGETHER { left } else { TOGETHER }
+}
+
+// Makes the first blocks of an array what decryption makes of these blocks.
+fn write_decrypted<C: BlockCipherDecrypt>(
+    cipher: &C,
+    answers: &mut [[u8; 8]; TOGETHER],
+    blocks: &[[u8; 8]],
+)
+    requires { length blocks.now ≤ 24 }
+    ensures { take (length blocks.now) answers.new ≡ map (C.decrypted cipher.now) blocks.now }
+{
+    let part = &mut answers[..blocks.len()];
+    part.copy_from_slice(blocks);
+    cipher.decrypt_blocks(part);
+}
+
+// Decrypts the blocks that go together, chained from the vector.
+fn decrypt_part<C: BlockCipherDecrypt>(cipher: &C, iv: &[u8; 8], blocks: &mut [[u8; 8]])
+    requires { length blocks.old ≤ 24 }
+    ensures { Unchains (C.decrypted cipher.now) iv.now blocks.old blocks.new }
+{
+    let mut answers = [[0; 8]; TOGETHER];
+    write_decrypted(cipher, &mut answers, blocks);
+    let mut before = *iv;
+    for k in 0..blocks.len() {
+        let ciphertext = blocks[k];
+        blocks[k] = answers[k];
+        xor(&mut blocks[k], &before);
         before = ciphertext;
     }
 }

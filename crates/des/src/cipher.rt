@@ -256,8 +256,9 @@ pub trait BlockCipherEncrypt: BlockSizeUser {
         self.encrypt_block(output);
     }
 
-    /// Encrypts each block of 8 bytes in place, in order. An empty list stays empty.
-    final fn encrypt_blocks(&self, blocks: &mut [[u8; 8]])
+    /// Encrypts each block of 8 bytes in place, in order. An empty list stays empty. A cipher writes the
+    /// call anew where it can treat some blocks side by side.
+    fn encrypt_blocks(&self, blocks: &mut [[u8; 8]])
         ensures blocks { All IsBlock blocks.old }
         ensures encrypted { blocks.new ≡ map (encrypted self.now) blocks.old }
     {
@@ -303,8 +304,9 @@ pub trait BlockCipherDecrypt: BlockSizeUser {
         self.decrypt_block(output);
     }
 
-    /// Decrypts each block of 8 bytes in place, in order. An empty list stays empty.
-    final fn decrypt_blocks(&self, blocks: &mut [[u8; 8]])
+    /// Decrypts each block of 8 bytes in place, in order. An empty list stays empty. A cipher writes the
+    /// call anew where it can treat some blocks side by side.
+    fn decrypt_blocks(&self, blocks: &mut [[u8; 8]])
         ensures blocks { All IsBlock blocks.old }
         ensures decrypted { blocks.new ≡ map (decrypted self.now) blocks.old }
     {

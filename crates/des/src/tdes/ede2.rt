@@ -15,7 +15,7 @@ use super::key_part;
 use super::single::SingleDes;
 use crate::cipher::{
     AlgorithmName, BlockCipher, BlockCipherDecrypt, BlockCipherEncrypt, Complementing, KeyInit,
-    KeySizeUser, KeyedCipher, OneBlockAtATime, Relating,
+    KeySizeUser, KeyedCipher, OneBlockAtATime, Relating, are_blocks,
 };
 use crate::des::Des;
 use std::fmt;
@@ -85,6 +85,11 @@ impl<D: SingleDes> BlockCipherEncrypt for Ede2<D> {
     {
         D::encrypt_ede(&self.first, &self.second, &self.first, block);
     }
+
+    fn encrypt_blocks(&self, blocks: &mut [[u8; 8]]) {
+        are_blocks(blocks);
+        D::encrypt_ede_blocks(&self.first, &self.second, &self.first, blocks);
+    }
 }
 
 impl<D: SingleDes> BlockCipherDecrypt for Ede2<D> {
@@ -99,6 +104,11 @@ impl<D: SingleDes> BlockCipherDecrypt for Ede2<D> {
             → IsTheOne (λ answer. EnciphersEde2 key answer block.old) block.new }
     {
         D::decrypt_ede(&self.first, &self.second, &self.first, block);
+    }
+
+    fn decrypt_blocks(&self, blocks: &mut [[u8; 8]]) {
+        are_blocks(blocks);
+        D::decrypt_ede_blocks(&self.first, &self.second, &self.first, blocks);
     }
 }
 

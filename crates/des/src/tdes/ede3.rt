@@ -15,7 +15,7 @@ use super::key_part;
 use super::single::SingleDes;
 use crate::cipher::{
     AlgorithmName, BlockCipher, BlockCipherDecrypt, BlockCipherEncrypt, Complementing, KeyInit,
-    KeySizeUser, KeyedCipher, OneBlockAtATime, Relating,
+    KeySizeUser, KeyedCipher, OneBlockAtATime, Relating, are_blocks,
 };
 use crate::des::Des;
 use std::fmt;
@@ -87,6 +87,11 @@ impl<D: SingleDes> BlockCipherEncrypt for Ede3<D> {
     {
         D::encrypt_ede(&self.first, &self.second, &self.third, block);
     }
+
+    fn encrypt_blocks(&self, blocks: &mut [[u8; 8]]) {
+        are_blocks(blocks);
+        D::encrypt_ede_blocks(&self.first, &self.second, &self.third, blocks);
+    }
 }
 
 impl<D: SingleDes> BlockCipherDecrypt for Ede3<D> {
@@ -101,6 +106,11 @@ impl<D: SingleDes> BlockCipherDecrypt for Ede3<D> {
             → IsTheOne (λ answer. EnciphersEde3 key answer block.old) block.new }
     {
         D::decrypt_ede(&self.first, &self.second, &self.third, block);
+    }
+
+    fn decrypt_blocks(&self, blocks: &mut [[u8; 8]]) {
+        are_blocks(blocks);
+        D::decrypt_ede_blocks(&self.first, &self.second, &self.third, blocks);
     }
 }
 

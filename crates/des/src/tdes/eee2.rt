@@ -15,7 +15,7 @@ use super::key_part;
 use super::single::SingleDes;
 use crate::cipher::{
     AlgorithmName, BlockCipher, BlockCipherDecrypt, BlockCipherEncrypt, Complementing, KeyInit,
-    KeySizeUser, KeyedCipher, OneBlockAtATime, Relating,
+    KeySizeUser, KeyedCipher, OneBlockAtATime, Relating, are_blocks,
 };
 use crate::des::Des;
 use std::fmt;
@@ -85,6 +85,11 @@ impl<D: SingleDes> BlockCipherEncrypt for Eee2<D> {
     {
         D::encrypt_eee(&self.first, &self.second, &self.first, block);
     }
+
+    fn encrypt_blocks(&self, blocks: &mut [[u8; 8]]) {
+        are_blocks(blocks);
+        D::encrypt_eee_blocks(&self.first, &self.second, &self.first, blocks);
+    }
 }
 
 impl<D: SingleDes> BlockCipherDecrypt for Eee2<D> {
@@ -99,6 +104,11 @@ impl<D: SingleDes> BlockCipherDecrypt for Eee2<D> {
             → IsTheOne (λ answer. EnciphersEee2 key answer block.old) block.new }
     {
         D::decrypt_eee(&self.first, &self.second, &self.first, block);
+    }
+
+    fn decrypt_blocks(&self, blocks: &mut [[u8; 8]]) {
+        are_blocks(blocks);
+        D::decrypt_eee_blocks(&self.first, &self.second, &self.first, blocks);
     }
 }
 

@@ -15,7 +15,7 @@ use super::key_part;
 use super::single::SingleDes;
 use crate::cipher::{
     AlgorithmName, BlockCipher, BlockCipherDecrypt, BlockCipherEncrypt, Complementing, KeyInit,
-    KeySizeUser, KeyedCipher, OneBlockAtATime, Relating,
+    KeySizeUser, KeyedCipher, OneBlockAtATime, Relating, are_blocks,
 };
 use crate::des::Des;
 use std::fmt;
@@ -86,6 +86,11 @@ impl<D: SingleDes> BlockCipherEncrypt for Eee3<D> {
     {
         D::encrypt_eee(&self.first, &self.second, &self.third, block);
     }
+
+    fn encrypt_blocks(&self, blocks: &mut [[u8; 8]]) {
+        are_blocks(blocks);
+        D::encrypt_eee_blocks(&self.first, &self.second, &self.third, blocks);
+    }
 }
 
 impl<D: SingleDes> BlockCipherDecrypt for Eee3<D> {
@@ -100,6 +105,11 @@ impl<D: SingleDes> BlockCipherDecrypt for Eee3<D> {
             → IsTheOne (λ answer. EnciphersEee3 key answer block.old) block.new }
     {
         D::decrypt_eee(&self.first, &self.second, &self.third, block);
+    }
+
+    fn decrypt_blocks(&self, blocks: &mut [[u8; 8]]) {
+        are_blocks(blocks);
+        D::decrypt_eee_blocks(&self.first, &self.second, &self.third, blocks);
     }
 }
 
