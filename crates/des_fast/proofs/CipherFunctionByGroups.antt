@@ -69,12 +69,12 @@ abbrev pub entry : Box → ℕ → List Bool → ℕ
 entry box n bits = box_entry box (take 6 (drop (6 * n) bits))
 
 -- the bits of the entries of boxes for the groups from group n on
-abbrev entries_from : List Box → ℕ → List Bool → List Bool
+abbrev pub entries_from : List Box → ℕ → List Bool → List Bool
 entries_from [] n bits = []
 entries_from (box ∷ boxes) n bits = bits_of 4 (entry box n bits) ++ entries_from boxes (n + 1) bits
 
 -- they are the substitution by these boxes
-substitute_by-groups : (boxes : List Box) (n : ℕ) (bits : List Bool)
+pub substitute_by-groups : (boxes : List Box) (n : ℕ) (bits : List Bool)
     → substitute_by boxes (drop (6 * n) bits) ≡ entries_from boxes n bits
 unfolding substitute_by
 substitute_by-groups [] n bits = refl

@@ -175,7 +175,7 @@ module _ (bits : List Bool) (groups : List ℕ) (within : All (λ group. group <
   with_box i word below rest =
       IsXorFrom-box i (slice_index groups i) word bits below (within i 0 (omega arith)) (each i below) rest
 
-  IsExpansionOf-row : let e : ℕ → ℕ = λ i. entry i (slice_index groups i) in
+  pub IsExpansionOf-row : let e : ℕ → ℕ = λ i. entry i (slice_index groups i) in
       IsExpansionOf
       (bit_xor (bit_xor (bit_xor (bit_xor (bit_xor (bit_xor (bit_xor (e 7) (e 6)) (e 5)) (e 4)) (e 3)) (e 2)) (e 1))
       (e 0)) (select permutation (substitute bits))

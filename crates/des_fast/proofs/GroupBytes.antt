@@ -1,10 +1,13 @@
 -- The bytes of a word of groups: each is the number that its group writes.
-use Rattle.std.proofs.Common.{◌≡◌, ℕ, zero, suc, ◌*◌, ◌/◌, ◌%◌, ◌^◌, ◌<◌, List, [], ◌∷◌, take, drop, slice_index, slice_index_or, bit_and, refl, ap, ap₂, ◌∙◌, arith, div-one}
+use Rattle.std.proofs.Common.{◌≡◌, ℕ, zero, suc, ◌-◌, ◌*◌, ◌/◌, ◌%◌, ◌^◌, ◌<◌, ◌≤◌, List, [], ◌∷◌, ◌++◌, length, lit≤, take, drop, slice_index, slice_index_or, bit_and, refl, ap, ap₂, ◌∙◌, arith, div-one}
 use Rattle.std.specs.Int.{w64, to_be_bytes}
+use Rattle.std.specs.Simd.Lanes.{digits_l, number_l}
+use Rattle.std.proofs.lemmas.List.{get_or_append_left}
 use Rattle.std.proofs.lemmas.Nat.{and_le_r, and_mask, and_shr, and_mod}
 use Rattle.des.specs.Bits.{bits_of, bits_of_bytes, select}
 use Rattle.des.specs.Laws.BitLists.{bits_of_bytes-to_be}
 use Rattle.des_fast.specs.Groups.{group_positions, bits_of_groups, IsOfGroups}
+use Rattle.des_fast.specs.GroupBytes.{in_order}
 
 -- a number under six bits is below 64
 masked-lt : (n : ℕ) → bit_and n 63 < 64
@@ -16,30 +19,37 @@ place-lt k word six of_groups =
     rw (← of_groups, and_shr word 0x3f3f3f3f3f3f3f3f k, and_mod (word / 2 ^ k) (0x3f3f3f3f3f3f3f3f / 2 ^ k) 8, six)
     (masked-lt (word / 2 ^ k % 2 ^ 8))
 
--- the bytes of a word, in the order of the groups in it
-abbrev pub ordered : List ℕ → List ℕ
-ordered bytes =
-    let byte : ℕ → ℕ = λ n. slice_index_or bytes n 0 in
-    byte 0 ∷ byte 4 ∷ byte 1 ∷ byte 5 ∷ byte 2 ∷ byte 6 ∷ byte 3 ∷ byte 7 ∷ []
-
 -- each byte of a word of groups is below 64
-pub ordered-lt : (word : ℕ) → IsOfGroups word → (i d : ℕ) → i < 8
-    → slice_index_or (ordered (to_be_bytes w64 word)) i d < 64
-ordered-lt word of_groups zero d below = place-lt 56 word refl of_groups
-ordered-lt word of_groups (suc zero) d below = place-lt 24 word refl of_groups
-ordered-lt word of_groups (suc (suc zero)) d below = place-lt 48 word refl of_groups
-ordered-lt word of_groups (suc (suc (suc zero))) d below = place-lt 16 word refl of_groups
-ordered-lt word of_groups (suc (suc (suc (suc zero)))) d below = place-lt 40 word refl of_groups
-ordered-lt word of_groups (suc (suc (suc (suc (suc zero))))) d below = place-lt 8 word refl of_groups
-ordered-lt word of_groups (suc (suc (suc (suc (suc (suc zero)))))) d below = place-lt 32 word refl of_groups
-ordered-lt word of_groups (suc (suc (suc (suc (suc (suc (suc zero))))))) d below =
+pub in_order-lt : (word : ℕ) → IsOfGroups word → (i d : ℕ) → i < 8
+    → slice_index_or (in_order (to_be_bytes w64 word)) i d < 64
+in_order-lt word of_groups zero d below = place-lt 56 word refl of_groups
+in_order-lt word of_groups (suc zero) d below = place-lt 24 word refl of_groups
+in_order-lt word of_groups (suc (suc zero)) d below = place-lt 48 word refl of_groups
+in_order-lt word of_groups (suc (suc (suc zero))) d below = place-lt 16 word refl of_groups
+in_order-lt word of_groups (suc (suc (suc (suc zero)))) d below = place-lt 40 word refl of_groups
+in_order-lt word of_groups (suc (suc (suc (suc (suc zero))))) d below = place-lt 8 word refl of_groups
+in_order-lt word of_groups (suc (suc (suc (suc (suc (suc zero)))))) d below = place-lt 32 word refl of_groups
+in_order-lt word of_groups (suc (suc (suc (suc (suc (suc (suc zero))))))) d below =
     rw div-one at (place-lt 0 word refl of_groups)
-ordered-lt word of_groups (suc (suc (suc (suc (suc (suc (suc (suc i)))))))) d below = absurd (omega arith)
+in_order-lt word of_groups (suc (suc (suc (suc (suc (suc (suc (suc i)))))))) d below = absurd (omega arith)
+
+-- so is each of the bytes in their own order
+pub bytes-lt : (word : ℕ) → IsOfGroups word → (i d : ℕ) → i < 8 → slice_index_or (to_be_bytes w64 word) i d < 64
+bytes-lt word of_groups zero d below = in_order-lt word of_groups 0 d (lit≤ tt)
+bytes-lt word of_groups (suc zero) d below = in_order-lt word of_groups 2 d (lit≤ tt)
+bytes-lt word of_groups (suc (suc zero)) d below = in_order-lt word of_groups 4 d (lit≤ tt)
+bytes-lt word of_groups (suc (suc (suc zero))) d below = in_order-lt word of_groups 6 d (lit≤ tt)
+bytes-lt word of_groups (suc (suc (suc (suc zero)))) d below = in_order-lt word of_groups 1 d (lit≤ tt)
+bytes-lt word of_groups (suc (suc (suc (suc (suc zero))))) d below = in_order-lt word of_groups 3 d (lit≤ tt)
+bytes-lt word of_groups (suc (suc (suc (suc (suc (suc zero)))))) d below = in_order-lt word of_groups 5 d (lit≤ tt)
+bytes-lt word of_groups (suc (suc (suc (suc (suc (suc (suc zero))))))) d below =
+    in_order-lt word of_groups 7 d (lit≤ tt)
+bytes-lt word of_groups (suc (suc (suc (suc (suc (suc (suc (suc i)))))))) d below = absurd (omega arith)
 
 -- the lowest six bits of each are six of all their bits
 bits_of-byte : (word i : ℕ) → i < 8
     → let bytes = to_be_bytes w64 word in
-    bits_of 6 (slice_index (ordered bytes) i) ≡ take 6 (drop (6 * i) (select group_positions (bits_of_bytes bytes)))
+    bits_of 6 (slice_index (in_order bytes) i) ≡ take 6 (drop (6 * i) (select group_positions (bits_of_bytes bytes)))
 unfolding bits_of bits_of_bytes select
 bits_of-byte word zero below = refl
 bits_of-byte word (suc zero) below = refl
@@ -52,9 +62,9 @@ bits_of-byte word (suc (suc (suc (suc (suc (suc (suc zero))))))) below = refl
 bits_of-byte word (suc (suc (suc (suc (suc (suc (suc (suc i)))))))) below = absurd (omega arith)
 
 -- so each has the bits of its group
-pub bits_of-ordered : (word i : ℕ) → i < 8
-    → bits_of 6 (slice_index (ordered (to_be_bytes w64 word)) i) ≡ take 6 (drop (6 * i) (bits_of_groups word))
-bits_of-ordered word i below =
+pub bits_of-in_order : (word i : ℕ) → i < 8
+    → bits_of 6 (slice_index (in_order (to_be_bytes w64 word)) i) ≡ take 6 (drop (6 * i) (bits_of_groups word))
+bits_of-in_order word i below =
     bits_of-byte word i below
     ∙ ap (λ bits. take 6 (drop (6 * i) (select group_positions bits))) (bits_of_bytes-to_be word)
 
@@ -64,9 +74,32 @@ masked_bytes word =
     let byte : ℕ → ℕ = λ k. bit_and (word / 2 ^ k) 0x00000000000000ff in
     byte 56 ∷ byte 24 ∷ byte 48 ∷ byte 16 ∷ byte 40 ∷ byte 8 ∷ byte 32 ∷ bit_and word 0x00000000000000ff ∷ []
 
-pub masked_bytes-ordered : (word : ℕ) → masked_bytes word ≡ ordered (to_be_bytes w64 word)
-masked_bytes-ordered word =
+pub masked_bytes-in_order : (word : ℕ) → masked_bytes word ≡ in_order (to_be_bytes w64 word)
+masked_bytes-in_order word =
     let byte : (k : ℕ) → bit_and (word / 2 ^ k) 0x00000000000000ff ≡ word / 2 ^ k % 2 ^ 8 =
     λ k. and_mask (word / 2 ^ k) 8 in
     ap₂ ◌∷◌ (byte 56) (ap₂ ◌∷◌ (byte 24) (ap₂ ◌∷◌ (byte 48) (ap₂ ◌∷◌ (byte 16)
     (ap₂ ◌∷◌ (byte 40) (ap₂ ◌∷◌ (byte 8) (ap₂ ◌∷◌ (byte 32) (ap₂ ◌∷◌ (and_mask word 8) refl)))))))
+
+-- more after the bytes changes none of them
+pub in_order-append : (bytes more : List ℕ) → 8 ≤ length bytes → in_order (bytes ++ more) ≡ in_order bytes
+in_order-append bytes more long =
+    let same : (i : ℕ) → i < 8 → slice_index_or (bytes ++ more) i 0 ≡ slice_index_or bytes i 0 =
+    λ i below. get_or_append_left bytes more 0 i (omega arith) in
+    ap₂ ◌∷◌ (same 0 (lit≤ tt)) (ap₂ ◌∷◌ (same 4 (lit≤ tt)) (ap₂ ◌∷◌ (same 1 (lit≤ tt)) (ap₂ ◌∷◌ (same 5 (lit≤ tt))
+    (ap₂ ◌∷◌ (same 2 (lit≤ tt)) (ap₂ ◌∷◌ (same 6 (lit≤ tt)) (ap₂ ◌∷◌ (same 3 (lit≤ tt))
+    (ap₂ ◌∷◌ (same 7 (lit≤ tt)) refl)))))))
+
+-- the digits of a word in base 256 are its bytes, from the last to the first
+pub digits-to_be : (word i : ℕ) → i < 8
+    → slice_index_or (digits_l 256 8 (number_l (2 ^ 64) (word ∷ []))) (7 - i) 0
+    ≡ slice_index_or (to_be_bytes w64 word) i 0
+digits-to_be word zero below = omega arith
+digits-to_be word (suc zero) below = omega arith
+digits-to_be word (suc (suc zero)) below = omega arith
+digits-to_be word (suc (suc (suc zero))) below = omega arith
+digits-to_be word (suc (suc (suc (suc zero)))) below = omega arith
+digits-to_be word (suc (suc (suc (suc (suc zero))))) below = omega arith
+digits-to_be word (suc (suc (suc (suc (suc (suc zero)))))) below = omega arith
+digits-to_be word (suc (suc (suc (suc (suc (suc (suc zero))))))) below = omega arith
+digits-to_be word (suc (suc (suc (suc (suc (suc (suc (suc i)))))))) below = absurd (omega arith)

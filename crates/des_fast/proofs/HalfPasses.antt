@@ -22,6 +22,11 @@ pub answer_by-halves : (keys : List (List Bool)) (block : List ℕ)
 unfolding through_rounds
 answer_by-halves keys block = refl
 
+-- one pass, from the halves of a block to the block that the last halves make
+pub answer_by-one : (keys : List (List Bool)) (block answer : List ℕ) (halves : List Bool × List Bool)
+    → halves ≡ after keys (first_halves block) → answer ≡ last_block halves → answer ≡ answer_by keys block
+answer_by-one keys block answer halves makes ends = ends ∙ ap last_block makes ∙ sym (answer_by-halves keys block)
+
 -- the halves of the block that two halves make are those, each in the place of the other
 first_halves-last_block : (halves : List Bool × List Bool) → AreHalves halves
     → first_halves (last_block halves) ≡ turned halves

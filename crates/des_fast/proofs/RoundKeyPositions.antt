@@ -2,7 +2,7 @@
 use Rattle.std.proofs.Common.{◌≡◌, ℕ, ◌+◌, ◌≤◌, List, ◌++◌, Bool, length, take, drop, ap, ap₂, sym, ◌∙◌, arith}
 use Rattle.std.specs.Prelude.{sum}
 use Rattle.std.specs.List.{range_with_len}
-use Rattle.std.proofs.lemmas.List.{map-append, take-map, drop-map, take-append-le, drop-append-le, take_at}
+use Rattle.std.proofs.lemmas.List.{map-append, take-append-le, drop-append-le, take_at}
 use Rattle.des.specs.Bits.{bit, bits_of_word, select, zeros}
 use Rattle.des.specs.Tables.{permuted_choice_1, permuted_choice_2, left_shifts}
 use Rattle.des.specs.KeySchedule.{c_half, d_half, rotate, shifts_through, round_key}

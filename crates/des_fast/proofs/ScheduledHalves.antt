@@ -29,11 +29,11 @@ abbrev twice : List ℕ
 twice = composed 65 positions (from_halves 15 ++ from_halves 16)
 
 -- the positions of both halves rotated by n places, in such a list
-abbrev window : List ℕ → ℕ → List ℕ
+abbrev pub window : List ℕ → ℕ → List ℕ
 window list n = take 28 (drop n list) ++ take 28 (drop (56 + n) list)
 
 -- a round key of a selection is a selection
-round_key_of-select : (list : List ℕ) (bits : List Bool) → length bits ≡ 64 → (n : ℕ)
+pub round_key_of-select : (list : List ℕ) (bits : List Bool) → length bits ≡ 64 → (n : ℕ)
     → round_key_of (select list bits) n ≡ select (composed 65 permuted_choice_2 (window list n)) bits
 unfolding select
 round_key_of-select list bits width n =
@@ -45,7 +45,7 @@ round_key_of-select list bits width n =
     ∙ select-select 65 permuted_choice_2 (window list n) bits (omega arith)
 
 -- the positions of each round key are found from those of the last two
-abbrev rounds : List ℕ
+abbrev pub rounds : List ℕ
 rounds = 1 ∷ 2 ∷ 3 ∷ 4 ∷ 5 ∷ 6 ∷ 7 ∷ 8 ∷ 9 ∷ 10 ∷ 11 ∷ 12 ∷ 13 ∷ 14 ∷ 15 ∷ 16 ∷ []
 
 same_positions : map (λ n. composed 65 permuted_choice_2 (window twice n)) (rotations false)

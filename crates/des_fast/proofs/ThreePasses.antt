@@ -1,5 +1,5 @@
 -- Three passes, one after another.
-use Rattle.std.proofs.Common.{◌≡◌, ℕ, List, [], ◌∷◌, Bool, length, refl, ap, sym, ◌∙◌, arith}
+use Rattle.std.proofs.Common.{◌≡◌, ℕ, List, [], ◌∷◌, Bool, length, map, refl, ap, sym, ◌∙◌, arith}
 use Rattle.std.proofs.Math.ListN.{set}
 use Rattle.std.proofs.Math.Path.{fun_ext}
 use Rattle.des.specs.Bits.{bits_of_bytes}
@@ -37,6 +37,15 @@ through-same {a} {b} {c} {d} {e} {f} first second third =
     ap (λ x. through (answer_by x) (answer_by b) (answer_by c)) first
     ∙ ap (λ x. through (answer_by d) (answer_by x) (answer_by c)) second
     ∙ ap (λ x. through (answer_by d) (answer_by e) (answer_by x)) third
+
+-- a list that three passes answered, by what each of them answers
+pub map-through : (a b c d e f : List ℕ → List ℕ) (old new : List (List ℕ)) → new ≡ map (through a b c) old
+    → a ≡ d → b ≡ e → c ≡ f → new ≡ map (through d e f) old
+map-through a b c d e f old new made first second third =
+    made
+    ∙ ap (λ x. map (through x b c) old) first
+    ∙ ap (λ x. map (through d x c) old) second
+    ∙ ap (λ x. map (through d e x) old) third
 
 -- a list of three, of which each is written
 pub three-written : {X : Type 0} (xs : List X) (x y z : X) → length xs ≡ 3

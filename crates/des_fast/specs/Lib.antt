@@ -9,4 +9,15 @@ pub mod RoundKeyRows
 pub mod HalfBlocks
 pub mod Des
 pub mod Words
+pub mod EachKey
+pub mod LaneKeys
+pub mod ChainEnds
+pub mod Records
+pub mod RecordStates
 pub mod Laws
+pub mod GroupBytes
+pub mod SideBySide
+pub mod QuietDes
+pub mod Threes
+pub mod JoinedEntries
+pub mod KeyedPasses

@@ -1,6 +1,6 @@
 -- Bit slices of a batch of blocks. A slice has one bit of each block of the batch; `bit b slice` is
 -- that of block b, from 0.
-use Rattle.std.specs.Prelude.{◌≡◌, ℕ, ◌<◌, Bool, false, List, [], ◌∷◌, map, slice_index, slice_index_or, slice_set}
+use Rattle.std.specs.Prelude.{◌≡◌, ℕ, ◌<◌, Bool, false, List, [], ◌∷◌, map, slice_index_or, slice_set}
 use Rattle.std.specs.List.{flat_map}
 use Rattle.des.specs.Bits.{bit, bits_of, bits_of_word, xor}
 use Rattle.des.specs.Tables.{Box}

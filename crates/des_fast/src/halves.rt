@@ -22,7 +22,7 @@ pub(crate) struct RoundKey {
 /// A half block, kept as its expansion E in a word of groups.
 #[derive(Clone, Copy)]
 pub(crate) struct HalfBlock {
-    groups: u64,
+    pub(crate) groups: u64,
     ghost expansion: { IsExpansion groups },
 }
 
@@ -41,8 +41,8 @@ impl HalfBlock {
 /// The two halves of a block between two rounds.
 #[derive(Clone, Copy)]
 pub(crate) struct Halves {
-    left: HalfBlock,
-    right: HalfBlock,
+    pub(crate) left: HalfBlock,
+    pub(crate) right: HalfBlock,
 }
 
 impl Halves {

@@ -1,23 +1,27 @@
 //! The five ciphers of `des`, faster, with the same names, traits and definitions: to change over,
 //! edit the crate's name in one `use` line. One block takes a third of the time, a block of a long
-//! list a tenth of that. `many` has the calls for long lists, `words` the round keys as plain words.
+//! list a tenth of that. `many` has the calls for long lists, for keys of their own for each block,
+//! for chains in step and for records; `quiet` the ciphers that read no table at an index that
+//! depends on the key or the block, `words` the round keys as plain words.
 //! The traits, `cbc` and the weak key test stay in `des`, and `Des::round_keys` and
 //! `Des::distinct_round_keys` are there alone.
 //!
 //! DES is broken: its key of 56 bits can be searched. It is here for data and protocols that still
 //! use it. A block cipher hides nothing about repeated blocks and does not authenticate, and no
-//! claim is made on the time that a call takes: the calls for one block read tables at indexes that
-//! depend on the key and the block.
+//! claim is made on the time that a call takes: the calls for one block, but for those of `quiet`,
+//! read tables at indexes that depend on the key and the block.
 #![tactic(auto)]
 
 mod boxes;
 mod halves;
 pub mod many;
+pub mod quiet;
 mod schedule;
 pub mod single;
 mod slices;
 mod tables;
 pub mod tdes;
+mod threes;
 pub mod words;
 
 pub use single::Des;

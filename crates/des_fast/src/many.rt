@@ -7,21 +7,34 @@
 //! batch, goes through the rounds in a batch that is filled up with zeros: a list takes about as
 //! long as the next longer one of whole batches, and no call reads a table at an index that depends
 //! on the key or on a block. `spread_keys` spreads a key over slices once, for many short lists.
+//!
+//! Many short messages go together, each in a lane of a batch: `KeyForEach` takes a key for each
+//! block of a list, chains messages in step (those of MACs), and takes records that CBC chained,
+//! each under a key of its own; the keys of `spread_keys` take records under one key.
 
 ghost use Rattle.std.specs.Prelude.{◌≡◌, ◌≤◌, List, Bool, length, map, take};
 ghost use Rattle.std.specs.List.{All};
 ghost use Rattle.des.specs.Blocks.{IsBlock};
-ghost use Rattle.des.specs.Cbc.{Unchains};
+ghost use Rattle.des.specs.Cbc.{Unchains, xor_blocks};
 ghost use Rattle.des_fast.specs.Passes.{HoldPasses, block_through_passes};
 
 mod chains;
 mod ciphers;
+mod each_key;
+mod ends;
+mod keyed_records;
+mod lanes;
 mod passes;
+mod records;
 mod spread;
 
 pub use crate::slices::Slice;
 use crate::slices::{LARGEST_BATCH, PassSlices, read_blocks, slices_through_passes, write_blocks};
+use des::cbc;
 use des::cipher::{BlockCipherDecrypt, BlockCipherEncrypt};
+pub use each_key::KeyForEach;
+pub use ends::BlockLists;
+pub use lanes::LaneKeys;
 pub use passes::Passes;
 pub use spread::{ListKeys, SpreadKeys, SpreadOnce};
 use std::simd::prelude::*;
@@ -65,6 +78,16 @@ fn answer_part<S: Slice>(blocks: &mut [[u8; 8]], passes: &[PassSlices<S>])
     let mut answers = [[0; 8]; LARGEST_BATCH];
     write_answers(&mut answers, blocks, passes);
     blocks.copy_from_slice(&answers[..blocks.len()]);
+}
+
+// The xor of two blocks.
+#[inline(always)]
+fn xored(block: &[u8; 8], other: &[u8; 8]) -> [u8; 8]
+    ensures { result ≡ xor_blocks block.now other.now }
+{
+    let mut answer = *block;
+    cbc::xor(&mut answer, other);
+    answer
 }
 
 // How many blocks go through the rounds next: a batch, or those that are left over.

@@ -12,9 +12,10 @@ ghost use Rattle.des_fast.specs.Des.{IsDesOf, encrypted as encrypted_by, decrypt
 
 use crate::halves::Halves;
 use crate::schedule::KeySchedule;
+use crate::threes::{self, KeyedPass};
 use des::cipher::{
     AlgorithmName, BlockCipher, BlockCipherDecrypt, BlockCipherEncrypt, Complementing, KeyInit,
-    KeySizeUser, KeyedCipher, OneBlockAtATime, Relating,
+    KeySizeUser, KeyedCipher, OneBlockAtATime, Relating, are_blocks,
 };
 use std::fmt;
 
@@ -79,6 +80,11 @@ impl BlockCipherEncrypt for Des {
             .enciphered(&self.schedule.round_keys)
             .into_block();
     }
+
+    fn encrypt_blocks(&self, blocks: &mut [[u8; 8]]) {
+        are_blocks(blocks);
+        threes::answer(&KeyedPass::enciphering(self), blocks);
+    }
 }
 
 impl BlockCipherDecrypt for Des {
@@ -95,6 +101,11 @@ impl BlockCipherDecrypt for Des {
         *block = Halves::of_block(block)
             .deciphered(&self.schedule.round_keys)
             .into_block();
+    }
+
+    fn decrypt_blocks(&self, blocks: &mut [[u8; 8]]) {
+        are_blocks(blocks);
+        threes::answer(&KeyedPass::deciphering(self), blocks);
     }
 }
 

@@ -192,6 +192,25 @@ pub(crate) fn substitute(word: u64) -> u64
     first ^ last
 }
 
+/// The same, with the entries joined in a row: fewer steps, of which each waits for the one before
+/// it. It is quicker where other blocks have steps to go on with meanwhile.
+#[inline]
+pub(crate) fn substitute_in_a_row(word: u64) -> u64
+    requires { IsOfGroups word }
+    ensures expansion { IsExpansion result }
+    ensures substituted { half_of result ≡ select permutation (substitute (bits_of_groups word)) }
+{
+    let group = groups_of(word);
+    TABLES[7][group[7]]
+        ^ TABLES[6][group[6]]
+        ^ TABLES[5][group[5]]
+        ^ TABLES[4][group[4]]
+        ^ TABLES[3][group[3]]
+        ^ TABLES[2][group[2]]
+        ^ TABLES[1][group[1]]
+        ^ TABLES[0][group[0]]
+}
+
 // The groups of a word of groups, in their order.
 #[inline]
 fn groups_of(word: u64) -> [usize; 8]

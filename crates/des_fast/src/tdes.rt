@@ -11,6 +11,7 @@ ghost use Rattle.des_fast.specs.Des.{encrypted, decrypted};
 
 use crate::halves::Halves;
 use crate::single::Des;
+use crate::threes::{self, KeyedPass, KeyedPasses};
 use des::tdes::{Ede2, Ede3, Eee2, Eee3, SingleDes};
 
 /// Triple DES in the EDE form over the `Des` of this crate, with a key of 16 bytes, two parts.
@@ -42,6 +43,42 @@ impl SingleDes for Des {
 
     fn decrypt_eee(first: &Des, second: &Des, third: &Des, block: &mut [u8; 8]) {
         decrypt_eee(first, second, third, block);
+    }
+
+    fn encrypt_ede_blocks(first: &Des, second: &Des, third: &Des, blocks: &mut [[u8; 8]]) {
+        let passes = KeyedPasses {
+            first: KeyedPass::enciphering(first),
+            second: KeyedPass::deciphering(second),
+            third: KeyedPass::enciphering(third),
+        };
+        threes::answer(&passes, blocks);
+    }
+
+    fn decrypt_ede_blocks(first: &Des, second: &Des, third: &Des, blocks: &mut [[u8; 8]]) {
+        let passes = KeyedPasses {
+            first: KeyedPass::deciphering(third),
+            second: KeyedPass::enciphering(second),
+            third: KeyedPass::deciphering(first),
+        };
+        threes::answer(&passes, blocks);
+    }
+
+    fn encrypt_eee_blocks(first: &Des, second: &Des, third: &Des, blocks: &mut [[u8; 8]]) {
+        let passes = KeyedPasses {
+            first: KeyedPass::enciphering(first),
+            second: KeyedPass::enciphering(second),
+            third: KeyedPass::enciphering(third),
+        };
+        threes::answer(&passes, blocks);
+    }
+
+    fn decrypt_eee_blocks(first: &Des, second: &Des, third: &Des, blocks: &mut [[u8; 8]]) {
+        let passes = KeyedPasses {
+            first: KeyedPass::deciphering(third),
+            second: KeyedPass::deciphering(second),
+            third: KeyedPass::deciphering(first),
+        };
+        threes::answer(&passes, blocks);
     }
 
     ghost answers_as_des = { AnswersAsDes-Des };

@@ -1,15 +1,18 @@
 //! Keys that are spread over slices once, for many lists.
 
-ghost use Rattle.std.specs.Prelude.{◌≡◌, ℕ, List, map};
+ghost use Rattle.std.specs.Prelude.{◌≡◌, ◌↔◌, ◌*◌, ℕ, List, IsOk, OnOk, OnErr, length, map, replicate, sum};
 ghost use Rattle.std.specs.List.{All};
 ghost use Rattle.des.specs.Blocks.{IsBlock};
 ghost use Rattle.des.specs.Cbc.{Unchains};
-ghost use Rattle.des_fast.specs.SpreadKeys.{AreSpreadKeys, used};
+ghost use Rattle.des_fast.specs.Records.{CbcEach, UnchainsEach, GoOn};
+ghost use Rattle.des_fast.specs.SpreadKeys.{AreSpreadKeys};
 
+use super::lanes::used;
+use super::records::{self, Equal, sum_up};
 use super::{ManyBlocks, Slice, answer, chains};
 use crate::slices::PassSlices;
 use crate::{Des, TdesEde2, TdesEde3, TdesEee2, TdesEee3};
-use des::cipher::are_blocks;
+use des::cipher::{NotEqualError, are_blocks};
 use des::tdes::BatchedTriple;
 
 /// The keys of a cipher, spread over slices of a width, for those who have many short lists under
@@ -20,14 +23,6 @@ pub struct SpreadKeys<S> {
     encryption: [PassSlices<S>; 3],
     decryption: [PassSlices<S>; 3],
     is_triple: bool,
-}
-
-// The passes that are used.
-#[inline(always)]
-fn used<S: Slice>(passes: &[PassSlices<S>; 3], is_triple: bool) -> &[PassSlices<S>]
-    ensures { result.now ≡ used is_triple passes.now }
-{
-    if is_triple { passes } else { &passes[..1] }
 }
 
 /// Keys that answer lists, without the cipher that they were taken from. No call changes them.
@@ -56,6 +51,104 @@ pub trait ListKeys {
         ensures unchained { (encrypted decrypted : List ℕ → List ℕ)
             → are_keys self.now encrypted decrypted
             → Unchains decrypted iv.now blocks.old blocks.new };
+
+    /// Encrypts records in place by CBC, in step: `sizes[k]` blocks of 8 bytes are record k, one
+    /// record after another in `blocks`, and `vectors[k]` is its initialization vector, as
+    /// `des::cbc::encrypt` does record by record. Each vector becomes the one with which its chain
+    /// goes on, the last ciphertext block of its record. A record may be empty. A group of as many
+    /// records as a batch has blocks takes as many batches as its longest record has blocks. Where
+    /// the vectors and the sizes differ in number, or the sizes do not sum up to the number of
+    /// blocks, the answer is `NotEqualError`, and vectors and blocks stay as they were.
+    fn encrypt_cbc_records(
+        &self,
+        vectors: &mut [[u8; 8]],
+        sizes: &[usize],
+        blocks: &mut [[u8; 8]],
+    ) -> Result<(), NotEqualError>
+        ensures vectors { All IsBlock vectors.old }
+        ensures blocks { All IsBlock blocks.old }
+        ensures accepted { IsOk result ↔ ((length vectors.old ≡ length sizes.now)
+            × (sum sizes.now ≡ length blocks.old)) }
+        ensures chained { OnOk result ((encrypted decrypted : List ℕ → List ℕ)
+            → are_keys self.now encrypted decrypted
+            → CbcEach (λ _. encrypted) sizes.now vectors.old blocks.old blocks.new) }
+        ensures goes_on { OnOk result ((encrypted decrypted : List ℕ → List ℕ)
+            → are_keys self.now encrypted decrypted
+            → GoOn sizes.now vectors.old blocks.new vectors.new) }
+        ensures count { (length vectors.new ≡ length vectors.old)
+            × (length blocks.new ≡ length blocks.old) }
+        ensures err { OnErr result ((vectors.new ≡ vectors.old) × (blocks.new ≡ blocks.old)) };
+
+    /// Decrypts in place records that CBC chained, as `encrypt_cbc_records` does: ciphertext goes
+    /// in, the plaintext comes out, and each vector becomes the last ciphertext block of its
+    /// record. Records of any lengths take as many batches as one list of all their blocks.
+    fn decrypt_cbc_records(
+        &self,
+        vectors: &mut [[u8; 8]],
+        sizes: &[usize],
+        blocks: &mut [[u8; 8]],
+    ) -> Result<(), NotEqualError>
+        ensures vectors { All IsBlock vectors.old }
+        ensures blocks { All IsBlock blocks.old }
+        ensures accepted { IsOk result ↔ ((length vectors.old ≡ length sizes.now)
+            × (sum sizes.now ≡ length blocks.old)) }
+        ensures unchained { OnOk result ((encrypted decrypted : List ℕ → List ℕ)
+            → are_keys self.now encrypted decrypted
+            → UnchainsEach (λ _. decrypted) sizes.now vectors.old blocks.old blocks.new) }
+        ensures goes_on { OnOk result ((encrypted decrypted : List ℕ → List ℕ)
+            → are_keys self.now encrypted decrypted
+            → GoOn sizes.now vectors.old blocks.old vectors.new) }
+        ensures count { (length vectors.new ≡ length vectors.old)
+            × (length blocks.new ≡ length blocks.old) }
+        ensures err { OnErr result ((vectors.new ≡ vectors.old) × (blocks.new ≡ blocks.old)) };
+
+    /// The same as `encrypt_cbc_records` of records of `size` blocks each, as many as there are
+    /// vectors. Where the blocks are not `size` for each vector, the answer is `NotEqualError`, and
+    /// vectors and blocks stay as they were.
+    fn encrypt_cbc_equal_records(
+        &self,
+        vectors: &mut [[u8; 8]],
+        size: usize,
+        blocks: &mut [[u8; 8]],
+    ) -> Result<(), NotEqualError>
+        ensures vectors { All IsBlock vectors.old }
+        ensures blocks { All IsBlock blocks.old }
+        ensures accepted { IsOk result ↔ (length vectors.old * size ≡ length blocks.old) }
+        ensures chained { OnOk result ((encrypted decrypted : List ℕ → List ℕ)
+            → are_keys self.now encrypted decrypted
+            → CbcEach (λ _. encrypted) (replicate (length vectors.old) size) vectors.old
+            blocks.old blocks.new) }
+        ensures goes_on { OnOk result ((encrypted decrypted : List ℕ → List ℕ)
+            → are_keys self.now encrypted decrypted
+            → GoOn (replicate (length vectors.old) size) vectors.old blocks.new
+            vectors.new) }
+        ensures count { (length vectors.new ≡ length vectors.old)
+            × (length blocks.new ≡ length blocks.old) }
+        ensures err { OnErr result ((vectors.new ≡ vectors.old) × (blocks.new ≡ blocks.old)) };
+
+    /// The same as `decrypt_cbc_records` of records of `size` blocks each, as many as there are
+    /// vectors. Where the blocks are not `size` for each vector, the answer is `NotEqualError`, and
+    /// vectors and blocks stay as they were.
+    fn decrypt_cbc_equal_records(
+        &self,
+        vectors: &mut [[u8; 8]],
+        size: usize,
+        blocks: &mut [[u8; 8]],
+    ) -> Result<(), NotEqualError>
+        ensures vectors { All IsBlock vectors.old }
+        ensures blocks { All IsBlock blocks.old }
+        ensures accepted { IsOk result ↔ (length vectors.old * size ≡ length blocks.old) }
+        ensures unchained { OnOk result ((encrypted decrypted : List ℕ → List ℕ)
+            → are_keys self.now encrypted decrypted
+            → UnchainsEach (λ _. decrypted) (replicate (length vectors.old) size) vectors.old
+            blocks.old blocks.new) }
+        ensures goes_on { OnOk result ((encrypted decrypted : List ℕ → List ℕ)
+            → are_keys self.now encrypted decrypted
+            → GoOn (replicate (length vectors.old) size) vectors.old blocks.old
+            vectors.new) }
+        ensures count { (length vectors.new ≡ length vectors.old)
+            × (length blocks.new ≡ length blocks.old) }
+        ensures err { OnErr result ((vectors.new ≡ vectors.old) × (blocks.new ≡ blocks.old)) };
 }
 
 impl<S: Slice> ListKeys for SpreadKeys<S> {
@@ -74,6 +167,90 @@ impl<S: Slice> ListKeys for SpreadKeys<S> {
     fn decrypt_cbc(&self, iv: &[u8; 8], blocks: &mut [[u8; 8]]) {
         are_blocks(blocks);
         chains::unchain::<S>(blocks, iv, used(&self.decryption, self.is_triple));
+    }
+
+    fn encrypt_cbc_records(
+        &self,
+        vectors: &mut [[u8; 8]],
+        sizes: &[usize],
+        blocks: &mut [[u8; 8]],
+    ) -> Result<(), NotEqualError> {
+        are_blocks(vectors);
+        are_blocks(blocks);
+        if vectors.len() != sizes.len() || !sum_up(sizes, sizes.len(), blocks.len()) {
+            return Err(NotEqualError);
+        }
+        records::chain::<S, _>(
+            vectors,
+            sizes,
+            blocks,
+            used(&self.encryption, self.is_triple),
+        );
+        Ok(())
+    }
+
+    fn decrypt_cbc_records(
+        &self,
+        vectors: &mut [[u8; 8]],
+        sizes: &[usize],
+        blocks: &mut [[u8; 8]],
+    ) -> Result<(), NotEqualError> {
+        are_blocks(vectors);
+        are_blocks(blocks);
+        if vectors.len() != sizes.len() || !sum_up(sizes, sizes.len(), blocks.len()) {
+            return Err(NotEqualError);
+        }
+        records::unchain::<S, _>(
+            vectors,
+            sizes,
+            blocks,
+            used(&self.decryption, self.is_triple),
+        );
+        Ok(())
+    }
+
+    fn encrypt_cbc_equal_records(
+        &self,
+        vectors: &mut [[u8; 8]],
+        size: usize,
+        blocks: &mut [[u8; 8]],
+    ) -> Result<(), NotEqualError> {
+        are_blocks(vectors);
+        are_blocks(blocks);
+        let count = vectors.len();
+        let sizes = Equal { count, size };
+        if !sum_up(sizes, count, blocks.len()) {
+            return Err(NotEqualError);
+        }
+        records::chain::<S, _>(
+            vectors,
+            sizes,
+            blocks,
+            used(&self.encryption, self.is_triple),
+        );
+        Ok(())
+    }
+
+    fn decrypt_cbc_equal_records(
+        &self,
+        vectors: &mut [[u8; 8]],
+        size: usize,
+        blocks: &mut [[u8; 8]],
+    ) -> Result<(), NotEqualError> {
+        are_blocks(vectors);
+        are_blocks(blocks);
+        let count = vectors.len();
+        let sizes = Equal { count, size };
+        if !sum_up(sizes, count, blocks.len()) {
+            return Err(NotEqualError);
+        }
+        records::unchain::<S, _>(
+            vectors,
+            sizes,
+            blocks,
+            used(&self.decryption, self.is_triple),
+        );
+        Ok(())
     }
 }
 

@@ -3,12 +3,16 @@
 //! has 56 slices. Those of C stand twice in a row, and so do those of D: in 56 slices that begin
 //! anywhere in the first half, all rotations of a half are there as they are.
 
-ghost use Rattle.std.specs.Prelude.{◌≡◌, ◌≤◌, map};
-ghost use Rattle.des.specs.Bits.{bit};
+ghost use Rattle.std.specs.Prelude.{◌≡◌, ◌≤◌, ℕ, List, length, map};
+ghost use Rattle.des.specs.Bits.{bit, bits_of_bytes};
 ghost use Rattle.des_fast.specs.Slices.{InEachBlock, bits_of_slice};
+ghost use Rattle.des_fast.specs.Transposition.{block_at};
 ghost use Rattle.des_fast.specs.RoundKeySlices.{halves_in, round_keys_of_pass, round_keys_in};
+ghost use Rattle.des_fast.specs.EachKey.{round_keys_under};
 
-use super::Slice;
+use super::passes::selection;
+use super::transposition::Rows;
+use super::{Slice, read_blocks};
 use crate::halves::RoundKey;
 
 /// The slices of the halves C and D of a key: those of C, those of C again, and those of D, twice.
@@ -43,6 +47,27 @@ const HALVES: [usize; 56] = [
     126, 86, 29, 93, 116, 83, 124,
     27, 91, 118, 123, 87, 120, 92,
     125, 117, 84, 96, 24, 88, 94,
+];
+
+// Permuted choice 1, in the rows of the standard's table: C, C again, and D, twice.
+#[rattlefmt::skip]
+const CHOSEN: [usize; 112] = [
+    57, 49, 41, 33, 25, 17, 9,
+    1, 58, 50, 42, 34, 26, 18,
+    10, 2, 59, 51, 43, 35, 27,
+    19, 11, 3, 60, 52, 44, 36,
+    57, 49, 41, 33, 25, 17, 9,
+    1, 58, 50, 42, 34, 26, 18,
+    10, 2, 59, 51, 43, 35, 27,
+    19, 11, 3, 60, 52, 44, 36,
+    63, 55, 47, 39, 31, 23, 15,
+    7, 62, 54, 46, 38, 30, 22,
+    14, 6, 61, 53, 45, 37, 29,
+    21, 13, 5, 28, 20, 12, 4,
+    63, 55, 47, 39, 31, 23, 15,
+    7, 62, 54, 46, 38, 30, 22,
+    14, 6, 61, 53, 45, 37, 29,
+    21, 13, 5, 28, 20, 12, 4,
 ];
 
 // The slice of the bit at a position of two words, the same for all blocks.
@@ -88,5 +113,28 @@ impl<S: Slice> PassSlices<S> {
         let words = [pass.fifteenth.groups, pass.sixteenth.groups];
         spread_halves(&mut self.halves, &words);
         self.deciphers = pass.deciphers;
+    }
+    // Makes the slices those of a pass under the keys whose bits these slices have.
+    #[inline(always)]
+    fn choose(&mut self, slices: &Rows<S>, deciphers: bool)
+        ensures { InEachBlock S.BATCH (λ b. (key : List ℕ)
+            → map (S.bit b) slices.now ≡ bits_of_bytes key
+            → round_keys_in (S.bit b) self.new ≡ round_keys_under deciphers key) }
+    {
+        self.halves = selection(slices, &CHOSEN);
+        self.deciphers = deciphers;
+    }
+
+    /// Makes the slices those of a pass in which each block of a batch has a key of its own. A
+    /// batch of keys is transposed as blocks are, and the bits of C and D are slices of it.
+    #[inline(always)]
+    pub(crate) fn spread_each(&mut self, keys: &[[u8; 8]], deciphers: bool)
+        requires { length keys.now ≡ S.BATCH }
+        ensures { InEachBlock S.BATCH (λ b. round_keys_in (S.bit b) self.new
+            ≡ round_keys_under deciphers (block_at keys.now b)) }
+    {
+        let mut rows = [S::same(false); 64];
+        read_blocks(&mut rows, keys);
+        self.choose(&rows, deciphers);
     }
 }

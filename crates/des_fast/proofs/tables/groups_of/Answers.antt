@@ -1,14 +1,14 @@
 use Rattle.std.proofs.Common.{List, ℕ, slice_index, slice_index_or, ap, ◌∙◌}
 use Rattle.des.specs.Bits.{bits_of}
-use Rattle.des_fast.proofs.GroupBytes.{ordered-lt, bits_of-ordered, masked_bytes-ordered}
+use Rattle.des_fast.proofs.GroupBytes.{in_order-lt, bits_of-in_order, masked_bytes-in_order}
 use Rattle.des_fast.proofs.tables.groups_of.Goals as goal
 
 pub returns-clause-within : goal.returns-clause-within
 returns-clause-within c i d below =
-    rw (ap (λ (bytes : List ℕ). slice_index_or bytes i d) (masked_bytes-ordered c.args.word))
-    (ordered-lt c.args.word c.requires i d below)
+    rw (ap (λ (bytes : List ℕ). slice_index_or bytes i d) (masked_bytes-in_order c.args.word))
+    (in_order-lt c.args.word c.requires i d below)
 
 pub returns-clause-groups : goal.returns-clause-groups
 returns-clause-groups c i below =
-    ap (λ (bytes : List ℕ). bits_of 6 (slice_index bytes i)) (masked_bytes-ordered c.args.word)
-    ∙ bits_of-ordered c.args.word i below
+    ap (λ (bytes : List ℕ). bits_of 6 (slice_index bytes i)) (masked_bytes-in_order c.args.word)
+    ∙ bits_of-in_order c.args.word i below

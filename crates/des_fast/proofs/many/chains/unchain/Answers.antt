@@ -4,7 +4,7 @@ use Rattle.std.proofs.lemmas.List.{get_or-drop, drop-drop}
 use Rattle.std.proofs.lemmas.Slice.{drop-put_mid}
 use Rattle.des.specs.Cbc.{next_vector}
 use Rattle.des_fast.specs.Passes.{block_through_passes}
-use Rattle.des_fast.proofs.UnchainedBatches.{unchained, unchained-from, unchained-more, unchained-all, next_vector-take, Unchains-unchained}
+use Rattle.des.proofs.UnchainedBatches.{unchained, unchained-from, unchained-more, unchained-all, next_vector-take, Unchains-unchained}
 use Rattle.des_fast.proofs.many.chains.unchain.Goals as goal
 
 pub parts-preserved : goal.parts-preserved

@@ -2,7 +2,7 @@
 use Rattle.std.proofs.Common.{◌≡◌, ◌-◌, ◌≤◌, ◌++◌, List, Bool, take, drop, length}
 use Rattle.des.specs.Cbc.{next_vector}
 use Rattle.des_fast.specs.Passes.{HoldPasses, block_through_passes}
-use Rattle.des_fast.proofs.UnchainedBatches.{unchained}
+use Rattle.des.proofs.UnchainedBatches.{unchained}
 use Rattle.des_fast.proofs.many.chains.unchain.Given as goal
 
 abbrev pub invariant-parts : goal.invariant-parts

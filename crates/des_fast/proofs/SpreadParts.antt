@@ -1,0 +1,53 @@
+-- Passes under parts of keys, written one by one.
+use Rattle.std.proofs.Common.{◌≡◌, ℕ, ◌+◌, ◌<◌, ◌≤◌, Bool, true, false, List, [], ◌∷◌, length, map, get_or, refl, ap, ap₂, sym, subst, ◌∙◌, arith, take}
+use Rattle.std.proofs.Math.ListN.{set}
+use Rattle.std.proofs.Math.Bool.{beq}
+use Rattle.std.proofs.lemmas.List.{get_or_default, length-map, map-set, ext_get_or}
+use Rattle.des.specs.Blocks.{part}
+use Rattle.des_fast.specs.declared.many.lanes.Part.{Part}
+use Rattle.des_fast.specs.EachKey.{round_keys_under, round_keys_of_parts}
+use Rattle.des_fast.proofs.WrittenElements.{written_below}
+
+-- what holds of the values of elements below i holds below i + 1 with the element at i written
+pub mapped_written_below : {X Y : Type 0} (read : X → Y) (d : Y) (P : ℕ → Y → Type 0) (xs : List X) (i : ℕ) (x : X)
+    → i < length xs
+    → ((m : ℕ) → m < i → P m (get_or (map read xs) m d)) → P i (read x)
+    → (m : ℕ) → m < i + 1 → P m (get_or (map read (set xs i x)) m d)
+mapped_written_below read d P xs i x inside each here m below =
+    let in_map : i < length (map read xs) = rw (length-map xs read) inside in
+    subst (λ ys. P m (get_or ys m d)) (sym (map-set read xs i x))
+    (written_below P (map read xs) i (read x) d in_map each here m below)
+
+-- a part of a key is that of the key at its place
+pub part-at : (number : ℕ) (keys : List (List ℕ)) (k : ℕ) (key : List ℕ) → k < length keys → key ≡ get_or keys k key
+    → part number key ≡ part number (get_or keys k [])
+part-at number keys k key inside is = ap (part number) (is ∙ get_or_default keys k key [] inside)
+
+-- round keys of all passes under the parts of a key
+pub all_spread : {X : Type 0} (read : X → List (List Bool)) (passes : List X) (parts : List Part) (key : List ℕ) (n : ℕ)
+    → length passes ≡ length parts → length parts ≤ n
+    → ((m : ℕ) → m < n → get_or (map read passes) m [] ≡ get_or (round_keys_of_parts parts key) m [])
+    → map read passes ≡ round_keys_of_parts parts key
+all_spread read passes parts key n count all each =
+    let of_part : Part → List (List Bool) = λ p. round_keys_under p.deciphers (part p.number key) in
+    let width : length (map read passes) ≡ length parts = length-map passes read ∙ count in
+    ext_get_or [] (map read passes) (round_keys_of_parts parts key) (width ∙ sym (length-map parts of_part))
+    (λ m below. each m (omega arith))
+
+-- two parts of the same number and direction have the same round keys
+beq-true : (x y : Bool) → beq x y ≡ true → x ≡ y
+beq-true true true h = refl
+beq-true true false h = cc
+beq-true false true h = cc
+beq-true false false h = refl
+
+pub round_keys_under-same : (p q : Part) (key : List ℕ) → p.number ≡ q.number → beq p.deciphers q.deciphers ≡ true
+    → round_keys_under q.deciphers (part q.number key) ≡ round_keys_under p.deciphers (part p.number key)
+round_keys_under-same p q key number direction =
+    ap₂ (λ (deciphers : Bool) (n : ℕ). round_keys_under deciphers (part n key))
+    (sym (beq-true p.deciphers q.deciphers direction)) (sym number)
+
+-- a first pass written is the pass of a single cipher
+pub take_one-set : {X : Type 0} (xs : List X) (x : X) → 0 < length xs → take 1 (set xs 0 x) ≡ x ∷ []
+take_one-set [] x some = absurd (omega arith)
+take_one-set (y ∷ xs) x some = refl

@@ -1,0 +1,49 @@
+-- Two lists answered together, part after part.
+use Rattle.std.proofs.Common.{◌≡◌, ℕ, ◌+◌, ◌<◌, ◌≤◌, List, [], ◌++◌, length, take, drop, get_or, ap, ap₂, sym, ◌∙◌, arith, append_assoc, length-take-le, take-add, take_at, drop_at}
+use Rattle.std.specs.Simd.Lanes.{zip2}
+use Rattle.std.proofs.lemmas.Simd.{length-zip2, get_or-zip2}
+use Rattle.std.proofs.lemmas.List.{drop-drop, take_all, drop_all, append-nil, ext_get_or}
+use Rattle.des.specs.Blocks.{part}
+use Rattle.des_fast.proofs.SliceBits.{zip2-append}
+
+-- a list of which the first m are answered under keys, and then the next n
+pub zipped-more : (f : List ℕ → List ℕ → List ℕ) (m n : ℕ) (keys old now part : List (List ℕ))
+    → length keys ≡ length old
+    → m ≤ length old → now ≡ zip2 f (take m keys) (take m old) ++ drop m old
+    → part ≡ zip2 f (take n (drop m keys)) (take n (drop m now))
+    → take m now ++ (part ++ drop n (drop m now)) ≡ zip2 f (take (m + n) keys) (take (m + n) old) ++ drop (m + n) old
+zipped-more f m n keys old now part same within so_far made =
+    let front : List (List ℕ) = zip2 f (take m keys) (take m old) in
+    let in_keys : length (take m keys) ≡ m = length-take-le m keys (omega arith) in
+    let in_old : length (take m old) ≡ m = length-take-le m old within in
+    let size : length front ≡ m = length-zip2 f (take m keys) (take m old) (omega arith) ∙ in_keys in
+    let first : take m now ≡ front = ap (take m) so_far ∙ take_at front (drop m old) m size in
+    let rest : drop m now ≡ drop m old = ap (drop m) so_far ∙ drop_at front (drop m old) m size in
+    let answered : part ≡ zip2 f (take n (drop m keys)) (take n (drop m old)) =
+    made ∙ ap (λ (xs : List (List ℕ)). zip2 f (take n (drop m keys)) (take n xs)) rest in
+    let last : drop n (drop m now) ≡ drop (m + n) old = ap (drop n) rest ∙ drop-drop n m old in
+    ap₂ ◌++◌ first (ap₂ ◌++◌ answered last)
+    ∙ sym (append_assoc front (zip2 f (take n (drop m keys)) (take n (drop m old))) (drop (m + n) old))
+    ∙ ap (λ (xs : List (List ℕ)). xs ++ drop (m + n) old)
+    (sym (ap₂ (zip2 f) (take-add m n keys) (take-add m n old)
+    ∙ zip2-append f (take m keys) (take n (drop m keys)) (take m old) (take n (drop m old)) (in_keys ∙ sym in_old)))
+
+-- a list of which all are answered under keys
+pub zipped-all : (f : List ℕ → List ℕ → List ℕ) (m : ℕ) (keys old : List (List ℕ)) → length keys ≡ length old
+    → length old ≤ m
+    → zip2 f (take m keys) (take m old) ++ drop m old ≡ zip2 f keys old
+zipped-all f m keys old same all =
+    ap₂ (λ (front back : List (List ℕ)). zip2 f (take m keys) front ++ back) (take_all m old all) (drop_all m old all)
+    ∙ append-nil (zip2 f (take m keys) old)
+    ∙ ap (λ (ks : List (List ℕ)). zip2 f ks old) (take_all m keys (omega arith))
+
+-- answers under keys, one by one
+pub zipped-at : (f : List ℕ → List ℕ → List ℕ) (keys old new : List (List ℕ)) → length keys ≡ length old
+    → length new ≡ length old
+    → ((k : ℕ) → k < length old → get_or new k [] ≡ f (get_or keys k []) (get_or old k []))
+    → new ≡ zip2 f keys old
+zipped-at f keys old new same count each =
+    ext_get_or [] new (zip2 f keys old) (count ∙ sym (length-zip2 f keys old same ∙ same))
+    (λ k below.
+    let inside : k < length old = omega arith in
+    each k inside ∙ sym (get_or-zip2 f keys old k [] [] [] (omega arith) inside))

@@ -1,0 +1,16 @@
+use Rattle.std.proofs.Common.{[], get_or, ◌∙◌, arith}
+use Rattle.des_fast.specs.RoundKeySlices.{round_keys_in}
+use Rattle.des_fast.proofs.SpreadParts.{all_spread}
+use Rattle.des_fast.proofs.many.lanes.spread_parts.Goals as goal
+
+pub passes-preserved : goal.passes-preserved
+passes-preserved g c = record {
+  count = c.spread_pass.ensures.count ∙ c.passes.invariant.count;
+  spread = c.spread_pass.ensures.spread;
+}
+
+pub returns : goal.returns
+returns g c k below =
+    all_spread (round_keys_in (g.S.Slice.bit k)) c.passes.passes c.args.parts.now (get_or c.args.keys.now k [])
+    c.passes.i c.passes.invariant.count (omega arith)
+    (λ m low. c.passes.invariant.spread m low k below)

@@ -1,0 +1,20 @@
+-- The records before the index are chained.
+use Rattle.std.proofs.Common.{◌≡◌, ◌-◌, ◌≤◌, List, Bool, length}
+use Rattle.des_fast.specs.Passes.{HoldPasses, block_through_passes}
+use Rattle.des_fast.specs.Records.{start}
+use Rattle.des_fast.specs.RecordStates.{AreChainedBelow}
+use Rattle.des_fast.proofs.many.records.chain.Given as goal
+
+abbrev pub invariant-groups : goal.invariant-groups
+invariant-groups g l = record {
+  within : l.from ≤ length l.initial.vectors;
+  starts : l.start ≡ start (g.Z.Sizes.list l.sizes) l.from;
+  in_vectors : length l.vectors ≡ length l.initial.vectors;
+  in_blocks : length l.blocks ≡ length l.initial.blocks;
+  chained : (keys : List (List (List Bool))) → HoldPasses g.S.Slice.BATCH g.S.Slice.bit l.passes keys
+      → AreChainedBelow (λ _. block_through_passes keys) (g.Z.Sizes.list l.sizes) l.initial.vectors l.initial.blocks
+      l.vectors l.blocks l.from;
+}
+
+abbrev pub decreases-groups : goal.decreases-groups
+decreases-groups g l = length l.initial.vectors - l.from

@@ -1,0 +1,18 @@
+-- Keys of the lanes of a batch, each lane's own.
+use Rattle.std.specs.Prelude.{◌≡◌, ℕ, ◌<◌, List, [], Bool, true, false, length, slice_index_or}
+use Rattle.des_fast.specs.declared.many.lanes.LaneKeys.{LaneKeys}
+use Rattle.des_fast.specs.SpreadKeys.{used}
+use Rattle.des_fast.specs.EachKey.{lane_answer}
+
+-- of what a cipher answers in its two directions, that of decryption where it is asked for
+abbrev pub answer_in : Bool → (List ℕ → List ℕ → List ℕ) → (List ℕ → List ℕ → List ℕ)
+    → List ℕ → List ℕ → List ℕ
+answer_in false encryption decryption = encryption
+answer_in true encryption decryption = decryption
+
+-- the lanes answer a block so, each under the key at its place
+abbrev pub AnswerLanes : {A : Type 0} → (ℕ → A → Bool) → LaneKeys A → (List ℕ → List ℕ → List ℕ)
+    → List (List ℕ) → Type 0
+AnswerLanes bit lanes answer keys =
+    (k : ℕ) → k < length keys
+    → lane_answer (bit k) (used lanes.is_triple lanes.passes) ≡ answer (slice_index_or keys k [])

@@ -1,0 +1,192 @@
+//! Many chains in step, of which the ends are asked for: those of MACs. At each step the next block
+//! of every list goes into its chain, and the chains go through the rounds together, as a batch.
+//! Lists that have ended wait in their lanes.
+
+ghost use Rattle.std.specs.Prelude.{◌≡◌, ◌≤◌, ◌<◌, ◌+◌, ◌^◌, ℕ, List, length, map};
+ghost use Rattle.des.specs.Cbc.{xor_blocks};
+ghost use Rattle.des_fast.specs.Transposition.{block_at};
+ghost use Rattle.des_fast.specs.Slices.{InEachBlock};
+ghost use Rattle.des_fast.specs.EachKey.{lane_answer};
+ghost use Rattle.des_fast.specs.ChainEnds.{AreEnds, key_at};
+
+use super::each_key::KeyForEach;
+use super::lanes::{LaneKeys, answer_filled};
+use super::{LARGEST_BATCH, Slice, next_count, xored};
+use crate::slices::PassSlices;
+
+/// Lists of blocks of 8 bytes, one for each of many chains, of which a call reads block after
+/// block. They are numbered from 0, and so are their blocks.
+pub trait BlockLists {
+    // How many lists there are.
+    ghost list_count: { Self → ℕ };
+
+    // How many blocks list k has.
+    ghost count_of: { Self → ℕ → ℕ };
+
+    // Block i of list k.
+    ghost block_of: { Self → ℕ → ℕ → List ℕ };
+
+    /// How many lists there are.
+    fn list_count(&self) -> usize
+        ensures { result ≡ list_count self.now };
+
+    /// How many blocks the list has.
+    fn count(&self, list: usize) -> usize
+        requires { list < list_count self.now }
+        ensures { result ≡ count_of self.now list };
+
+    /// A block of the list.
+    fn block(&self, list: usize, index: usize) -> [u8; 8]
+        requires there { list < list_count self.now }
+        requires within { index < count_of self.now list }
+        ensures { result ≡ block_of self.now list index };
+}
+
+// At least as many as each of the lists has, of which `lists` come from number `from` on.
+fn longest<L: BlockLists>(lists: &L, from: usize, count: usize) -> usize
+    requires there { from + count ≤ L.list_count lists.now }
+    requires fits { from + count < 2 ^ 64 }
+    ensures { (k : ℕ) → k < count → L.count_of lists.now (from + k) ≤ result }
+{
+    let mut most = 0;
+    'lists: for k in 0..count {
+        let blocks = lists.count(from + k);
+        most = if blocks > most { blocks } else { most };
+    }
+    most
+}
+
+// Makes each lane the xor of its chain and block i of its list, where that has one.
+fn add_step<L: BlockLists>(
+    lanes: &mut [[u8; 8]; LARGEST_BATCH],
+    chains: &[[u8; 8]],
+    lists: &L,
+    from: usize,
+    i: usize,
+)
+    requires few { length chains.now ≤ 256 }
+    requires there { from + length chains.now ≤ L.list_count lists.now }
+    requires fits { from + length chains.now < 2 ^ 64 }
+    ensures { (k : ℕ) → k < length chains.now → i < L.count_of lists.now (from + k)
+        → block_at lanes.new k
+        ≡ xor_blocks (L.block_of lists.now (from + k) i) (block_at chains.now k) }
+{
+    'lists: for k in 0..chains.len() {
+        if i < lists.count(from + k) {
+            lanes[k] = xored(&lists.block(from + k, i), &chains[k]);
+        }
+    }
+}
+
+// Makes each chain its lane, where its list has a block i.
+fn keep_step<L: BlockLists>(
+    chains: &mut [[u8; 8]],
+    lanes: &[[u8; 8]; LARGEST_BATCH],
+    lists: &L,
+    from: usize,
+    i: usize,
+)
+    requires few { length chains.old ≤ 256 }
+    requires there { from + length chains.old ≤ L.list_count lists.now }
+    requires fits { from + length chains.old < 2 ^ 64 }
+    ensures gone_on { (k : ℕ) → k < length chains.old → i < L.count_of lists.now (from + k)
+        → block_at chains.new k ≡ block_at lanes.now k }
+    ensures ended { (k : ℕ) → k < length chains.old → L.count_of lists.now (from + k) ≤ i
+        → block_at chains.new k ≡ block_at chains.old k }
+{
+    'lists: for k in 0..chains.len() {
+        if i < lists.count(from + k) {
+            chains[k] = lanes[k];
+        }
+    }
+}
+
+/// Makes at most a batch of blocks the ends of the chains from them through the lists from number
+/// `from` on.
+pub(super) fn end_group<S: Slice, L: BlockLists>(
+    chains: &mut [[u8; 8]],
+    lists: &L,
+    from: usize,
+    passes: &[PassSlices<S>],
+)
+    requires few { length chains.old ≤ S.BATCH }
+    requires there { from + length chains.old ≤ L.list_count lists.now }
+    requires fits { from + length chains.old < 2 ^ 64 }
+    ensures count { length chains.new ≡ length chains.old }
+    ensures ends { AreEnds (λ k. lane_answer (S.bit k) passes.now)
+        (λ k. L.block_of lists.now (from + k)) (λ k. L.count_of lists.now (from + k))
+        chains.old chains.new }
+{
+    let mut lanes = [[0; 8]; LARGEST_BATCH];
+    'steps: for i in 0..longest(lists, from, chains.len()) {
+        add_step(&mut lanes, chains, lists, from, i);
+        answer_filled(&mut lanes, passes);
+        keep_step(chains, &lanes, lists, from, i);
+    }
+}
+
+/// Makes blocks the ends of the chains from them through the list of each, by the same answer in
+/// all lanes, a batch at a time.
+pub(super) fn end<S: Slice, L: BlockLists>(
+    chains: &mut [[u8; 8]],
+    lists: &L,
+    passes: &[PassSlices<S>],
+)
+    requires { length chains.old ≡ L.list_count lists.now }
+    ensures count { length chains.new ≡ length chains.old }
+    ensures ends { (answer : List ℕ → List ℕ)
+        → InEachBlock S.BATCH (λ b. lane_answer (S.bit b) passes.now ≡ answer)
+        → AreEnds (λ k. answer) (L.block_of lists.now) (L.count_of lists.now)
+        chains.old chains.new }
+{
+    let mut from = 0;
+    'groups: while from < chains.len() {
+        let count = next_count::<S>(chains.len() - from);
+        end_group(&mut chains[from..from + count], lists, from, passes);
+        from += count;
+    }
+}
+
+// Makes at most a batch of blocks the ends of the chains from them through the lists from number
+// `from` on, each under its key.
+fn end_group_each<S: Slice, C: KeyForEach, L: BlockLists>(
+    keys: &[C::Key],
+    chains: &mut [[u8; 8]],
+    lists: &L,
+    from: usize,
+)
+    requires same { length keys.now ≡ length chains.old }
+    requires few { length chains.old ≤ S.BATCH }
+    requires there { from + length chains.old ≤ L.list_count lists.now }
+    requires fits { from + length chains.old < 2 ^ 64 }
+    ensures count { length chains.new ≡ length chains.old }
+    ensures ends { AreEnds (key_at C.encryption (map C.Key.bytes_of keys.now))
+        (λ k. L.block_of lists.now (from + k)) (λ k. L.count_of lists.now (from + k))
+        chains.old chains.new }
+{
+    let mut lanes = LaneKeys::unwritten();
+    C::spread_each(keys, false, &mut lanes);
+    end_group::<S, L>(chains, lists, from, lanes.passes());
+}
+
+/// Makes blocks the ends of the chains from them through the list of each, each under the key at
+/// its place, a batch at a time.
+pub(super) fn end_each<S: Slice, C: KeyForEach, L: BlockLists>(
+    keys: &[C::Key],
+    chains: &mut [[u8; 8]],
+    lists: &L,
+)
+    requires same { length keys.now ≡ length chains.old }
+    requires there { length chains.old ≡ L.list_count lists.now }
+    ensures count { length chains.new ≡ length chains.old }
+    ensures ends { AreEnds (key_at C.encryption (map C.Key.bytes_of keys.now))
+        (L.block_of lists.now) (L.count_of lists.now) chains.old chains.new }
+{
+    let mut from = 0;
+    'groups: while from < chains.len() {
+        let count = next_count::<S>(chains.len() - from);
+        let part = &keys[from..from + count];
+        end_group_each::<S, C, L>(part, &mut chains[from..from + count], lists, from);
+        from += count;
+    }
+}

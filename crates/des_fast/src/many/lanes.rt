@@ -1,0 +1,197 @@
+//! Keys of the lanes of a batch: each block of it has a key of its own.
+//!
+//! The keys are transposed as blocks are, and their bits stand in slices as those of one key do
+//! that is spread: a round takes as long as under one key.
+
+ghost use Rattle.std.specs.Prelude.{◌≡◌, ◌≤◌, ◌<◌, ◌+◌, ◌*◌, ◌&&◌, ℕ, [], ◌∷◌, IsTrue, length, map, nat_lt};
+ghost use Rattle.std.specs.List.{list_all};
+ghost use Rattle.des.specs.Blocks.{part};
+ghost use Rattle.des_fast.specs.Slices.{InEachBlock};
+ghost use Rattle.des_fast.specs.Transposition.{block_at};
+ghost use Rattle.des_fast.specs.RoundKeySlices.{round_keys_in};
+ghost use Rattle.des_fast.specs.SpreadKeys.{used};
+ghost use Rattle.des_fast.specs.EachKey.{round_keys_under, round_keys_of_parts, AreSpreadBelow, lane_answer};
+
+use super::{LARGEST_BATCH, Slice};
+use crate::slices::{PassSlices, read_blocks, slices_through_passes, write_blocks};
+use des::tdes::key_part;
+
+/// A pass of DES under a part of a key.
+#[derive(Clone, Copy)]
+pub(super) struct Part {
+    /// The number of the part, from 1.
+    pub(super) number: usize,
+    /// Whether the pass deciphers.
+    pub(super) deciphers: bool,
+}
+
+/// The keys of the lanes of a batch, spread over slices for one direction: each lane's own. It takes
+/// some 5,500 bytes over vectors of two words, and 11,000 over four.
+#[derive(Drop)]
+pub struct LaneKeys<S> {
+    passes: [PassSlices<S>; 3],
+    is_triple: bool,
+}
+
+/// The passes that are used: of single DES the first.
+#[inline(always)]
+pub(super) fn used<S: Slice>(passes: &[PassSlices<S>; 3], is_triple: bool) -> &[PassSlices<S>]
+    ensures { result.now ≡ used is_triple passes.now }
+{
+    if is_triple { passes } else { &passes[..1] }
+}
+
+impl<S: Slice> LaneKeys<S> {
+    /// Keys that are written over.
+    #[inline(always)]
+    pub(super) fn unwritten() -> LaneKeys<S> {
+        LaneKeys {
+            passes: [PassSlices::unwritten(); 3],
+            is_triple: false,
+        }
+    }
+
+    /// The passes of the keys.
+    #[inline(always)]
+    pub(super) fn passes(&self) -> &[PassSlices<S>]
+        ensures { result.now ≡ used self.now.is_triple self.now.passes }
+    {
+        used(&self.passes, self.is_triple)
+    }
+
+    /// Makes the lanes' keys one pass under these keys of 8 bytes.
+    pub(super) fn spread_one(&mut self, keys: &[[u8; 8]], by: Part)
+        requires first { by.number ≡ 1 }
+        requires batch { length keys.now ≤ S.BATCH }
+        ensures { (k : ℕ) → k < length keys.now
+            → map (round_keys_in (S.bit k)) (used self.new.is_triple self.new.passes)
+            ≡ round_keys_of_parts (by ∷ []) (block_at keys.now k) }
+    {
+        spread_part(&mut self.passes[0], keys, by);
+        self.is_triple = false;
+    }
+
+    /// Makes the lanes' keys three passes under parts of these keys.
+    pub(super) fn spread_three<const N: usize>(&mut self, keys: &[[u8; N]], parts: &[Part; 3])
+        requires batch { length keys.now ≤ S.BATCH }
+        requires there { IsTrue (list_all
+            (λ p. nat_lt 0 p.number && nat_lt (8 * p.number) (N + 1)) parts.now) }
+        ensures { (k : ℕ) → k < length keys.now
+            → map (round_keys_in (S.bit k)) (used self.new.is_triple self.new.passes)
+            ≡ round_keys_of_parts parts.now (block_at keys.now k) }
+    {
+        spread_parts(&mut self.passes, keys, parts);
+        self.is_triple = true;
+    }
+}
+
+// Makes the first blocks those of a part of each key.
+fn write_parts<const N: usize>(
+    parts: &mut [[u8; 8]; LARGEST_BATCH],
+    keys: &[[u8; N]],
+    number: usize,
+)
+    requires from_one { 1 ≤ number }
+    requires within { 8 * number ≤ N }
+    requires batch { length keys.now ≤ 256 }
+    ensures { (k : ℕ) → k < length keys.now
+        → block_at parts.new k ≡ part number (block_at keys.now k) }
+{
+    'keys: for k in 0..keys.len() {
+        parts[k] = key_part(&keys[k], number);
+    }
+}
+
+// Makes the slices those of a pass under a part of each key.
+fn spread_part<S: Slice, const N: usize>(pass: &mut PassSlices<S>, keys: &[[u8; N]], by: Part)
+    requires from_one { 1 ≤ by.number }
+    requires within { 8 * by.number ≤ N }
+    requires batch { length keys.now ≤ S.BATCH }
+    ensures { (k : ℕ) → k < length keys.now → round_keys_in (S.bit k) pass.new
+        ≡ round_keys_under by.deciphers (part by.number (block_at keys.now k)) }
+{
+    let mut parts = [[0; 8]; LARGEST_BATCH];
+    write_parts(&mut parts, keys, by.number);
+    pass.spread_each(&parts[..S::BATCH], by.deciphers);
+}
+
+// Makes pass i, from 0, that of its part of each key, where those before it are. A third pass that
+// is the first again is copied.
+fn spread_pass<S: Slice, const N: usize>(
+    passes: &mut [PassSlices<S>; 3],
+    keys: &[[u8; N]],
+    parts: &[Part; 3],
+    i: usize,
+)
+    requires within { i < 3 }
+    requires batch { length keys.now ≤ S.BATCH }
+    requires there { IsTrue (list_all (λ p. nat_lt 0 p.number && nat_lt (8 * p.number) (N + 1))
+        parts.now) }
+    requires before { AreSpreadBelow S.bit parts.now keys.now passes.old i }
+    ensures count { length passes.new ≡ length passes.old }
+    ensures spread { AreSpreadBelow S.bit parts.now keys.now passes.new (i + 1) }
+{
+    if i == 2 && parts[2].number == parts[0].number && parts[2].deciphers == parts[0].deciphers {
+        passes[2] = passes[0];
+    } else {
+        spread_part(&mut passes[i], keys, parts[i]);
+    }
+}
+
+// Makes passes those under parts of each key.
+fn spread_parts<S: Slice, const N: usize>(
+    passes: &mut [PassSlices<S>; 3],
+    keys: &[[u8; N]],
+    parts: &[Part; 3],
+)
+    requires batch { length keys.now ≤ S.BATCH }
+    requires there { IsTrue (list_all (λ p. nat_lt 0 p.number && nat_lt (8 * p.number) (N + 1))
+        parts.now) }
+    ensures { (k : ℕ) → k < length keys.now → map (round_keys_in (S.bit k)) passes.new
+        ≡ round_keys_of_parts parts.now (block_at keys.now k) }
+{
+    'passes: for i in 0..3 {
+        spread_pass(passes, keys, parts, i);
+    }
+}
+
+/// Takes a batch of blocks through passes, each by the round keys that the slices hold for it.
+pub(super) fn answer_lanes<S: Slice>(blocks: &mut [[u8; 8]], passes: &[PassSlices<S>])
+    requires { length blocks.old ≡ S.BATCH }
+    ensures count { length blocks.new ≡ length blocks.old }
+    ensures lanes { InEachBlock S.BATCH (λ b. block_at blocks.new b
+        ≡ lane_answer (S.bit b) passes.now (block_at blocks.old b)) }
+{
+    let mut slices = [S::same(false); 64];
+    read_blocks(&mut slices, blocks);
+    slices_through_passes(&mut slices, passes);
+    write_blocks(blocks, &mut slices);
+}
+
+/// Takes the first lanes, a batch, through passes. It is a function for the proof's sake: of an
+/// array that is lent it knows the length where it is a parameter.
+pub(super) fn answer_filled<S: Slice>(
+    lanes: &mut [[u8; 8]; LARGEST_BATCH],
+    passes: &[PassSlices<S>],
+)
+    ensures { (k : ℕ) → k < S.BATCH
+        → block_at lanes.new k ≡ lane_answer (S.bit k) passes.now (block_at lanes.old k) }
+{
+    answer_lanes(&mut lanes[..S::BATCH], passes);
+}
+
+/// The same of at most a batch of blocks.
+pub(super) fn answer_lanes_part<S: Slice>(blocks: &mut [[u8; 8]], passes: &[PassSlices<S>])
+    requires { length blocks.old ≤ S.BATCH }
+    ensures count { length blocks.new ≡ length blocks.old }
+    ensures lanes { (k : ℕ) → k < length blocks.old → block_at blocks.new k
+        ≡ lane_answer (S.bit k) passes.now (block_at blocks.old k) }
+{
+    if blocks.len() == S::BATCH {
+        return answer_lanes(blocks, passes);
+    }
+    let mut answers = [[0; 8]; LARGEST_BATCH];
+    answers[..blocks.len()].copy_from_slice(blocks);
+    answer_lanes(&mut answers[..S::BATCH], passes);
+    blocks.copy_from_slice(&answers[..blocks.len()]);
+}

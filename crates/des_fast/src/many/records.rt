@@ -1,0 +1,350 @@
+//! Records of blocks, one after another in a list, each chained by CBC from a vector of its own.
+//!
+//! Encryption takes a group of records in step, a record in each lane of a batch: at each step the
+//! next block of every record goes into its chain, and the chains go through the passes together.
+//! Decryption waits for no other block, and takes the list a batch of blocks at a time.
+
+ghost use Rattle.std.specs.Prelude.{◌≡◌, ◌↔◌, ◌≤◌, ◌<◌, ◌+◌, ℕ, List, Bool, IsTrue, length, replicate, sum, slice_index};
+ghost use Rattle.des.specs.Cbc.{xor_blocks};
+ghost use Rattle.des_fast.specs.Passes.{HoldPasses, block_through_passes};
+ghost use Rattle.des_fast.specs.EachKey.{lane_answer};
+ghost use Rattle.des_fast.specs.Records.{start};
+ghost use Rattle.des_fast.specs.RecordStates.{HasBlock, AreWritten, AreChainedBelow, AreUnchainedBelow};
+ghost use Rattle.des_fast.specs.Transposition.{block_at};
+
+use super::lanes::answer_filled;
+use super::{LARGEST_BATCH, Slice, next_count, write_answers, xored};
+use crate::slices::PassSlices;
+
+/// How many blocks each record has.
+pub(super) trait Sizes: Copy {
+    // The number of blocks of each record, in order.
+    ghost list: { Self → List ℕ };
+
+    /// The number of blocks of record k, from 0.
+    fn of(self, k: usize) -> usize
+        requires { k < length (list self) }
+        ensures { result ≡ slice_index (list self) k };
+}
+
+impl Sizes for &[usize] {
+    ghost list = { λ sizes. sizes.now };
+
+    fn of(self, k: usize) -> usize {
+        self[k]
+    }
+}
+
+/// Sizes of records that have as many blocks each.
+#[derive(Clone, Copy)]
+pub(super) struct Equal {
+    pub(super) count: usize,
+    pub(super) size: usize,
+}
+
+impl Sizes for Equal {
+    ghost list = { λ equal. replicate equal.count equal.size };
+
+    fn of(self, _k: usize) -> usize {
+        self.size
+    }
+}
+
+/// Whether the sizes of `count` records sum up to a number of blocks.
+pub(super) fn sum_up<Z: Sizes>(sizes: Z, count: usize, blocks: usize) -> bool
+    requires { length (Z.list sizes) ≡ count }
+    ensures { IsTrue result ↔ (sum (Z.list sizes) ≡ blocks) }
+{
+    let mut left = blocks;
+    'records: for k in 0..count {
+        let size = sizes.of(k);
+        if left < size {
+            return false;
+        }
+        left -= size;
+    }
+    left == 0
+}
+
+/// The records from `from` on that go together, at most a batch, with the block at which the first
+/// of them begins.
+#[derive(Clone, Copy)]
+pub(super) struct Group {
+    pub(super) from: usize,
+    pub(super) count: usize,
+    pub(super) start: usize,
+}
+
+/// How many steps a group takes, the blocks of its longest record, and where the next one begins.
+#[derive(Clone, Copy)]
+pub(super) struct Extent {
+    pub(super) steps: usize,
+    pub(super) end: usize,
+}
+
+impl Group {
+    /// The extent of the group.
+    pub(super) fn extent<Z: Sizes>(self, sizes: Z) -> Extent
+        requires within { self.from + self.count ≤ length (Z.list sizes) }
+        requires starts { self.start ≡ start (Z.list sizes) self.from }
+        requires counts { length (Z.list sizes) ≤ usize.MAX }
+        requires fits { sum (Z.list sizes) ≤ usize.MAX }
+        ensures end { result.end ≡ start (Z.list sizes) (self.from + self.count) }
+        ensures longest { (k : ℕ) → k < self.count
+            → slice_index (Z.list sizes) (self.from + k) ≤ result.steps }
+    {
+        let mut end = self.start;
+        let mut steps = 0;
+        'records: for k in 0..self.count {
+            let size = sizes.of(self.from + k);
+            end += size;
+            if steps < size {
+                steps = size;
+            }
+        }
+        Extent { steps, end }
+    }
+}
+
+// Makes the lane of each record of a group that has a block i, from 0, that block xor its chain.
+fn fill_lanes<Z: Sizes>(
+    lanes: &mut [[u8; 8]; LARGEST_BATCH],
+    vectors: &[[u8; 8]],
+    sizes: Z,
+    blocks: &[[u8; 8]],
+    group: Group,
+    i: usize,
+)
+    requires few { group.count ≤ 256 }
+    requires within { group.from + group.count ≤ length (Z.list sizes) }
+    requires starts { group.start ≡ start (Z.list sizes) group.from }
+    requires vectors { length vectors.now ≡ length (Z.list sizes) }
+    requires whole { length blocks.now ≡ sum (Z.list sizes) }
+    ensures { (k : ℕ) → k < group.count → i < slice_index (Z.list sizes) (group.from + k)
+        → block_at lanes.new k ≡ xor_blocks
+        (block_at blocks.now (start (Z.list sizes) (group.from + k) + i))
+        (block_at vectors.now (group.from + k)) }
+{
+    let mut start = group.start;
+    'records: for k in 0..group.count {
+        let size = sizes.of(group.from + k);
+        if i < size {
+            lanes[k] = xored(&blocks[start + i], &vectors[group.from + k]);
+        }
+        start += size;
+    }
+}
+
+// Makes block i, from 0, of each record of a group that has one what its lane holds, and its chain
+// too. The records that have ended stay.
+fn write_lanes<Z: Sizes>(
+    lanes: &[[u8; 8]; LARGEST_BATCH],
+    vectors: &mut [[u8; 8]],
+    sizes: Z,
+    blocks: &mut [[u8; 8]],
+    group: Group,
+    i: usize,
+)
+    requires few { group.count ≤ 256 }
+    requires within { group.from + group.count ≤ length (Z.list sizes) }
+    requires starts { group.start ≡ start (Z.list sizes) group.from }
+    requires vectors { length vectors.old ≡ length (Z.list sizes) }
+    requires whole { length blocks.old ≡ sum (Z.list sizes) }
+    ensures count { length blocks.new ≡ length blocks.old }
+    ensures vectors { length vectors.new ≡ length vectors.old }
+    ensures written { AreWritten (Z.list sizes) group.from group.count i lanes.now
+        vectors.old blocks.old vectors.new blocks.new }
+{
+    let mut start = group.start;
+    'records: for k in 0..group.count {
+        let size = sizes.of(group.from + k);
+        if i < size {
+            blocks[start + i] = lanes[k];
+            vectors[group.from + k] = lanes[k];
+        }
+        start += size;
+    }
+}
+
+/// Chains the records of a group in step, each by the passes of its lane.
+pub(super) fn chain_group<S: Slice, Z: Sizes>(
+    vectors: &mut [[u8; 8]],
+    sizes: Z,
+    blocks: &mut [[u8; 8]],
+    group: Group,
+    steps: usize,
+    passes: &[PassSlices<S>],
+)
+    requires few { group.count ≤ S.BATCH }
+    requires within { group.from + group.count ≤ length (Z.list sizes) }
+    requires starts { group.start ≡ start (Z.list sizes) group.from }
+    requires vectors { length vectors.old ≡ length (Z.list sizes) }
+    requires whole { length blocks.old ≡ sum (Z.list sizes) }
+    requires longest { (k : ℕ) → k < group.count
+        → slice_index (Z.list sizes) (group.from + k) ≤ steps }
+    ensures count { length blocks.new ≡ length blocks.old }
+    ensures vectors { length vectors.new ≡ length vectors.old }
+    ensures chained { (encryption : ℕ → List ℕ → List ℕ) (first p : List (List ℕ))
+        → ((k : ℕ) → k < group.count
+        → encryption (group.from + k) ≡ lane_answer (S.bit k) passes.now)
+        → AreChainedBelow encryption (Z.list sizes) first p vectors.old blocks.old group.from
+        → AreChainedBelow encryption (Z.list sizes) first p vectors.new blocks.new
+        (group.from + group.count) }
+{
+    let mut lanes = [[0; 8]; LARGEST_BATCH];
+    'steps: for i in 0..steps {
+        fill_lanes(&mut lanes, vectors, sizes, blocks, group, i);
+        answer_filled(&mut lanes, passes);
+        write_lanes(&lanes, vectors, sizes, blocks, group, i);
+    }
+}
+
+/// Chains each record from the vector at its place, a batch of records at a time, and makes the
+/// vector the one with which the chain goes on.
+pub(super) fn chain<S: Slice, Z: Sizes>(
+    vectors: &mut [[u8; 8]],
+    sizes: Z,
+    blocks: &mut [[u8; 8]],
+    passes: &[PassSlices<S>],
+)
+    requires vectors { length vectors.old ≡ length (Z.list sizes) }
+    requires whole { length blocks.old ≡ sum (Z.list sizes) }
+    ensures count { length blocks.new ≡ length blocks.old }
+    ensures chained { (keys : List (List (List Bool))) → HoldPasses S.BATCH S.bit passes.now keys
+        → AreChainedBelow (λ _. block_through_passes keys) (Z.list sizes) vectors.old blocks.old
+        vectors.new blocks.new (length vectors.old) }
+{
+    let mut from = 0;
+    let mut start = 0;
+    'groups: while from < vectors.len() {
+        let count = next_count::<S>(vectors.len() - from);
+        let group = Group { from, count, start };
+        let extent = group.extent(sizes);
+        chain_group(vectors, sizes, blocks, group, extent.steps, passes);
+        from += count;
+        start = extent.end;
+    }
+}
+
+/// A record, by its number from 0, with the block at which it begins.
+#[derive(Clone, Copy)]
+pub(super) struct Record {
+    pub(super) number: usize,
+    pub(super) start: usize,
+}
+
+/// The record in which a block is, from one on that does not begin after it.
+pub(super) fn record_with<Z: Sizes>(sizes: Z, from: Record, place: usize) -> Record
+    requires starts { from.start ≡ start (Z.list sizes) from.number }
+    requires before { from.start ≤ place }
+    requires within { place < sum (Z.list sizes) }
+    requires counts { length (Z.list sizes) ≤ usize.MAX }
+    requires fits { sum (Z.list sizes) ≤ usize.MAX }
+    ensures starts { result.start ≡ start (Z.list sizes) result.number }
+    ensures there { HasBlock (Z.list sizes) result.number place }
+{
+    let mut number = from.number;
+    let mut start = from.start;
+    'records: while start + sizes.of(number) <= place {
+        start += sizes.of(number);
+        number += 1;
+    }
+    Record { number, start }
+}
+
+/// Takes a part of the blocks out of the chains, where the answers to its blocks are known. It
+/// begins in no record before `current`; what is returned is the record of its last block.
+pub(super) fn take_out<Z: Sizes>(
+    vectors: &mut [[u8; 8]],
+    sizes: Z,
+    blocks: &mut [[u8; 8]],
+    from: usize,
+    count: usize,
+    current: Record,
+    answers: &[[u8; 8]; LARGEST_BATCH],
+) -> Record
+    requires few { count ≤ 256 }
+    requires within { from + count ≤ length blocks.old }
+    requires starts { current.start ≡ start (Z.list sizes) current.number }
+    requires before { current.start ≤ from }
+    requires vectors { length vectors.old ≡ length (Z.list sizes) }
+    requires whole { length blocks.old ≡ sum (Z.list sizes) }
+    ensures starts { result.start ≡ start (Z.list sizes) result.number }
+    ensures before { result.start ≤ from + count }
+    ensures count { length blocks.new ≡ length blocks.old }
+    ensures vectors { length vectors.new ≡ length vectors.old }
+    ensures unchained { (decryption : ℕ → List ℕ → List ℕ) (first q : List (List ℕ))
+        → ((k m : ℕ) → k < count → HasBlock (Z.list sizes) m (from + k)
+        → block_at answers.now k ≡ decryption m (block_at blocks.old (from + k)))
+        → AreUnchainedBelow decryption (Z.list sizes) first q vectors.old blocks.old from
+        → AreUnchainedBelow decryption (Z.list sizes) first q vectors.new blocks.new
+        (from + count) }
+{
+    let mut record = current;
+    'answers: for k in 0..count {
+        record = record_with(sizes, record, from + k);
+        let ciphertext = blocks[from + k];
+        blocks[from + k] = xored(&answers[k], &vectors[record.number]);
+        vectors[record.number] = ciphertext;
+    }
+    record
+}
+
+// Takes a part of the blocks through passes and out of the chains, as `take_out` does.
+fn unchain_part<S: Slice, Z: Sizes>(
+    vectors: &mut [[u8; 8]],
+    sizes: Z,
+    blocks: &mut [[u8; 8]],
+    from: usize,
+    count: usize,
+    current: Record,
+    passes: &[PassSlices<S>],
+) -> Record
+    requires few { count ≤ S.BATCH }
+    requires within { from + count ≤ length blocks.old }
+    requires starts { current.start ≡ start (Z.list sizes) current.number }
+    requires before { current.start ≤ from }
+    requires vectors { length vectors.old ≡ length (Z.list sizes) }
+    requires whole { length blocks.old ≡ sum (Z.list sizes) }
+    ensures starts { result.start ≡ start (Z.list sizes) result.number }
+    ensures before { result.start ≤ from + count }
+    ensures count { length blocks.new ≡ length blocks.old }
+    ensures vectors { length vectors.new ≡ length vectors.old }
+    ensures unchained { (keys : List (List (List Bool))) → HoldPasses S.BATCH S.bit passes.now keys
+        → (first q : List (List ℕ))
+        → AreUnchainedBelow (λ _. block_through_passes keys) (Z.list sizes) first q vectors.old
+        blocks.old from
+        → AreUnchainedBelow (λ _. block_through_passes keys) (Z.list sizes) first q vectors.new
+        blocks.new (from + count) }
+{
+    let mut answers = [[0; 8]; LARGEST_BATCH];
+    write_answers(&mut answers, &blocks[from..from + count], passes);
+    take_out(vectors, sizes, blocks, from, count, current, &answers)
+}
+
+/// Takes each record out of the chain that begins with the vector at its place, a batch of blocks
+/// at a time, and makes the vector the one with which the chain goes on.
+pub(super) fn unchain<S: Slice, Z: Sizes>(
+    vectors: &mut [[u8; 8]],
+    sizes: Z,
+    blocks: &mut [[u8; 8]],
+    passes: &[PassSlices<S>],
+)
+    requires vectors { length vectors.old ≡ length (Z.list sizes) }
+    requires whole { length blocks.old ≡ sum (Z.list sizes) }
+    ensures count { length blocks.new ≡ length blocks.old }
+    ensures unchained { (keys : List (List (List Bool))) → HoldPasses S.BATCH S.bit passes.now keys
+        → AreUnchainedBelow (λ _. block_through_passes keys) (Z.list sizes) vectors.old blocks.old
+        vectors.new blocks.new (length blocks.old) }
+{
+    let mut record = Record {
+        number: 0,
+        start: 0,
+    };
+    let mut from = 0;
+    'parts: while from < blocks.len() {
+        let count = next_count::<S>(blocks.len() - from);
+        record = unchain_part(vectors, sizes, blocks, from, count, record, passes);
+        from += count;
+    }
+}
