@@ -1,6 +1,5 @@
 -- The chain over blocks of bytes.
-use Rattle.std.proofs.Common.{◌≡◌, ℕ, zero, suc, ◌+◌, ◌*◌, ◌<◌, ◌≤◌, List, [], ◌++◌, length, take, drop, get_or, refl, ap, ◌∙◌, arith, length-drop, add-one}
-use Rattle.std.specs.Simd.{first_chunks}
+use Rattle.std.proofs.Common.{◌≡◌, ℕ, zero, suc, ◌+◌, ◌*◌, ◌≤◌, List, ◌++◌, length, drop, refl, arith, length-drop, add-one}
 use Rattle.std.proofs.lemmas.List.{take-append-le, drop-append-le, drop-drop, drop_at}
 use Rattle.des.specs.Cbc.{xor_blocks}
 use Rattle.des_mac.specs.CbcMac.{block_after, chain_after}

@@ -16,7 +16,7 @@ use Rattle.des_mac.proofs.MaskedTags.{masked_message-whole, masked_message-part,
 use Rattle.des_mac.proofs.PaddedBytes.{CanChain, CanChain-one_bit_after}
 use Rattle.des_mac.proofs.RelatedMacs.{IsBlock-zero_block, cbc_mac-related, cbc_mac-relates}
 
-IsBlock-doubled : (block : List ℕ) → IsBlock (doubled block)
+pub IsBlock-doubled : (block : List ℕ) → IsBlock (doubled block)
 unfolding doubled
 IsBlock-doubled block = IsBlock-to_be_bytes _
 

@@ -9,3 +9,4 @@ pub mod IsProgress
 pub mod Laws
 pub mod HoldsRetail
 pub mod MacRelations
+pub mod ManyMessages

@@ -24,7 +24,7 @@ pub struct Cmac<C> {
 
 // A block doubled (6.1): its bits moved by one to the left, and where a one bit leaves, the last
 // byte xored with 00011011.
-fn doubled(block: &[u8; 8]) -> [u8; 8]
+pub(crate) fn doubled(block: &[u8; 8]) -> [u8; 8]
     ensures { result ≡ doubled_block block.now }
 {
     let word = u64::from_be_bytes(*block);

@@ -1,7 +1,7 @@
 //! Message authentication codes over any block cipher with the traits of `des::cipher`, after the
 //! Rust crates `cbc-mac`, `retail-mac` and `cmac`: CBC-MAC and the retail MAC (ISO/IEC 9797-1:2011,
 //! algorithms 1 and 3, with padding methods 1 and 2), and CMAC (NIST SP 800-38B). A message comes
-//! in pieces of any length, and a tag has 8 bytes.
+//! in pieces of any length, and a tag has 8 bytes. `many` has the tags of many messages at once.
 //!
 //! `CbcMac` is safe only where every message under a key has the same length. Padding method 1
 //! cannot tell zeros at the end of a message. Blocks and tags have 64 bits: a key is for far fewer
@@ -16,6 +16,7 @@ pub mod cbc_mac;
 mod chaining;
 pub mod cmac;
 pub mod mac;
+pub mod many;
 pub mod padding;
 pub mod progress;
 pub mod retail_mac;

@@ -1,0 +1,20 @@
+use Rattle.std.proofs.Common.{◌≡◌, ℕ, List, length, map, sym, ◌∙◌, arith}
+use Rattle.std.proofs.lemmas.List.{length-map}
+use Rattle.std.proofs.lemmas.Result.{on_ok_weaker}
+use Rattle.des_mac.specs.Padding.{padded}
+use Rattle.des_mac.specs.ManyMessages.{texts}
+use Rattle.des_mac.proofs.ManyChains.{ends-cbc_macs}
+use Rattle.des_mac.proofs.many.cbc_macs_each_by.Goals as goal
+
+pub returns-clause-ok : goal.returns-clause-ok
+returns-clause-ok g c =
+    let tags : List (List ℕ) = c.args.tags.now in
+    let same : length c.clear.new.blocks ≡ length tags = c.clear.auto.blocks in
+    on_ok_weaker c.chain_ends_each_by.result
+    (ends-cbc_macs g.C.KeyedCipher.encryption (padded g.P.Padding.padding_after)
+    (map g.C.Key.KeyBytes.bytes_of c.args.keys.now) (texts c.args.messages.now) c.clear.new.blocks
+    c.chain_ends_each_by.new.chains
+    (length-map c.args.keys.now g.C.Key.KeyBytes.bytes_of ∙ c.if-keys-tags.false ∙ sym same)
+    (same ∙ c.if-tags-messages.false ∙ sym (length-map c.args.messages.now (λ m. m.now)))
+    c.chain_ends_each_by.auto.chains (λ k below. c.clear.ensures k (omega arith)))
+    c.chain_ends_each_by.ensures.ok
