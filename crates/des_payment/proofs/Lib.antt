@@ -9,3 +9,7 @@ pub mod Decoding
 pub mod Derivations
 pub mod CardTexts
 pub mod FirstThree
+pub mod ChosenBytes
+pub mod MappedParts
+pub mod Lanes
+pub mod CounterPlaces

@@ -7,7 +7,7 @@ ghost use Rattle.std.specs.Prelude.{◌≡◌, ◌↔◌, length, take, replicat
 use des::cipher::{BlockCipherEncrypt, InvalidLength, KeyInit, KeyedCipher};
 
 // The first three bytes of a block.
-fn first_bytes(block: &[u8; 8]) -> [u8; 3]
+pub(crate) fn first_bytes(block: &[u8; 8]) -> [u8; 3]
     ensures { result ≡ take 3 block.now }
 {
     [block[0], block[1], block[2]]

@@ -26,18 +26,18 @@ pub enum Message {
 }
 
 // The mask of derivation, for each half of a key.
-const DERIVATION_MASK: u64 = 0xc0c0c0c000000000;
+pub(crate) const DERIVATION_MASK: u64 = 0xc0c0c0c000000000;
 
 // The number of counters, and of their bits.
-const COUNTERS: u64 = 0x200000;
+pub(crate) const COUNTERS: u64 = 0x200000;
 
-const COUNTER_BITS: u32 = 21;
+pub(crate) const COUNTER_BITS: u32 = 21;
 
 // The most one bits that the counter of a transaction has.
 const MOST_ONES: u32 = 10;
 
 // The key of two halves.
-fn joined(left: &[u8; 8], right: &[u8; 8]) -> [u8; 16]
+pub(crate) fn joined(left: &[u8; 8], right: &[u8; 8]) -> [u8; 16]
     ensures { result ≡ left.now ++ right.now }
 {
     let mut key = [0; 16];
@@ -48,7 +48,7 @@ fn joined(left: &[u8; 8], right: &[u8; 8]) -> [u8; 16]
 }
 
 // The key with the mask xored into each of its halves.
-fn masked(key: &[u8; 16], mask: u64) -> [u8; 16]
+pub(crate) fn masked(key: &[u8; 16], mask: u64) -> [u8; 16]
     ensures { result ≡ masked_by mask key.now }
 {
     let mask = mask.to_be_bytes();
@@ -56,7 +56,7 @@ fn masked(key: &[u8; 16], mask: u64) -> [u8; 16]
 }
 
 // The last eight bytes of a key serial number.
-fn last_bytes(serial: &[u8; 10]) -> u64
+pub(crate) fn last_bytes(serial: &[u8; 10]) -> u64
     ensures { result ≡ last_bytes_of serial.now }
 {
     let mut bytes = [0; 8];
@@ -75,7 +75,7 @@ fn with_last_bytes(serial: &[u8; 10], last: u64) -> [u8; 10]
 }
 
 // The first eight bytes of a key serial number, without the counter's bits.
-fn first_bytes(serial: &[u8; 10]) -> [u8; 8]
+pub(crate) fn first_bytes(serial: &[u8; 10]) -> [u8; 8]
     ensures { result ≡ first_bytes_of serial.now }
 {
     let mut bytes = [0; 8];

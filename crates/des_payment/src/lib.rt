@@ -1,6 +1,7 @@
 //! Payment formats above the ciphers of `des` and `des_fast`: check values, keys of components, PIN
 //! blocks (ISO 9564-1), the keys of a transaction (DUKPT, ANSI X9.24-1:2009) and card verification
-//! values.
+//! values. `check_value_lists` and `transaction_lists` make those of many keys and of many
+//! transactions at once.
 //!
 //! Digits that a person reads (PINs, account numbers, dates) are texts, slices of ASCII digits. No
 //! call takes memory or panics, and no `Debug` text or error tells a key, a PIN or an account
@@ -8,6 +9,7 @@
 #![tactic(auto)]
 
 pub mod card_verification;
+pub mod check_value_lists;
 pub mod check_values;
 pub mod components;
 pub mod cvv_error;
@@ -19,6 +21,7 @@ pub mod pin;
 pub mod pin_blocks;
 pub mod pin_error;
 mod texts;
+pub mod transaction_lists;
 mod xor;
 
 pub use card_verification::cvv;

@@ -1,11 +1,14 @@
-//! One block under DES, and under triple DES with two parts of a key.
+//! One block under DES, and under triple DES with two parts of a key; and lists of as many keys as
+//! blocks.
 
-ghost use Rattle.std.specs.Prelude.{◌≡◌};
+ghost use Rattle.std.specs.Prelude.{◌≡◌, ◌≤◌, map, length};
+ghost use Rattle.std.specs.Simd.Lanes.{zip2};
 ghost use Rattle.des.specs.Blocks.{IsBlock};
 ghost use Rattle.des.specs.Des.{encryption};
 ghost use Rattle.des.specs.TripleCiphers.{ede2_encryption};
 
-use des::cipher::{BlockCipherEncrypt, KeyInit};
+use des::cipher::{BlockCipherEncrypt, KeyBytes, KeyInit, KeyedCipher};
+use des_fast::many::{KeyForEach, ManyBlocks, Slice};
 use des_fast::{Des, TdesEde2};
 
 // What DES makes of a block under a key.
@@ -25,4 +28,36 @@ pub(crate) fn encrypted_by_ede2(key: &[u8; 16], block: &[u8; 8]) -> [u8; 8]
     let mut answer = *block;
     TdesEde2::new(key).encrypt_block(&mut answer);
     answer
+}
+
+// Encrypts each block under the key at its place, where there are as many keys as blocks.
+pub(crate) fn encrypt_each_of<C: KeyForEach, S: Slice>(keys: &[C::Key], blocks: &mut [[u8; 8]])
+    requires { length keys.now ≡ length blocks.old }
+    ensures { blocks.new ≡ zip2 C.encryption (map C.Key.bytes_of keys.now) blocks.old }
+{
+    C::encrypt_each_by::<S>(keys, blocks).unwrap();
+}
+
+// Encrypts each block under one key.
+pub(crate) fn encrypt_many_of<C: KeyedCipher + ManyBlocks + Drop, S: Slice>(
+    key: &C::Key,
+    blocks: &mut [[u8; 8]],
+)
+    ensures { blocks.new ≡ map (C.encryption (C.Key.bytes_of key.now)) blocks.old }
+{
+    key.as_bytes();
+    C::new(key).encrypt_many_by::<S>(blocks);
+}
+
+// The most elements of a list that are treated together.
+pub(crate) const GROUP: usize = 256;
+
+// How many elements of a list are treated next: a group, or those that are left over.
+pub(crate) fn next_count(left: usize) -> usize
+    requires { 1 ≤ left }
+    ensures some { 1 ≤ result }
+    ensures there { result ≤ left }
+    ensures within { result ≤ 256 }
+{
+    if left < GROUP { left } else { GROUP }
 }
