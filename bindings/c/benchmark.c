@@ -172,15 +172,15 @@ static void rows(int is_triple, int is_chained, int encrypts) {
 #endif
 }
 
-/* One by one up to some 300 blocks; a batch from 19 blocks on, since fewer go one by one. */
+/* By tables up to some 300 blocks; a batch from 32 blocks on, since fewer go by tables. */
 static void ways(int is_triple, int is_chained, int encrypts) {
-  static const size_t counts[] = {14, 16, 17, 18, 19, 20, 22, 64, 127, 128, 129, 146, 147, 256, 257, 274, 275, 300};
+  static const size_t counts[] = {2, 3, 4, 18, 30, 31, 32, 33, 34, 64, 127, 128, 129, 159, 160, 256, 257, 287, 288, 300};
   for (size_t i = 0; i < sizeof counts / sizeof *counts; i++) {
     struct ours ours[4];
     struct timed row[4];
     for (int way = PUBLIC; way <= WIDE; way++) {
       const struct ours by = {is_chained, encrypts, way};
-      const bool is_none = (way == WIDE && !is_v3) || (way >= NARROW && counts[i] < 19);
+      const bool is_none = (way == WIDE && !is_v3) || (way >= NARROW && counts[i] < 32);
       ours[way] = by;
       row[way].call = is_none ? NULL : is_triple ? tdes_ede3_call : des_call;
       row[way].state = &ours[way];

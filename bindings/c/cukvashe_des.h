@@ -33,8 +33,9 @@
  * SECRETS AND TIME
  *
  * Nothing is claimed about time. The calls that can read tables at addresses that depend on secrets, or branch on
- * secrets, say so below. With valgrind it is tested that init, pad, and ECB and CBC decryption where this header says
- * so, read no tables at such addresses. No call uses more than 24,000 bytes of the stack, which is tested too.
+ * secrets, say so below. With valgrind it is tested that init, pad, the calls of lists, and ECB and CBC decryption
+ * where this header says so, read no tables at such addresses. No call uses more than 25,000 bytes of the stack, and
+ * those of transactions, records and messages no more than 66,000, which is tested too.
  *
  * WHAT IS PROVED
  *
@@ -88,6 +89,7 @@ extern "C" {
 #define CUKVASHE_ERR_SERVICE_DIGIT 16  /* a character of the service code is not a digit */
 #define CUKVASHE_ERR_PADDING 17        /* the last block does not end with the padding */
 #define CUKVASHE_ERR_CAPACITY 18       /* the buffer has no room for the padding */
+#define CUKVASHE_ERR_COUNTS 19         /* lists that belong together are not as many, or not as counts say */
 
 /* Sizes, in bytes. */
 #define CUKVASHE_BLOCK_SIZE 8
@@ -170,9 +172,9 @@ CUKVASHE_CHECK int cukvashe_tdes_ede3_init(cukvashe_tdes_ede3 *context, const ui
  * Encrypts or decrypts each block of `length` bytes by itself, in place or from `input` to `output`, in this order.
  * Nothing is padded (see PADDING). CUKVASHE_ERR_BLOCKS if `length` is not a multiple of 8.
  *
- * A call takes 128 blocks at a time, or 256 where the processor has wider vectors, and one by one what is left over if
- * that is fewer than 19 blocks. One by one means that tables are read at addresses that depend on the key and the block:
- * none are read if the number of blocks modulo 128 is 0 or at least 19.
+ * A call takes 128 blocks at a time, or 256 where the processor has wider vectors, and by tables what is left over if
+ * that is fewer than 32 blocks. By tables means that they are read at addresses that depend on the key and the block:
+ * none are read if the number of blocks modulo 128 is 0 or at least 32.
  */
 CUKVASHE_CHECK int cukvashe_des_encrypt_ecb(const cukvashe_des *context, uint8_t *data, size_t length);
 CUKVASHE_CHECK int cukvashe_des_decrypt_ecb(const cukvashe_des *context, uint8_t *data, size_t length);
@@ -232,6 +234,58 @@ CUKVASHE_CHECK int cukvashe_tdes_ede3_encrypt_cbc_to(const cukvashe_tdes_ede3 *c
                                                      const uint8_t *input, uint8_t *output, size_t length);
 CUKVASHE_CHECK int cukvashe_tdes_ede3_decrypt_cbc_to(const cukvashe_tdes_ede3 *context, uint8_t iv[8],
                                                      const uint8_t *input, uint8_t *output, size_t length);
+
+/*
+ * BLOCKS UNDER KEYS OF THEIR OWN
+ *
+ * void cukvashe_NAME_encrypt_each(const uint8_t *keys, uint8_t *blocks, size_t count)
+ * void cukvashe_NAME_decrypt_each(const uint8_t *keys, uint8_t *blocks, size_t count)
+ *
+ * Encrypts or decrypts each of `count` blocks in place under the key at its place: `keys` are `count` keys of the cipher,
+ * one after the other. No context is made. 128 blocks go together, or 256 where the processor has wider vectors; fewer
+ * take as long as 128. No tables are read at addresses that depend on keys or blocks.
+ */
+void cukvashe_des_encrypt_each(const uint8_t *keys, uint8_t *blocks, size_t count);
+void cukvashe_des_decrypt_each(const uint8_t *keys, uint8_t *blocks, size_t count);
+void cukvashe_tdes_ede2_encrypt_each(const uint8_t *keys, uint8_t *blocks, size_t count);
+void cukvashe_tdes_ede2_decrypt_each(const uint8_t *keys, uint8_t *blocks, size_t count);
+void cukvashe_tdes_ede3_encrypt_each(const uint8_t *keys, uint8_t *blocks, size_t count);
+void cukvashe_tdes_ede3_decrypt_each(const uint8_t *keys, uint8_t *blocks, size_t count);
+
+/*
+ * RECORDS
+ *
+ * int cukvashe_NAME_encrypt_cbc_records(const cukvashe_NAME *context, uint8_t *vectors, const size_t *counts,
+ *                                       size_t records_count, uint8_t *blocks, size_t blocks_count)
+ * int cukvashe_NAME_decrypt_cbc_records(const cukvashe_NAME *context, uint8_t *vectors, const size_t *counts,
+ *                                       size_t records_count, uint8_t *blocks, size_t blocks_count)
+ *
+ * Encrypts or decrypts `records_count` records under one key, in place, each by cipher block chaining from a vector of its
+ * own: record k has `counts[k]` of the `blocks_count` blocks, one record after the other, and its vector is the k-th of
+ * `vectors`, of 8 bytes each. Each vector becomes the last ciphertext block of its record, as by encrypt_cbc. A record may
+ * be empty. CUKVASHE_ERR_COUNTS if the counts do not add up to `blocks_count`.
+ *
+ * Decryption takes as long as one list of all blocks. Encryption takes 128 records at a time, or 256, as long as the
+ * longest of them. No tables are read at addresses that depend on the key, the vectors or the blocks.
+ */
+CUKVASHE_CHECK int cukvashe_des_encrypt_cbc_records(const cukvashe_des *context, uint8_t *vectors,
+                                                    const size_t *counts, size_t records_count, uint8_t *blocks,
+                                                    size_t blocks_count);
+CUKVASHE_CHECK int cukvashe_des_decrypt_cbc_records(const cukvashe_des *context, uint8_t *vectors,
+                                                    const size_t *counts, size_t records_count, uint8_t *blocks,
+                                                    size_t blocks_count);
+CUKVASHE_CHECK int cukvashe_tdes_ede2_encrypt_cbc_records(const cukvashe_tdes_ede2 *context, uint8_t *vectors,
+                                                          const size_t *counts, size_t records_count, uint8_t *blocks,
+                                                          size_t blocks_count);
+CUKVASHE_CHECK int cukvashe_tdes_ede2_decrypt_cbc_records(const cukvashe_tdes_ede2 *context, uint8_t *vectors,
+                                                          const size_t *counts, size_t records_count, uint8_t *blocks,
+                                                          size_t blocks_count);
+CUKVASHE_CHECK int cukvashe_tdes_ede3_encrypt_cbc_records(const cukvashe_tdes_ede3 *context, uint8_t *vectors,
+                                                          const size_t *counts, size_t records_count, uint8_t *blocks,
+                                                          size_t blocks_count);
+CUKVASHE_CHECK int cukvashe_tdes_ede3_decrypt_cbc_records(const cukvashe_tdes_ede3 *context, uint8_t *vectors,
+                                                          const size_t *counts, size_t records_count, uint8_t *blocks,
+                                                          size_t blocks_count);
 
 /*
  * PADDING
@@ -378,12 +432,53 @@ CUKVASHE_CHECK int cukvashe_cmac_tdes_ede3_verify(const cukvashe_cmac_tdes_ede3 
                                                   size_t tag_length);
 
 /*
+ * MESSAGE AUTHENTICATION CODES OF MANY MESSAGES
+ *
+ * int cukvashe_MAC_macs(const uint8_t *key, int method, const cukvashe_message *messages, uint8_t *tags, size_t count)
+ * int cukvashe_MAC_macs_each(const uint8_t *keys, int method, const cukvashe_message *messages, uint8_t *tags,
+ *                            size_t count)
+ * int cukvashe_retail_mac_des_macs_each(const uint8_t *first, const uint8_t *second, int method,
+ *                                       const cukvashe_message *messages, uint8_t *tags, size_t count)
+ *
+ * Writes the tags, of 8 bytes each, of `count` messages; MAC is a CBC-MAC. `macs` takes one key for all, `macs_each` the
+ * key at the message's place of `count` keys, one after the other; of the retail MAC the first keys of 8 bytes and the
+ * second ones. CUKVASHE_ERR_PADDING_METHOD as by init. Compare tags as by verify, and not by memcmp.
+ *
+ * 128 messages go together, and take as long as the longest of them: sort messages of very different lengths. No tables
+ * are read at addresses that depend on keys or messages.
+ */
+typedef struct {
+  const uint8_t *bytes;
+  size_t length;
+} cukvashe_message;
+
+CUKVASHE_CHECK int cukvashe_cbc_mac_des_macs(const uint8_t *key, int method, const cukvashe_message *messages,
+                                             uint8_t *tags, size_t count);
+CUKVASHE_CHECK int cukvashe_cbc_mac_des_macs_each(const uint8_t *keys, int method, const cukvashe_message *messages,
+                                                  uint8_t *tags, size_t count);
+CUKVASHE_CHECK int cukvashe_cbc_mac_tdes_ede2_macs(const uint8_t *key, int method, const cukvashe_message *messages,
+                                                   uint8_t *tags, size_t count);
+CUKVASHE_CHECK int cukvashe_cbc_mac_tdes_ede2_macs_each(const uint8_t *keys, int method,
+                                                        const cukvashe_message *messages, uint8_t *tags, size_t count);
+CUKVASHE_CHECK int cukvashe_cbc_mac_tdes_ede3_macs(const uint8_t *key, int method, const cukvashe_message *messages,
+                                                   uint8_t *tags, size_t count);
+CUKVASHE_CHECK int cukvashe_cbc_mac_tdes_ede3_macs_each(const uint8_t *keys, int method,
+                                                        const cukvashe_message *messages, uint8_t *tags, size_t count);
+CUKVASHE_CHECK int cukvashe_retail_mac_des_macs_each(const uint8_t *first, const uint8_t *second, int method,
+                                                     const cukvashe_message *messages, uint8_t *tags, size_t count);
+
+/*
  * CHECK VALUES AND COMPONENTS
  *
  * int cukvashe_NAME_check_value(const uint8_t *key, size_t key_length, uint8_t value[3])
  *
  * The check value of a key: the first three bytes of the block of zeros, encrypted under it, which reads tables at
  * addresses that depend on the key. CUKVASHE_ERR_KEY_LENGTH if the key does not have the cipher's key size.
+ *
+ * void cukvashe_NAME_check_values(const uint8_t *keys, uint8_t *values, size_t count)
+ *
+ * The check values, of 3 bytes each, of `count` keys of the cipher, one after the other. 128 keys go together, and no
+ * tables are read at addresses that depend on them.
  *
  * int cukvashe_combine_SIZE(const uint8_t first[SIZE], const uint8_t second[SIZE], const uint8_t *others,
  *                           size_t others_count, uint8_t key[SIZE])
@@ -395,6 +490,9 @@ CUKVASHE_CHECK int cukvashe_cmac_tdes_ede3_verify(const cukvashe_cmac_tdes_ede3 
 CUKVASHE_CHECK int cukvashe_des_check_value(const uint8_t *key, size_t key_length, uint8_t value[3]);
 CUKVASHE_CHECK int cukvashe_tdes_ede2_check_value(const uint8_t *key, size_t key_length, uint8_t value[3]);
 CUKVASHE_CHECK int cukvashe_tdes_ede3_check_value(const uint8_t *key, size_t key_length, uint8_t value[3]);
+void cukvashe_des_check_values(const uint8_t *keys, uint8_t *values, size_t count);
+void cukvashe_tdes_ede2_check_values(const uint8_t *keys, uint8_t *values, size_t count);
+void cukvashe_tdes_ede3_check_values(const uint8_t *keys, uint8_t *values, size_t count);
 CUKVASHE_CHECK int cukvashe_combine_8(const uint8_t first[8], const uint8_t second[8], const uint8_t *others,
                                       size_t others_count, uint8_t key[8]);
 CUKVASHE_CHECK int cukvashe_combine_16(const uint8_t first[16], const uint8_t second[16], const uint8_t *others,
@@ -413,6 +511,10 @@ CUKVASHE_CHECK int cukvashe_combine_24(const uint8_t first[24], const uint8_t se
  * serial number. From that key pin_key makes the key that encrypts PIN blocks, mac_key and data_key those that
  * authenticate and encrypt the data of the request or, if `is_response`, of the response.
  *
+ * transaction_keys writes the keys of `count` transactions from the base derivation key: what transaction_key makes of
+ * initial_key, for each of `count` key serial numbers, one after the other. The terminals may be different ones. 128 keys
+ * go together, no tables are read at addresses that depend on keys, and no branch depends on one.
+ *
  * A transaction's counter is not 0 and has at most ten one bits: is_usable says whether that holds. The other counters
  * have keys here all the same; for counter 0 transaction_key gives the initial key itself. So ask is_usable of each key
  * serial number that you are sent, before you ask for its key.
@@ -423,6 +525,7 @@ CUKVASHE_CHECK int cukvashe_combine_24(const uint8_t first[24], const uint8_t se
  */
 void cukvashe_dukpt_initial_key(const uint8_t base[16], const uint8_t serial[10], uint8_t key[16]);
 void cukvashe_dukpt_transaction_key(const uint8_t initial[16], const uint8_t serial[10], uint8_t key[16]);
+void cukvashe_dukpt_transaction_keys(const uint8_t base[16], const uint8_t *serials, uint8_t *keys, size_t count);
 void cukvashe_dukpt_pin_key(const uint8_t transaction[16], uint8_t key[16]);
 void cukvashe_dukpt_mac_key(const uint8_t transaction[16], bool is_response, uint8_t key[16]);
 void cukvashe_dukpt_data_key(const uint8_t transaction[16], bool is_response, uint8_t key[16]);

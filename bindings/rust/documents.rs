@@ -16,4 +16,13 @@ fn main() {
     assert_eq!(&data, b"The qufck brown fox jump");
     assert_eq!(iv, *b"\x57\xdb\x53\x0f\x01\x23\xb5\xac");
     assert_eq!(decrypt_cbc(&key, &mut iv, &mut data[..23]), Err(DataError::NotBlocks));
+
+    let cipher = TdesEde3::new(&key);
+    for (threads, count) in [(0, 3), (1, 256), (2, 1000), (4, 1025), (3, 0)] {
+        let mut blocks: Vec<Block> = (0..count).map(|number: u64| number.to_be_bytes()).collect();
+        let mut by_one = blocks.clone();
+        cipher.decrypt_blocks(&mut by_one);
+        decrypt_in(threads, &cipher, &mut blocks);
+        assert_eq!(blocks, by_one);
+    }
 }

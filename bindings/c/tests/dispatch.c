@@ -71,20 +71,62 @@ static int made(const char *name, const void *context, const void *iv, const voi
   int cukvashe_##NAME##_encrypt_cbc(const cukvashe_##NAME *context, uint8_t iv[8], uint8_t *data, size_t length) {    \
     return made("narrow " #NAME " encrypt_cbc", context, iv, NULL, 0, data, length);                                  \
   }
+#define FOR_EACH(NAME, WIDTH, CALL)                                                                                   \
+  int cukvashe_##WIDTH##_##NAME##_##CALL(const uint8_t *keys, size_t keys_count, uint8_t *blocks,                     \
+                                         size_t blocks_count) {                                                       \
+    return made(#WIDTH " " #NAME " " #CALL, NULL, NULL, keys, keys_count, blocks, blocks_count);                      \
+  }
+#define RECORDS(NAME, WIDTH, CALL)                                                                                    \
+  int cukvashe_##WIDTH##_##NAME##_##CALL(const cukvashe_##NAME *context, uint8_t *vectors, size_t vectors_count,      \
+                                         const size_t *sizes, size_t sizes_count, uint8_t *blocks,                    \
+                                         size_t blocks_count) {                                                       \
+    CHECK(vectors_count == sizes_count);                                                                              \
+    return made(#WIDTH " " #NAME " " #CALL, context, vectors, sizes, sizes_count, blocks, blocks_count);              \
+  }
+#define TAGS(NAME)                                                                                                    \
+  int cukvashe_narrow_cbc_mac_##NAME##_macs(const uint8_t *key, int method, const cukvashe_message *messages,         \
+                                            size_t messages_count, uint8_t *tags, size_t tags_count) {                \
+    CHECK(method == 7);                                                                                               \
+    return made("narrow " #NAME " macs", key, NULL, messages, messages_count, tags, tags_count);                      \
+  }                                                                                                                   \
+  int cukvashe_narrow_cbc_mac_##NAME##_macs_each(const uint8_t *keys, size_t keys_count, int method,                  \
+                                                 const cukvashe_message *messages, size_t messages_count,             \
+                                                 uint8_t *tags, size_t tags_count) {                                  \
+    CHECK(method == 7 && keys_count == tags_count);                                                                   \
+    return made("narrow " #NAME " macs_each", keys, NULL, messages, messages_count, tags, tags_count);                \
+  }
 #define EXPORTS_OF_WIDTH(NAME, WIDTH)                                                                                 \
   PLACE(NAME, WIDTH, encrypt_ecb)                                                                                     \
   PLACE(NAME, WIDTH, decrypt_ecb)                                                                                     \
   CHAIN(NAME, WIDTH, decrypt_cbc)                                                                                     \
-  CHAIN_TO(NAME, WIDTH, decrypt_cbc)
+  CHAIN_TO(NAME, WIDTH, decrypt_cbc)                                                                                  \
+  FOR_EACH(NAME, WIDTH, encrypt_each)                                                                                 \
+  FOR_EACH(NAME, WIDTH, decrypt_each)                                                                                 \
+  RECORDS(NAME, WIDTH, encrypt_cbc_records)                                                                           \
+  RECORDS(NAME, WIDTH, decrypt_cbc_records)
 #define EXPORTS(NAME)                                                                                                 \
   EXPORTS_OF_WIDTH(NAME, narrow)                                                                                      \
   EXPORTS_OF_WIDTH(NAME, wide)                                                                                        \
   CHAIN_IN_PLACE(NAME)                                                                                                \
-  CHAIN_TO(NAME, narrow, encrypt_cbc)
+  CHAIN_TO(NAME, narrow, encrypt_cbc)                                                                                 \
+  FOR_EACH(NAME, narrow, check_values)                                                                                \
+  TAGS(NAME)
 
 EXPORTS(des)
 EXPORTS(tdes_ede2)
 EXPORTS(tdes_ede3)
+
+int cukvashe_narrow_retail_mac_des_macs_each(const uint8_t *first, size_t first_count, const uint8_t *second,
+                                             size_t second_count, int method, const cukvashe_message *messages,
+                                             size_t messages_count, uint8_t *tags, size_t tags_count) {
+  CHECK(method == 7 && first_count == tags_count && second_count == tags_count);
+  return made("narrow retail macs_each", first, second, messages, messages_count, tags, tags_count);
+}
+
+int cukvashe_narrow_dukpt_transaction_keys(const uint8_t base[16], const uint8_t *serials, size_t serials_count,
+                                           uint8_t *keys, size_t keys_count) {
+  return made("narrow dukpt transaction_keys", base, NULL, serials, serials_count, keys, keys_count);
+}
 
 int cukvashe_narrow_pad(uint8_t *buffer, size_t capacity, size_t length, int method, size_t *padded_length) {
   *padded_length = (size_t)method;
@@ -110,7 +152,9 @@ static void was(const char *width, const char *cipher, const char *name, const v
   calls = 0;
 }
 
-static uint8_t iv[8], input[8], output[8];
+static const size_t sizes[1];
+static const cukvashe_message messages[1];
+static uint8_t iv[8], base[16], input[8], output[8];
 
 /* The calls of a cipher with a length; what the mocks are given is never read. */
 #define HANDS_ON(NAME)                                                                                                \
@@ -139,6 +183,24 @@ static uint8_t iv[8], input[8], output[8];
     was(width, #NAME, "decrypt_cbc", &context, iv, NULL, output, length);                                             \
     CHECK(cukvashe_##NAME##_encrypt_cbc_to(&context, iv, output, output, length) == STATUS);                          \
     was("narrow", #NAME, "encrypt_cbc", &context, iv, NULL, output, length);                                          \
+  }                                                                                                                   \
+  static void NAME##_hands_on_count(size_t count) {                                                                   \
+    const char *width = is_v3 && count > 128 ? "wide" : "narrow";                                                     \
+    cukvashe_##NAME##_encrypt_each(input, output, count);                                                             \
+    was(width, #NAME, "encrypt_each", NULL, NULL, input, output, count);                                              \
+    cukvashe_##NAME##_decrypt_each(input, output, count);                                                             \
+    was(width, #NAME, "decrypt_each", NULL, NULL, input, output, count);                                              \
+    cukvashe_##NAME##_check_values(input, output, count);                                                             \
+    was("narrow", #NAME, "check_values", NULL, NULL, input, output, count);                                           \
+    static cukvashe_##NAME context;                                                                                   \
+    CHECK(cukvashe_##NAME##_encrypt_cbc_records(&context, iv, sizes, count, output, count) == STATUS);                \
+    was(width, #NAME, "encrypt_cbc_records", &context, iv, sizes, output, count);                                     \
+    CHECK(cukvashe_##NAME##_decrypt_cbc_records(&context, iv, sizes, count, output, count) == STATUS);                \
+    was(width, #NAME, "decrypt_cbc_records", &context, iv, sizes, output, count);                                     \
+    CHECK(cukvashe_cbc_mac_##NAME##_macs(base, 7, messages, output, count) == STATUS);                                \
+    was("narrow", #NAME, "macs", base, NULL, messages, output, count);                                                \
+    CHECK(cukvashe_cbc_mac_##NAME##_macs_each(base, 7, messages, output, count) == STATUS);                           \
+    was("narrow", #NAME, "macs_each", base, NULL, messages, output, count);                                           \
   }
 
 HANDS_ON(des)
@@ -149,6 +211,25 @@ static void hands_on(size_t length) {
   des_hands_on(length);
   tdes_ede2_hands_on(length);
   tdes_ede3_hands_on(length);
+}
+
+static void hands_on_count(size_t count) {
+  des_hands_on_count(count);
+  tdes_ede2_hands_on_count(count);
+  tdes_ede3_hands_on_count(count);
+  cukvashe_dukpt_transaction_keys(base, input, output, count);
+  was("narrow", "dukpt", "transaction_keys", base, NULL, input, output, count);
+}
+
+static void hands_on_records(size_t records, size_t blocks) {
+  static cukvashe_des context;
+  CHECK(cukvashe_des_encrypt_cbc_records(&context, iv, sizes, records, output, blocks) == STATUS);
+  CHECK(strcmp(last.name, is_v3 && records > 128 ? "wide des encrypt_cbc_records" : "narrow des encrypt_cbc_records") == 0);
+  CHECK(last.input_length == records && last.output_length == blocks);
+  CHECK(cukvashe_des_decrypt_cbc_records(&context, iv, sizes, records, output, blocks) == STATUS);
+  CHECK(strcmp(last.name, is_v3 && blocks > 128 ? "wide des decrypt_cbc_records" : "narrow des decrypt_cbc_records") == 0);
+  CHECK(last.input_length == records && last.output_length == blocks);
+  calls = 0;
 }
 
 static void hands_on_the_rest(void) {
@@ -210,8 +291,15 @@ int main(int count, char **words) {
   is_v3 = strcmp(words[1], "wide") == 0;
   CHECK(is_v3 || strcmp(words[1], "narrow") == 0);
   for (size_t length = 0; length <= 1024; length++) hands_on(length);
+  for (size_t blocks = 0; blocks <= 128; blocks++) hands_on_count(blocks);
   CHECK(questions == 0);
   for (size_t i = 0; i < sizeof lengths / sizeof *lengths; i++) hands_on(lengths[i]);
+  for (size_t i = 0; i < sizeof lengths / sizeof *lengths; i++) hands_on_count(lengths[i]);
+  hands_on_count(129);
+  hands_on_records(128, 129);
+  hands_on_records(129, 128);
+  CHECK(cukvashe_retail_mac_des_macs_each(base, iv, 7, messages, output, 5) == STATUS);
+  was("narrow", "retail", "macs_each", base, iv, messages, output, 5);
   CHECK(questions == 1);
   hands_on_the_rest();
   cukvashe_wipe(NULL, 0);

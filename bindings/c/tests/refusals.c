@@ -6,10 +6,10 @@
 enum { MOST = 33, PAINT = 0x77 };
 
 /* The statuses that a call returned. */
-static int was_returned[CUKVASHE_ERR_CAPACITY + 1];
+static int was_returned[CUKVASHE_ERR_COUNTS + 1];
 
 static int seen(int status) {
-  CHECK(0 <= status && status <= CUKVASHE_ERR_CAPACITY);
+  CHECK(0 <= status && status <= CUKVASHE_ERR_COUNTS);
   was_returned[status] = 1;
   return status;
 }
@@ -81,7 +81,7 @@ static void takes_null(const struct way *way, const union context *context) {
 }
 
 static void takes_lengths(const struct cipher *cipher) {
-  static const size_t blocks[] = {18, 19, 127, 128, 129, 255, 256, 300, 600};
+  static const size_t blocks[] = {18, 19, 31, 32, 127, 128, 129, 255, 256, 300, 600};
   uint8_t key[24];
   union context context;
   random_bytes(key, sizeof key);
@@ -130,6 +130,8 @@ static void returns_statuses(void) {
   uint8_t serial[10], made[16], block[8] = {0x14, 0x12, 0x34};
   char text[13];
   size_t length;
+  cukvashe_des context;
+  CHECK(cukvashe_des_init(&context, key, 8) == CUKVASHE_OK);
   CHECK(seen(cukvashe_weak_key_test(key, 8)) == CUKVASHE_ERR_WEAK_KEY);
   memset(serial, 0xff, sizeof serial);
   CHECK(seen(cukvashe_dukpt_next_serial(serial, made)) == CUKVASHE_ERR_NO_SERIAL);
@@ -145,6 +147,7 @@ static void returns_statuses(void) {
   CHECK(seen(cukvashe_cvv(key, account, 13, "8701", 4, "10a", 3, text)) == CUKVASHE_ERR_SERVICE_DIGIT);
   CHECK(seen(cukvashe_unpad(block, 0, CUKVASHE_PKCS7, &length)) == CUKVASHE_ERR_PADDING);
   CHECK(seen(cukvashe_pad(block, 8, 8, CUKVASHE_PKCS7, &length)) == CUKVASHE_ERR_CAPACITY);
+  CHECK(seen(cukvashe_des_decrypt_cbc_records(&context, made, &length, 0, block, 1)) == CUKVASHE_ERR_COUNTS);
 }
 
 /* Words that the sentence of each status has. */
@@ -154,14 +157,15 @@ static const char *const words[] = {
     "account number does not have 13 to 19 digits", "character of the account number", "fill digit",
     "expiry date does not have four digits", "character of the expiry date", "service code does not have three digits",
     "character of the service code", "does not end with the padding", "no room for the padding",
+    "as many elements as each other",
 };
 
 /* Every status was returned by some call, and has a sentence of its own; other numbers have one sentence. */
 static void has_sentences(void) {
-  static const int others[] = {CUKVASHE_ERR_CAPACITY + 1, -1, INT_MIN, INT_MAX, 256, 65536};
-  const char *unknown = cukvashe_strerror(CUKVASHE_ERR_CAPACITY + 1);
+  static const int others[] = {CUKVASHE_ERR_COUNTS + 1, -1, INT_MIN, INT_MAX, 256, 65536};
+  const char *unknown = cukvashe_strerror(CUKVASHE_ERR_COUNTS + 1);
   CHECK(strstr(unknown, "no status") != NULL);
-  for (int status = 0; status <= CUKVASHE_ERR_CAPACITY; status++) {
+  for (int status = 0; status <= CUKVASHE_ERR_COUNTS; status++) {
     const char *sentence = cukvashe_strerror(status);
     CHECK(was_returned[status]);
     CHECK(strstr(sentence, words[status]) != NULL && strcmp(sentence, unknown) != 0);
@@ -200,9 +204,9 @@ static void has_numbers(void) {
       CUKVASHE_ERR_TAG, CUKVASHE_ERR_NO_SERIAL, CUKVASHE_ERR_FORMAT, CUKVASHE_ERR_PIN_LENGTH, CUKVASHE_ERR_PIN_DIGIT,
       CUKVASHE_ERR_ACCOUNT_LENGTH, CUKVASHE_ERR_ACCOUNT_DIGIT, CUKVASHE_ERR_FILL, CUKVASHE_ERR_EXPIRY_LENGTH,
       CUKVASHE_ERR_EXPIRY_DIGIT, CUKVASHE_ERR_SERVICE_LENGTH, CUKVASHE_ERR_SERVICE_DIGIT, CUKVASHE_ERR_PADDING,
-      CUKVASHE_ERR_CAPACITY};
-  for (int i = 0; i < 19; i++) CHECK(statuses[i] == i);
-  CHECK(sizeof statuses / sizeof *statuses == 19);
+      CUKVASHE_ERR_CAPACITY, CUKVASHE_ERR_COUNTS};
+  for (int i = 0; i < 20; i++) CHECK(statuses[i] == i);
+  CHECK(sizeof statuses / sizeof *statuses == 20);
   CHECK(CUKVASHE_BLOCK_SIZE == 8 && CUKVASHE_TAG_SIZE == 8);
   CHECK(CUKVASHE_DES_KEY_SIZE == 8 && CUKVASHE_TDES_EDE2_KEY_SIZE == 16 && CUKVASHE_TDES_EDE3_KEY_SIZE == 24);
   CHECK(CUKVASHE_CBC_MAC_DES_KEY_SIZE == 8 && CUKVASHE_CBC_MAC_TDES_EDE2_KEY_SIZE == 16);

@@ -1,13 +1,13 @@
 /*
  * Under valgrind, with keys, vectors and data marked undefined: memcheck reports where an index or a branch depends on them.
  * `secret_indexes calls` runs the calls that must give no report; each other word runs one that must give one: `short`, a list that
- * goes one by one, and `rest`, a list whose rest does, both of which read tables so; and `planted`, a lookup here.
+ * goes by tables, and `rest`, a list whose rest does, both of which read them so; and `planted`, a lookup here.
  */
 #include "mac_calls.h"
 #include <valgrind/memcheck.h>
 
-/* Lists of which nothing goes one by one, by the header: their number of blocks, modulo 128, is 0 or at least 19. */
-static const size_t whole[] = {0, 19, 20, 127, 128, 147, 255, 256, 275, 300, 384};
+/* Lists of which nothing goes by tables, by the header: their number of blocks, modulo 128, is 0 or at least 32. */
+static const size_t whole[] = {0, 32, 33, 127, 128, 160, 255, 256, 288, 300, 384};
 
 enum { MOST_BLOCKS = 384 };
 
@@ -78,6 +78,50 @@ static void others(void) {
   cukvashe_dukpt_mac_key(key, true, other);
 }
 
+/* Records of one block, and messages of 20 bytes, whose lengths are no secret. */
+static void records_and_messages(uint8_t *keys, size_t count) {
+  static size_t sizes[MOST_BLOCKS];
+  static cukvashe_message messages[MOST_BLOCKS];
+  cukvashe_tdes_ede3 context;
+  hide(keys, 24 * MOST_BLOCKS);
+  hide(data, sizeof data);
+  CHECK(cukvashe_tdes_ede3_init(&context, keys, 24) == CUKVASHE_OK);
+  for (size_t i = 0; i < count; i++) {
+    sizes[i] = 1;
+    messages[i].bytes = data + 8 * (i % 100);
+    messages[i].length = 20;
+  }
+  CHECK(cukvashe_tdes_ede3_encrypt_cbc_records(&context, data, sizes, count, other, count) == CUKVASHE_OK);
+  CHECK(cukvashe_tdes_ede3_decrypt_cbc_records(&context, data, sizes, count, other, count) == CUKVASHE_OK);
+  CHECK(cukvashe_cbc_mac_tdes_ede2_macs(keys, CUKVASHE_MAC_PADDING_2, messages, other, count) == CUKVASHE_OK);
+  CHECK(cukvashe_cbc_mac_des_macs_each(keys, CUKVASHE_MAC_PADDING_1, messages, other, count) == CUKVASHE_OK);
+  CHECK(cukvashe_retail_mac_des_macs_each(keys, keys + 8 * MOST_BLOCKS, 2, messages, other, count) == CUKVASHE_OK);
+}
+
+/* Lists of any length under keys of their own, check values, and keys of transactions. Key serial numbers are no secret. */
+static void lists_of_keys(void) {
+  static uint8_t keys[24 * MOST_BLOCKS], base[16];
+  static const size_t lengths[] = {0, 1, 18, 19, 128, 129, 300};
+  for (size_t i = 0; i < sizeof lengths / sizeof *lengths; i++) {
+    size_t count = lengths[i];
+    hide(keys, sizeof keys);
+    hide(data, sizeof data);
+    hide(base, sizeof base);
+    cukvashe_des_encrypt_each(keys, data, count);
+    cukvashe_des_decrypt_each(keys, data, count);
+    cukvashe_tdes_ede2_encrypt_each(keys, data, count);
+    cukvashe_tdes_ede2_decrypt_each(keys, data, count);
+    cukvashe_tdes_ede3_encrypt_each(keys, data, count);
+    cukvashe_tdes_ede3_decrypt_each(keys, data, count);
+    cukvashe_des_check_values(keys, data, count);
+    cukvashe_tdes_ede2_check_values(keys, data, count);
+    cukvashe_tdes_ede3_check_values(keys, data, count);
+    for (size_t j = 0; j < sizeof data; j++) data[j] = (uint8_t)j;
+    cukvashe_dukpt_transaction_keys(base, data, keys, count);
+    records_and_messages(keys, count);
+  }
+}
+
 static void list_of(size_t count) {
   union context context;
   hide(key, sizeof key);
@@ -99,6 +143,7 @@ int main(int count, char **words) {
     for (int n = 0; n < CIPHERS; n++) calls_of(&ciphers[n]);
     for (int n = 0; n < MACS; n++) verifies(&macs[n]);
     others();
+    lists_of_keys();
   } else if (strcmp(words[1], "short") == 0) {
     list_of(18);
   } else if (strcmp(words[1], "rest") == 0) {

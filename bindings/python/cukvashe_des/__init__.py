@@ -20,6 +20,16 @@ Messages are authenticated by objects as those of `hmac`, with `update`, `digest
 `check_value` and `combine` make check values and keys of components, the calls named `dukpt_` the keys of a transaction,
 those named `pin_` PIN blocks, which are not encrypted, and `cvv` card verification values.
 
+Lists go in one call: `encrypt_each` and `decrypt_each` with a key for each block, `check_values` of many keys and
+`dukpt_transaction_keys` of many key serial numbers. They take arrays, as of shape (n, 8) or (n, 16), where they stand, and
+other threads of Python run meanwhile:
+
+    keys = cukvashe_des.dukpt_transaction_keys(base, serials)
+    blocks = cukvashe_des.decrypt_each(cukvashe_des.TdesEde2, keys, blocks)
+
+`decrypt_cbc_records(cipher, vectors, counts, blocks)` and its inverse take a column of records, `macs` and `macs_each` many
+messages.
+
 A fault is a ValueError of its own name, an argument of the wrong type a TypeError. The texts of both tell lengths, and no other
 value that was given.
 
@@ -37,6 +47,7 @@ from ._faults import (
     AccountLength,
     BlockLength,
     Closed,
+    CountMismatch,
     ExpiryDigit,
     ExpiryLength,
     Fill,
@@ -68,6 +79,18 @@ from ._keys import (
     is_weak_key,
     with_odd_parity,
 )
+from ._lists import (
+    check_values,
+    decrypt_cbc_records,
+    decrypt_each,
+    decrypt_each_into,
+    dukpt_transaction_keys,
+    encrypt_cbc_records,
+    encrypt_each,
+    encrypt_each_into,
+    macs,
+    macs_each,
+)
 from ._macs import TAG_SIZE, CbcMacDes, CbcMacTdesEde2, CbcMacTdesEde3, CmacTdesEde2, CmacTdesEde3, RetailMacDes
 from ._padding import pad, unpad
 from ._payment import cvv, pin_decode_0, pin_decode_1, pin_decode_3, pin_encode_0, pin_encode_1, pin_encode_3
@@ -75,12 +98,14 @@ from ._version import __version__
 
 __all__ = [
     "AccountDigit", "AccountLength", "BLOCK_SIZE", "BlockLength", "CbcMacDes", "CbcMacTdesEde2", "CbcMacTdesEde3", "Closed",
-    "CmacTdesEde2", "CmacTdesEde3", "Des", "ExpiryDigit", "ExpiryLength", "Fill", "FillLength", "Format", "KeyLength",
-    "PaddingMethod", "PaddingMismatch", "PinDigit", "PinLength", "RetailMacDes", "SerialLength", "ServiceDigit",
+    "CmacTdesEde2", "CmacTdesEde3", "CountMismatch", "Des", "ExpiryDigit", "ExpiryLength", "Fill", "FillLength", "Format",
+    "KeyLength", "PaddingMethod", "PaddingMismatch", "PinDigit", "PinLength", "RetailMacDes", "SerialLength", "ServiceDigit",
     "ServiceLength", "TAG_SIZE", "TagMismatch", "TdesEde2", "TdesEde3", "VectorLength", "WeakKey", "__version__", "check_value",
-    "combine", "cvv", "dukpt_data_key", "dukpt_initial_key", "dukpt_is_usable", "dukpt_mac_key", "dukpt_next_serial",
-    "dukpt_pin_key", "dukpt_transaction_key", "equal_but_parity", "is_weak_key", "pad", "pin_decode_0", "pin_decode_1",
-    "pin_decode_3", "pin_encode_0", "pin_encode_1", "pin_encode_3", "unpad", "with_odd_parity",
+    "check_values", "combine", "cvv", "decrypt_cbc_records", "decrypt_each", "decrypt_each_into", "dukpt_data_key",
+    "dukpt_initial_key", "dukpt_is_usable", "dukpt_mac_key", "dukpt_next_serial", "dukpt_pin_key", "dukpt_transaction_key",
+    "dukpt_transaction_keys", "encrypt_cbc_records", "encrypt_each", "encrypt_each_into", "equal_but_parity", "is_weak_key",
+    "macs", "macs_each", "pad", "pin_decode_0", "pin_decode_1", "pin_decode_3", "pin_encode_0", "pin_encode_1", "pin_encode_3",
+    "unpad", "with_odd_parity",
 ]
 
 # Texts of errors and of `help` name the package, and not the file that defines a class.

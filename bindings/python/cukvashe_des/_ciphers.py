@@ -2,7 +2,7 @@
 
 from __future__ import annotations
 
-from typing import TYPE_CHECKING, Any, Callable, ClassVar
+from typing import TYPE_CHECKING, Any, Callable, ClassVar, Type
 
 from ._data import BLOCK_SIZE, Keyed, bytes_of, context_type, is_writable, key_of, pointer_to, vector_of
 from ._faults import BlockLength
@@ -109,6 +109,13 @@ def _whole(status: int, length: int) -> None:
     """Raises BlockLength where a call refused the length."""
     if status != OK:
         raise BlockLength(f"{length} bytes are not whole blocks of {BLOCK_SIZE}")
+
+
+def class_of(cipher: Type[Cipher]) -> Type[Cipher]:
+    """A class of ciphers, which is none of the caller's other types."""
+    if not (isinstance(cipher, type) and issubclass(cipher, Cipher) and cipher.name):
+        raise TypeError("the first argument is a class of ciphers, such as TdesEde2")
+    return cipher
 
 
 class Des(Cipher):

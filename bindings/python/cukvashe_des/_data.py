@@ -97,6 +97,50 @@ def bytes_from(made: Any) -> bytes:
     return answer
 
 
+class _Buffer(ctypes.Structure):
+    """The Py_buffer of Python's own interface for C, where the bytes of an object stand."""
+
+    _fields_ = [
+        ("start", ctypes.c_void_p),
+        ("object", ctypes.c_void_p),
+        ("length", ctypes.c_ssize_t),
+        ("itemsize", ctypes.c_ssize_t),
+        ("readonly", ctypes.c_int),
+        ("dimensions", ctypes.c_int),
+        *((name, ctypes.c_void_p) for name in ("format", "shape", "strides", "suboffsets", "internal")),
+    ]
+
+
+_take_buffer = ctypes.pythonapi.PyObject_GetBuffer
+_take_buffer.argtypes, _take_buffer.restype = (ctypes.py_object, ctypes.POINTER(_Buffer), ctypes.c_int), ctypes.c_int
+_give_back = ctypes.pythonapi.PyBuffer_Release
+_give_back.argtypes, _give_back.restype = (ctypes.POINTER(_Buffer),), None
+
+
+@contextlib.contextmanager
+def lent(data: ReadableBuffer) -> Iterator[Tuple[Any, int]]:
+    """Where the bytes of an object begin, and how many there are. They are copied only where they do not lie in one piece. Until
+    the call ends nobody can change their number; who changes the bytes themselves meanwhile gets an answer to some of both."""
+    buffer = _Buffer()
+    with memoryview(data) as view:
+        _take_buffer(view if view.c_contiguous else view.tobytes(), ctypes.byref(buffer), 0)
+        try:
+            yield buffer.start, buffer.length
+        finally:
+            _give_back(ctypes.byref(buffer))
+
+
+@contextlib.contextmanager
+def kept_apart(data: ReadableBuffer, written: memoryview) -> Iterator[Tuple[Any, int]]:
+    """The same of data of which none may be written by the call: a copy, wiped after it, where what it writes overlaps them."""
+    with lent(data) as (start, length), lent(written) as (place, size):
+        if not length or not size or start + length <= place or place + size <= start:
+            yield start, length
+        else:
+            with _held(bytearray(ctypes.string_at(start, length))) as held:
+                yield held, length
+
+
 def pointer_to(data: WriteableBuffer) -> Any:
     """Where data begin that a call may write. As long as the call has this pointer, nobody changes their length."""
     return ctypes.byref(ctypes.c_uint8.from_buffer(data))

@@ -31,6 +31,10 @@ class SerialLength(ValueError):
     """A key serial number does not have ten bytes."""
 
 
+class CountMismatch(ValueError):
+    """Lists that belong together do not have as many elements as each other."""
+
+
 class WeakKey(ValueError):
     """The weak key test refuses a key."""
 

@@ -5,7 +5,7 @@ from __future__ import annotations
 import ctypes
 from typing import TYPE_CHECKING, Any, Callable, Optional, Type
 
-from ._ciphers import Cipher
+from ._ciphers import Cipher, class_of
 from ._data import bytes_from, bytes_of, key_of, room, wiped_room
 from ._faults import SerialLength, WeakKey
 from ._library import BOOL, INT, OK, POINTER, SIZE, WEAK_KEY, function
@@ -49,10 +49,8 @@ def equal_but_parity(first: ReadableBuffer, second: ReadableBuffer) -> bool:
 
 def check_value(cipher: Type[Cipher], key: ReadableBuffer) -> bytes:
     """The check value of a key, three bytes: the first of the block of zeros encrypted. `cipher` is a class, as TdesEde2."""
-    if not (isinstance(cipher, type) and issubclass(cipher, Cipher) and cipher.name):
-        raise TypeError("the first argument is a class of ciphers, such as TdesEde2")
     value = room(3)
-    with key_of(key, cipher.key_size) as held:
+    with key_of(key, class_of(cipher).key_size) as held:
         cipher._value(held, len(held), value)
     return bytes(value)
 

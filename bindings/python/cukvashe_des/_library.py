@@ -28,6 +28,7 @@ SERVICE_LENGTH = 15
 SERVICE_DIGIT = 16
 PADDING = 17
 CAPACITY = 18
+COUNTS = 19
 
 POINTER, SIZE, INT, BOOL = ctypes.c_void_p, ctypes.c_size_t, ctypes.c_int, ctypes.c_bool
 

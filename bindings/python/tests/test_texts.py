@@ -5,8 +5,9 @@ import traceback
 import unittest
 
 import cukvashe_des
+from cukvashe_des import Des
 
-from .values import ACCOUNT, CALLS, IV, KEY, MESSAGE, OBJECTS, PADDED_MACS
+from .values import ACCOUNT, CALLS, IV, KEY, LISTS, MESSAGE, OBJECTS, PADDED_MACS
 
 
 # Each error and its text, which tells a length, here #, and nothing else that is not the same at every call.
@@ -16,6 +17,9 @@ SENTENCES = {
     ("BlockLength", "# bytes are not whole blocks of 8"),
     ("BlockLength", "a PIN block has 8 bytes, not #"),
     ("Closed", "the object was closed"),
+    ("CountMismatch", "the lengths do not add up to the messages"),
+    ("CountMismatch", "there are not as many keys as blocks"),
+    ("CountMismatch", "there are not as many vectors as counts"),
     ("ExpiryDigit", "an expiry date has digits alone"),
     ("ExpiryLength", "an expiry date has four digits"),
     ("Fill", "a fill digit is none of those of the format"),
@@ -25,15 +29,20 @@ SENTENCES = {
     ("KeyLength", "a key has 16 bytes, not #"),
     ("KeyLength", "a key has 24 bytes, not #"),
     ("KeyLength", "a key has 8 or 16 or 24 bytes, not #"),
+    ("KeyLength", "# bytes are not whole keys of 8"),
+    ("KeyLength", "# bytes are not whole keys of 16"),
+    ("KeyLength", "# bytes are not whole keys of 24"),
     ("PaddingMethod", "padding is by method 1 or 2"),
     ("PaddingMethod", 'padding is by "pkcs7" or "iso7816"'),
     ("PaddingMismatch", "the data do not end with the padding"),
     ("PinDigit", "a PIN has digits alone"),
     ("PinLength", "a PIN has 4 to 12 digits"),
     ("SerialLength", "a key serial number has 10 bytes, not #"),
+    ("SerialLength", "# bytes are not whole key serial numbers of 10"),
     ("ServiceDigit", "a service code has digits alone"),
     ("ServiceLength", "a service code has three digits"),
     ("TagMismatch", "the tag is not that of the message"),
+    ("VectorLength", "# bytes are not whole vectors of 8"),
     ("VectorLength", "an initialization vector has 8 bytes, not #"),
     ("WeakKey", "the weak key test refuses the key that the components make"),
 }
@@ -82,7 +91,8 @@ class Texts(unittest.TestCase):
 
     def calls(self):
         """Every call of the package, those in place and those of closed objects too."""
-        calls = OBJECTS + CALLS
+        calls = OBJECTS + CALLS + LISTS
+        calls += [(call, (Des, KEY, bytearray(MESSAGE))) for call in (cukvashe_des.encrypt_each_into, cukvashe_des.decrypt_each_into)]
         for kind, arguments in OBJECTS:
             made, closed = kind(*arguments), kind(*arguments)
             closed.close()

@@ -112,6 +112,21 @@ FUNCTIONS = [
     (cukvashe_des.cvv, (PAIR, b"4123456789012345", b"8701", b"101")),
 ]
 
+# Counters 1, 2 and eff800.
+SERIALS = bytes.fromhex("ffff9876543210e00001" "ffff9876543210e00002" "ffff9876543210eff800")
+
+# Of each function for lists its arguments, which it reads where they stand.
+LISTS = [
+    (cukvashe_des.encrypt_each, (TdesEde3, KEY * 3, MESSAGE)),
+    (cukvashe_des.decrypt_each, (TdesEde2, PAIR * 3, MESSAGE)),
+    (cukvashe_des.check_values, (TdesEde3, KEY * 2)),
+    (cukvashe_des.dukpt_transaction_keys, (PAIR, SERIALS)),
+    (cukvashe_des.encrypt_cbc_records, (TdesEde3(KEY), MESSAGE[:16], (1, 2), MESSAGE)),
+    (cukvashe_des.decrypt_cbc_records, (TdesEde3(KEY), MESSAGE[:16], (1, 2), MESSAGE)),
+    (cukvashe_des.macs, (CbcMacTdesEde2, PAIR, 2, (20, 4), MESSAGE)),
+    (cukvashe_des.macs_each, (RetailMacDes, PAIR * 2, 2, (20, 4), MESSAGE)),
+]
+
 
 def methods():
     """Of an object of each class its calls that return something, and their arguments."""

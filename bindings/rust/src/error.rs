@@ -45,6 +45,18 @@ sentences!(DataError:
     DataError::LengthsDiffer => "input and output differ in length",
 );
 
+/// The error of lists that belong together and do not have as many elements as each other. Nothing was changed.
+#[derive(Clone, Copy, Debug, PartialEq, Eq)]
+pub struct CountsDiffer;
+
+impl fmt::Display for CountsDiffer {
+    fn fmt(&self, f: &mut fmt::Formatter<'_>) -> fmt::Result {
+        f.write_str("the lists do not have as many elements as each other")
+    }
+}
+
+impl core::error::Error for CountsDiffer {}
+
 /// Why a key does not pass the weak key test.
 #[derive(Clone, Copy, Debug, PartialEq, Eq)]
 pub enum KeyTestError {

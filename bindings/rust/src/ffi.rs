@@ -20,6 +20,14 @@ pub const ISO7816: c_int = 12;
 pub const MAC_PADDING_1: c_int = 1;
 pub const MAC_PADDING_2: c_int = 2;
 
+/// Where a message stands.
+#[repr(C)]
+#[derive(Clone, Copy)]
+pub struct Message {
+    pub bytes: *const u8,
+    pub length: usize,
+}
+
 /// A context, which is wiped when it is dropped.
 #[repr(C)]
 #[derive(Clone)]
@@ -87,6 +95,39 @@ extern "C" {
         length: usize,
     ) -> c_int;
     pub fn cukvashe_des_check_value(key: *const u8, key_length: usize, value: *mut [u8; 3]) -> c_int;
+    pub fn cukvashe_des_encrypt_each(keys: *const u8, blocks: *mut u8, count: usize);
+    pub fn cukvashe_des_decrypt_each(keys: *const u8, blocks: *mut u8, count: usize);
+    pub fn cukvashe_des_encrypt_cbc_records(
+        context: *const Des,
+        vectors: *mut u8,
+        counts: *const usize,
+        records_count: usize,
+        blocks: *mut u8,
+        blocks_count: usize,
+    ) -> c_int;
+    pub fn cukvashe_des_decrypt_cbc_records(
+        context: *const Des,
+        vectors: *mut u8,
+        counts: *const usize,
+        records_count: usize,
+        blocks: *mut u8,
+        blocks_count: usize,
+    ) -> c_int;
+    pub fn cukvashe_cbc_mac_des_macs(
+        key: *const u8,
+        method: c_int,
+        messages: *const Message,
+        tags: *mut u8,
+        count: usize,
+    ) -> c_int;
+    pub fn cukvashe_cbc_mac_des_macs_each(
+        keys: *const u8,
+        method: c_int,
+        messages: *const Message,
+        tags: *mut u8,
+        count: usize,
+    ) -> c_int;
+    pub fn cukvashe_des_check_values(keys: *const u8, values: *mut u8, count: usize);
 
     pub fn cukvashe_tdes_ede2_init(context: *mut TdesEde2, key: *const u8, key_length: usize) -> c_int;
     pub fn cukvashe_tdes_ede2_encrypt_ecb(context: *const TdesEde2, data: *mut u8, length: usize) -> c_int;
@@ -130,6 +171,39 @@ extern "C" {
         length: usize,
     ) -> c_int;
     pub fn cukvashe_tdes_ede2_check_value(key: *const u8, key_length: usize, value: *mut [u8; 3]) -> c_int;
+    pub fn cukvashe_tdes_ede2_encrypt_each(keys: *const u8, blocks: *mut u8, count: usize);
+    pub fn cukvashe_tdes_ede2_decrypt_each(keys: *const u8, blocks: *mut u8, count: usize);
+    pub fn cukvashe_tdes_ede2_encrypt_cbc_records(
+        context: *const TdesEde2,
+        vectors: *mut u8,
+        counts: *const usize,
+        records_count: usize,
+        blocks: *mut u8,
+        blocks_count: usize,
+    ) -> c_int;
+    pub fn cukvashe_tdes_ede2_decrypt_cbc_records(
+        context: *const TdesEde2,
+        vectors: *mut u8,
+        counts: *const usize,
+        records_count: usize,
+        blocks: *mut u8,
+        blocks_count: usize,
+    ) -> c_int;
+    pub fn cukvashe_cbc_mac_tdes_ede2_macs(
+        key: *const u8,
+        method: c_int,
+        messages: *const Message,
+        tags: *mut u8,
+        count: usize,
+    ) -> c_int;
+    pub fn cukvashe_cbc_mac_tdes_ede2_macs_each(
+        keys: *const u8,
+        method: c_int,
+        messages: *const Message,
+        tags: *mut u8,
+        count: usize,
+    ) -> c_int;
+    pub fn cukvashe_tdes_ede2_check_values(keys: *const u8, values: *mut u8, count: usize);
 
     pub fn cukvashe_tdes_ede3_init(context: *mut TdesEde3, key: *const u8, key_length: usize) -> c_int;
     pub fn cukvashe_tdes_ede3_encrypt_ecb(context: *const TdesEde3, data: *mut u8, length: usize) -> c_int;
@@ -173,6 +247,39 @@ extern "C" {
         length: usize,
     ) -> c_int;
     pub fn cukvashe_tdes_ede3_check_value(key: *const u8, key_length: usize, value: *mut [u8; 3]) -> c_int;
+    pub fn cukvashe_tdes_ede3_encrypt_each(keys: *const u8, blocks: *mut u8, count: usize);
+    pub fn cukvashe_tdes_ede3_decrypt_each(keys: *const u8, blocks: *mut u8, count: usize);
+    pub fn cukvashe_tdes_ede3_encrypt_cbc_records(
+        context: *const TdesEde3,
+        vectors: *mut u8,
+        counts: *const usize,
+        records_count: usize,
+        blocks: *mut u8,
+        blocks_count: usize,
+    ) -> c_int;
+    pub fn cukvashe_tdes_ede3_decrypt_cbc_records(
+        context: *const TdesEde3,
+        vectors: *mut u8,
+        counts: *const usize,
+        records_count: usize,
+        blocks: *mut u8,
+        blocks_count: usize,
+    ) -> c_int;
+    pub fn cukvashe_cbc_mac_tdes_ede3_macs(
+        key: *const u8,
+        method: c_int,
+        messages: *const Message,
+        tags: *mut u8,
+        count: usize,
+    ) -> c_int;
+    pub fn cukvashe_cbc_mac_tdes_ede3_macs_each(
+        keys: *const u8,
+        method: c_int,
+        messages: *const Message,
+        tags: *mut u8,
+        count: usize,
+    ) -> c_int;
+    pub fn cukvashe_tdes_ede3_check_values(keys: *const u8, values: *mut u8, count: usize);
 
     pub fn cukvashe_cbc_mac_des_init(
         context: *mut CbcMacDes,
@@ -222,6 +329,15 @@ extern "C" {
     pub fn cukvashe_retail_mac_des_final(context: *const RetailMacDes, tag: *mut [u8; 8]);
     pub fn cukvashe_retail_mac_des_verify(context: *const RetailMacDes, tag: *const u8, tag_length: usize) -> c_int;
 
+    pub fn cukvashe_retail_mac_des_macs_each(
+        first: *const u8,
+        second: *const u8,
+        method: c_int,
+        messages: *const Message,
+        tags: *mut u8,
+        count: usize,
+    ) -> c_int;
+
     pub fn cukvashe_cmac_tdes_ede2_init(context: *mut CmacTdesEde2, key: *const u8, key_length: usize) -> c_int;
     pub fn cukvashe_cmac_tdes_ede2_update(context: *mut CmacTdesEde2, message: *const u8, length: usize);
     pub fn cukvashe_cmac_tdes_ede2_final(context: *const CmacTdesEde2, tag: *mut [u8; 8]);
@@ -269,6 +385,7 @@ extern "C" {
 
     pub fn cukvashe_dukpt_initial_key(base: *const [u8; 16], serial: *const [u8; 10], key: *mut [u8; 16]);
     pub fn cukvashe_dukpt_transaction_key(initial: *const [u8; 16], serial: *const [u8; 10], key: *mut [u8; 16]);
+    pub fn cukvashe_dukpt_transaction_keys(base: *const [u8; 16], serials: *const u8, keys: *mut u8, count: usize);
     pub fn cukvashe_dukpt_pin_key(transaction: *const [u8; 16], key: *mut [u8; 16]);
     pub fn cukvashe_dukpt_mac_key(transaction: *const [u8; 16], is_response: bool, key: *mut [u8; 16]);
     pub fn cukvashe_dukpt_data_key(transaction: *const [u8; 16], is_response: bool, key: *mut [u8; 16]);

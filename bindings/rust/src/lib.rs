@@ -14,7 +14,7 @@
 //!
 //! Ciphers take whole blocks of 8 bytes, as slices of bytes or of [`Block`]s: [`padding`] makes them of other data, [`mac`]
 //! authenticates messages, and [`payment`] has check values, keys of components and of transactions, PIN blocks and card
-//! verification values.
+//! verification values. [`KeyForEach`] takes lists in which each block has a key of its own.
 //!
 //! The crate needs no `std` and allocates no memory. Ciphers, MACs and PINs can be shared by threads, and are wiped when they
 //! are dropped. A move may leave a copy behind that is not wiped: a value in a `Box` stays where it is. Keys that you pass or
@@ -22,13 +22,15 @@
 #![no_std]
 #![warn(missing_docs)]
 
+mod each_key;
 mod error;
 mod ffi;
 pub mod mac;
 pub mod padding;
 pub mod payment;
 
-pub use error::{DataError, InvalidLength, KeyTestError};
+pub use each_key::KeyForEach;
+pub use error::{CountsDiffer, DataError, InvalidLength, KeyTestError};
 
 use core::{fmt, slice};
 use ffi::{KEY_LENGTH, OK};
@@ -86,6 +88,24 @@ pub trait BlockCipher: Clone + fmt::Debug {
     /// As `decrypt_cbc`, from `input` to `output`; at an error `output` and the vector stay.
     fn decrypt_cbc_to(&self, iv: &mut Block, input: &[u8], output: &mut [u8]) -> Result<(), DataError>;
 
+    /// Encrypts records in place, each by cipher block chaining from the vector at its place, which becomes its last ciphertext
+    /// block: record k has `counts[k]` blocks, one record after the other. 128 or 256 records go together, and no table is read
+    /// at an index that depends on a secret. At an error nothing is changed.
+    fn encrypt_cbc_records(
+        &self,
+        vectors: &mut [Block],
+        counts: &[usize],
+        blocks: &mut [Block],
+    ) -> Result<(), CountsDiffer>;
+
+    /// Decrypts records in place, as `encrypt_cbc_records` encrypts them.
+    fn decrypt_cbc_records(
+        &self,
+        vectors: &mut [Block],
+        counts: &[usize],
+        blocks: &mut [Block],
+    ) -> Result<(), CountsDiffer>;
+
     /// Encrypts each block by itself, in place.
     fn encrypt_blocks(&self, blocks: &mut [Block]) {
         // Blocks are whole, so there is no error; the same holds of the calls below.
@@ -139,7 +159,8 @@ fn whole(status: i32) -> Result<(), DataError> {
 macro_rules! cipher {
     ($(#[$doc:meta])* $name:ident, $key_size:literal, $init:ident,
      $encrypt_ecb:ident, $decrypt_ecb:ident, $encrypt_ecb_to:ident, $decrypt_ecb_to:ident,
-     $encrypt_cbc:ident, $decrypt_cbc:ident, $encrypt_cbc_to:ident, $decrypt_cbc_to:ident) => {
+     $encrypt_cbc:ident, $decrypt_cbc:ident, $encrypt_cbc_to:ident, $decrypt_cbc_to:ident,
+     $encrypt_records:ident, $decrypt_records:ident) => {
         $(#[$doc])*
         #[derive(Clone)]
         pub struct $name {
@@ -201,6 +222,34 @@ macro_rules! cipher {
                 let length = length_of_both(input, output)?;
                 whole(unsafe { ffi::$decrypt_cbc_to(&self.context, iv, input.as_ptr(), output.as_mut_ptr(), length) })
             }
+
+            fn encrypt_cbc_records(
+                &self,
+                vectors: &mut [Block],
+                counts: &[usize],
+                blocks: &mut [Block],
+            ) -> Result<(), CountsDiffer> {
+                let (records, total) = (each_key::count_of_both(vectors, counts)?, blocks.len());
+                let (vectors, blocks) = (vectors.as_flattened_mut().as_mut_ptr(), blocks.as_flattened_mut().as_mut_ptr());
+                match unsafe { ffi::$encrypt_records(&self.context, vectors, counts.as_ptr(), records, blocks, total) } {
+                    OK => Ok(()),
+                    _ => Err(CountsDiffer),
+                }
+            }
+
+            fn decrypt_cbc_records(
+                &self,
+                vectors: &mut [Block],
+                counts: &[usize],
+                blocks: &mut [Block],
+            ) -> Result<(), CountsDiffer> {
+                let (records, total) = (each_key::count_of_both(vectors, counts)?, blocks.len());
+                let (vectors, blocks) = (vectors.as_flattened_mut().as_mut_ptr(), blocks.as_flattened_mut().as_mut_ptr());
+                match unsafe { ffi::$decrypt_records(&self.context, vectors, counts.as_ptr(), records, blocks, total) } {
+                    OK => Ok(()),
+                    _ => Err(CountsDiffer),
+                }
+            }
         }
 
         impl fmt::Debug for $name {
@@ -222,7 +271,9 @@ cipher!(
     cukvashe_des_encrypt_cbc,
     cukvashe_des_decrypt_cbc,
     cukvashe_des_encrypt_cbc_to,
-    cukvashe_des_decrypt_cbc_to
+    cukvashe_des_decrypt_cbc_to,
+    cukvashe_des_encrypt_cbc_records,
+    cukvashe_des_decrypt_cbc_records
 );
 
 cipher!(
@@ -236,7 +287,9 @@ cipher!(
     cukvashe_tdes_ede2_encrypt_cbc,
     cukvashe_tdes_ede2_decrypt_cbc,
     cukvashe_tdes_ede2_encrypt_cbc_to,
-    cukvashe_tdes_ede2_decrypt_cbc_to
+    cukvashe_tdes_ede2_decrypt_cbc_to,
+    cukvashe_tdes_ede2_encrypt_cbc_records,
+    cukvashe_tdes_ede2_decrypt_cbc_records
 );
 
 cipher!(
@@ -250,7 +303,9 @@ cipher!(
     cukvashe_tdes_ede3_encrypt_cbc,
     cukvashe_tdes_ede3_decrypt_cbc,
     cukvashe_tdes_ede3_encrypt_cbc_to,
-    cukvashe_tdes_ede3_decrypt_cbc_to
+    cukvashe_tdes_ede3_decrypt_cbc_to,
+    cukvashe_tdes_ede3_encrypt_cbc_records,
+    cukvashe_tdes_ede3_decrypt_cbc_records
 );
 
 /// Refuses a key of 8, 16 or 24 bytes that is weak in one of its parts (few different round keys), or has two parts that

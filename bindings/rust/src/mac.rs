@@ -2,7 +2,8 @@
 //! algorithms 1 and 3, with padding methods 1 and 2), and CMAC (NIST SP 800-38B).
 //!
 //! CBC-MAC is safe only where every message under a key has one length. Padding method 1 hides zeros at the end of a message.
-//! All calls read tables at indexes that depend on key and message.
+//! The calls of one message read tables at indexes that depend on key and message; `macs` and `macs_each`, of many messages, read
+//! none, and take 128 at a time, as long as the longest of them.
 //!
 //! ```
 //! use cukvashe_des::mac::{Mac, MacError, Method2, RetailMacDes};
@@ -18,11 +19,13 @@
 //! # Ok::<(), cukvashe_des::InvalidLength>(())
 //! ```
 
-use crate::error::sentences;
-use crate::ffi::{self, OK};
+use crate::each_key::count_of_both;
+use crate::error::{sentences, CountsDiffer};
+use crate::ffi::{self, Message, OK};
 use crate::InvalidLength;
 use core::fmt;
 use core::marker::PhantomData;
+use core::ptr;
 
 /// The error of a tag that is not the one of the message.
 #[derive(Clone, Copy, Debug, PartialEq, Eq)]
@@ -182,3 +185,75 @@ mac!(
     CmacTdesEde3 [], 24, cukvashe_cmac_tdes_ede3_init, cukvashe_cmac_tdes_ede3_update,
     cukvashe_cmac_tdes_ede3_final, cukvashe_cmac_tdes_ede3_verify
 );
+
+/// How many messages go together.
+const GROUP: usize = 128;
+
+/// Takes groups of messages and the places of their tags to a call, with the number of the first message of each.
+fn in_groups(messages: &[&[u8]], tags: &mut [[u8; 8]], call: impl Fn(usize, *const Message, *mut u8, usize)) {
+    for (number, (group, tags)) in messages.chunks(GROUP).zip(tags.chunks_mut(GROUP)).enumerate() {
+        let mut held = [Message { bytes: ptr::null(), length: 0 }; GROUP];
+        for (place, message) in held.iter_mut().zip(group) {
+            *place = Message { bytes: message.as_ptr(), length: message.len() };
+        }
+        call(GROUP * number, held.as_ptr(), tags.as_flattened_mut().as_mut_ptr(), group.len());
+    }
+}
+
+macro_rules! macs {
+    ($($name:ident: $size:literal, $one:ident, $each:ident;)*) => {
+        // SAFETY of the calls below: the pointers are of references to as many elements as the count says, which don't overlap,
+        // and the status is 0, since there is a padding of each method.
+        $(impl<P: Padding> $name<P> {
+            /// Writes the tag of each message at its place; where there are not as many messages as tags, the tags stay.
+            pub fn macs(key: &[u8; $size], messages: &[&[u8]], tags: &mut [[u8; 8]]) -> Result<(), CountsDiffer> {
+                count_of_both(messages, tags)?;
+                in_groups(messages, tags, |_, held, tags, count| {
+                    unsafe { ffi::$one(key.as_ptr(), P::METHOD, held, tags, count) };
+                });
+                Ok(())
+            }
+
+            /// Writes the tag of each message at its place, under the key there; where the lists are not as many, the tags stay.
+            pub fn macs_each(
+                keys: &[[u8; $size]],
+                messages: &[&[u8]],
+                tags: &mut [[u8; 8]],
+            ) -> Result<(), CountsDiffer> {
+                count_of_both(keys, messages)?;
+                count_of_both(messages, tags)?;
+                in_groups(messages, tags, |from, held, tags, count| {
+                    unsafe { ffi::$each(keys[from..].as_flattened().as_ptr(), P::METHOD, held, tags, count) };
+                });
+                Ok(())
+            }
+        })*
+    };
+}
+
+macs!(
+    CbcMacDes: 8, cukvashe_cbc_mac_des_macs, cukvashe_cbc_mac_des_macs_each;
+    CbcMacTdesEde2: 16, cukvashe_cbc_mac_tdes_ede2_macs, cukvashe_cbc_mac_tdes_ede2_macs_each;
+    CbcMacTdesEde3: 24, cukvashe_cbc_mac_tdes_ede3_macs, cukvashe_cbc_mac_tdes_ede3_macs_each;
+);
+
+impl<P: Padding> RetailMacDes<P> {
+    /// Writes the tag of each message at its place, under the key there; where the lists are not as many, the tags stay.
+    pub fn macs_each(keys: &[[u8; 16]], messages: &[&[u8]], tags: &mut [[u8; 8]]) -> Result<(), CountsDiffer> {
+        count_of_both(keys, messages)?;
+        count_of_both(messages, tags)?;
+        in_groups(messages, tags, |from, held, tags, count| {
+            let mut halves = [[[0; 8]; GROUP]; 2];
+            for (at, key) in keys[from..from + count].iter().enumerate() {
+                halves[0][at].copy_from_slice(&key[..8]);
+                halves[1][at].copy_from_slice(&key[8..]);
+            }
+            let [first, second] = &halves;
+            let (first, second) = (first.as_flattened().as_ptr(), second.as_flattened().as_ptr());
+            // SAFETY: the pointers are of as many elements as the count says, which don't overlap; the status is 0.
+            unsafe { ffi::cukvashe_retail_mac_des_macs_each(first, second, P::METHOD, held, tags, count) };
+            ffi::wipe(halves.as_flattened_mut().as_flattened_mut());
+        });
+        Ok(())
+    }
+}

@@ -2,7 +2,7 @@
 //! DES, ANSI X9.24-1:2009) as the host makes them.
 //!
 //! A key of a transaction has 16 bytes, two halves of 8, and a key serial number ten, of which the last 21 bits are the
-//! transaction counter. PINs, account numbers, dates and codes are texts, slices of ASCII digits. Check values, `initial_key`,
+//! transaction counter. PINs, account numbers, dates and codes are texts, slices of ASCII digits. `check_value`, `initial_key`,
 //! `transaction_key`, `data_key` and `cvv` read tables at indexes that depend on keys, the calls that make a key of components
 //! branch on it, and those of PIN blocks on the PIN.
 //!
@@ -31,8 +31,9 @@ pub mod pin_blocks;
 pub use card_verification::{cvv, CvvError};
 pub use pin_blocks::{Pin, PinError};
 
+use crate::each_key::{count_of_both, KeyForEach};
 use crate::ffi::{self, OK};
-use crate::{Des, InvalidLength, KeyTestError, TdesEde2, TdesEde3};
+use crate::{CountsDiffer, Des, InvalidLength, KeyTestError, TdesEde2, TdesEde3};
 
 /// The message of a transaction that a key is for.
 #[derive(Clone, Copy, Debug, PartialEq, Eq)]
@@ -44,13 +45,17 @@ pub enum Message {
 }
 
 /// A cipher whose keys have check values.
-pub trait CheckValue {
+pub trait CheckValue: KeyForEach {
     /// The check value of a key: the first three bytes of the block of zeros, encrypted under it.
     fn check_value(key: &[u8]) -> Result<[u8; 3], InvalidLength>;
+
+    /// Writes the check value of each key at its place, 128 keys at a time, without tables; where there are not as many keys as
+    /// values, the values stay.
+    fn check_values(keys: &[Self::Key], values: &mut [[u8; 3]]) -> Result<(), CountsDiffer>;
 }
 
 macro_rules! check_value {
-    ($($cipher:ident: $call:ident),*) => {
+    ($($cipher:ident: $call:ident, $calls:ident;)*) => {
         $(impl CheckValue for $cipher {
             fn check_value(key: &[u8]) -> Result<[u8; 3], InvalidLength> {
                 let mut value = [0; 3];
@@ -60,14 +65,21 @@ macro_rules! check_value {
                     _ => Err(InvalidLength),
                 }
             }
+
+            fn check_values(keys: &[Self::Key], values: &mut [[u8; 3]]) -> Result<(), CountsDiffer> {
+                let count = count_of_both(keys, values)?;
+                // SAFETY: the pointers are of references, good for the count, and don't overlap.
+                unsafe { ffi::$calls(keys.as_flattened().as_ptr(), values.as_flattened_mut().as_mut_ptr(), count) };
+                Ok(())
+            }
         })*
     };
 }
 
 check_value!(
-    Des: cukvashe_des_check_value,
-    TdesEde2: cukvashe_tdes_ede2_check_value,
-    TdesEde3: cukvashe_tdes_ede3_check_value
+    Des: cukvashe_des_check_value, cukvashe_des_check_values;
+    TdesEde2: cukvashe_tdes_ede2_check_value, cukvashe_tdes_ede2_check_values;
+    TdesEde3: cukvashe_tdes_ede3_check_value, cukvashe_tdes_ede3_check_values;
 );
 
 macro_rules! combine {
@@ -109,6 +121,16 @@ pub fn transaction_key(initial: &[u8; 16], serial: &[u8; 10]) -> [u8; 16] {
     let mut key = [0; 16];
     unsafe { ffi::cukvashe_dukpt_transaction_key(initial, serial, &mut key) };
     key
+}
+
+/// Writes the key of the transaction of each key serial number at its place, from the base derivation key: what
+/// [`transaction_key`] makes of [`initial_key`], 128 at a time, without tables. The terminals may be different ones. Where there
+/// are not as many serial numbers as keys, the keys stay. Every counter is taken: ask [`is_usable`] first.
+pub fn transaction_keys(base: &[u8; 16], serials: &[[u8; 10]], keys: &mut [[u8; 16]]) -> Result<(), CountsDiffer> {
+    let count = count_of_both(serials, keys)?;
+    let (serials, keys) = (serials.as_flattened(), keys.as_flattened_mut());
+    unsafe { ffi::cukvashe_dukpt_transaction_keys(base, serials.as_ptr(), keys.as_mut_ptr(), count) };
+    Ok(())
 }
 
 /// The key that encrypts PIN blocks, from the transaction's key.

@@ -6,6 +6,8 @@ mod cbc_mac_tdes_ede2;
 mod cbc_mac_tdes_ede3;
 mod cmac_tdes_ede2;
 mod cmac_tdes_ede3;
+mod each_key;
+mod many;
 mod message;
 mod retail_mac_des;
 mod tags;

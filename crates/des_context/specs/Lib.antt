@@ -1,3 +1,4 @@
 pub mod Bytes
 pub mod Contexts
 pub mod Keys
+pub mod Records

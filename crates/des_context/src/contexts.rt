@@ -8,14 +8,14 @@ ghost use Rattle.des_context.specs.Contexts.{IsDesContextOf, IsEde3ContextOf, Is
 
 use des::cipher::{KeyInit, KeySizeUser, Relating};
 use des::tdes::{joined, key_part};
-use des_fast::many::ManyBlocks;
+use des_fast::many::SpreadOnce;
 use des_fast::words::{from_round_key_words, round_key_words};
 use des_fast::{Des, TdesEde2, TdesEde3};
 
 /// What a caller keeps of a cipher between calls.
 pub trait Context: KeyInit {
     /// The cipher whose round keys it keeps.
-    type Cipher: Relating + ManyBlocks + Drop;
+    type Cipher: Relating + SpreadOnce + Drop;
 
     /// The cipher of the context, which is made from the key that the context is made from.
     fn to_cipher(&self) -> Self::Cipher

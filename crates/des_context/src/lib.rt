@@ -6,6 +6,8 @@
 pub mod blocks;
 pub mod calls;
 pub mod contexts;
+pub mod each_key;
 pub mod lists;
+pub mod records;
 pub mod status;
 pub mod ways;

@@ -1,4 +1,5 @@
-//! A list of blocks in the quicker of two ways: batches together, and what is left over one by one.
+//! A list of blocks in the quicker of two ways: batches together, and what is left over by
+//! tables.
 
 ghost use Rattle.std.specs.Prelude.{◌≡◌, ◌≤◌, map};
 ghost use Rattle.std.specs.List.{All};
@@ -9,9 +10,9 @@ use des::cbc;
 use des::cipher::are_blocks;
 use des_fast::many::{ManyBlocks, Slice};
 
-/// The fewest blocks that are quicker in a batch than one by one, whatever the cipher, the
-/// direction and the width.
-pub const FEWEST: usize = 19;
+/// The fewest blocks that are quicker in a batch than by tables, whatever the cipher, the direction
+/// and the width.
+pub const FEWEST: usize = 32;
 
 // How many blocks of a list go in batches: the whole batches, and also what is left over where that
 // is enough.

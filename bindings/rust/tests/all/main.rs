@@ -4,6 +4,7 @@ mod ciphers;
 mod common;
 mod header;
 mod keys;
+mod lists;
 mod macs;
 mod payment;
 mod types;

@@ -1,12 +1,14 @@
 //! The exports of key check values.
 
-ghost use Rattle.std.specs.Prelude.{◌≡◌, ◌≢◌, ◌↔◌, length, take, replicate};
+ghost use Rattle.std.specs.Prelude.{◌≡◌, ◌≢◌, ◌↔◌, length, map, take, replicate};
 ghost use Rattle.des.specs.Des.{encryption};
 ghost use Rattle.des.specs.TripleCiphers.{ede3_encryption, ede2_encryption};
 
 use des::cipher::KeyedCipher;
-use des_context::status::{ERR_KEY_LENGTH, OK};
+use des_context::status::{ERR_COUNTS, ERR_KEY_LENGTH, OK};
+use des_fast::many::KeyForEach;
 use des_fast::{Des, TdesEde2, TdesEde3};
+use des_payment::check_value_lists;
 
 // The check value of a key of any cipher.
 fn check_value<C: KeyedCipher + Drop>(key: &[u8], value: &mut [u8; 3]) -> i32
@@ -62,4 +64,63 @@ pub extern "C" fn cukvashe_tdes_ede2_check_value(key: &[u8], value: &mut [u8; 3]
     ensures kept { length key.now ≢ 16 → value.new ≡ value.old }
 {
     check_value::<TdesEde2>(key, value)
+}
+
+// The check values of keys of any cipher.
+fn check_values<C: KeyForEach>(keys: &[C::Key], values: &mut [[u8; 3]]) -> i32
+    ensures accepted { (result ≡ OK) ↔ (length keys.now ≡ length values.old) }
+    ensures refused { (result ≡ ERR_COUNTS) ↔ (length keys.now ≢ length values.old) }
+    ensures values { result ≡ OK → values.new ≡ map
+        (λ key. take 3 (C.encryption (C.Key.bytes_of key) (replicate 8 0))) keys.now }
+    ensures kept { result ≢ OK → values.new ≡ values.old }
+{
+    match check_value_lists::check_values::<C>(keys, values) {
+        Ok(()) => OK,
+        Err(_) => ERR_COUNTS,
+    }
+}
+
+/// The check value of each key at its place, under `Des`. The status is `ERR_COUNTS` where there
+/// are not as many keys as values; the values then stay.
+#[unsafe(no_mangle)]
+pub extern "C" fn cukvashe_narrow_des_check_values(keys: &[[u8; 8]], values: &mut [[u8; 3]]) -> i32
+    ensures accepted { (result ≡ OK) ↔ (length keys.now ≡ length values.old) }
+    ensures refused { (result ≡ ERR_COUNTS) ↔ (length keys.now ≢ length values.old) }
+    ensures values { result ≡ OK → values.new
+        ≡ map (λ key. take 3 (encryption key (replicate 8 0))) keys.now }
+    ensures kept { result ≢ OK → values.new ≡ values.old }
+{
+    check_values::<Des>(keys, values)
+}
+
+/// The check value of each key at its place, under `TdesEde3`. The status is `ERR_COUNTS` where there
+/// are not as many keys as values; the values then stay.
+#[unsafe(no_mangle)]
+pub extern "C" fn cukvashe_narrow_tdes_ede3_check_values(
+    keys: &[[u8; 24]],
+    values: &mut [[u8; 3]],
+) -> i32
+    ensures accepted { (result ≡ OK) ↔ (length keys.now ≡ length values.old) }
+    ensures refused { (result ≡ ERR_COUNTS) ↔ (length keys.now ≢ length values.old) }
+    ensures values { result ≡ OK → values.new
+        ≡ map (λ key. take 3 (ede3_encryption key (replicate 8 0))) keys.now }
+    ensures kept { result ≢ OK → values.new ≡ values.old }
+{
+    check_values::<TdesEde3>(keys, values)
+}
+
+/// The check value of each key at its place, under `TdesEde2`. The status is `ERR_COUNTS` where there
+/// are not as many keys as values; the values then stay.
+#[unsafe(no_mangle)]
+pub extern "C" fn cukvashe_narrow_tdes_ede2_check_values(
+    keys: &[[u8; 16]],
+    values: &mut [[u8; 3]],
+) -> i32
+    ensures accepted { (result ≡ OK) ↔ (length keys.now ≡ length values.old) }
+    ensures refused { (result ≡ ERR_COUNTS) ↔ (length keys.now ≢ length values.old) }
+    ensures values { result ≡ OK → values.new
+        ≡ map (λ key. take 3 (ede2_encryption key (replicate 8 0))) keys.now }
+    ensures kept { result ≢ OK → values.new ≡ values.old }
+{
+    check_values::<TdesEde2>(keys, values)
 }

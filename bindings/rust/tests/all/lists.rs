@@ -1,0 +1,143 @@
+//! Calls for lists, beside the calls of one, at each count; and lists that are not as many.
+
+use crate::common::{COUNTS, KEY, TEXT};
+use cukvashe_des::mac::{CbcMacDes, CbcMacTdesEde2, CbcMacTdesEde3, Mac, Method1, Method2, RetailMacDes};
+use cukvashe_des::payment::{initial_key, transaction_key, transaction_keys, CheckValue};
+use cukvashe_des::{Block, BlockCipher, CountsDiffer, Des, KeyForEach, TdesEde2, TdesEde3};
+
+/// Arrays of bytes that differ from place to place.
+fn some<const SIZE: usize>(count: usize, first: usize) -> Vec<[u8; SIZE]> {
+    let byte = |at: usize| (first + 7 * at + at / 251) as u8;
+    (0..count).map(|place| std::array::from_fn(|at| byte(SIZE * place + at))).collect()
+}
+
+fn lists_answer<C: BlockCipher + CheckValue + KeyForEach<Key = [u8; SIZE]>, const SIZE: usize>() {
+    for count in COUNTS {
+        let (keys, plain) = (some::<SIZE>(count, 1), some::<8>(count, 99));
+        let mut answers = plain.clone();
+        for (key, block) in keys.iter().zip(&mut answers) {
+            C::new_from_slice(key).unwrap().encrypt_block(block);
+        }
+        let mut blocks = plain.clone();
+        assert_eq!(C::encrypt_each(&keys, &mut blocks), Ok(()));
+        assert_eq!(blocks, answers);
+        assert_eq!(C::decrypt_each(&keys, &mut blocks), Ok(()));
+        assert_eq!(blocks, plain);
+        let mut values = some::<3>(count, 5);
+        assert_eq!(C::check_values(&keys, &mut values), Ok(()));
+        let wanted: Vec<_> = keys.iter().map(|key| C::check_value(key).unwrap()).collect();
+        assert_eq!(values, wanted);
+        refuses::<C, SIZE>(&keys, count + 1);
+        refuses::<C, SIZE>(&keys, count / 2 + 2 * (count < 2) as usize);
+    }
+}
+
+/// As many blocks and values are refused, and stay.
+fn refuses<C: CheckValue + KeyForEach<Key = [u8; SIZE]>, const SIZE: usize>(keys: &[[u8; SIZE]], count: usize) {
+    let (mut blocks, mut values) = (some::<8>(count, 3), some::<3>(count, 3));
+    assert_eq!(C::encrypt_each(keys, &mut blocks), Err(CountsDiffer));
+    assert_eq!(C::decrypt_each(keys, &mut blocks), Err(CountsDiffer));
+    assert_eq!(C::check_values(keys, &mut values), Err(CountsDiffer));
+    assert_eq!((blocks, values), (some::<8>(count, 3), some::<3>(count, 3)));
+}
+
+#[test]
+fn lists_of_keys_answer() {
+    lists_answer::<Des, 8>();
+    lists_answer::<TdesEde2, 16>();
+    lists_answer::<TdesEde3, 24>();
+}
+
+/// NIST Special Publication 800-67, appendix B.
+#[test]
+fn known_blocks_answer() {
+    let mut blocks: Vec<Block> = TEXT.chunks(8).map(|block| block.try_into().unwrap()).collect();
+    TdesEde3::encrypt_each(&[KEY; 3], &mut blocks).unwrap();
+    assert_eq!(blocks, [0xa826fd8ce53b855f, 0xcce21c8112256fe6, 0x68d5c05dd9b6b900].map(u64::to_be_bytes));
+}
+
+#[test]
+fn transactions_of_lists_answer() {
+    let base: [u8; 16] = KEY[..16].try_into().unwrap();
+    for count in COUNTS {
+        let serials = some::<10>(count, 1);
+        let wanted: Vec<_> =
+            serials.iter().map(|serial| transaction_key(&initial_key(&base, serial), serial)).collect();
+        let mut keys = some::<16>(count, 7);
+        assert_eq!(transaction_keys(&base, &serials, &mut keys), Ok(()));
+        assert_eq!(keys, wanted);
+        let mut more = some::<16>(count + 1, 7);
+        assert_eq!(transaction_keys(&base, &serials, &mut more), Err(CountsDiffer));
+        assert_eq!(more, some::<16>(count + 1, 7));
+    }
+}
+
+fn records_answer<C: BlockCipher>() {
+    let cipher = C::new_from_slice(&KEY[..C::KEY_SIZE]).unwrap();
+    for records in COUNTS {
+        let counts: Vec<usize> = (0..records).map(|k| if k == records / 2 { 40 } else { k % 5 }).collect();
+        let (vectors, plain) = (some::<8>(records, 1), some::<8>(counts.iter().sum(), 77));
+        let (mut next, mut answers, mut at) = (vectors.clone(), plain.clone(), 0);
+        for (vector, count) in next.iter_mut().zip(&counts) {
+            cipher.encrypt_blocks_cbc(vector, &mut answers[at..at + count]);
+            at += count;
+        }
+        let (mut left, mut blocks) = (vectors.clone(), plain.clone());
+        assert_eq!(cipher.encrypt_cbc_records(&mut left, &counts, &mut blocks), Ok(()));
+        assert_eq!((&left, &blocks), (&next, &answers));
+        left = vectors.clone();
+        assert_eq!(cipher.decrypt_cbc_records(&mut left, &counts, &mut blocks), Ok(()));
+        assert_eq!((&left, &blocks), (&next, &plain));
+        let more = [&counts[..], &[1]].concat();
+        assert_eq!(cipher.encrypt_cbc_records(&mut left, &more, &mut blocks), Err(CountsDiffer));
+        left.push([0; 8]);
+        assert_eq!(cipher.decrypt_cbc_records(&mut left, &more, &mut blocks), Err(CountsDiffer));
+        assert_eq!((&left[..records], &blocks), (&next[..], &plain));
+    }
+}
+
+#[test]
+fn lists_of_records_answer() {
+    records_answer::<Des>();
+    records_answer::<TdesEde2>();
+    records_answer::<TdesEde3>();
+}
+
+type EachOf<const SIZE: usize> = fn(&[[u8; SIZE]], &[&[u8]], &mut [[u8; 8]]) -> Result<(), CountsDiffer>;
+type OneOf<const SIZE: usize> = fn(&[u8; SIZE], &[&[u8]], &mut [[u8; 8]]) -> Result<(), CountsDiffer>;
+
+fn macs_answer<M: Mac, const SIZE: usize>(each: EachOf<SIZE>, one: Option<OneOf<SIZE>>) {
+    let text = some::<8>(20, 3).concat();
+    for count in COUNTS {
+        let keys = some::<SIZE>(count, 1);
+        let messages: Vec<&[u8]> = (0..count).map(|k| &text[k % 40..k % 40 + k % 41]).collect();
+        let wanted: Vec<_> = keys.iter().zip(&messages).map(|(key, text)| M::mac(key, text).unwrap()).collect();
+        let mut tags = some::<8>(count, 5);
+        assert_eq!(each(&keys, &messages, &mut tags), Ok(()));
+        assert_eq!(tags, wanted);
+        let mut more = some::<8>(count + 1, 5);
+        assert_eq!(each(&keys, &messages, &mut more), Err(CountsDiffer));
+        assert_eq!(more, some::<8>(count + 1, 5));
+        let Some((one, key)) = one.zip(keys.first()) else { continue };
+        assert_eq!(one(key, &messages, &mut tags), Ok(()));
+        let wanted: Vec<_> = messages.iter().map(|text| M::mac(key, text).unwrap()).collect();
+        assert_eq!(tags, wanted);
+        assert_eq!(one(key, &messages, &mut more), Err(CountsDiffer));
+    }
+}
+
+#[test]
+fn lists_of_messages_answer() {
+    macs_answer::<CbcMacDes<Method1>, 8>(CbcMacDes::<Method1>::macs_each, Some(CbcMacDes::<Method1>::macs));
+    macs_answer::<CbcMacDes<Method2>, 8>(CbcMacDes::<Method2>::macs_each, Some(CbcMacDes::<Method2>::macs));
+    macs_answer::<CbcMacTdesEde2<Method2>, 16>(
+        CbcMacTdesEde2::<Method2>::macs_each,
+        Some(CbcMacTdesEde2::<Method2>::macs),
+    );
+    macs_answer::<CbcMacTdesEde3<Method1>, 24>(
+        CbcMacTdesEde3::<Method1>::macs_each,
+        Some(CbcMacTdesEde3::<Method1>::macs),
+    );
+    macs_answer::<RetailMacDes<Method1>, 16>(RetailMacDes::<Method1>::macs_each, None);
+    macs_answer::<RetailMacDes<Method2>, 16>(RetailMacDes::<Method2>::macs_each, None);
+}

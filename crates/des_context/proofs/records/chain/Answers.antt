@@ -1,0 +1,27 @@
+use Rattle.std.proofs.Common.{ℕ, List, [], drop, slice_index, slice_index_or}
+use Rattle.std.proofs.lemmas.List.Elements.{All-take, All-drop, All-get_or}
+use Rattle.des.specs.Blocks.{IsBlock}
+use Rattle.des_fast.specs.Records.{start, record_of}
+use Rattle.des_context.proofs.RelatedChains.{Chains-related}
+use Rattle.des_context.proofs.records.chain.Goals as goal
+
+-- the keys are those of the cipher, whose answers the relation gives
+pub returns-in-Ok-clause-chained : goal.returns-in-Ok-clause-chained
+returns-in-Ok-clause-chained g c = λ done key made k below.
+    let cipher = c.args.cipher.now in
+    let sizes : List ℕ = c.args.sizes.now in
+    let vectors : List (List ℕ) = c.args.vectors.now in
+    let p : List (List ℕ) = c.args.blocks.now in
+    let ensured = c.in-Ok.ensures in
+    Chains-related (g.C.Relating.relation key) (g.C.BlockCipherEncrypt.encrypted cipher)
+    (c.relate_lists.ensures.encrypted key made) (slice_index_or vectors k []) (record_of sizes p k)
+    (record_of sizes c.encrypt_cbc_records.new.blocks k) (All-get_or IsBlock vectors k [] below ensured.vectors)
+    (All-take IsBlock (slice_index sizes k) (drop (start sizes k) p) (All-drop IsBlock (start sizes k) p ensured.blocks))
+    (g.met.C.BlockCipher.encrypted_is_block cipher)
+    (ensured.chained (g.C.BlockCipherEncrypt.encrypted cipher) (g.C.BlockCipherDecrypt.decrypted cipher)
+    c.spread_keys-keys.ensures k below)
+
+pub returns-in-Ok-clause-goes_on : goal.returns-in-Ok-clause-goes_on
+returns-in-Ok-clause-goes_on g c = λ done.
+    c.in-Ok.ensures.goes_on (g.C.BlockCipherEncrypt.encrypted c.args.cipher.now)
+    (g.C.BlockCipherDecrypt.decrypted c.args.cipher.now) c.spread_keys-keys.ensures

@@ -1,0 +1,103 @@
+//! Records of blocks, one after another in a list, each chained by CBC from a vector of its own:
+//! once for every cipher, every context and every width.
+
+ghost use Rattle.std.specs.Prelude.{◌≡◌, ◌≢◌, ◌↔◌, ℕ, List, length};
+ghost use Rattle.des_fast.specs.Records.{GoOn};
+ghost use Rattle.des_context.specs.Records.{AreSizesOf, ChainsEach};
+
+use crate::contexts::Context;
+use crate::status::{ERR_COUNTS, OK};
+use des::cipher::Relating;
+use des_fast::many::{ListKeys, Slice, SpreadOnce};
+
+// Encrypts records in place by CBC, by the relation of the cipher's key.
+fn chain<S: Slice, C: Relating + SpreadOnce>(
+    cipher: &C,
+    vectors: &mut [[u8; 8]],
+    sizes: &[usize],
+    blocks: &mut [[u8; 8]],
+) -> i32
+    ensures accepted { (result ≡ OK) ↔ AreSizesOf sizes.now vectors.old blocks.old }
+    ensures refused { (result ≡ ERR_COUNTS) ↔ ¬ (AreSizesOf sizes.now vectors.old blocks.old) }
+    ensures chained { result ≡ OK → (key : List ℕ) → C.is_made_from cipher.now key
+        → ChainsEach (C.relation key) sizes.now vectors.old blocks.old blocks.new }
+    ensures goes_on { result ≡ OK → GoOn sizes.now vectors.old blocks.new vectors.new }
+    ensures count { (length vectors.new ≡ length vectors.old)
+        × (length blocks.new ≡ length blocks.old) }
+    ensures kept { result ≢ OK → (vectors.new ≡ vectors.old) × (blocks.new ≡ blocks.old) }
+{
+    cipher.relate_lists();
+    let keys = cipher.spread_keys::<S>();
+    match keys.encrypt_cbc_records(vectors, sizes, blocks) {
+        Ok(()) => OK,
+        Err(_) => ERR_COUNTS,
+    }
+}
+
+// Decrypts records in place that CBC chained, by the relation of the cipher's key.
+fn unchain<S: Slice, C: Relating + SpreadOnce>(
+    cipher: &C,
+    vectors: &mut [[u8; 8]],
+    sizes: &[usize],
+    blocks: &mut [[u8; 8]],
+) -> i32
+    ensures accepted { (result ≡ OK) ↔ AreSizesOf sizes.now vectors.old blocks.old }
+    ensures refused { (result ≡ ERR_COUNTS) ↔ ¬ (AreSizesOf sizes.now vectors.old blocks.old) }
+    ensures chained { result ≡ OK → (key : List ℕ) → C.is_made_from cipher.now key
+        → ChainsEach (C.relation key) sizes.now vectors.old blocks.new blocks.old }
+    ensures goes_on { result ≡ OK → GoOn sizes.now vectors.old blocks.old vectors.new }
+    ensures count { (length vectors.new ≡ length vectors.old)
+        × (length blocks.new ≡ length blocks.old) }
+    ensures kept { result ≢ OK → (vectors.new ≡ vectors.old) × (blocks.new ≡ blocks.old) }
+{
+    cipher.relate_lists();
+    let keys = cipher.spread_keys::<S>();
+    match keys.decrypt_cbc_records(vectors, sizes, blocks) {
+        Ok(()) => OK,
+        Err(_) => ERR_COUNTS,
+    }
+}
+
+/// Encrypts records in place by CBC, in step: `sizes[k]` blocks are record k, one record after
+/// another in `blocks`, and `vectors[k]`, from which it is chained, becomes its last ciphertext
+/// block. The status is `ERR_COUNTS` where vectors and sizes are not as many, or the sizes do not
+/// sum up to the number of blocks; vectors and blocks then stay as they were.
+pub fn encrypt_cbc_records<S: Slice, K: Context>(
+    context: &K,
+    vectors: &mut [[u8; 8]],
+    sizes: &[usize],
+    blocks: &mut [[u8; 8]],
+) -> i32
+    requires { (key : List ℕ) × K.is_made_from context.now key }
+    ensures accepted { (result ≡ OK) ↔ AreSizesOf sizes.now vectors.old blocks.old }
+    ensures refused { (result ≡ ERR_COUNTS) ↔ ¬ (AreSizesOf sizes.now vectors.old blocks.old) }
+    ensures chained { result ≡ OK → (key : List ℕ) → K.is_made_from context.now key
+        → ChainsEach (K.Cipher.relation key) sizes.now vectors.old blocks.old blocks.new }
+    ensures goes_on { result ≡ OK → GoOn sizes.now vectors.old blocks.new vectors.new }
+    ensures count { (length vectors.new ≡ length vectors.old)
+        × (length blocks.new ≡ length blocks.old) }
+    ensures kept { result ≢ OK → (vectors.new ≡ vectors.old) × (blocks.new ≡ blocks.old) }
+{
+    chain::<S, K::Cipher>(&context.to_cipher(), vectors, sizes, blocks)
+}
+
+/// Decrypts records in place that CBC chained, as `encrypt_cbc_records` does. The status is as of
+/// that call.
+pub fn decrypt_cbc_records<S: Slice, K: Context>(
+    context: &K,
+    vectors: &mut [[u8; 8]],
+    sizes: &[usize],
+    blocks: &mut [[u8; 8]],
+) -> i32
+    requires { (key : List ℕ) × K.is_made_from context.now key }
+    ensures accepted { (result ≡ OK) ↔ AreSizesOf sizes.now vectors.old blocks.old }
+    ensures refused { (result ≡ ERR_COUNTS) ↔ ¬ (AreSizesOf sizes.now vectors.old blocks.old) }
+    ensures chained { result ≡ OK → (key : List ℕ) → K.is_made_from context.now key
+        → ChainsEach (K.Cipher.relation key) sizes.now vectors.old blocks.new blocks.old }
+    ensures goes_on { result ≡ OK → GoOn sizes.now vectors.old blocks.old vectors.new }
+    ensures count { (length vectors.new ≡ length vectors.old)
+        × (length blocks.new ≡ length blocks.old) }
+    ensures kept { result ≢ OK → (vectors.new ≡ vectors.old) × (blocks.new ≡ blocks.old) }
+{
+    unchain::<S, K::Cipher>(&context.to_cipher(), vectors, sizes, blocks)
+}
