@@ -7,6 +7,8 @@
 
 mod rows;
 mod runs;
+mod short_rows;
+mod short_runs;
 mod stopwatch;
 mod table;
 mod text;

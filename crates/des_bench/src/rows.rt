@@ -166,25 +166,25 @@ fn time_mac<M: Mac>(
     Ok((tenths, u64::from_be_bytes(message[0])))
 }
 
-// The cipher of a key.
-fn cipher_of<C: KeyInit + Drop>(key: &Key) -> io::Result<C> {
+/// The cipher of a key.
+pub fn cipher_of<C: KeyInit + Drop>(key: &Key) -> io::Result<C> {
     cipher_of_key(key).ok_or(too_long())
 }
 
-// A key is longer than those of the table.
-fn too_long() -> io::Error {
+/// A key is longer than those of the table.
+pub fn too_long() -> io::Error {
     io::Error::from(ErrorKind::InvalidInput)
 }
 
-// As many blocks of zeros.
-fn zero_blocks(rt: &impl AllocGlobal, count: usize) -> io::Result<Blocks> {
+/// As many blocks of zeros.
+pub fn zero_blocks(rt: &impl AllocGlobal, count: usize) -> io::Result<Blocks> {
     let mut blocks = Vec::with_capacity(rt.alloc(), count)?;
     blocks.resize(count, [0; 8])?;
     Ok(blocks)
 }
 
-// The sum of the blocks, bit by bit modulo 2.
-fn joined(blocks: &Blocks) -> u64 {
+/// The sum of the blocks, bit by bit modulo 2.
+pub fn joined(blocks: &Blocks) -> u64 {
     let mut sum = 0;
     for block in blocks.iter() {
         sum ^= u64::from_be_bytes(*block);

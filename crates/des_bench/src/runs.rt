@@ -40,23 +40,27 @@ pub fn cipher_of_key<C: KeyInit + Drop>(key: &Key) -> Option<C> {
     C::new_from_slice(key.get(..C::KEY_SIZE)?).ok()
 }
 
-/// `encrypt_blocks`, block by block.
+/// `encrypt_block` of each block.
 #[derive(Drop)]
 pub struct Encrypt<'a, C>(pub &'a C);
 
 impl<C: BlockCipherEncrypt> Run<Blocks> for Encrypt<'_, C> {
     fn run(&self, blocks: &mut Blocks) {
-        self.0.encrypt_blocks(blocks.as_mut_slice());
+        for block in blocks.as_mut_slice().iter_mut() {
+            self.0.encrypt_block(block);
+        }
     }
 }
 
-/// `decrypt_blocks`, block by block.
+/// `decrypt_block` of each block.
 #[derive(Drop)]
 pub struct Decrypt<'a, C>(pub &'a C);
 
 impl<C: BlockCipherDecrypt> Run<Blocks> for Decrypt<'_, C> {
     fn run(&self, blocks: &mut Blocks) {
-        self.0.decrypt_blocks(blocks.as_mut_slice());
+        for block in blocks.as_mut_slice().iter_mut() {
+            self.0.decrypt_block(block);
+        }
     }
 }
 

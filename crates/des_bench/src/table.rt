@@ -7,13 +7,21 @@
 //! leave a call out.
 
 use crate::rows::{
-    write_cipher, write_lengths, write_lists, write_macs, write_spreading, write_weak_key_test,
+    cipher_of, write_cipher, write_lengths, write_lists, write_macs, write_spreading,
+    write_weak_key_test,
 };
 use crate::runs::{KEYS, Keys};
+use crate::short_rows::{
+    write_each_key, write_few, write_keyed_records, write_records, write_short_macs,
+    write_transaction_keys,
+};
 use crate::text::write_head;
 use des::cipher::{AlgorithmName, KeyInit};
 use des::tdes::{Ede2, Ede3, Eee2, Eee3, SingleDes};
 use des::{Des, cbc};
+use des_fast::many::{KeyForEach, ManyBlocks};
+use des_fast::quiet::SideBySide;
+use des_fast::{TdesEde3, quiet};
 use std::alloc::AllocGlobal;
 use std::io;
 use std::io::Write;
@@ -27,8 +35,12 @@ pub fn write_table<R: AllocGlobal + Clock + CpuClock, W: Write>(
     let keys = mixed_keys();
     let joined = write_ciphers::<Des>(rt, "des", &keys, out)?
         ^ write_ciphers::<des_fast::Des>(rt, "des_fast", &keys, out)?
+        ^ write_ciphers::<des_fast::quiet::Des>(rt, "des_fast, quiet", &keys, out)?
         ^ write_many(rt, &keys, out)?
         ^ write_round_keys(rt, &keys, out)?
+        ^ write_few_blocks::<des_fast::Des, quiet::Des>(rt, "Des, few", &keys, out)?
+        ^ write_few_blocks::<TdesEde3, quiet::TdesEde3>(rt, "TdesEde3, few", &keys, out)?
+        ^ write_short(rt, &keys, out)?
         ^ write_others(rt, &keys, out)?;
     writeln!(out, "{joined:016x}")?;
     out.flush()
@@ -93,6 +105,60 @@ fn write_round_keys(
             ^ write_spreading::<des_fast::Des>(rt, keys, out)?
             ^ write_spreading::<des_fast::TdesEde3>(rt, keys, out)?,
     )
+}
+
+// Writes the rows of lists of few blocks.
+fn write_few_blocks<C: KeyInit + ManyBlocks + Drop, Q: KeyInit + SideBySide + Drop>(
+    rt: &(impl AllocGlobal + Clock + CpuClock),
+    name: &str,
+    keys: &Keys,
+    out: &mut impl Write,
+) -> io::Result<u64> {
+    write_head(out, name, &["tables", "quiet", "batch"])?;
+    let mut sum = 0;
+    for length in [1, 2, 3, 4, 8, 16, 20, 32] {
+        sum ^= write_few::<C, Q>(rt, keys, length, out)?;
+    }
+    Ok(sum)
+}
+
+// Writes the rows of what comes in many short pieces, 256 at a time.
+fn write_short(
+    rt: &(impl AllocGlobal + Clock + CpuClock),
+    keys: &Keys,
+    out: &mut impl Write,
+) -> io::Result<u64> {
+    write_head(out, "a key each", &["2 words", "4 words", "alone"])?;
+    let each = write_each_key::<des_fast::Des>(rt, keys, out)?
+        ^ write_each_key::<des_fast::TdesEde2>(rt, keys, out)?
+        ^ write_each_key::<des_fast::TdesEde3>(rt, keys, out)?;
+    write_head(out, "CBC, records", &["2 words", "4 words", "alone"])?;
+    let records = write_records::<des_fast::Des>(rt, &cipher_of(&keys[0])?, out)?
+        ^ write_records::<des_fast::TdesEde3>(rt, &cipher_of(&keys[0])?, out)?;
+    write_head(out, "the same, keys", &["2 words", "4 words", "alone"])?;
+    let records = records
+        ^ write_keyed_records::<des_fast::Des>(rt, keys, out)?
+        ^ write_keyed_records::<des_fast::TdesEde3>(rt, keys, out)?;
+    let macs = write_mac_lengths::<des_fast::Des>(rt, "MACs, Des", keys, out)?
+        ^ write_mac_lengths::<des_fast::TdesEde3>(rt, "MACs, TdesEde3", keys, out)?;
+    write_head(out, "transaction keys", &["2 words", "4 words", "alone"])?;
+    let keys = write_transaction_keys(rt, b"Cukvashe, a base", out)?;
+    Ok(each ^ records ^ macs ^ keys)
+}
+
+// Writes the rows of the MACs of messages of some lengths.
+fn write_mac_lengths<C: KeyForEach + Drop>(
+    rt: &(impl AllocGlobal + Clock + CpuClock),
+    name: &str,
+    keys: &Keys,
+    out: &mut impl Write,
+) -> io::Result<u64> {
+    write_head(out, name, &["one key", "keys", "alone"])?;
+    let mut sum = 0;
+    for length in [1, 8, 32] {
+        sum ^= write_short_macs::<C>(rt, keys, length, out)?;
+    }
+    Ok(sum)
 }
 
 // Writes the rows of the MACs and of the weak key test.

@@ -24,6 +24,7 @@ mod round_keys;
 mod rounds;
 mod sizes;
 mod spread_lists;
+mod spread_records;
 mod streams;
 mod there_and_back;
 mod verdicts;

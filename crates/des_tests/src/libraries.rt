@@ -3,10 +3,15 @@
 
 mod blocks;
 mod ciphers;
+mod each_key;
 mod known;
 mod lengths;
 mod lists;
+mod many_macs;
 mod prefixes;
+mod records;
+mod short_lists;
+mod side_by_side;
 mod steps;
 mod texts;
 mod weak_keys;

@@ -5,4 +5,5 @@
 
 mod check_values;
 mod dukpt;
+mod key_lists;
 mod pin;

@@ -3,3 +3,4 @@ pub mod JoinedParts
 pub mod KeyedChains
 pub mod RelatedAnswers
 pub mod ReversedSchedules
+pub mod ZippedLists

@@ -9,6 +9,7 @@ ghost use Rattle.des.specs.Relations.{IsTheOne};
 use des::cipher::{KeyInit, Relating};
 use des_fast::Des;
 use des_fast::many::ManyBlocks;
+use des_fast::quiet::{self, SideBySide};
 
 /// Encrypts in place each block of a list under a key: each is related to the one at its place, and
 /// no other list is so related.
@@ -40,4 +41,26 @@ pub fn unchain_by_fast_des(key: &[u8; 8], iv: &[u8; 8], blocks: &mut [[u8; 8]])
 {
     let cipher = Des::new(key);
     cipher.decrypt_cbc(iv, blocks);
+}
+
+/// Encrypts in place each block of a list under a key, four side by side and with no table read:
+/// each is related to the one at its place, and no other list is so related.
+pub fn encrypt_list_side_by_side(key: &[u8; 8], blocks: &mut [[u8; 8]])
+    ensures { IsTheOne
+        (λ answers. AnswersEach (λ x y. Enciphers key.now x y) blocks.old answers) blocks.new }
+{
+    let cipher = quiet::Des::new(key);
+    cipher.relate_lists();
+    cipher.encrypt_side_by_side(blocks);
+}
+
+/// Decrypts in place each block of a list under a key, four side by side and with no table read:
+/// the list is the one whose blocks the key relates to those that stood there.
+pub fn decrypt_list_side_by_side(key: &[u8; 8], blocks: &mut [[u8; 8]])
+    ensures { IsTheOne
+        (λ answers. AnswersEach (λ x y. Enciphers key.now x y) answers blocks.old) blocks.new }
+{
+    let cipher = quiet::Des::new(key);
+    cipher.relate_lists();
+    cipher.decrypt_side_by_side(blocks);
 }

@@ -105,6 +105,30 @@ impl SingleDes for OwnDes {
         first.decrypt_block(block);
     }
 
+    fn encrypt_ede_blocks(first: &OwnDes, second: &OwnDes, third: &OwnDes, blocks: &mut [[u8; 8]]) {
+        for block in blocks.iter_mut() {
+            OwnDes::encrypt_ede(first, second, third, block);
+        }
+    }
+
+    fn decrypt_ede_blocks(first: &OwnDes, second: &OwnDes, third: &OwnDes, blocks: &mut [[u8; 8]]) {
+        for block in blocks.iter_mut() {
+            OwnDes::decrypt_ede(first, second, third, block);
+        }
+    }
+
+    fn encrypt_eee_blocks(first: &OwnDes, second: &OwnDes, third: &OwnDes, blocks: &mut [[u8; 8]]) {
+        for block in blocks.iter_mut() {
+            OwnDes::encrypt_eee(first, second, third, block);
+        }
+    }
+
+    fn decrypt_eee_blocks(first: &OwnDes, second: &OwnDes, third: &OwnDes, blocks: &mut [[u8; 8]]) {
+        for block in blocks.iter_mut() {
+            OwnDes::decrypt_eee(first, second, third, block);
+        }
+    }
+
     ghost answers_as_des = { record {
       is_pass = λ cipher. IsPass-Des cipher.des;
       encrypts_as_des = λ cipher. Agree-encrypted cipher.des;

@@ -1,4 +1,5 @@
-//! The ten ciphers, five of each library, each of which must pass all tests of a cipher.
+//! The fifteen ciphers, five of `des` and ten of `des_fast`, each of which must pass all tests of a
+//! cipher.
 
 use crate::libraries::known::{DES, EDE2, EDE3, EEE2, EEE3, Known, LIST_PARTS, PARTS};
 use crate::libraries::{blocks, lengths, lists, texts};
@@ -42,4 +43,15 @@ fn ciphers_of_des_fast_pass(rt: HostRuntime) {
     passes::<des_fast::TdesEee3>(&rt, &EEE3);
     passes::<des_fast::TdesEde2>(&rt, &EDE2);
     passes::<des_fast::TdesEee2>(&rt, &EEE2);
+}
+
+#[test]
+fn quiet_ciphers_pass(rt: HostRuntime) {
+    use des_fast::quiet;
+
+    passes::<quiet::Des>(&rt, &DES);
+    passes::<quiet::TdesEde3>(&rt, &EDE3);
+    passes::<quiet::TdesEee3>(&rt, &EEE3);
+    passes::<quiet::TdesEde2>(&rt, &EDE2);
+    passes::<quiet::TdesEee2>(&rt, &EEE2);
 }

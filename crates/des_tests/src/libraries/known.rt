@@ -22,6 +22,19 @@ pub fn multiples<const N: usize>(step: u64) -> [[u8; 8]; N] {
     blocks
 }
 
+// Keys of N bytes, M of them, that differ.
+pub fn keys<const N: usize, const M: usize>(step: u8) -> [[u8; N]; M] {
+    let mut keys = [[0; N]; M];
+    let mut byte: u8 = 1;
+    for key in keys.iter_mut() {
+        for place in key.iter_mut() {
+            *place = byte;
+            byte = byte.wrapping_mul(5).wrapping_add(step);
+        }
+    }
+    keys
+}
+
 // The parts of a key.
 pub type Parts = [[u8; 8]; 3];
 

@@ -1,10 +1,11 @@
 //! Lists of 130 blocks, a whole batch and two blocks after it, by the calls of every cipher, by
-//! those of `ManyBlocks` that name no width, and by keys that are spread once.
+//! those of `ManyBlocks` that name no width, and by keys that are spread once; and short lists.
 
 use crate::libraries::known::{
     DES, EDE2, EDE3, EEE2, EEE3, IV, Known, LIST_PARTS, STEP, blocks, multiples,
 };
 use crate::libraries::prefixes::{answers_each_length, keys_answer_lengths};
+use crate::libraries::short_lists::answers_short_lists;
 use des::cbc;
 use des::cipher::{BlockCipher, KeyedCipher};
 use des_fast::many::{ListKeys, ManyBlocks, Slice, SpreadOnce};
@@ -84,6 +85,7 @@ where
     let name = known.name;
     let cipher = C::new_from_slice(known.key(&LIST_PARTS)).expect(rt, name);
     let port = P::new_from_slice(known.key(&LIST_PARTS)).expect(rt, name);
+    assert!(rt; answers_short_lists(&cipher), "{name}");
     assert!(rt; answers_many(&cipher, known), "{name}");
     assert!(rt;
         spread_keys_answer::<u64x2, C, P>(&cipher, &port, known),

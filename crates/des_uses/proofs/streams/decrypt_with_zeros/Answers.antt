@@ -1,4 +1,4 @@
-use Rattle.std.proofs.Common.{◌≡◌, ◌≢◌, ℕ, List, Result, Ok, Err, IfOk, IfErr, append-nil, subst}
+use Rattle.std.proofs.Common.{◌≢◌, ℕ, List, Result, Ok, Err, IfOk, IfErr, append-nil, subst}
 use Rattle.des_io.specs.Streams.{Passage, Decrypts}
 use Rattle.des_io.specs.StreamFaults.{FailsToDecrypt}
 use Rattle.des_io.specs.declared.error.StreamError.{StreamError}
