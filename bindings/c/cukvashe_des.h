@@ -8,8 +8,9 @@
  *
  * LENGTHS
  *
- * Every length and size is a number of bytes. A block has 8 bytes; bit 1 of FIPS 46-3 is the highest bit of the first.
- * Data, keys and texts may stand at any address, contexts wherever their type may.
+ * Every length and size is a number of bytes, every count a number of elements: keys, messages, records, or blocks of 8
+ * bytes. A number of bytes given as a count makes a call write past its buffer. A block has 8 bytes; bit 1 of FIPS 46-3
+ * is the highest bit of the first. Data, keys and texts may stand at any address, contexts wherever their type may.
  *
  * POINTERS
  *
@@ -34,8 +35,8 @@
  *
  * Nothing is claimed about time. The calls that can read tables at addresses that depend on secrets, or branch on
  * secrets, say so below. With valgrind it is tested that init, pad, the calls of lists, and ECB and CBC decryption
- * where this header says so, read no tables at such addresses. No call uses more than 25,000 bytes of the stack, and
- * those of transactions, records and messages no more than 66,000, which is tested too.
+ * where this header says so, read no tables at such addresses. A call uses at most 25,000 bytes of the stack; those of
+ * transaction keys, of records and of the MACs of many messages at most 66,000. This is tested too.
  *
  * WHAT IS PROVED
  *
@@ -441,8 +442,10 @@ CUKVASHE_CHECK int cukvashe_cmac_tdes_ede3_verify(const cukvashe_cmac_tdes_ede3 
  *                                       const cukvashe_message *messages, uint8_t *tags, size_t count)
  *
  * Writes the tags, of 8 bytes each, of `count` messages; MAC is a CBC-MAC. `macs` takes one key for all, `macs_each` the
- * key at the message's place of `count` keys, one after the other; of the retail MAC the first keys of 8 bytes and the
- * second ones. CUKVASHE_ERR_PADDING_METHOD as by init. Compare tags as by verify, and not by memcmp.
+ * key at the message's place of `count` keys, one after the other; of the retail MAC `first` are `count` keys of 8 bytes
+ * and `second` as many: split keys of 16 bytes, as init takes them, since `keys` and `keys + 8` give wrong tags.
+ * CUKVASHE_ERR_PADDING_METHOD as by init. To check a tag, or together the xors of its eight bytes with those made here:
+ * 0 if they agree. memcmp may stop at the first wrong byte.
  *
  * 128 messages go together, and take as long as the longest of them: sort messages of very different lengths. No tables
  * are read at addresses that depend on keys or messages.
