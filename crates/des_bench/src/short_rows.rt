@@ -102,7 +102,7 @@ pub fn write_keyed_records<C: KeyForEach + AlgorithmName + Drop>(
 }
 
 /// Writes the row of a list of few blocks: the time of a block by tables, by the cipher of `quiet`,
-/// and in a batch.
+/// and by `encrypt_many`, which takes a batch where there are more than eight.
 pub fn write_few<C: KeyInit + ManyBlocks + Drop, Q: KeyInit + SideBySide + Drop>(
     rt: &(impl AllocGlobal + Clock + CpuClock),
     keys: &Keys,
@@ -114,8 +114,8 @@ pub fn write_few<C: KeyInit + ManyBlocks + Drop, Q: KeyInit + SideBySide + Drop>
     let mut blocks = zero_blocks(rt, length)?;
     let tables = tenths_of_call(rt, length, &EncryptBlocks(&cipher), &mut blocks)?;
     let quiet = tenths_of_call(rt, length, &EncryptSideBySide(&quiet), &mut blocks)?;
-    let batch = tenths_of_call(rt, length, &EncryptMany(&cipher), &mut blocks)?;
-    write_length_row(out, length, &[tables, quiet, batch])?;
+    let many = tenths_of_call(rt, length, &EncryptMany(&cipher), &mut blocks)?;
+    write_length_row(out, length, &[tables, quiet, many])?;
     Ok(joined(&blocks))
 }
 

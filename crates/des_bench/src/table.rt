@@ -114,7 +114,7 @@ fn write_few_blocks<C: KeyInit + ManyBlocks + Drop, Q: KeyInit + SideBySide + Dr
     keys: &Keys,
     out: &mut impl Write,
 ) -> io::Result<u64> {
-    write_head(out, name, &["tables", "quiet", "batch"])?;
+    write_head(out, name, &["tables", "quiet", "many"])?;
     let mut sum = 0;
     for length in [1, 2, 3, 4, 8, 16, 20, 32] {
         sum ^= write_few::<C, Q>(rt, keys, length, out)?;

@@ -13,6 +13,7 @@ use Rattle.des_fast.specs.declared.halves.RoundKey.{RoundKey}
 use Rattle.des_fast.specs.Groups.{positions_in_word, bits_of_groups, IsOfGroups}
 use Rattle.des_fast.specs.HalfBlocks.{round_keys_of}
 use Rattle.des_fast.specs.RoundKeySlices.{halves_in, rotations, round_key_of, round_keys_by, AreScheduled}
+use Rattle.des_fast.specs.SideBySide.{in_direction}
 use Rattle.des_fast.proofs.GroupWords.{Holds-groups}
 use Rattle.des_fast.proofs.KeySlices.{positions}
 use Rattle.des_fast.proofs.RoundKeyPositions.{halves_positions, round_key-halves}
@@ -136,7 +137,7 @@ AreScheduled-schedule round_keys key size are =
 -- ---- passes
 
 -- the round keys of the pass that enciphers
-pub enciphering-last : (round_keys : List RoundKey) (d e : RoundKey) → length round_keys ≡ 16 → AreScheduled round_keys
+enciphering-last : (round_keys : List RoundKey) (d e : RoundKey) → length round_keys ≡ 16 → AreScheduled round_keys
     → round_keys_by (halves_in ((get_or round_keys 14 d).groups ∷ (get_or round_keys 15 e).groups ∷ [])) false
     ≡ round_keys_of round_keys
 enciphering-last round_keys d e size scheduled =
@@ -148,10 +149,18 @@ enciphering-last round_keys d e size scheduled =
     ∙ scheduled
 
 -- and of the one that deciphers
-pub deciphering-last : (round_keys : List RoundKey) (d e : RoundKey) → length round_keys ≡ 16 → AreScheduled round_keys
+deciphering-last : (round_keys : List RoundKey) (d e : RoundKey) → length round_keys ≡ 16 → AreScheduled round_keys
     → round_keys_by (halves_in ((get_or round_keys 14 d).groups ∷ (get_or round_keys 15 e).groups ∷ [])) true
     ≡ reverse (round_keys_of round_keys)
 deciphering-last round_keys d e size scheduled =
     let halves : List Bool = halves_in ((get_or round_keys 14 d).groups ∷ (get_or round_keys 15 e).groups ∷ []) in
     let turned : round_keys_by halves true ≡ reverse (round_keys_by halves false) = refl in
     turned ∙ ap reverse (enciphering-last round_keys d e size scheduled)
+
+-- and of a pass of either direction
+pub keys_of-last : (deciphers : Bool) (round_keys : List RoundKey) (d e : RoundKey) → length round_keys ≡ 16
+    → AreScheduled round_keys
+    → round_keys_by (halves_in ((get_or round_keys 14 d).groups ∷ (get_or round_keys 15 e).groups ∷ [])) deciphers
+    ≡ in_direction deciphers (round_keys_of round_keys)
+keys_of-last false round_keys d e size scheduled = enciphering-last round_keys d e size scheduled
+keys_of-last true round_keys d e size scheduled = deciphering-last round_keys d e size scheduled

@@ -30,14 +30,6 @@ block_through_passes-three first second third =
     bits_of_bytes-answer_by second (answer_by first block) ∙ ap (through_rounds second) one in
     ap (λ (bits : List Bool). block_of_bits (through_rounds third bits)) (sym two))
 
--- three passes by the same round keys
-pub through-same : {a b c d e f : List (List Bool)} → a ≡ d → b ≡ e → c ≡ f
-    → through (answer_by a) (answer_by b) (answer_by c) ≡ through (answer_by d) (answer_by e) (answer_by f)
-through-same {a} {b} {c} {d} {e} {f} first second third =
-    ap (λ x. through (answer_by x) (answer_by b) (answer_by c)) first
-    ∙ ap (λ x. through (answer_by d) (answer_by x) (answer_by c)) second
-    ∙ ap (λ x. through (answer_by d) (answer_by e) (answer_by x)) third
-
 -- a list that three passes answered, by what each of them answers
 pub map-through : (a b c d e f : List ℕ → List ℕ) (old new : List (List ℕ)) → new ≡ map (through a b c) old
     → a ≡ d → b ≡ e → c ≡ f → new ≡ map (through d e f) old

@@ -19,5 +19,5 @@ AreEnds encryption block_of count_of firsts ends =
     ≡ chain_from (encryption k) (slice_index_or firsts k []) (block_of k) (count_of k)
 
 -- the answers of a list of keys, the one at place k
-abbrev pub key_at : (List ℕ → List ℕ → List ℕ) → List (List ℕ) → ℕ → List ℕ → List ℕ
-key_at answer keys k = answer (slice_index_or keys k [])
+abbrev pub under_key : (List ℕ → List ℕ → List ℕ) → List (List ℕ) → ℕ → List ℕ → List ℕ
+under_key answer keys k = answer (slice_index_or keys k [])

@@ -2,12 +2,10 @@
 use Rattle.std.specs.Prelude.{◌≡◌, ℕ, List, [], ◌∷◌, Bool, map}
 use Rattle.des.specs.Bits.{bits_of_bytes}
 use Rattle.des.specs.Blocks.{block_of_bits}
-use Rattle.des.specs.Rounds.{through_rounds, answer_by}
-use Rattle.des.specs.Triple.{through}
-use Rattle.des_fast.specs.declared.many.passes.Passes.{Passes}
+use Rattle.des.specs.Rounds.{through_rounds}
 use Rattle.des_fast.specs.declared.slices.keys.PassSlices.{PassSlices}
 use Rattle.des_fast.specs.Slices.{InEachBlock}
-use Rattle.des_fast.specs.RoundKeySlices.{round_keys_of_pass, round_keys_in}
+use Rattle.des_fast.specs.RoundKeySlices.{round_keys_in}
 
 -- what passes make of 64 bits, each by its round keys
 abbrev pub through_passes : List (List (List Bool)) → List Bool → List Bool
@@ -22,9 +20,3 @@ block_through_passes passes block = block_of_bits (through_passes passes (bits_o
 abbrev pub HoldPasses : {A : Type 0} → ℕ → (ℕ → A → Bool) → List (PassSlices A)
     → List (List (List Bool)) → Type 0
 HoldPasses batch bit slices keys = InEachBlock batch (λ b. map (round_keys_in (bit b)) slices ≡ keys)
-
--- what the three passes of a triple cipher make of a block
-abbrev pub passed : Passes → List ℕ → List ℕ
-passed passes =
-    through (answer_by (round_keys_of_pass passes.first))
-    (answer_by (round_keys_of_pass passes.second)) (answer_by (round_keys_of_pass passes.third))

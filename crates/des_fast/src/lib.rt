@@ -8,8 +8,9 @@
 //!
 //! DES is broken: its key of 56 bits can be searched. It is here for data and protocols that still
 //! use it. A block cipher hides nothing about repeated blocks and does not authenticate, and no
-//! claim is made on the time that a call takes: the calls for one block, but for those of `quiet`,
-//! read tables at indexes that depend on the key and the block.
+//! claim is made on the time that a call takes: `encrypt_block`, `decrypt_block`, `encrypt_blocks`
+//! and `decrypt_blocks`, but for those of `quiet`, read tables at indexes that depend on the key and
+//! the blocks. `new` and the calls of `many`, at every length of a list, are written to read none so.
 #![tactic(auto)]
 
 mod boxes;

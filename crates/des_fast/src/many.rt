@@ -3,10 +3,12 @@
 //! `encrypt_many`, `decrypt_many` and `decrypt_cbc` take lists of any length, 128 blocks at a time.
 //! The calls named `_by` take the width from the caller: `cipher.encrypt_many_by::<u64x4>(blocks)`
 //! takes 256 blocks at a time, which is quicker in a program that is built for a processor with
-//! vectors of 256 bits, and slower elsewhere. A list, or what a list has after its last whole
-//! batch, goes through the rounds in a batch that is filled up with zeros: a list takes about as
-//! long as the next longer one of whole batches, and no call reads a table at an index that depends
-//! on the key or on a block. `spread_keys` spreads a key over slices once, for many short lists.
+//! vectors of 256 bits, and slower elsewhere. A list of at most eight blocks goes four blocks side
+//! by side, as the lists of `quiet` do. Of a longer one, what it has after its last whole batch
+//! goes through the rounds in a batch that is filled up with zeros: it takes about as long as the
+//! next longer list of whole batches. `spread_keys` spreads a key over slices once, for many short
+//! lists, each of which goes in batches. No call reads a table at an index that depends on the key
+//! or on a block.
 //!
 //! Many short messages go together, each in a lane of a batch: `KeyForEach` takes a key for each
 //! block of a list, chains messages in step (those of MACs), and takes records that CBC chained,
@@ -35,9 +37,13 @@ use des::cipher::{BlockCipherDecrypt, BlockCipherEncrypt};
 pub use each_key::KeyForEach;
 pub use ends::BlockLists;
 pub use lanes::LaneKeys;
-pub use passes::Passes;
 pub use spread::{ListKeys, SpreadKeys, SpreadOnce};
 use std::simd::prelude::*;
+
+// The most blocks of a list that go four side by side, as the lists of `quiet`, and through no
+// batch. Eight blocks so take less time than a batch of 128, of single DES and of triple DES alike;
+// twelve of triple DES take as long as a batch.
+const FEW: usize = 8;
 
 // Takes a batch of blocks through passes.
 fn answer_batch<S: Slice>(blocks: &mut [[u8; 8]], passes: &[PassSlices<S>])
@@ -116,9 +122,10 @@ fn answer<S: Slice>(blocks: &mut [[u8; 8]], passes: &[PassSlices<S>])
 /// A block cipher that treats many blocks of a list together. No call changes the cipher.
 ///
 /// A type writes the three calls over any width; those over vectors of two words have their bodies
-/// here. The five ciphers of this crate take no memory, but keep the halves C and D of their keys
-/// on the stack during a call, spread over slices: 1,800 bytes for each pass of DES over vectors of
-/// two words, 3,600 over vectors of four.
+/// here. The five ciphers of this crate take a list of at most eight blocks four side by side, and
+/// a longer one by batches. They take no memory, but for batches keep the halves C and D of their
+/// keys on the stack during a call, spread over slices: 1,800 bytes for each pass of DES over
+/// vectors of two words, 3,600 over vectors of four.
 pub trait ManyBlocks: BlockCipherEncrypt + BlockCipherDecrypt {
     /// Encrypts each block of 8 bytes in place, in order, as `encrypt_blocks` does, `S::BATCH`
     /// blocks at a time. An empty list stays empty.

@@ -8,9 +8,11 @@
 ghost use Rattle.std.specs.Prelude.{◌≡◌, ℕ, List};
 ghost use Rattle.des_fast.specs.Des.{IsDesOf};
 ghost use Rattle.des_fast.specs.Groups.{bits_of_groups};
+ghost use Rattle.des_fast.specs.QuietDes.{IsDesOf as IsQuietDesOf};
 ghost use Rattle.des_fast.specs.Words.{AreRoundKeysOf};
 
 use crate::halves::RoundKey;
+use crate::quiet;
 use crate::schedule::KeySchedule;
 use crate::single::Des;
 
@@ -47,5 +49,16 @@ pub fn from_round_key_words(words: &[u64; 16]) -> Des
         schedule: KeySchedule {
             round_keys: words.map(round_key_of),
         },
+    }
+}
+
+/// The cipher of `quiet` with the round keys in sixteen words, which are those of a key: it is made
+/// from that key.
+pub fn quiet_from_round_key_words(words: &[u64; 16]) -> quiet::Des
+    requires { (key : List ℕ) × AreRoundKeysOf words.now key }
+    ensures { (key : List ℕ) → AreRoundKeysOf words.now key → IsQuietDesOf result key }
+{
+    quiet::Des {
+        keyed: from_round_key_words(words),
     }
 }

@@ -4,7 +4,7 @@ use Rattle.std.specs.Simd.Lanes.{zip2}
 use Rattle.std.proofs.lemmas.Simd.{length-zip2, get_or-zip2}
 use Rattle.std.proofs.lemmas.List.{length-drop, length-map, get_or-map, get_or-take, get_or-drop, ext_get_or}
 use Rattle.des.specs.Cbc.{xor_blocks}
-use Rattle.des_fast.specs.ChainEnds.{chain_from, AreEnds, key_at}
+use Rattle.des_fast.specs.ChainEnds.{chain_from, AreEnds, under_key}
 use Rattle.des_mac.specs.RetailMac.{retail_mac, retail_mac_of}
 use Rattle.des_mac.specs.CbcMac.{zero_block, block_after, chain_after, cbc_mac}
 
@@ -55,7 +55,7 @@ ends-cbc_macs_of f bytes_of texts firsts ends as_texts count zeros are =
 pub ends-cbc_macs : (encryption : List ℕ → List ℕ → List ℕ) (bytes_of : List ℕ → List ℕ)
     (keys texts firsts ends : List (List ℕ)) → length keys ≡ length firsts → length firsts ≡ length texts
     → length ends ≡ length firsts → ((k : ℕ) → k < length firsts → get_or firsts k [] ≡ zero_block)
-    → AreEnds (key_at encryption keys) (λ k i. block_after (bytes_of (get_or texts k [])) i)
+    → AreEnds (under_key encryption keys) (λ k i. block_after (bytes_of (get_or texts k [])) i)
     (λ k. length (bytes_of (get_or texts k [])) / 8) firsts ends
     → ends ≡ zip2 (λ key m. cbc_mac (encryption key) (bytes_of m)) keys texts
 ends-cbc_macs encryption bytes_of keys texts firsts ends as_keys as_texts count zeros are =
@@ -65,7 +65,7 @@ ends-cbc_macs encryption bytes_of keys texts firsts ends as_keys as_texts count 
     (λ k below.
     let inside : k < length firsts = omega arith in
     are k inside
-    ∙ end-cbc_mac (key_at encryption keys k) (bytes_of (get_or texts k [])) (get_or firsts k []) (zeros k inside)
+    ∙ end-cbc_mac (under_key encryption keys k) (bytes_of (get_or texts k [])) (get_or firsts k []) (zeros k inside)
     ∙ sym (get_or-zip2 tag keys texts k [] [] [] (omega arith) (omega arith)))
 
 -- ---- retail MACs

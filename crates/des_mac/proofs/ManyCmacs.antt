@@ -3,7 +3,7 @@ use Rattle.std.proofs.Common.{◌≡◌, ℕ, ◌+◌, ◌/◌, ◌<◌, ◌≤�
 use Rattle.std.specs.Simd.Lanes.{zip2}
 use Rattle.std.proofs.lemmas.Simd.{length-zip2, get_or-zip2}
 use Rattle.std.proofs.lemmas.List.{ext_get_or, drop-drop}
-use Rattle.des_fast.specs.ChainEnds.{AreEnds, key_at}
+use Rattle.des_fast.specs.ChainEnds.{AreEnds, under_key}
 use Rattle.des_fast.proofs.SliceBits.{zip2-append}
 use Rattle.des_mac.specs.CbcMac.{zero_block, block_after, cbc_mac}
 use Rattle.des_mac.specs.Cmac.{masked_message, cmac}
@@ -23,9 +23,10 @@ ends-cmacs_of f zeros texts firsts ends encrypted as_texts count cleared are =
 -- and under a key for each
 pub ends-cmacs : (encryption : List ℕ → List ℕ → List ℕ) (keys zeros texts firsts ends : List (List ℕ))
     → length keys ≡ length firsts → length firsts ≡ length texts → length ends ≡ length firsts
-    → ((k : ℕ) → k < length firsts → get_or zeros k [] ≡ key_at encryption keys k zero_block)
+    → ((k : ℕ) → k < length firsts → get_or zeros k [] ≡ under_key encryption keys k zero_block)
     → ((k : ℕ) → k < length firsts → get_or firsts k [] ≡ zero_block)
-    → AreEnds (key_at encryption keys) (λ k i. block_after (masked_message (get_or zeros k []) (get_or texts k [])) i)
+    → AreEnds (under_key encryption keys)
+    (λ k i. block_after (masked_message (get_or zeros k []) (get_or texts k [])) i)
     (λ k. length (masked_message (get_or zeros k []) (get_or texts k [])) / 8) firsts ends
     → ends ≡ zip2 (λ key m. cmac (encryption key) m) keys texts
 ends-cmacs encryption keys zeros texts firsts ends as_keys as_texts count encrypted cleared are =
@@ -36,9 +37,9 @@ ends-cmacs encryption keys zeros texts firsts ends as_keys as_texts count encryp
     let inside : k < length firsts = omega arith in
     let m : List ℕ = get_or texts k [] in
     are k inside
-    ∙ end-cbc_mac (key_at encryption keys k) (masked_message (get_or zeros k []) m) (get_or firsts k [])
+    ∙ end-cbc_mac (under_key encryption keys k) (masked_message (get_or zeros k []) m) (get_or firsts k [])
     (cleared k inside)
-    ∙ ap (λ (l : List ℕ). cbc_mac (key_at encryption keys k) (masked_message l m)) (encrypted k inside)
+    ∙ ap (λ (l : List ℕ). cbc_mac (under_key encryption keys k) (masked_message l m)) (encrypted k inside)
     ∙ sym (get_or-zip2 tag keys texts k [] [] [] (omega arith) (omega arith)))
 
 -- ---- groups

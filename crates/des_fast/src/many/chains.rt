@@ -1,13 +1,51 @@
-//! Deciphering of chained blocks (FIPS 81, cipher block chaining mode), a batch at a time: each
-//! block is deciphered by itself, and xored with the ciphertext block before it.
+//! Deciphering of chained blocks (FIPS 81, cipher block chaining mode), a batch at a time, or four
+//! side by side: each block is deciphered by itself, and xored with the ciphertext block before it.
 
-ghost use Rattle.std.specs.Prelude.{◌≡◌, ◌≤◌, List, Bool, length};
+ghost use Rattle.std.specs.Prelude.{◌≡◌, ◌≤◌, ℕ, List, Bool, length, map, take};
 ghost use Rattle.des.specs.Cbc.{Unchains};
 ghost use Rattle.des_fast.specs.Passes.{HoldPasses, block_through_passes};
 
-use super::{LARGEST_BATCH, Slice, next_count, write_answers};
+use super::{FEW, LARGEST_BATCH, Slice, next_count, write_answers};
+use crate::quiet::lists::{self, AnswersFour};
 use crate::slices::PassSlices;
 use des::cbc;
+
+// Takes blocks out of the chain that begins with `iv`, by what deciphering makes of each.
+fn unchain_by(blocks: &mut [[u8; 8]], iv: &[u8; 8], answers: &[[u8; 8]])
+    requires { length blocks.old ≤ length answers.now }
+    ensures { (deciphered : List ℕ → List ℕ)
+        → take (length blocks.old) answers.now ≡ map deciphered blocks.old
+        → Unchains deciphered iv.now blocks.old blocks.new }
+{
+    let mut before = *iv;
+    for k in 0..blocks.len() {
+        let ciphertext = blocks[k];
+        blocks[k] = answers[k];
+        cbc::xor(&mut blocks[k], &before);
+        before = ciphertext;
+    }
+}
+
+// Makes the first blocks of an array what passes make of a few blocks.
+fn write_few<P: AnswersFour>(answers: &mut [[u8; 8]; FEW], blocks: &[[u8; 8]], passes: &P)
+    requires { length blocks.now ≤ 8 }
+    ensures { take (length blocks.now) answers.new ≡ map (P.answered passes.now) blocks.now }
+{
+    let part = &mut answers[..blocks.len()];
+    part.copy_from_slice(blocks);
+    lists::answer(part, passes);
+}
+
+/// Takes a few blocks through passes, four side by side, and out of the chain that begins with
+/// `iv`.
+pub(super) fn unchain_few<P: AnswersFour>(blocks: &mut [[u8; 8]], iv: &[u8; 8], passes: &P)
+    requires { length blocks.old ≤ 8 }
+    ensures { Unchains (P.answered passes.now) iv.now blocks.old blocks.new }
+{
+    let mut answers = [[0; 8]; FEW];
+    write_few(&mut answers, blocks, passes);
+    unchain_by(blocks, iv, &answers);
+}
 
 // Takes at most a batch of blocks through passes, and out of the chain that begins with `iv`.
 fn unchain_part<S: Slice>(blocks: &mut [[u8; 8]], iv: &[u8; 8], passes: &[PassSlices<S>])
@@ -17,13 +55,7 @@ fn unchain_part<S: Slice>(blocks: &mut [[u8; 8]], iv: &[u8; 8], passes: &[PassSl
 {
     let mut answers = [[0; 8]; LARGEST_BATCH];
     write_answers(&mut answers, blocks, passes);
-    let mut before = *iv;
-    for k in 0..blocks.len() {
-        let ciphertext = blocks[k];
-        blocks[k] = answers[k];
-        cbc::xor(&mut blocks[k], &before);
-        before = ciphertext;
-    }
+    unchain_by(blocks, iv, &answers);
 }
 
 /// Takes blocks through passes, and out of the chain that begins with `iv`, batch after batch, and

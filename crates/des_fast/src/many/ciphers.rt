@@ -1,35 +1,92 @@
-//! The ciphers of the crate, many blocks at a time.
+//! The ciphers of the crate, many blocks at a time, and a short list four side by side.
 
 ghost use Rattle.std.specs.Prelude.{◌≡◌, map};
 ghost use Rattle.std.specs.List.{All};
 ghost use Rattle.des.specs.Blocks.{IsBlock};
 ghost use Rattle.des.specs.Cbc.{Unchains};
-ghost use Rattle.des.specs.Rounds.{answer_by};
-ghost use Rattle.des_fast.specs.RoundKeySlices.{round_keys_of_pass};
-ghost use Rattle.des_fast.specs.Passes.{passed};
+ghost use Rattle.des_fast.specs.KeyedPasses.{answered_by, answered_by_three};
 
-use super::{ManyBlocks, Passes, Slice, answer, chains};
-use crate::slices::{Pass, PassSlices};
+use super::{FEW, ManyBlocks, Slice, answer, chains};
+use crate::quiet::lists::{self, KeyedPass, ThreePasses};
+use crate::slices::PassSlices;
 use crate::{Des, TdesEde2, TdesEde3, TdesEee2, TdesEee3};
 use des::cipher::are_blocks;
 use des::tdes::BatchedTriple;
 
-// Takes blocks through a pass.
-fn answer_one<S: Slice>(blocks: &mut [[u8; 8]], pass: &Pass)
-    ensures { blocks.new ≡ map (answer_by (round_keys_of_pass pass.now)) blocks.old }
+// Takes blocks through a pass, batch after batch.
+fn answer_one_by_batches<S: Slice>(blocks: &mut [[u8; 8]], pass: &KeyedPass)
+    ensures { blocks.new ≡ map (answered_by pass.now) blocks.old }
 {
     let mut passes = [PassSlices::unwritten(); 1];
-    passes[0].spread(pass);
+    passes[0].spread(&pass.last_keys());
     answer::<S>(blocks, &passes);
 }
 
-// Takes blocks through three passes.
-fn answer_three<S: Slice>(blocks: &mut [[u8; 8]], three: &Passes)
-    ensures { blocks.new ≡ map (passed three.now) blocks.old }
+// Takes blocks through three passes, batch after batch.
+fn answer_three_by_batches<S: Slice>(blocks: &mut [[u8; 8]], three: &ThreePasses)
+    ensures { blocks.new ≡ map (answered_by_three three.now) blocks.old }
 {
     let mut passes = [PassSlices::unwritten(); 3];
     three.spread(&mut passes);
     answer::<S>(blocks, &passes);
+}
+
+// Takes blocks through a pass.
+fn answer_one<S: Slice>(blocks: &mut [[u8; 8]], pass: &KeyedPass)
+    ensures { blocks.new ≡ map (answered_by pass.now) blocks.old }
+{
+    if blocks.len() <= FEW {
+        return lists::answer(blocks, pass);
+    }
+    answer_one_by_batches::<S>(blocks, pass);
+}
+
+// Takes blocks through three passes.
+fn answer_three<S: Slice>(blocks: &mut [[u8; 8]], three: &ThreePasses)
+    ensures { blocks.new ≡ map (answered_by_three three.now) blocks.old }
+{
+    if blocks.len() <= FEW {
+        return lists::answer(blocks, three);
+    }
+    answer_three_by_batches::<S>(blocks, three);
+}
+
+// Takes blocks through a pass, and out of the chain that begins with `iv`, batch after batch.
+fn unchain_one_by_batches<S: Slice>(blocks: &mut [[u8; 8]], iv: &[u8; 8], pass: &KeyedPass)
+    ensures { Unchains (answered_by pass.now) iv.now blocks.old blocks.new }
+{
+    let mut passes = [PassSlices::unwritten(); 1];
+    passes[0].spread(&pass.last_keys());
+    chains::unchain::<S>(blocks, iv, &passes);
+}
+
+// Takes blocks through three passes, and out of the chain that begins with `iv`, batch after batch.
+fn unchain_three_by_batches<S: Slice>(blocks: &mut [[u8; 8]], iv: &[u8; 8], three: &ThreePasses)
+    ensures { Unchains (answered_by_three three.now) iv.now blocks.old blocks.new }
+{
+    let mut passes = [PassSlices::unwritten(); 3];
+    three.spread(&mut passes);
+    chains::unchain::<S>(blocks, iv, &passes);
+}
+
+// Takes blocks through a pass, and out of the chain that begins with `iv`.
+fn unchain_one<S: Slice>(blocks: &mut [[u8; 8]], iv: &[u8; 8], pass: &KeyedPass)
+    ensures { Unchains (answered_by pass.now) iv.now blocks.old blocks.new }
+{
+    if blocks.len() <= FEW {
+        return chains::unchain_few(blocks, iv, pass);
+    }
+    unchain_one_by_batches::<S>(blocks, iv, pass);
+}
+
+// Takes blocks through three passes, and out of the chain that begins with `iv`.
+fn unchain_three<S: Slice>(blocks: &mut [[u8; 8]], iv: &[u8; 8], three: &ThreePasses)
+    ensures { Unchains (answered_by_three three.now) iv.now blocks.old blocks.new }
+{
+    if blocks.len() <= FEW {
+        return chains::unchain_few(blocks, iv, three);
+    }
+    unchain_three_by_batches::<S>(blocks, iv, three);
 }
 
 // Encryption by a triple cipher.
@@ -56,9 +113,7 @@ fn unchain_triple<S: Slice, C: BatchedTriple<Des>>(cipher: &C, iv: &[u8; 8], blo
     ensures unchained { Unchains (C.decrypted cipher.now) iv.now blocks.old blocks.new }
 {
     are_blocks(blocks);
-    let mut passes = [PassSlices::unwritten(); 3];
-    cipher.decryption_passes().spread(&mut passes);
-    chains::unchain::<S>(blocks, iv, &passes);
+    unchain_three::<S>(blocks, iv, &cipher.decryption_passes());
 }
 
 impl ManyBlocks for Des {
@@ -74,9 +129,7 @@ impl ManyBlocks for Des {
 
     fn decrypt_cbc_by<S: Slice>(&self, iv: &[u8; 8], blocks: &mut [[u8; 8]]) {
         are_blocks(blocks);
-        let mut passes = [PassSlices::unwritten(); 1];
-        passes[0].spread(&self.deciphering());
-        chains::unchain::<S>(blocks, iv, &passes);
+        unchain_one::<S>(blocks, iv, &self.deciphering());
     }
 }
 

@@ -9,11 +9,11 @@ ghost use Rattle.des_fast.specs.Slices.{InEachBlock};
 ghost use Rattle.des_fast.specs.SpreadKeys.{used};
 ghost use Rattle.des_fast.specs.EachKey.{lane_answer};
 ghost use Rattle.des_fast.specs.LaneKeys.{AnswerLanes, answer_in};
-ghost use Rattle.des_fast.specs.ChainEnds.{AreEnds, key_at};
+ghost use Rattle.des_fast.specs.ChainEnds.{AreEnds, under_key};
 ghost use Rattle.des_fast.specs.Records.{CbcEach, UnchainsEach, GoOn};
 
 use super::lanes::{LaneKeys, Part, answer_lanes_part};
-use super::records::{Equal, sum_up};
+use super::records::{Equal, add_up_to};
 use super::{BlockLists, LARGEST_BATCH, Slice, ends, keyed_records, next_count};
 use crate::{Des, TdesEde2, TdesEde3, TdesEee2, TdesEee3};
 use des::cipher::{KeyedCipher, NotEqualError, are_blocks};
@@ -115,7 +115,8 @@ pub trait KeyForEach: KeyedCipher {
     ) -> Result<(), NotEqualError>
         ensures accepted { IsOk result ↔ ((length keys.now ≡ length chains.old)
             × (length chains.old ≡ L.list_count lists.now)) }
-        ensures ok { OnOk result (AreEnds (key_at Self.encryption (map Self.Key.bytes_of keys.now))
+        ensures ok { OnOk result (AreEnds
+            (under_key Self.encryption (map Self.Key.bytes_of keys.now))
             (L.block_of lists.now) (L.count_of lists.now) chains.old chains.new) }
         ensures err { OnErr result (chains.new ≡ chains.old) }
     {
@@ -134,7 +135,8 @@ pub trait KeyForEach: KeyedCipher {
     ) -> Result<(), NotEqualError>
         ensures accepted { IsOk result ↔ ((length keys.now ≡ length chains.old)
             × (length chains.old ≡ L.list_count lists.now)) }
-        ensures ok { OnOk result (AreEnds (key_at Self.encryption (map Self.Key.bytes_of keys.now))
+        ensures ok { OnOk result (AreEnds
+            (under_key Self.encryption (map Self.Key.bytes_of keys.now))
             (L.block_of lists.now) (L.count_of lists.now) chains.old chains.new) }
         ensures err { OnErr result (chains.new ≡ chains.old) }
     {
@@ -161,7 +163,7 @@ pub trait KeyForEach: KeyedCipher {
             × ((length vectors.old ≡ length sizes.now)
             × (sum sizes.now ≡ length blocks.old))) }
         ensures chained { OnOk result (CbcEach
-            (key_at Self.encryption (map Self.Key.bytes_of keys.now)) sizes.now vectors.old
+            (under_key Self.encryption (map Self.Key.bytes_of keys.now)) sizes.now vectors.old
             blocks.old blocks.new) }
         ensures goes_on { OnOk result (GoOn sizes.now vectors.old blocks.new vectors.new) }
         ensures count { (length vectors.new ≡ length vectors.old)
@@ -172,7 +174,7 @@ pub trait KeyForEach: KeyedCipher {
         are_blocks(blocks);
         if keys.len() != vectors.len()
             || vectors.len() != sizes.len()
-            || !sum_up(sizes, sizes.len(), blocks.len())
+            || !add_up_to(sizes, sizes.len(), blocks.len())
         {
             return Err(NotEqualError);
         }
@@ -196,7 +198,7 @@ pub trait KeyForEach: KeyedCipher {
             × ((length vectors.old ≡ length sizes.now)
             × (sum sizes.now ≡ length blocks.old))) }
         ensures unchained { OnOk result (UnchainsEach
-            (key_at Self.decryption (map Self.Key.bytes_of keys.now)) sizes.now vectors.old
+            (under_key Self.decryption (map Self.Key.bytes_of keys.now)) sizes.now vectors.old
             blocks.old blocks.new) }
         ensures goes_on { OnOk result (GoOn sizes.now vectors.old blocks.old vectors.new) }
         ensures count { (length vectors.new ≡ length vectors.old)
@@ -207,7 +209,7 @@ pub trait KeyForEach: KeyedCipher {
         are_blocks(blocks);
         if keys.len() != vectors.len()
             || vectors.len() != sizes.len()
-            || !sum_up(sizes, sizes.len(), blocks.len())
+            || !add_up_to(sizes, sizes.len(), blocks.len())
         {
             return Err(NotEqualError);
         }
@@ -228,7 +230,7 @@ pub trait KeyForEach: KeyedCipher {
             × ((length vectors.old ≡ length sizes.now)
             × (sum sizes.now ≡ length blocks.old))) }
         ensures chained { OnOk result (CbcEach
-            (key_at Self.encryption (map Self.Key.bytes_of keys.now)) sizes.now vectors.old
+            (under_key Self.encryption (map Self.Key.bytes_of keys.now)) sizes.now vectors.old
             blocks.old blocks.new) }
         ensures goes_on { OnOk result (GoOn sizes.now vectors.old blocks.new vectors.new) }
         ensures count { (length vectors.new ≡ length vectors.old)
@@ -251,7 +253,7 @@ pub trait KeyForEach: KeyedCipher {
             × ((length vectors.old ≡ length sizes.now)
             × (sum sizes.now ≡ length blocks.old))) }
         ensures unchained { OnOk result (UnchainsEach
-            (key_at Self.decryption (map Self.Key.bytes_of keys.now)) sizes.now vectors.old
+            (under_key Self.decryption (map Self.Key.bytes_of keys.now)) sizes.now vectors.old
             blocks.old blocks.new) }
         ensures goes_on { OnOk result (GoOn sizes.now vectors.old blocks.old vectors.new) }
         ensures count { (length vectors.new ≡ length vectors.old)
@@ -275,7 +277,7 @@ pub trait KeyForEach: KeyedCipher {
         ensures accepted { IsOk result ↔ ((length keys.now ≡ length vectors.old)
             × (length vectors.old * size ≡ length blocks.old)) }
         ensures chained { OnOk result (CbcEach
-            (key_at Self.encryption (map Self.Key.bytes_of keys.now))
+            (under_key Self.encryption (map Self.Key.bytes_of keys.now))
             (replicate (length vectors.old) size) vectors.old blocks.old blocks.new) }
         ensures goes_on { OnOk result (GoOn (replicate (length vectors.old) size)
             vectors.old blocks.new vectors.new) }
@@ -287,7 +289,7 @@ pub trait KeyForEach: KeyedCipher {
         are_blocks(blocks);
         let count = vectors.len();
         let sizes = Equal { count, size };
-        if keys.len() != count || !sum_up(sizes, count, blocks.len()) {
+        if keys.len() != count || !add_up_to(sizes, count, blocks.len()) {
             return Err(NotEqualError);
         }
         keyed_records::chain_each::<S, Self, _>(keys, vectors, sizes, blocks);
@@ -308,7 +310,7 @@ pub trait KeyForEach: KeyedCipher {
         ensures accepted { IsOk result ↔ ((length keys.now ≡ length vectors.old)
             × (length vectors.old * size ≡ length blocks.old)) }
         ensures unchained { OnOk result (UnchainsEach
-            (key_at Self.decryption (map Self.Key.bytes_of keys.now))
+            (under_key Self.decryption (map Self.Key.bytes_of keys.now))
             (replicate (length vectors.old) size) vectors.old blocks.old blocks.new) }
         ensures goes_on { OnOk result (GoOn (replicate (length vectors.old) size)
             vectors.old blocks.old vectors.new) }
@@ -320,7 +322,7 @@ pub trait KeyForEach: KeyedCipher {
         are_blocks(blocks);
         let count = vectors.len();
         let sizes = Equal { count, size };
-        if keys.len() != count || !sum_up(sizes, count, blocks.len()) {
+        if keys.len() != count || !add_up_to(sizes, count, blocks.len()) {
             return Err(NotEqualError);
         }
         keyed_records::unchain_each::<S, Self, _>(keys, vectors, sizes, blocks);
@@ -340,7 +342,7 @@ pub trait KeyForEach: KeyedCipher {
         ensures accepted { IsOk result ↔ ((length keys.now ≡ length vectors.old)
             × (length vectors.old * size ≡ length blocks.old)) }
         ensures chained { OnOk result (CbcEach
-            (key_at Self.encryption (map Self.Key.bytes_of keys.now))
+            (under_key Self.encryption (map Self.Key.bytes_of keys.now))
             (replicate (length vectors.old) size) vectors.old blocks.old blocks.new) }
         ensures goes_on { OnOk result (GoOn (replicate (length vectors.old) size)
             vectors.old blocks.new vectors.new) }
@@ -364,7 +366,7 @@ pub trait KeyForEach: KeyedCipher {
         ensures accepted { IsOk result ↔ ((length keys.now ≡ length vectors.old)
             × (length vectors.old * size ≡ length blocks.old)) }
         ensures unchained { OnOk result (UnchainsEach
-            (key_at Self.decryption (map Self.Key.bytes_of keys.now))
+            (under_key Self.decryption (map Self.Key.bytes_of keys.now))
             (replicate (length vectors.old) size) vectors.old blocks.old blocks.new) }
         ensures goes_on { OnOk result (GoOn (replicate (length vectors.old) size)
             vectors.old blocks.old vectors.new) }
@@ -380,7 +382,7 @@ pub trait KeyForEach: KeyedCipher {
 fn spread_batch<S: Slice, C: KeyForEach>(keys: &[C::Key; LARGEST_BATCH], lanes: &mut LaneKeys<S>)
     ensures { InEachBlock S.BATCH (λ b. lane_answer (S.bit b)
         (used lanes.new.is_triple lanes.new.passes)
-        ≡ key_at C.encryption (map C.Key.bytes_of keys.now) b) }
+        ≡ under_key C.encryption (map C.Key.bytes_of keys.now) b) }
 {
     C::spread_each(&keys[..S::BATCH], false, lanes);
 }

@@ -7,7 +7,7 @@ ghost use Rattle.des.specs.Cbc.{xor_blocks};
 ghost use Rattle.des_fast.specs.Transposition.{block_at};
 ghost use Rattle.des_fast.specs.Slices.{InEachBlock};
 ghost use Rattle.des_fast.specs.EachKey.{lane_answer};
-ghost use Rattle.des_fast.specs.ChainEnds.{AreEnds, key_at};
+ghost use Rattle.des_fast.specs.ChainEnds.{AreEnds, under_key};
 
 use super::each_key::KeyForEach;
 use super::lanes::{LaneKeys, answer_filled};
@@ -160,7 +160,7 @@ fn end_group_each<S: Slice, C: KeyForEach, L: BlockLists>(
     requires there { from + length chains.old ≤ L.list_count lists.now }
     requires fits { from + length chains.old < 2 ^ 64 }
     ensures count { length chains.new ≡ length chains.old }
-    ensures ends { AreEnds (key_at C.encryption (map C.Key.bytes_of keys.now))
+    ensures ends { AreEnds (under_key C.encryption (map C.Key.bytes_of keys.now))
         (λ k. L.block_of lists.now (from + k)) (λ k. L.count_of lists.now (from + k))
         chains.old chains.new }
 {
@@ -179,7 +179,7 @@ pub(super) fn end_each<S: Slice, C: KeyForEach, L: BlockLists>(
     requires same { length keys.now ≡ length chains.old }
     requires there { length chains.old ≡ L.list_count lists.now }
     ensures count { length chains.new ≡ length chains.old }
-    ensures ends { AreEnds (key_at C.encryption (map C.Key.bytes_of keys.now))
+    ensures ends { AreEnds (under_key C.encryption (map C.Key.bytes_of keys.now))
         (L.block_of lists.now) (L.count_of lists.now) chains.old chains.new }
 {
     let mut from = 0;

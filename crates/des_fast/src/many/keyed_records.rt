@@ -8,7 +8,7 @@
 ghost use Rattle.std.specs.Prelude.{◌≡◌, ◌≤◌, ◌<◌, ◌+◌, ℕ, List, length, map, sum};
 ghost use Rattle.std.specs.List.{All};
 ghost use Rattle.des.specs.Blocks.{IsBlock};
-ghost use Rattle.des_fast.specs.ChainEnds.{key_at};
+ghost use Rattle.des_fast.specs.ChainEnds.{under_key};
 ghost use Rattle.des_fast.specs.Records.{start, CbcEach, UnchainsEach, GoOn};
 ghost use Rattle.des_fast.specs.RecordStates.{HasBlock, AreUnchainedBelow};
 ghost use Rattle.des_fast.specs.Transposition.{block_at};
@@ -33,7 +33,7 @@ pub(super) fn chain_each<S: Slice, C: KeyForEach, Z: Sizes>(
     ensures blocks { All IsBlock blocks.old }
     ensures vectors { length vectors.new ≡ length vectors.old }
     ensures count { length blocks.new ≡ length blocks.old }
-    ensures chained { CbcEach (key_at C.encryption (map C.Key.bytes_of keys.now)) (Z.list sizes)
+    ensures chained { CbcEach (under_key C.encryption (map C.Key.bytes_of keys.now)) (Z.list sizes)
         vectors.old blocks.old blocks.new }
     ensures goes_on { GoOn (Z.list sizes) vectors.old blocks.new vectors.new }
 {
@@ -88,7 +88,7 @@ fn write_decrypted<S: Slice, C: KeyForEach>(
 )
     requires { length blocks.now ≤ S.BATCH }
     ensures { (k : ℕ) → k < length blocks.now → block_at answers.new k
-        ≡ key_at C.decryption (map C.Key.bytes_of keys.now) k (block_at blocks.now k) }
+        ≡ under_key C.decryption (map C.Key.bytes_of keys.now) k (block_at blocks.now k) }
 {
     answers[..blocks.len()].copy_from_slice(blocks);
     let mut lanes = LaneKeys::unwritten();
@@ -120,9 +120,9 @@ fn unchain_part_each<S: Slice, C: KeyForEach, Z: Sizes>(
     ensures count { length blocks.new ≡ length blocks.old }
     ensures vectors { length vectors.new ≡ length vectors.old }
     ensures unchained { (first q : List (List ℕ))
-        → AreUnchainedBelow (key_at C.decryption (map C.Key.bytes_of keys.now)) (Z.list sizes)
+        → AreUnchainedBelow (under_key C.decryption (map C.Key.bytes_of keys.now)) (Z.list sizes)
         first q vectors.old blocks.old from
-        → AreUnchainedBelow (key_at C.decryption (map C.Key.bytes_of keys.now)) (Z.list sizes)
+        → AreUnchainedBelow (under_key C.decryption (map C.Key.bytes_of keys.now)) (Z.list sizes)
         first q vectors.new blocks.new (from + count) }
 {
     let mut of_blocks = [keys[current.number]; LARGEST_BATCH];
@@ -146,7 +146,7 @@ pub(super) fn unchain_each<S: Slice, C: KeyForEach, Z: Sizes>(
     requires whole { length blocks.old ≡ sum (Z.list sizes) }
     ensures vectors { length vectors.new ≡ length vectors.old }
     ensures count { length blocks.new ≡ length blocks.old }
-    ensures unchained { UnchainsEach (key_at C.decryption (map C.Key.bytes_of keys.now))
+    ensures unchained { UnchainsEach (under_key C.decryption (map C.Key.bytes_of keys.now))
         (Z.list sizes) vectors.old blocks.old blocks.new }
     ensures goes_on { GoOn (Z.list sizes) vectors.old blocks.old vectors.new }
 {

@@ -51,7 +51,7 @@ impl Sizes for Equal {
 }
 
 /// Whether the sizes of `count` records sum up to a number of blocks.
-pub(super) fn sum_up<Z: Sizes>(sizes: Z, count: usize, blocks: usize) -> bool
+pub(super) fn add_up_to<Z: Sizes>(sizes: Z, count: usize, blocks: usize) -> bool
     requires { length (Z.list sizes) ≡ count }
     ensures { IsTrue result ↔ (sum (Z.list sizes) ≡ blocks) }
 {

@@ -8,7 +8,7 @@ ghost use Rattle.des_fast.specs.Records.{CbcEach, UnchainsEach, GoOn};
 ghost use Rattle.des_fast.specs.SpreadKeys.{AreSpreadKeys};
 
 use super::lanes::used;
-use super::records::{self, Equal, sum_up};
+use super::records::{self, Equal, add_up_to};
 use super::{ManyBlocks, Slice, answer, chains};
 use crate::slices::PassSlices;
 use crate::{Des, TdesEde2, TdesEde3, TdesEee2, TdesEee3};
@@ -177,7 +177,7 @@ impl<S: Slice> ListKeys for SpreadKeys<S> {
     ) -> Result<(), NotEqualError> {
         are_blocks(vectors);
         are_blocks(blocks);
-        if vectors.len() != sizes.len() || !sum_up(sizes, sizes.len(), blocks.len()) {
+        if vectors.len() != sizes.len() || !add_up_to(sizes, sizes.len(), blocks.len()) {
             return Err(NotEqualError);
         }
         records::chain::<S, _>(
@@ -197,7 +197,7 @@ impl<S: Slice> ListKeys for SpreadKeys<S> {
     ) -> Result<(), NotEqualError> {
         are_blocks(vectors);
         are_blocks(blocks);
-        if vectors.len() != sizes.len() || !sum_up(sizes, sizes.len(), blocks.len()) {
+        if vectors.len() != sizes.len() || !add_up_to(sizes, sizes.len(), blocks.len()) {
             return Err(NotEqualError);
         }
         records::unchain::<S, _>(
@@ -219,7 +219,7 @@ impl<S: Slice> ListKeys for SpreadKeys<S> {
         are_blocks(blocks);
         let count = vectors.len();
         let sizes = Equal { count, size };
-        if !sum_up(sizes, count, blocks.len()) {
+        if !add_up_to(sizes, count, blocks.len()) {
             return Err(NotEqualError);
         }
         records::chain::<S, _>(
@@ -241,7 +241,7 @@ impl<S: Slice> ListKeys for SpreadKeys<S> {
         are_blocks(blocks);
         let count = vectors.len();
         let sizes = Equal { count, size };
-        if !sum_up(sizes, count, blocks.len()) {
+        if !add_up_to(sizes, count, blocks.len()) {
             return Err(NotEqualError);
         }
         records::unchain::<S, _>(
@@ -283,8 +283,8 @@ impl SpreadOnce for Des {
             decryption: [PassSlices::unwritten(); 3],
             is_triple: false,
         };
-        keys.encryption[0].spread(&self.enciphering());
-        keys.decryption[0].spread(&self.deciphering());
+        keys.encryption[0].spread(&self.enciphering().last_keys());
+        keys.decryption[0].spread(&self.deciphering().last_keys());
         keys
     }
 }

@@ -1,23 +1,27 @@
-//! Lists of blocks, four side by side: quicker than one by one from two blocks on.
+//! Lists of blocks, four side by side: quicker than one by one from two blocks on. Of what is left
+//! over, two blocks or three go as four, and one goes alone.
 
 ghost use Rattle.std.specs.Prelude.{◌≡◌, ◌<◌, ◌≤◌, ℕ, List, [], length, map, slice_index_or, take};
 ghost use Rattle.std.specs.List.{All};
 ghost use Rattle.des.specs.Blocks.{IsBlock};
+ghost use Rattle.des.specs.Rounds.{after_rounds};
 ghost use Rattle.des.specs.Triple.{through};
 ghost use Rattle.des_fast.specs.Slices.{InEachBlock};
 ghost use Rattle.des_fast.specs.Groups.{IsExpansion, half_of};
-ghost use Rattle.des_fast.specs.HalfBlocks.{first_halves, last_block};
+ghost use Rattle.des_fast.specs.HalfBlocks.{first_halves, half_blocks_of, last_block};
 ghost use Rattle.des_fast.specs.SideBySide.{AreExpansions, lane};
-ghost use Rattle.des_fast.specs.KeyedPasses.{answered_by, answered_by_three};
+ghost use Rattle.des_fast.specs.KeyedPasses.{answered_by, answered_by_three, keys_of};
 
-use super::rounds::after_rounds;
-use crate::halves::{HalfBlock, Halves, RoundKey};
+use super::rounds::{after_rounds, halves_after_rounds};
+use crate::halves::{HalfBlock, Halves};
+use crate::schedule::KeySchedule;
 use std::simd::prelude::*;
 
-/// A pass of DES: its round keys, and whether it deciphers.
+/// A pass of DES: its round keys, and whether it deciphers, with the round keys from the last to
+/// the first.
 #[derive(Clone, Copy)]
 pub struct KeyedPass {
-    pub(crate) round_keys: [RoundKey; 16],
+    pub(crate) schedule: KeySchedule,
     pub(crate) deciphers: bool,
 }
 
@@ -27,6 +31,17 @@ pub struct ThreePasses {
     pub(crate) first: KeyedPass,
     pub(crate) second: KeyedPass,
     pub(crate) third: KeyedPass,
+}
+
+impl KeyedPass {
+    // The halves of one block after the rounds.
+    #[inline]
+    fn halves(&self, halves: Halves) -> Halves
+        ensures { half_blocks_of result ≡ after_rounds (keys_of self.now)
+            (half_of halves.left.groups) (half_of halves.right.groups) }
+    {
+        halves_after_rounds(halves, &self.schedule.round_keys, self.deciphers)
+    }
 }
 
 // The halves that the rounds of four blocks begin with.
@@ -89,10 +104,14 @@ fn blocks_of(left: u64x4, right: u64x4) -> [[u8; 8]; 4]
     ]
 }
 
-/// What answers four blocks side by side.
+/// What answers a block, and four side by side.
 pub(crate) trait AnswersFour {
     // The block that it makes of a block.
     ghost answered: { Self → List ℕ → List ℕ };
+
+    /// Answers one block in place.
+    fn answer_block(&self, block: &mut [u8; 8])
+        ensures { block.new ≡ answered self.now block.old };
 
     /// Answers four blocks in place.
     fn answer_four(&self, blocks: &mut [[u8; 8]; 4])
@@ -103,9 +122,14 @@ impl AnswersFour for KeyedPass {
     ghost answered = { answered_by };
 
     #[inline]
+    fn answer_block(&self, block: &mut [u8; 8]) {
+        *block = self.halves(Halves::of_block(block)).into_block();
+    }
+
+    #[inline]
     fn answer_four(&self, blocks: &mut [[u8; 8]; 4]) {
         let (left, right) = halves_of(blocks);
-        let (left, right) = after_rounds(left, right, &self.round_keys, self.deciphers);
+        let (left, right) = after_rounds(left, right, &self.schedule.round_keys, self.deciphers);
         *blocks = blocks_of(left, right);
     }
 }
@@ -114,14 +138,26 @@ impl AnswersFour for ThreePasses {
     ghost answered = { answered_by_three };
 
     #[inline]
+    fn answer_block(&self, block: &mut [u8; 8]) {
+        let halves = self.first.halves(Halves::of_block(block)).swapped();
+        let halves = self.second.halves(halves).swapped();
+        *block = self.third.halves(halves).into_block();
+    }
+
+    #[inline]
     fn answer_four(&self, blocks: &mut [[u8; 8]; 4]) {
         let (left, right) = halves_of(blocks);
         let first = self.first;
         let second = self.second;
         let third = self.third;
-        let (left, right) = after_rounds(left, right, &first.round_keys, first.deciphers);
-        let (left, right) = after_rounds(right, left, &second.round_keys, second.deciphers);
-        let (left, right) = after_rounds(right, left, &third.round_keys, third.deciphers);
+        let (left, right) = after_rounds(left, right, &first.schedule.round_keys, first.deciphers);
+        let (left, right) = after_rounds(
+            right,
+            left,
+            &second.schedule.round_keys,
+            second.deciphers,
+        );
+        let (left, right) = after_rounds(right, left, &third.schedule.round_keys, third.deciphers);
         *blocks = blocks_of(left, right);
     }
 }
@@ -140,6 +176,9 @@ fn answer_part<P: AnswersFour>(blocks: &mut [[u8; 8]], passes: &P)
     requires { length blocks.old ≤ 4 }
     ensures { blocks.new ≡ map (P.answered passes.now) blocks.old }
 {
+    if blocks.len() == 1 {
+        return passes.answer_block(&mut blocks[0]);
+    }
     let mut four = [[0; 8]; 4];
     write_answers(&mut four, blocks, passes);
     blocks.copy_from_slice(&four[..blocks.len()]);

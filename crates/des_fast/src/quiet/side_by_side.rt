@@ -14,8 +14,8 @@ use des::tdes::{BatchedDes, BatchedTriple};
 /// A block cipher that answers the blocks of a list four side by side. No call changes the cipher,
 /// and none reads a table at an index that depends on the key or a block.
 ///
-/// Four blocks take less than twice the time of one, and what is left over after fours, the time of
-/// four.
+/// Four blocks take less than twice the time of one. Of what is left over after fours, one block
+/// takes the time of one, and two or three take the time of four.
 pub trait SideBySide: BlockCipherEncrypt + BlockCipherDecrypt {
     /// Encrypts each block of 8 bytes in place, in order, as `encrypt_blocks` does, four side by
     /// side. An empty list stays empty.
@@ -38,7 +38,7 @@ impl Des {
         ensures { answered_by result ≡ answered deciphers self.now }
     {
         KeyedPass {
-            round_keys: self.keyed.schedule.round_keys,
+            schedule: self.keyed.schedule,
             deciphers,
         }
     }

@@ -2,7 +2,7 @@
 
 ghost use Rattle.std.specs.Prelude.{◌≡◌, ◌↔◌, ◌≤◌, ◌<◌, ℕ, List, [], ◌/◌, length, map, slice_index_or, IsOk, OnOk, OnErr};
 ghost use Rattle.std.specs.Simd.Lanes.{zip2};
-ghost use Rattle.des_fast.specs.ChainEnds.{key_at};
+ghost use Rattle.des_fast.specs.ChainEnds.{under_key};
 ghost use Rattle.des_mac.specs.Padding.{last_count, one_bit_after};
 ghost use Rattle.des_mac.specs.CbcMac.{block_after, zero_block};
 ghost use Rattle.des_mac.specs.Cmac.{subkey_1, subkey_2, masked_message, cmac};
@@ -157,7 +157,7 @@ fn zeros_under<S: Slice, C: KeyForEach>(key: &C::Key) -> [u8; 8]
 fn zeros_under_each<S: Slice, C: KeyForEach>(keys: &[C::Key], blocks: &mut [[u8; 8]])
     requires { length keys.now ≡ length blocks.old }
     ensures { (k : ℕ) → k < length keys.now → slice_index_or blocks.new k []
-        ≡ key_at C.encryption (map C.Key.bytes_of keys.now) k zero_block }
+        ≡ under_key C.encryption (map C.Key.bytes_of keys.now) k zero_block }
 {
     clear(blocks);
     encrypt_each::<S, C>(keys, blocks);

@@ -1,6 +1,6 @@
 use Rattle.std.proofs.Common.{◌≡◌, ℕ, ◌≤◌, length, map, take, ◌∙◌, arith, length-take-le}
 use Rattle.std.proofs.lemmas.List.{length-map}
-use Rattle.des_fast.proofs.KeysAtPlaces.{key_at-first}
+use Rattle.des_fast.proofs.KeysAtPlaces.{under_key-first}
 use Rattle.des_fast.proofs.many.each_key.spread_batch.Goals as goal
 
 pub returns : goal.returns
@@ -12,4 +12,4 @@ returns g c b within =
     let taken : length (map bytes (take batch c.args.keys.now)) ≡ batch =
     length-map (take batch c.args.keys.now) bytes ∙ length-take-le batch c.args.keys.now room in
     c.spread_each.ensures b (omega arith)
-    ∙ key_at-first bytes g.C.KeyedCipher.encryption c.args.keys.now batch b (omega arith)
+    ∙ under_key-first bytes g.C.KeyedCipher.encryption c.args.keys.now batch b (omega arith)

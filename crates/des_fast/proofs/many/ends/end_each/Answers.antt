@@ -1,8 +1,8 @@
 -- A group more.
 use Rattle.std.proofs.Common.{◌≡◌, ℕ, ◌+◌, ◌-◌, ◌<◌, ◌≤◌, List, length, map, take, drop, sym, ◌∙◌, arith, length-take-le}
 use Rattle.std.proofs.lemmas.List.{length-drop}
-use Rattle.des_fast.specs.ChainEnds.{key_at}
-use Rattle.des_fast.proofs.KeysAtPlaces.{key_at-part}
+use Rattle.des_fast.specs.ChainEnds.{under_key}
+use Rattle.des_fast.proofs.KeysAtPlaces.{under_key-part}
 use Rattle.des_fast.proofs.ChainedEnds.{AreEnds-group, get_or-put_past}
 use Rattle.des_fast.proofs.many.ends.end_each.Goals as goal
 
@@ -23,11 +23,11 @@ groups-preserved g c =
     let count : length part ≡ n =
     c.end_group_each.ensures.count ∙ length-take-le w (drop m now) (omega (arith, length-drop m now)) ∙ is in
     let keyed : (j : ℕ) → j < n
-    → key_at encryption (map bytes (take w (drop m c.args.keys.now))) j ≡ key_at encryption keys (m + j) =
-    λ j below. key_at-part bytes encryption c.args.keys.now m w j (omega arith) in record {
+    → under_key encryption (map bytes (take w (drop m c.args.keys.now))) j ≡ under_key encryption keys (m + j) =
+    λ j below. under_key-part bytes encryption c.args.keys.now m w j (omega arith) in record {
       within = there;
       made =
-          AreEnds-group (key_at encryption keys) _ (g.L.BlockLists.block_of c.args.lists.now)
+          AreEnds-group (under_key encryption keys) _ (g.L.BlockLists.block_of c.args.lists.now)
           (g.L.BlockLists.count_of c.args.lists.now) m n w firsts now part there same is count keyed
           c.groups.invariant.made c.groups.invariant.rest c.end_group_each.ensures.ends;
       rest = λ k past.

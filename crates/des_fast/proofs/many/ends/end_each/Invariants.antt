@@ -1,12 +1,12 @@
 -- The chains before the index have ended, and the others are as they were.
 use Rattle.std.proofs.Common.{◌≡◌, ℕ, ◌-◌, ◌≤◌, [], get_or, length, map, take}
-use Rattle.des_fast.specs.ChainEnds.{AreEnds, key_at}
+use Rattle.des_fast.specs.ChainEnds.{AreEnds, under_key}
 use Rattle.des_fast.proofs.many.ends.end_each.Given as goal
 
 abbrev pub invariant-groups : goal.invariant-groups
 invariant-groups g l = record {
   within : l.from ≤ length l.initial.chains;
-  made : AreEnds (key_at g.C.KeyedCipher.encryption (map g.C.Key.KeyBytes.bytes_of l.keys))
+  made : AreEnds (under_key g.C.KeyedCipher.encryption (map g.C.Key.KeyBytes.bytes_of l.keys))
       (g.L.BlockLists.block_of l.lists) (g.L.BlockLists.count_of l.lists)
       (take l.from l.initial.chains) l.chains;
   rest : (m : ℕ) → l.from ≤ m → get_or l.chains m [] ≡ get_or l.initial.chains m [];

@@ -1,10 +1,10 @@
 -- A group more.
 use Rattle.std.proofs.Common.{◌≡◌, ℕ, ◌+◌, ◌-◌, ◌≤◌, length, map, take, drop, refl, ap, sym, ◌∙◌, arith, subst, length-take-le}
 use Rattle.std.proofs.lemmas.List.{length-drop, length-map}
-use Rattle.des_fast.specs.ChainEnds.{key_at}
+use Rattle.des_fast.specs.ChainEnds.{under_key}
 use Rattle.des_fast.specs.EachKey.{lane_answer}
 use Rattle.des_fast.specs.RecordStates.{AreChainedBelow}
-use Rattle.des_fast.proofs.KeysAtPlaces.{key_at-part}
+use Rattle.des_fast.proofs.KeysAtPlaces.{under_key-part}
 use Rattle.des_fast.proofs.ChainedRecords.{AreChainedBelow-none, CbcEach-all, GoOn-chained}
 use Rattle.des_fast.proofs.many.keyed_records.chain_each.Goals as goal
 
@@ -15,7 +15,7 @@ groups-init g c = record {
   in_vectors = refl;
   in_blocks = refl;
   chained =
-      AreChainedBelow-none (key_at g.C.KeyedCipher.encryption (map g.C.Key.KeyBytes.bytes_of c.args.keys.now))
+      AreChainedBelow-none (under_key g.C.KeyedCipher.encryption (map g.C.Key.KeyBytes.bytes_of c.args.keys.now))
       (g.Z.Sizes.list c.args.sizes) c.args.vectors.now c.args.blocks.now;
 }
 
@@ -38,10 +38,10 @@ groups-preserved g c =
       in_vectors = c.chain_group.ensures.vectors ∙ c.groups.invariant.in_vectors;
       in_blocks = c.chain_group.ensures.count ∙ c.groups.invariant.in_blocks;
       chained =
-          c.chain_group.ensures.chained (key_at encryption (map bytes c.args.keys.now)) c.args.vectors.now
+          c.chain_group.ensures.chained (under_key encryption (map bytes c.args.keys.now)) c.args.vectors.now
           c.args.blocks.now
           (λ k below.
-          sym (key_at-part bytes encryption c.args.keys.now m w k (omega arith))
+          sym (under_key-part bytes encryption c.args.keys.now m w k (omega arith))
           ∙ sym (c.spread_each.ensures k (omega arith))
           ∙ ap (lane_answer (g.S.Slice.bit k)) (sym c.passes.ensures))
           c.groups.invariant.chained;
@@ -49,7 +49,7 @@ groups-preserved g c =
 
 pub returns-clause-chained : goal.returns-clause-chained
 returns-clause-chained g c =
-    let encryption = key_at g.C.KeyedCipher.encryption (map g.C.Key.KeyBytes.bytes_of c.args.keys.now) in
+    let encryption = under_key g.C.KeyedCipher.encryption (map g.C.Key.KeyBytes.bytes_of c.args.keys.now) in
     let all : c.groups.from ≡ length c.args.vectors.now = omega (arith, c.groups.invariant.within) in
     CbcEach-all encryption (g.Z.Sizes.list c.args.sizes) c.args.vectors.now c.args.blocks.now
     c.groups.vectors c.groups.blocks c.requires.vectors c.requires.whole c.groups.invariant.in_blocks
@@ -59,7 +59,7 @@ returns-clause-chained g c =
 
 pub returns-clause-goes_on : goal.returns-clause-goes_on
 returns-clause-goes_on g c =
-    let encryption = key_at g.C.KeyedCipher.encryption (map g.C.Key.KeyBytes.bytes_of c.args.keys.now) in
+    let encryption = under_key g.C.KeyedCipher.encryption (map g.C.Key.KeyBytes.bytes_of c.args.keys.now) in
     let all : c.groups.from ≡ length c.args.vectors.now = omega (arith, c.groups.invariant.within) in
     GoOn-chained encryption (g.Z.Sizes.list c.args.sizes) c.args.vectors.now c.args.blocks.now
     c.groups.vectors c.groups.blocks c.requires.vectors c.requires.whole c.groups.invariant.in_blocks

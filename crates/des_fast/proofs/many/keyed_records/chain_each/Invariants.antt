@@ -1,6 +1,6 @@
 -- The records before the index are chained.
 use Rattle.std.proofs.Common.{◌≡◌, ◌-◌, ◌≤◌, length, map}
-use Rattle.des_fast.specs.ChainEnds.{key_at}
+use Rattle.des_fast.specs.ChainEnds.{under_key}
 use Rattle.des_fast.specs.Records.{start}
 use Rattle.des_fast.specs.RecordStates.{AreChainedBelow}
 use Rattle.des_fast.proofs.many.keyed_records.chain_each.Given as goal
@@ -11,7 +11,7 @@ invariant-groups g l = record {
   starts : l.start ≡ start (g.Z.Sizes.list l.sizes) l.from;
   in_vectors : length l.vectors ≡ length l.initial.vectors;
   in_blocks : length l.blocks ≡ length l.initial.blocks;
-  chained : AreChainedBelow (key_at g.C.KeyedCipher.encryption (map g.C.Key.KeyBytes.bytes_of l.keys))
+  chained : AreChainedBelow (under_key g.C.KeyedCipher.encryption (map g.C.Key.KeyBytes.bytes_of l.keys))
       (g.Z.Sizes.list l.sizes) l.initial.vectors l.initial.blocks l.vectors l.blocks l.from;
 }
 

@@ -1,6 +1,6 @@
 -- A part more.
 use Rattle.std.proofs.Common.{◌≡◌, ℕ, length, map, refl, ◌∙◌, arith, subst}
-use Rattle.des_fast.specs.ChainEnds.{key_at}
+use Rattle.des_fast.specs.ChainEnds.{under_key}
 use Rattle.des_fast.specs.RecordStates.{AreUnchainedBelow}
 use Rattle.des_fast.proofs.UnchainedRecords.{AreUnchainedBelow-none, UnchainsEach-all, GoOn-unchained}
 use Rattle.des_fast.proofs.many.keyed_records.unchain_each.Goals as goal
@@ -13,7 +13,7 @@ parts-init g c = record {
   in_vectors = refl;
   in_blocks = refl;
   unchained =
-      AreUnchainedBelow-none (key_at g.C.KeyedCipher.decryption (map g.C.Key.KeyBytes.bytes_of c.args.keys.now))
+      AreUnchainedBelow-none (under_key g.C.KeyedCipher.decryption (map g.C.Key.KeyBytes.bytes_of c.args.keys.now))
       (g.Z.Sizes.list c.args.sizes) c.args.vectors.now c.args.blocks.now;
 }
 
@@ -30,7 +30,7 @@ parts-preserved g c = record {
 
 pub returns-clause-unchained : goal.returns-clause-unchained
 returns-clause-unchained g c =
-    let decryption = key_at g.C.KeyedCipher.decryption (map g.C.Key.KeyBytes.bytes_of c.args.keys.now) in
+    let decryption = under_key g.C.KeyedCipher.decryption (map g.C.Key.KeyBytes.bytes_of c.args.keys.now) in
     let all : c.parts.from ≡ length c.args.blocks.now =
     omega (arith, c.parts.invariant.within, c.parts.invariant.in_blocks) in
     UnchainsEach-all decryption (g.Z.Sizes.list c.args.sizes) c.args.vectors.now c.args.blocks.now
@@ -40,7 +40,7 @@ returns-clause-unchained g c =
 
 pub returns-clause-goes_on : goal.returns-clause-goes_on
 returns-clause-goes_on g c =
-    let decryption = key_at g.C.KeyedCipher.decryption (map g.C.Key.KeyBytes.bytes_of c.args.keys.now) in
+    let decryption = under_key g.C.KeyedCipher.decryption (map g.C.Key.KeyBytes.bytes_of c.args.keys.now) in
     let all : c.parts.from ≡ length c.args.blocks.now =
     omega (arith, c.parts.invariant.within, c.parts.invariant.in_blocks) in
     GoOn-unchained decryption (g.Z.Sizes.list c.args.sizes) c.args.vectors.now c.args.blocks.now

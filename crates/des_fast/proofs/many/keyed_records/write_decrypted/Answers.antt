@@ -2,7 +2,7 @@
 use Rattle.std.proofs.Common.{◌≡◌, ℕ, ◌++◌, ◌≤◌, List, [], get_or, length, map, take, drop, ap, ◌∙◌, arith, length-take-le}
 use Rattle.std.proofs.lemmas.List.{length-map, get_or_append_left}
 use Rattle.des_fast.specs.EachKey.{lane_answer}
-use Rattle.des_fast.proofs.KeysAtPlaces.{key_at-first}
+use Rattle.des_fast.proofs.KeysAtPlaces.{under_key-first}
 use Rattle.des_fast.proofs.many.keyed_records.write_decrypted.Goals as goal
 
 pub returns : goal.returns
@@ -25,4 +25,4 @@ returns g c k below =
     ∙ ap (λ passes. lane_answer (g.S.Slice.bit k) passes (get_or blocks k [])) c.passes.ensures
     ∙ ap (λ (f : List ℕ → List ℕ). f (get_or blocks k []))
     (c.spread_each.ensures k (omega arith)
-    ∙ key_at-first bytes g.C.KeyedCipher.decryption c.args.keys.now n k below)
+    ∙ under_key-first bytes g.C.KeyedCipher.decryption c.args.keys.now n k below)

@@ -1,4 +1,4 @@
-use Rattle.std.proofs.Common.{ℕ, zero, suc, lit≤}
+use Rattle.std.proofs.Common.{zero, suc, lit≤}
 use Rattle.des_fast.proofs.threes.ThreeGroupsGroups.substitute.Goals as goal
 
 pub substitute_in_a_row-requires : goal.substitute_in_a_row-requires

@@ -1,19 +1,16 @@
 use Rattle.std.proofs.Common.{ℕ, List, [], Bool, slice_index_or, ap, ◌∙◌, arith}
-use Rattle.des_fast.specs.declared.quiet.lists.KeyedPass.{KeyedPass}
 use Rattle.des_fast.specs.Groups.{half_of}
-use Rattle.des_fast.specs.HalfBlocks.{round_keys_of}
-use Rattle.des_fast.specs.SideBySide.{in_direction, lane}
-use Rattle.des_fast.specs.KeyedPasses.{answered_by_three}
+use Rattle.des_fast.specs.SideBySide.{lane}
+use Rattle.des_fast.specs.KeyedPasses.{answered_by_three, keys_of}
 use Rattle.des_fast.proofs.HalfPasses.{after, answer_by-three}
 use Rattle.des_fast.proofs.FourAnswers.{answered-four}
 use Rattle.des_fast.proofs.quiet.lists.ThreePassesAnswersFour.answer_four.Goals as goal
 
 pub returns : goal.returns
 returns c =
-    let keys : KeyedPass → List (List Bool) = λ pass. in_direction pass.deciphers (round_keys_of pass.round_keys) in
-    let k1 : List (List Bool) = keys c.args.self.now.first in
-    let k2 : List (List Bool) = keys c.args.self.now.second in
-    let k3 : List (List Bool) = keys c.args.self.now.third in
+    let k1 : List (List Bool) = keys_of c.args.self.now.first in
+    let k2 : List (List Bool) = keys_of c.args.self.now.second in
+    let k3 : List (List Bool) = keys_of c.args.self.now.third in
     let halves : ℕ → List ℕ → List ℕ → List Bool × List Bool = λ b left right. (half_of (lane b left), half_of (lane b right)) in
     answered-four (answered_by_three c.args.self.now) c.args.blocks.now c.blocks_of.result (omega arith) (omega arith)
     (λ b within.

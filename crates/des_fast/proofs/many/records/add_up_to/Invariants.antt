@@ -1,7 +1,7 @@
 -- What is left of the blocks after the records below k.
 use Rattle.std.proofs.Common.{◌≡◌, ◌+◌}
 use Rattle.des_fast.specs.Records.{start}
-use Rattle.des_fast.proofs.many.records.sum_up.Given as goal
+use Rattle.des_fast.proofs.many.records.add_up_to.Given as goal
 
 abbrev pub invariant-records : goal.invariant-records
 invariant-records g l = l.left + start (g.Z.Sizes.list l.sizes) l.k ≡ l.blocks

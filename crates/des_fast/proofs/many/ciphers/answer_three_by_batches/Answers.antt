@@ -1,14 +1,14 @@
 use Rattle.std.proofs.Common.{◌≡◌, ℕ, List, Bool, [], ◌∷◌, map, subst, arith}
-use Rattle.des_fast.specs.RoundKeySlices.{round_keys_of_pass}
+use Rattle.des_fast.specs.KeyedPasses.{keys_of}
 use Rattle.des_fast.proofs.SliceSizes.{pass_slices-le}
 use Rattle.des_fast.proofs.ThreePasses.{block_through_passes-three}
-use Rattle.des_fast.proofs.many.ciphers.answer_three.Goals as goal
+use Rattle.des_fast.proofs.many.ciphers.answer_three_by_batches.Goals as goal
 
 pub returns : goal.returns
 returns g c =
-    let first : List (List Bool) = round_keys_of_pass c.args.three.now.first in
-    let second : List (List Bool) = round_keys_of_pass c.args.three.now.second in
-    let third : List (List Bool) = round_keys_of_pass c.args.three.now.third in
+    let first : List (List Bool) = keys_of c.args.three.now.first in
+    let second : List (List Bool) = keys_of c.args.three.now.second in
+    let third : List (List Bool) = keys_of c.args.three.now.third in
     subst (λ (f : List ℕ → List ℕ). c.answer.new.blocks ≡ map f c.args.blocks.now)
     (block_through_passes-three first second third)
     (c.answer.ensures (first ∷ second ∷ third ∷ []) c.spread.ensures)

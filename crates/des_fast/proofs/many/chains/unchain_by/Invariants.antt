@@ -2,10 +2,10 @@
 -- them as it was.
 use Rattle.std.proofs.Common.{◌≡◌, ℕ, ◌+◌, ◌≤◌, [], get_or}
 use Rattle.des.specs.Cbc.{xor_blocks, block_at, block_before}
-use Rattle.des_fast.proofs.many.chains.unchain_part.Given as goal
+use Rattle.des_fast.proofs.many.chains.unchain_by.Given as goal
 
 abbrev pub invariant-loop-k : goal.invariant-loop-k
-invariant-loop-k g l = record {
+invariant-loop-k l = record {
   unchained : (n : ℕ) → 1 ≤ n → n ≤ l.k
       → block_at l.blocks n ≡ xor_blocks (block_at l.answers n) (block_before l.iv l.initial.blocks n);
   rest : (k : ℕ) → l.k ≤ k → get_or l.blocks k [] ≡ get_or l.initial.blocks k [];
