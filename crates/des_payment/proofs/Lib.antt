@@ -13,3 +13,7 @@ pub mod ChosenBytes
 pub mod MappedParts
 pub mod Lanes
 pub mod CounterPlaces
+pub mod CardAnswers
+pub mod Answered
+pub mod ZippedGroups
+pub mod MadeBlocks

@@ -1,6 +1,9 @@
 pub mod Components
 pub mod Digits
+pub mod Faults
 pub mod Texts
 pub mod PinBlocks
 pub mod Dukpt
 pub mod CardVerification
+pub mod CardLists
+pub mod PinBlockLists

@@ -4,9 +4,10 @@ ghost use Rattle.std.specs.Prelude.{◌≡◌, ◌+◌, ◌<◌, ◌≤◌, ◌�
 ghost use Rattle.std.specs.List.{All, list_all};
 ghost use Rattle.std.specs.Result.{result_err};
 ghost use Rattle.des.specs.Blocks.{IsBlock};
-ghost use Rattle.des_payment.specs.Texts.{are_digits as are_digits_of, IsNumber, number_fault};
+ghost use Rattle.des_payment.specs.Digits.{digits_of as digits_in};
+ghost use Rattle.des_payment.specs.Texts.{are_digits as are_digits_of, text_of, IsNumber, number_fault};
 ghost use Rattle.des_payment.specs.CardVerification.{card_text as card_text_of, card_block as card_block_of, is_decimal, decimals_first};
-ghost use Rattle.des_payment.specs.CardVerification.{verification_value, card_fault};
+ghost use Rattle.des_payment.specs.CardVerification.{first_block as first_block_of, second_block as second_block_of, verification_value, card_fault};
 
 use crate::cvv_error::CvvError;
 use crate::digits::{block_of, digits_of};
@@ -35,8 +36,32 @@ fn check_number(
     Ok(())
 }
 
+// The data of a card: the first fault, if they have one.
+pub(crate) fn check_card(account: &[u8], expiry: &[u8], service: &[u8]) -> Result<(), CvvError>
+    ensures fault { result_err result ≡ card_fault account.now expiry.now service.now }
+    ensures account { OnOk result (IsNumber 13 19 account.now) }
+    ensures expiry { OnOk result (IsNumber 4 4 expiry.now) }
+    ensures service { OnOk result (IsNumber 3 3 service.now) }
+{
+    check_number(
+        account,
+        13,
+        19,
+        CvvError::AccountLength,
+        CvvError::AccountDigit,
+    )?;
+    check_number(expiry, 4, 4, CvvError::ExpiryLength, CvvError::ExpiryDigit)?;
+    check_number(
+        service,
+        3,
+        3,
+        CvvError::ServiceLength,
+        CvvError::ServiceDigit,
+    )
+}
+
 // The data of a card, filled with zeros to 32 digits.
-fn card_text(account: &[u8], expiry: &[u8], service: &[u8]) -> [u8; 32]
+pub(crate) fn card_text(account: &[u8], expiry: &[u8], service: &[u8]) -> [u8; 32]
     requires account { IsNumber 13 19 account.now }
     requires expiry { IsNumber 4 4 expiry.now }
     requires service { IsNumber 3 3 service.now }
@@ -53,16 +78,43 @@ fn card_text(account: &[u8], expiry: &[u8], service: &[u8]) -> [u8; 32]
     text
 }
 
+// The first of the two blocks of the data.
+pub(crate) fn first_block(text: &[u8; 32]) -> [u8; 8]
+    requires { IsTrue (are_digits_of text.now) }
+    ensures { result ≡ first_block_of text.now }
+{
+    let mut digits = *text;
+    to_values(&mut digits);
+    block_of(&digits[..16])
+}
+
+// The second of them.
+pub(crate) fn second_block(text: &[u8; 32]) -> [u8; 8]
+    requires { IsTrue (are_digits_of text.now) }
+    ensures { result ≡ second_block_of text.now }
+{
+    let mut digits = *text;
+    to_values(&mut digits);
+    block_of(&digits[16..])
+}
+
 // The block whose digits the card verification value is taken from.
 fn card_block(key: &[u8; 16], text: &[u8; 32]) -> [u8; 8]
     requires { IsTrue (are_digits_of text.now) }
     ensures block { IsBlock result }
     ensures answer { result ≡ card_block_of key.now text.now }
 {
-    let mut digits = *text;
-    to_values(&mut digits);
-    let first = encrypted_by_des(&key_part(key, 1), &block_of(&digits[..16]));
-    encrypted_by_ede2(key, &xored(&first, &block_of(&digits[16..])))
+    let first = encrypted_by_des(&key_part(key, 1), &first_block(text));
+    encrypted_by_ede2(key, &xored(&first, &second_block(text)))
+}
+
+// The value that is taken from a block's digits.
+pub(crate) fn value_of(block: &[u8; 8]) -> [u8; 3]
+    ensures { result ≡ text_of (take 3 (decimals_first (digits_in block.now))) }
+{
+    let mut value = first_three(&digits_of(block));
+    to_text(&mut value);
+    value
 }
 
 // Writes a digit after the first `count` of three, where there is room, and gives how many there
@@ -118,23 +170,7 @@ pub fn cvv(
     ensures value { IfOk result (λ value.
         value ≡ verification_value key.now account.now expiry.now service.now) }
 {
-    check_number(
-        account,
-        13,
-        19,
-        CvvError::AccountLength,
-        CvvError::AccountDigit,
-    )?;
-    check_number(expiry, 4, 4, CvvError::ExpiryLength, CvvError::ExpiryDigit)?;
-    check_number(
-        service,
-        3,
-        3,
-        CvvError::ServiceLength,
-        CvvError::ServiceDigit,
-    )?;
+    check_card(account, expiry, service)?;
     let text = card_text(account, expiry, service);
-    let mut value = first_three(&digits_of(&card_block(key, &text)));
-    to_text(&mut value);
-    Ok(value)
+    Ok(value_of(&card_block(key, &text)))
 }

@@ -1,13 +1,16 @@
 //! Payment formats above the ciphers of `des` and `des_fast`: check values, keys of components, PIN
 //! blocks (ISO 9564-1), the keys of a transaction (DUKPT, ANSI X9.24-1:2009) and card verification
-//! values. `check_value_lists` and `transaction_lists` make those of many keys and of many
-//! transactions at once.
+//! values. `check_value_lists`, `transaction_lists`, `card_lists` and `pin_block_lists` make those
+//! of many keys, of many transactions and of many cards at once.
 //!
 //! Digits that a person reads (PINs, account numbers, dates) are texts, slices of ASCII digits. No
 //! call takes memory or panics, and no `Debug` text or error tells a key, a PIN or an account
-//! number. No claim is made on the time that a call takes.
+//! number. No table is read at an index that depends on a key or a PIN: one block goes by the
+//! ciphers of `des_fast::quiet`. (`check_value` takes the cipher that its caller names.) No claim is
+//! made on the time that a call takes.
 #![tactic(auto)]
 
+pub mod card_lists;
 pub mod card_verification;
 pub mod check_value_lists;
 pub mod check_values;
@@ -18,6 +21,7 @@ pub mod dukpt;
 mod fields;
 mod passes;
 pub mod pin;
+pub mod pin_block_lists;
 pub mod pin_blocks;
 pub mod pin_error;
 mod texts;

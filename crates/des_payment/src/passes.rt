@@ -1,5 +1,5 @@
-//! One block under DES, and under triple DES with two parts of a key; and lists of as many keys as
-//! blocks.
+//! One block under DES, and under triple DES with two parts of a key, with no table at an index that
+//! depends on either; and lists of as many keys as blocks.
 
 ghost use Rattle.std.specs.Prelude.{◌≡◌, ◌≤◌, map, length};
 ghost use Rattle.std.specs.Simd.Lanes.{zip2};
@@ -9,7 +9,7 @@ ghost use Rattle.des.specs.TripleCiphers.{ede2_encryption};
 
 use des::cipher::{BlockCipherEncrypt, KeyBytes, KeyInit, KeyedCipher};
 use des_fast::many::{KeyForEach, ManyBlocks, Slice};
-use des_fast::{Des, TdesEde2};
+use des_fast::quiet::{Des, TdesEde2};
 
 // What DES makes of a block under a key.
 pub(crate) fn encrypted_by_des(key: &[u8; 8], block: &[u8; 8]) -> [u8; 8]
