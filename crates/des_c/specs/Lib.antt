@@ -1,4 +1,3 @@
-pub mod PaddingMethods
 pub mod MacContexts
 pub mod Messages
 pub mod PinStatuses

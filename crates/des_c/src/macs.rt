@@ -11,3 +11,4 @@ mod many;
 mod message;
 mod retail_mac_des;
 mod tags;
+mod verify_tags;

@@ -1,3 +1,5 @@
 mod RelatedChains
 mod LentBlocks
 mod BlocksOfBytes
+mod JoinedParts
+mod SameRelations

@@ -1,5 +1,5 @@
 -- What contexts hold: the round keys of the parts of their key, as words.
-use Rattle.std.specs.Prelude.{ℕ, List}
+use Rattle.std.specs.Prelude.{◌≢◌, ℕ, List}
 use Rattle.des.specs.Blocks.{IsKey, part}
 use Rattle.des_fast.specs.Words.{AreRoundKeysOf}
 use Rattle.des_context.specs.declared.contexts.DesContext.{DesContext}
@@ -18,3 +18,13 @@ IsEde3ContextOf context key =
 abbrev pub IsEde2ContextOf : TdesEde2Context → List ℕ → Type 0
 IsEde2ContextOf context key =
     IsKey 16 key × AreRoundKeysOf context.first (part 1 key) × AreRoundKeysOf context.second (part 2 key)
+
+-- the calls of the context are to read no table
+abbrev pub IsQuietDes : DesContext → Type 0
+IsQuietDes context = context.quiet ≢ 0
+
+abbrev pub IsQuietEde3 : TdesEde3Context → Type 0
+IsQuietEde3 context = context.quiet ≢ 0
+
+abbrev pub IsQuietEde2 : TdesEde2Context → Type 0
+IsQuietEde2 context = context.quiet ≢ 0

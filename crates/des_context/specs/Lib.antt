@@ -2,3 +2,4 @@ pub mod Bytes
 pub mod Contexts
 pub mod Keys
 pub mod Records
+pub mod PaddingMethods

@@ -2,7 +2,8 @@
 //! relation of the key that the context is made from.
 
 ghost use Rattle.std.specs.Prelude.{◌≡◌, ◌≢◌, ◌↔◌, ℕ, List, length};
-ghost use Rattle.des.specs.Blocks.{AnswersEach};
+ghost use Rattle.std.specs.List.{All};
+ghost use Rattle.des.specs.Blocks.{AnswersEach, IsBlock};
 ghost use Rattle.des.specs.Cbc.{Chains, next_vector};
 ghost use Rattle.des.specs.Relations.{IsTheOne};
 ghost use Rattle.des_context.specs.Bytes.{AreWhole, FitInto, blocks_of};
@@ -11,6 +12,7 @@ use crate::blocks::blocks_mut;
 use crate::contexts::Context;
 use crate::lists;
 use crate::status::{ERR_BLOCKS, ERR_KEY_LENGTH, OK};
+use crate::ways::FEWEST_QUIET;
 use des::cipher::KeyInit;
 use des_fast::many::Slice;
 
@@ -31,6 +33,53 @@ pub fn init<K: KeyInit + Drop>(context: &mut K, key: &[u8]) -> i32
     }
 }
 
+/// Makes a context from the bytes of a key, as `init` does, whose calls read no table at an index
+/// that depends on the key or a block. The status is as of `init`.
+pub fn init_quiet<K: Context + Drop>(context: &mut K, key: &[u8]) -> i32
+    ensures accepted { (result ≡ OK) ↔ (length key.now ≡ K.KEY_SIZE) }
+    ensures refused { (result ≡ ERR_KEY_LENGTH) ↔ (length key.now ≢ K.KEY_SIZE) }
+    ensures made { result ≡ OK → K.is_made_from context.new key.now }
+    ensures quiet { result ≡ OK → K.reads_no_table context.new }
+    ensures kept { result ≢ OK → context.new ≡ context.old }
+{
+    let status = init(context, key);
+    if status == OK {
+        context.set_quiet();
+    }
+    status
+}
+
+// Encrypts each block of a list. A short one of a quiet context goes by the cipher that reads no
+// table.
+fn encrypt<S: Slice, K: Context>(context: &K, blocks: &mut [[u8; 8]])
+    requires { (key : List ℕ) × K.is_made_from context.now key }
+    ensures blocks { All IsBlock blocks.new }
+    ensures answered { (key : List ℕ) → K.is_made_from context.now key
+        → IsTheOne (λ answers. AnswersEach (K.Cipher.relation key) blocks.old answers) blocks.new }
+{
+    let quiet = context.is_quiet();
+    if quiet && blocks.len() < FEWEST_QUIET {
+        lists::encrypt_few(&context.to_quiet(), blocks);
+    } else {
+        lists::encrypt::<S, _>(&context.to_cipher(), quiet, blocks);
+    }
+}
+
+// Decrypts each block of a list, as `encrypt` encrypts it.
+fn decrypt<S: Slice, K: Context>(context: &K, blocks: &mut [[u8; 8]])
+    requires { (key : List ℕ) × K.is_made_from context.now key }
+    ensures blocks { All IsBlock blocks.new }
+    ensures answered { (key : List ℕ) → K.is_made_from context.now key
+        → IsTheOne (λ answers. AnswersEach (K.Cipher.relation key) answers blocks.old) blocks.new }
+{
+    let quiet = context.is_quiet();
+    if quiet && blocks.len() < FEWEST_QUIET {
+        lists::decrypt_few(&context.to_quiet(), blocks);
+    } else {
+        lists::decrypt::<S, _>(&context.to_cipher(), quiet, blocks);
+    }
+}
+
 /// Encrypts bytes in place, each block of eight by itself. The status is `ERR_BLOCKS` where they
 /// are not whole blocks; they then stay as they were.
 pub fn encrypt_ecb<S: Slice, K: Context>(context: &K, bytes: &mut [u8]) -> i32
@@ -47,7 +96,7 @@ pub fn encrypt_ecb<S: Slice, K: Context>(context: &K, bytes: &mut [u8]) -> i32
     }
     let count = bytes.len() / 8;
     let (blocks, _) = blocks_mut(bytes, count);
-    lists::encrypt::<S, _>(&context.to_cipher(), blocks);
+    encrypt::<S, K>(context, blocks);
     OK
 }
 
@@ -66,8 +115,40 @@ pub fn decrypt_ecb<S: Slice, K: Context>(context: &K, bytes: &mut [u8]) -> i32
     }
     let count = bytes.len() / 8;
     let (blocks, _) = blocks_mut(bytes, count);
-    lists::decrypt::<S, _>(&context.to_cipher(), blocks);
+    decrypt::<S, K>(context, blocks);
     OK
+}
+
+// Encrypts a list by CBC, over the cipher that reads no table where the context is quiet.
+fn chain<K: Context>(context: &K, vector: &mut [u8; 8], blocks: &mut [[u8; 8]])
+    requires { (key : List ℕ) × K.is_made_from context.now key }
+    ensures blocks { All IsBlock blocks.new }
+    ensures chained { (key : List ℕ) → K.is_made_from context.now key
+        → Chains (K.Cipher.relation key) vector.old blocks.old blocks.new }
+    ensures goes_on { vector.new ≡ next_vector vector.old blocks.new }
+{
+    if context.is_quiet() {
+        lists::encrypt_cbc(&context.to_quiet(), vector, blocks);
+    } else {
+        lists::encrypt_cbc(&context.to_cipher(), vector, blocks);
+    }
+}
+
+// Decrypts a list that CBC chained. A short one of a quiet context goes by the cipher that reads no
+// table.
+fn unchain<S: Slice, K: Context>(context: &K, vector: &mut [u8; 8], blocks: &mut [[u8; 8]])
+    requires { (key : List ℕ) × K.is_made_from context.now key }
+    ensures blocks { All IsBlock blocks.new }
+    ensures chained { (key : List ℕ) → K.is_made_from context.now key
+        → Chains (K.Cipher.relation key) vector.old blocks.new blocks.old }
+    ensures goes_on { vector.new ≡ next_vector vector.old blocks.old }
+{
+    let quiet = context.is_quiet();
+    if quiet && blocks.len() < FEWEST_QUIET {
+        lists::decrypt_cbc_few(&context.to_quiet(), vector, blocks);
+    } else {
+        lists::decrypt_cbc::<S, _>(&context.to_cipher(), quiet, vector, blocks);
+    }
 }
 
 /// Encrypts bytes in place by CBC from the vector, which becomes the last ciphertext block. The
@@ -86,7 +167,7 @@ pub fn encrypt_cbc<K: Context>(context: &K, iv: &mut [u8; 8], bytes: &mut [u8]) 
     }
     let count = bytes.len() / 8;
     let (blocks, _) = blocks_mut(bytes, count);
-    lists::encrypt_cbc(&context.to_cipher(), iv, blocks);
+    chain(context, iv, blocks);
     OK
 }
 
@@ -106,7 +187,7 @@ pub fn decrypt_cbc<S: Slice, K: Context>(context: &K, iv: &mut [u8; 8], bytes: &
     }
     let count = bytes.len() / 8;
     let (blocks, _) = blocks_mut(bytes, count);
-    lists::decrypt_cbc::<S, _>(&context.to_cipher(), iv, blocks);
+    unchain::<S, K>(context, iv, blocks);
     OK
 }
 

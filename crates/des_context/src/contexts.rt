@@ -1,27 +1,62 @@
-//! The contexts, one for each cipher: the round keys of its key as words. A context has no pointers
-//! and owns nothing, so a copy of its bytes is as good.
+//! The contexts, one for each cipher: the round keys of its key as words, and whether its calls are
+//! to read no table. A context has no pointers and owns nothing, so a copy of its bytes is as good.
 
-ghost use Rattle.std.specs.Prelude.{◌≤◌, ◌*◌, ℕ, List, length};
+ghost use Rattle.std.specs.Prelude.{◌≡◌, ◌≤◌, ◌*◌, ◌↔◌, ℕ, List, IsTrue, length};
 ghost use Rattle.des.specs.Blocks.{part};
 ghost use Rattle.des_fast.specs.Words.{AreRoundKeysOf};
-ghost use Rattle.des_context.specs.Contexts.{IsDesContextOf, IsEde3ContextOf, IsEde2ContextOf};
+ghost use Rattle.des_context.specs.Contexts.{IsDesContextOf, IsEde3ContextOf, IsEde2ContextOf, IsQuietDes, IsQuietEde3, IsQuietEde2};
 
 use des::cipher::{KeyInit, KeySizeUser, Relating};
 use des::tdes::{joined, key_part};
 use des_fast::many::SpreadOnce;
-use des_fast::words::{from_round_key_words, round_key_words};
-use des_fast::{Des, TdesEde2, TdesEde3};
+use des_fast::quiet::SideBySide;
+use des_fast::words::{from_round_key_words, quiet_from_round_key_words, round_key_words};
+use des_fast::{Des, TdesEde2, TdesEde3, quiet};
 
 /// What a caller keeps of a cipher between calls.
 pub trait Context: KeyInit {
     /// The cipher whose round keys it keeps.
     type Cipher: Relating + SpreadOnce + Drop;
 
+    /// The cipher with the same round keys that reads no table.
+    type Quiet: Relating + SideBySide + Drop;
+
+    // Whether its calls are to read no table at an index that depends on the key or a block.
+    ghost reads_no_table: { Self → Type 0 };
+
     /// The cipher of the context, which is made from the key that the context is made from.
     fn to_cipher(&self) -> Self::Cipher
         requires { (key : List ℕ) × Self.is_made_from self.now key }
         ensures { (key : List ℕ) → Self.is_made_from self.now key
             → Self.Cipher.is_made_from result key };
+
+    /// The cipher of the context that reads no table, which is made from the key that the context
+    /// is made from.
+    fn to_quiet(&self) -> Self::Quiet
+        requires { (key : List ℕ) × Self.is_made_from self.now key }
+        ensures { (key : List ℕ) → Self.is_made_from self.now key
+            → Self.Quiet.is_made_from result key };
+
+    /// Whether the calls of the context read no table at an index that depends on the key or a
+    /// block.
+    fn is_quiet(&self) -> bool
+        ensures { IsTrue result ↔ reads_no_table self.now };
+
+    /// Makes the calls of the context read no table. It stays a context of its key.
+    fn set_quiet(&mut self)
+        ensures quiet { reads_no_table self.new }
+        ensures made { (key : List ℕ) → Self.is_made_from self.old key
+            → Self.is_made_from self.new key };
+
+    // The quiet cipher has the key size of the other, and answers as that does.
+    ghost quiet_key_size: { Self.Quiet.KEY_SIZE ≡ Self.Cipher.KEY_SIZE };
+
+    ghost quiet_encryption: { Self.Quiet.encryption ≡ Self.Cipher.encryption };
+
+    ghost quiet_decryption: { Self.Quiet.decryption ≡ Self.Cipher.decryption };
+
+    ghost quiet_relation: { (key block answer : List ℕ)
+        → Self.Quiet.relation key block answer ↔ Self.Cipher.relation key block answer };
 }
 
 /// The context of `Des`.
@@ -29,6 +64,7 @@ pub trait Context: KeyInit {
 #[derive(Clone, Copy)]
 pub struct DesContext {
     round_keys: [u64; 16],
+    quiet: u64,
 }
 
 impl KeySizeUser for DesContext {
@@ -50,15 +86,42 @@ impl KeyInit for DesContext {
     fn new(key: &[u8; 8]) -> DesContext {
         DesContext {
             round_keys: round_key_words(&Des::new(key)),
+            quiet: 0,
         }
     }
 }
 
 impl Context for DesContext {
+    ghost use Rattle.std.specs.Prelude.{refl};
+
     type Cipher = Des;
+
+    type Quiet = quiet::Des;
+
+    ghost reads_no_table = { IsQuietDes };
+
+    ghost quiet_key_size = { refl };
+
+    ghost quiet_encryption = { refl };
+
+    ghost quiet_decryption = { refl };
+
+    ghost quiet_relation = { λ key block answer. (λ related. related, λ related. related) };
 
     fn to_cipher(&self) -> Des {
         from_round_key_words(&self.round_keys)
+    }
+
+    fn to_quiet(&self) -> quiet::Des {
+        quiet_from_round_key_words(&self.round_keys)
+    }
+
+    fn is_quiet(&self) -> bool {
+        self.quiet != 0
+    }
+
+    fn set_quiet(&mut self) {
+        self.quiet = 1;
     }
 }
 
@@ -78,6 +141,7 @@ pub struct TdesEde3Context {
     first: [u64; 16],
     second: [u64; 16],
     third: [u64; 16],
+    quiet: u64,
 }
 
 impl KeySizeUser for TdesEde3Context {
@@ -101,12 +165,27 @@ impl KeyInit for TdesEde3Context {
             first: part_words(key, 1),
             second: part_words(key, 2),
             third: part_words(key, 3),
+            quiet: 0,
         }
     }
 }
 
 impl Context for TdesEde3Context {
+    ghost use Rattle.std.specs.Prelude.{refl};
+
     type Cipher = TdesEde3;
+
+    type Quiet = quiet::TdesEde3;
+
+    ghost reads_no_table = { IsQuietEde3 };
+
+    ghost quiet_key_size = { refl };
+
+    ghost quiet_encryption = { refl };
+
+    ghost quiet_decryption = { refl };
+
+    ghost quiet_relation = { λ key block answer. (λ related. related, λ related. related) };
 
     fn to_cipher(&self) -> TdesEde3 {
         joined::ede3(
@@ -114,6 +193,22 @@ impl Context for TdesEde3Context {
             from_round_key_words(&self.second),
             from_round_key_words(&self.third),
         )
+    }
+
+    fn to_quiet(&self) -> quiet::TdesEde3 {
+        joined::ede3(
+            quiet_from_round_key_words(&self.first),
+            quiet_from_round_key_words(&self.second),
+            quiet_from_round_key_words(&self.third),
+        )
+    }
+
+    fn is_quiet(&self) -> bool {
+        self.quiet != 0
+    }
+
+    fn set_quiet(&mut self) {
+        self.quiet = 1;
     }
 }
 
@@ -123,6 +218,7 @@ impl Context for TdesEde3Context {
 pub struct TdesEde2Context {
     first: [u64; 16],
     second: [u64; 16],
+    quiet: u64,
 }
 
 impl KeySizeUser for TdesEde2Context {
@@ -145,17 +241,47 @@ impl KeyInit for TdesEde2Context {
         TdesEde2Context {
             first: part_words(key, 1),
             second: part_words(key, 2),
+            quiet: 0,
         }
     }
 }
 
 impl Context for TdesEde2Context {
+    ghost use Rattle.std.specs.Prelude.{refl};
+
     type Cipher = TdesEde2;
+
+    type Quiet = quiet::TdesEde2;
+
+    ghost reads_no_table = { IsQuietEde2 };
+
+    ghost quiet_key_size = { refl };
+
+    ghost quiet_encryption = { refl };
+
+    ghost quiet_decryption = { refl };
+
+    ghost quiet_relation = { λ key block answer. (λ related. related, λ related. related) };
 
     fn to_cipher(&self) -> TdesEde2 {
         joined::ede2(
             from_round_key_words(&self.first),
             from_round_key_words(&self.second),
         )
+    }
+
+    fn to_quiet(&self) -> quiet::TdesEde2 {
+        joined::ede2(
+            quiet_from_round_key_words(&self.first),
+            quiet_from_round_key_words(&self.second),
+        )
+    }
+
+    fn is_quiet(&self) -> bool {
+        self.quiet != 0
+    }
+
+    fn set_quiet(&mut self) {
+        self.quiet = 1;
     }
 }

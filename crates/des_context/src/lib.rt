@@ -8,6 +8,8 @@ pub mod calls;
 pub mod contexts;
 pub mod each_key;
 pub mod lists;
+pub mod macs;
+pub mod payment_lists;
 pub mod records;
 pub mod status;
 pub mod ways;

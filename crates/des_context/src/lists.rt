@@ -11,35 +11,54 @@ use crate::ways;
 use des::cbc;
 use des::cipher::{Relating, are_blocks};
 use des_fast::many::{ManyBlocks, Slice};
+use des_fast::quiet::SideBySide;
 
-/// Encrypts each block.
-pub fn encrypt<S: Slice, C: Relating + ManyBlocks>(cipher: &C, blocks: &mut [[u8; 8]])
+/// Encrypts each block. A quiet list meets no table.
+pub fn encrypt<S: Slice, C: Relating + ManyBlocks>(cipher: &C, quiet: bool, blocks: &mut [[u8; 8]])
     ensures blocks { All IsBlock blocks.new }
     ensures answered { (key : List ℕ) → C.is_made_from cipher.now key
         → IsTheOne (λ answers. AnswersEach (C.relation key) blocks.old answers) blocks.new }
 {
     cipher.relate_lists();
-    ways::encrypt::<S, C>(cipher, blocks);
+    ways::encrypt::<S, C>(cipher, quiet, blocks);
     are_blocks(blocks);
 }
 
-/// Decrypts each block.
-pub fn decrypt<S: Slice, C: Relating + ManyBlocks>(cipher: &C, blocks: &mut [[u8; 8]])
+/// Decrypts each block. A quiet list meets no table.
+pub fn decrypt<S: Slice, C: Relating + ManyBlocks>(cipher: &C, quiet: bool, blocks: &mut [[u8; 8]])
     ensures blocks { All IsBlock blocks.new }
     ensures answered { (key : List ℕ) → C.is_made_from cipher.now key
         → IsTheOne (λ answers. AnswersEach (C.relation key) answers blocks.old) blocks.new }
 {
     cipher.relate_lists();
-    ways::decrypt::<S, C>(cipher, blocks);
+    ways::decrypt::<S, C>(cipher, quiet, blocks);
+    are_blocks(blocks);
+}
+
+/// Encrypts each block of a short list by a cipher that reads no table.
+pub fn encrypt_few<C: Relating + SideBySide>(cipher: &C, blocks: &mut [[u8; 8]])
+    ensures blocks { All IsBlock blocks.new }
+    ensures answered { (key : List ℕ) → C.is_made_from cipher.now key
+        → IsTheOne (λ answers. AnswersEach (C.relation key) blocks.old answers) blocks.new }
+{
+    cipher.relate_lists();
+    ways::encrypt_few(cipher, blocks);
+    are_blocks(blocks);
+}
+
+/// Decrypts each block of a short list by a cipher that reads no table.
+pub fn decrypt_few<C: Relating + SideBySide>(cipher: &C, blocks: &mut [[u8; 8]])
+    ensures blocks { All IsBlock blocks.new }
+    ensures answered { (key : List ℕ) → C.is_made_from cipher.now key
+        → IsTheOne (λ answers. AnswersEach (C.relation key) answers blocks.old) blocks.new }
+{
+    cipher.relate_lists();
+    ways::decrypt_few(cipher, blocks);
     are_blocks(blocks);
 }
 
 /// Encrypts a list by CBC from the vector, which becomes the one that the chain goes on with.
-pub fn encrypt_cbc<C: Relating + ManyBlocks>(
-    cipher: &C,
-    vector: &mut [u8; 8],
-    blocks: &mut [[u8; 8]],
-)
+pub fn encrypt_cbc<C: Relating>(cipher: &C, vector: &mut [u8; 8], blocks: &mut [[u8; 8]])
     ensures blocks { All IsBlock blocks.new }
     ensures chained { (key : List ℕ) → C.is_made_from cipher.now key
         → Chains (C.relation key) vector.old blocks.old blocks.new }
@@ -52,9 +71,10 @@ pub fn encrypt_cbc<C: Relating + ManyBlocks>(
 }
 
 /// Decrypts a list that CBC chained from the vector, which becomes the one that the chain goes on
-/// with.
+/// with. A quiet list meets no table.
 pub fn decrypt_cbc<S: Slice, C: Relating + ManyBlocks>(
     cipher: &C,
+    quiet: bool,
     vector: &mut [u8; 8],
     blocks: &mut [[u8; 8]],
 )
@@ -65,7 +85,21 @@ pub fn decrypt_cbc<S: Slice, C: Relating + ManyBlocks>(
 {
     let next = cbc::next_vector(vector, blocks);
     cipher.relate_lists();
-    ways::unchain::<S, C>(cipher, vector, blocks);
+    ways::unchain::<S, C>(cipher, quiet, vector, blocks);
     are_blocks(blocks);
     *vector = next;
+}
+
+/// Decrypts a short list that CBC chained from the vector, block by block, as `decrypt_cbc` does.
+pub fn decrypt_cbc_few<C: Relating>(cipher: &C, vector: &mut [u8; 8], blocks: &mut [[u8; 8]])
+    ensures blocks { All IsBlock blocks.new }
+    ensures chained { (key : List ℕ) → C.is_made_from cipher.now key
+        → Chains (C.relation key) vector.old blocks.new blocks.old }
+    ensures goes_on { vector.new ≡ next_vector vector.old blocks.old }
+{
+    let after = cbc::next_vector(vector, blocks);
+    cipher.relate_lists();
+    cbc::decrypt(cipher, vector, blocks);
+    are_blocks(blocks);
+    *vector = after;
 }

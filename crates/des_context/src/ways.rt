@@ -1,7 +1,7 @@
 //! A list of blocks in the quicker of two ways: batches together, and what is left over by
-//! tables.
+//! tables. A quiet list goes in batches alone, or, if it is short, by a cipher that reads no table.
 
-ghost use Rattle.std.specs.Prelude.{◌≡◌, ◌≤◌, map};
+ghost use Rattle.std.specs.Prelude.{◌≡◌, ◌≤◌, IsTrue, map};
 ghost use Rattle.std.specs.List.{All};
 ghost use Rattle.des.specs.Blocks.{IsBlock};
 ghost use Rattle.des.specs.Cbc.{Unchains, next_vector};
@@ -9,18 +9,52 @@ ghost use Rattle.des.specs.Cbc.{Unchains, next_vector};
 use des::cbc;
 use des::cipher::are_blocks;
 use des_fast::many::{ManyBlocks, Slice};
+use des_fast::quiet::SideBySide;
 
 /// The fewest blocks that are quicker in a batch than by tables, whatever the cipher, the direction
 /// and the width.
 pub const FEWEST: usize = 32;
 
+/// The fewest blocks that are quicker in a batch than one by one by a cipher that reads no table,
+/// whatever the cipher, the direction and the width.
+pub const FEWEST_QUIET: usize = 11;
+
 // How many blocks of a list go in batches: the whole batches, and also what is left over where that
-// is enough.
-fn batched<S: Slice>(count: usize) -> usize
-    ensures { result ≤ count }
+// is enough. Of a quiet list, all.
+fn batched<S: Slice>(count: usize, quiet: bool) -> usize
+    ensures there { result ≤ count }
+    ensures all { IsTrue quiet → result ≡ count }
 {
     let left = count % S::BATCH;
-    if left < FEWEST { count - left } else { count }
+    if quiet || FEWEST <= left {
+        count
+    } else {
+        count - left
+    }
+}
+
+/// Encrypts each block by a cipher that reads no table: a single one by itself, more side by side.
+pub fn encrypt_few<C: SideBySide>(cipher: &C, blocks: &mut [[u8; 8]])
+    ensures blocks { All IsBlock blocks.old }
+    ensures encrypted { blocks.new ≡ map (C.encrypted cipher.now) blocks.old }
+{
+    if blocks.len() == 1 {
+        cipher.encrypt_blocks(blocks);
+    } else {
+        cipher.encrypt_side_by_side(blocks);
+    }
+}
+
+/// Decrypts each block by a cipher that reads no table, as `encrypt_few` encrypts it.
+pub fn decrypt_few<C: SideBySide>(cipher: &C, blocks: &mut [[u8; 8]])
+    ensures blocks { All IsBlock blocks.old }
+    ensures decrypted { blocks.new ≡ map (C.decrypted cipher.now) blocks.old }
+{
+    if blocks.len() == 1 {
+        cipher.decrypt_blocks(blocks);
+    } else {
+        cipher.decrypt_side_by_side(blocks);
+    }
 }
 
 // Encrypts each block in batches. An empty list takes no time.
@@ -50,35 +84,40 @@ fn unchain_batches<S: Slice, C: ManyBlocks>(cipher: &C, iv: &[u8; 8], blocks: &m
     }
 }
 
-/// Encrypts each block.
-pub fn encrypt<S: Slice, C: ManyBlocks>(cipher: &C, blocks: &mut [[u8; 8]])
+/// Encrypts each block. A quiet list meets no table.
+pub fn encrypt<S: Slice, C: ManyBlocks>(cipher: &C, quiet: bool, blocks: &mut [[u8; 8]])
     ensures blocks { All IsBlock blocks.old }
     ensures encrypted { blocks.new ≡ map (C.encrypted cipher.now) blocks.old }
 {
     are_blocks(blocks);
-    let (batches, singles) = blocks.split_at_mut(batched::<S>(blocks.len()));
+    let (batches, singles) = blocks.split_at_mut(batched::<S>(blocks.len(), quiet));
     encrypt_batches::<S, C>(cipher, batches);
     cipher.encrypt_blocks(singles);
 }
 
-/// Decrypts each block.
-pub fn decrypt<S: Slice, C: ManyBlocks>(cipher: &C, blocks: &mut [[u8; 8]])
+/// Decrypts each block. A quiet list meets no table.
+pub fn decrypt<S: Slice, C: ManyBlocks>(cipher: &C, quiet: bool, blocks: &mut [[u8; 8]])
     ensures blocks { All IsBlock blocks.old }
     ensures decrypted { blocks.new ≡ map (C.decrypted cipher.now) blocks.old }
 {
     are_blocks(blocks);
-    let (batches, singles) = blocks.split_at_mut(batched::<S>(blocks.len()));
+    let (batches, singles) = blocks.split_at_mut(batched::<S>(blocks.len(), quiet));
     decrypt_batches::<S, C>(cipher, batches);
     cipher.decrypt_blocks(singles);
 }
 
-/// Decrypts a list that CBC chained from the vector.
-pub fn unchain<S: Slice, C: ManyBlocks>(cipher: &C, iv: &[u8; 8], blocks: &mut [[u8; 8]])
+/// Decrypts a list that CBC chained from the vector. A quiet list meets no table.
+pub fn unchain<S: Slice, C: ManyBlocks>(
+    cipher: &C,
+    quiet: bool,
+    iv: &[u8; 8],
+    blocks: &mut [[u8; 8]],
+)
     ensures blocks { All IsBlock blocks.old }
     ensures unchained { Unchains (C.decrypted cipher.now) iv.now blocks.old blocks.new }
 {
     are_blocks(blocks);
-    let (batches, singles) = blocks.split_at_mut(batched::<S>(blocks.len()));
+    let (batches, singles) = blocks.split_at_mut(batched::<S>(blocks.len(), quiet));
     let next = cbc::next_vector(iv, batches);
     unchain_batches::<S, C>(cipher, iv, batches);
     cbc::decrypt(cipher, &next, singles);

@@ -6,7 +6,7 @@ ghost use Rattle.des.specs.Cbc.{Chains, next_vector};
 ghost use Rattle.des.specs.Enciphering.{Enciphers};
 ghost use Rattle.des.specs.Relations.{IsTheOne};
 ghost use Rattle.des_context.specs.Bytes.{AreWhole, FitInto, blocks_of};
-ghost use Rattle.des_context.specs.Contexts.{IsDesContextOf};
+ghost use Rattle.des_context.specs.Contexts.{IsDesContextOf, IsQuietDes};
 
 use des_context::calls;
 use des_context::contexts::DesContext;
@@ -23,6 +23,19 @@ pub extern "C" fn cukvashe_des_init(context: &mut DesContext, key: &[u8]) -> i32
     ensures kept { result ≢ OK → context.new ≡ context.old }
 {
     calls::init(context, key)
+}
+
+/// Makes the context of a key of 8 bytes, as `cukvashe_des_init` does, whose calls read no
+/// table at an index that depends on the key or the bytes. The status is as of that call.
+#[unsafe(no_mangle)]
+pub extern "C" fn cukvashe_des_init_quiet(context: &mut DesContext, key: &[u8]) -> i32
+    ensures accepted { (result ≡ OK) ↔ (length key.now ≡ 8) }
+    ensures refused { (result ≡ ERR_KEY_LENGTH) ↔ (length key.now ≢ 8) }
+    ensures made { result ≡ OK → IsDesContextOf context.new key.now }
+    ensures quiet { result ≡ OK → IsQuietDes context.new }
+    ensures kept { result ≢ OK → context.new ≡ context.old }
+{
+    calls::init_quiet(context, key)
 }
 
 /// Encrypts bytes in place, each block of eight by itself. The status is `ERR_BLOCKS` where they

@@ -6,7 +6,7 @@ ghost use Rattle.des.specs.Cbc.{Chains, next_vector};
 ghost use Rattle.des.specs.Triple.{EnciphersEde2};
 ghost use Rattle.des.specs.Relations.{IsTheOne};
 ghost use Rattle.des_context.specs.Bytes.{AreWhole, FitInto, blocks_of};
-ghost use Rattle.des_context.specs.Contexts.{IsEde2ContextOf};
+ghost use Rattle.des_context.specs.Contexts.{IsEde2ContextOf, IsQuietEde2};
 
 use des_context::calls;
 use des_context::contexts::TdesEde2Context;
@@ -23,6 +23,19 @@ pub extern "C" fn cukvashe_tdes_ede2_init(context: &mut TdesEde2Context, key: &[
     ensures kept { result ≢ OK → context.new ≡ context.old }
 {
     calls::init(context, key)
+}
+
+/// Makes the context of a key of 16 bytes, as `cukvashe_tdes_ede2_init` does, whose calls read no
+/// table at an index that depends on the key or the bytes. The status is as of that call.
+#[unsafe(no_mangle)]
+pub extern "C" fn cukvashe_tdes_ede2_init_quiet(context: &mut TdesEde2Context, key: &[u8]) -> i32
+    ensures accepted { (result ≡ OK) ↔ (length key.now ≡ 16) }
+    ensures refused { (result ≡ ERR_KEY_LENGTH) ↔ (length key.now ≢ 16) }
+    ensures made { result ≡ OK → IsEde2ContextOf context.new key.now }
+    ensures quiet { result ≡ OK → IsQuietEde2 context.new }
+    ensures kept { result ≢ OK → context.new ≡ context.old }
+{
+    calls::init_quiet(context, key)
 }
 
 /// Encrypts bytes in place, each block of eight by itself. The status is `ERR_BLOCKS` where they

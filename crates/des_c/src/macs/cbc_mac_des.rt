@@ -2,15 +2,16 @@
 
 ghost use Rattle.std.specs.Prelude.{◌≡◌, ◌≢◌, ◌↔◌, ℕ, List, [], ◌++◌, length};
 ghost use Rattle.des.specs.Des.{encryption};
+ghost use Rattle.des_context.specs.Contexts.{IsQuietDes};
 ghost use Rattle.des_mac.specs.CbcMac.{cbc_mac};
 ghost use Rattle.des_mac.specs.Padding.{padded};
 ghost use Rattle.des_mac.specs.Tags.{IsTruncated};
 ghost use Rattle.des_c.specs.MacContexts.{IsCbcMacDesOf, Stands};
-ghost use Rattle.des_c.specs.PaddingMethods.{padding_by, status_of};
+ghost use Rattle.des_context.specs.PaddingMethods.{padding_by, status_of};
 
 use super::message::{self, Message};
 use super::tags;
-use des_context::contexts::{Context, DesContext};
+use des_context::contexts::DesContext;
 use des_context::status::{ERR_TAG, OK};
 
 /// The context of CBC-MAC over DES.
@@ -37,6 +38,22 @@ pub extern "C" fn cukvashe_cbc_mac_des_init(
     message::begin(&mut context.cipher, &mut context.message, key, padding)
 }
 
+/// Makes the context of a key of 8 bytes, as `cukvashe_cbc_mac_des_init` does, whose calls
+/// read no table at an index that depends on the key or the message. The status is as of that call.
+#[unsafe(no_mangle)]
+pub extern "C" fn cukvashe_cbc_mac_des_init_quiet(
+    context: &mut CbcMacDes,
+    key: &[u8],
+    padding: u32,
+) -> i32
+    ensures status { result ≡ status_of 8 (length key.now) padding }
+    ensures made { result ≡ OK → IsCbcMacDesOf context.new padding key.now [] }
+    ensures quiet { result ≡ OK → IsQuietDes context.new.cipher }
+    ensures kept { result ≢ OK → context.new ≡ context.old }
+{
+    message::begin_quiet(&mut context.cipher, &mut context.message, key, padding)
+}
+
 /// Adds bytes to the message, after those that it has.
 #[unsafe(no_mangle)]
 pub extern "C" fn cukvashe_cbc_mac_des_update(context: &mut CbcMacDes, bytes: &[u8])
@@ -44,7 +61,7 @@ pub extern "C" fn cukvashe_cbc_mac_des_update(context: &mut CbcMacDes, bytes: &[
     ensures { (padding : ℕ) (key m : List ℕ) → IsCbcMacDesOf context.old padding key m
         → IsCbcMacDesOf context.new padding key (m ++ bytes.now) }
 {
-    context.message.update(context.cipher.to_cipher(), bytes);
+    context.message.extend(&context.cipher, bytes);
 }
 
 // The tag of the message.
@@ -53,7 +70,7 @@ fn tag_of(context: &CbcMacDes) -> [u8; 8]
     ensures { (padding : ℕ) (key m : List ℕ) → IsCbcMacDesOf context.now padding key m
         → result ≡ cbc_mac (encryption key) (padded (padding_by padding) m) }
 {
-    tags::cbc_mac(context.cipher.to_cipher(), &context.message)
+    tags::cbc_mac(&context.cipher, &context.message)
 }
 
 /// Gives the tag of the message, which may go on.

@@ -2,15 +2,16 @@
 
 ghost use Rattle.std.specs.Prelude.{◌≡◌, ◌≢◌, ◌↔◌, ℕ, List, [], ◌++◌, length};
 ghost use Rattle.des.specs.TripleCiphers.{ede2_encryption};
+ghost use Rattle.des_context.specs.Contexts.{IsQuietEde2};
 ghost use Rattle.des_mac.specs.CbcMac.{cbc_mac};
 ghost use Rattle.des_mac.specs.Padding.{padded};
 ghost use Rattle.des_mac.specs.Tags.{IsTruncated};
 ghost use Rattle.des_c.specs.MacContexts.{IsCbcMacTdesEde2Of, Stands};
-ghost use Rattle.des_c.specs.PaddingMethods.{padding_by, status_of};
+ghost use Rattle.des_context.specs.PaddingMethods.{padding_by, status_of};
 
 use super::message::{self, Message};
 use super::tags;
-use des_context::contexts::{Context, TdesEde2Context};
+use des_context::contexts::TdesEde2Context;
 use des_context::status::{ERR_TAG, OK};
 
 /// The context of CBC-MAC over triple DES, EDE with two keys.
@@ -37,6 +38,22 @@ pub extern "C" fn cukvashe_cbc_mac_tdes_ede2_init(
     message::begin(&mut context.cipher, &mut context.message, key, padding)
 }
 
+/// Makes the context of a key of 16 bytes, as `cukvashe_cbc_mac_tdes_ede2_init` does, whose calls
+/// read no table at an index that depends on the key or the message. The status is as of that call.
+#[unsafe(no_mangle)]
+pub extern "C" fn cukvashe_cbc_mac_tdes_ede2_init_quiet(
+    context: &mut CbcMacTdesEde2,
+    key: &[u8],
+    padding: u32,
+) -> i32
+    ensures status { result ≡ status_of 16 (length key.now) padding }
+    ensures made { result ≡ OK → IsCbcMacTdesEde2Of context.new padding key.now [] }
+    ensures quiet { result ≡ OK → IsQuietEde2 context.new.cipher }
+    ensures kept { result ≢ OK → context.new ≡ context.old }
+{
+    message::begin_quiet(&mut context.cipher, &mut context.message, key, padding)
+}
+
 /// Adds bytes to the message, after those that it has.
 #[unsafe(no_mangle)]
 pub extern "C" fn cukvashe_cbc_mac_tdes_ede2_update(context: &mut CbcMacTdesEde2, bytes: &[u8])
@@ -44,7 +61,7 @@ pub extern "C" fn cukvashe_cbc_mac_tdes_ede2_update(context: &mut CbcMacTdesEde2
     ensures { (padding : ℕ) (key m : List ℕ) → IsCbcMacTdesEde2Of context.old padding key m
         → IsCbcMacTdesEde2Of context.new padding key (m ++ bytes.now) }
 {
-    context.message.update(context.cipher.to_cipher(), bytes);
+    context.message.extend(&context.cipher, bytes);
 }
 
 // The tag of the message.
@@ -53,7 +70,7 @@ fn tag_of(context: &CbcMacTdesEde2) -> [u8; 8]
     ensures { (padding : ℕ) (key m : List ℕ) → IsCbcMacTdesEde2Of context.now padding key m
         → result ≡ cbc_mac (ede2_encryption key) (padded (padding_by padding) m) }
 {
-    tags::cbc_mac(context.cipher.to_cipher(), &context.message)
+    tags::cbc_mac(&context.cipher, &context.message)
 }
 
 /// Gives the tag of the message, which may go on.

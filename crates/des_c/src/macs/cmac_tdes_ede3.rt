@@ -2,14 +2,15 @@
 
 ghost use Rattle.std.specs.Prelude.{◌≡◌, ◌≢◌, ◌↔◌, ℕ, List, [], ◌++◌, length};
 ghost use Rattle.des.specs.TripleCiphers.{ede3_encryption};
+ghost use Rattle.des_context.specs.Contexts.{IsQuietEde3};
 ghost use Rattle.des_mac.specs.Cmac.{cmac};
 ghost use Rattle.des_mac.specs.Tags.{IsTruncated};
 ghost use Rattle.des_c.specs.MacContexts.{IsCmacTdesEde3Of, StandsByKey};
-ghost use Rattle.des_c.specs.PaddingMethods.{status_of};
+ghost use Rattle.des_context.specs.PaddingMethods.{status_of};
 
 use super::message::{self, Message};
 use super::tags;
-use des_context::contexts::{Context, TdesEde3Context};
+use des_context::contexts::TdesEde3Context;
 use des_context::status::{ERR_TAG, OK};
 
 /// The context of CMAC over triple DES, EDE with three keys.
@@ -31,6 +32,18 @@ pub extern "C" fn cukvashe_cmac_tdes_ede3_init(context: &mut CmacTdesEde3, key: 
     message::begin(&mut context.cipher, &mut context.message, key, 2)
 }
 
+/// Makes the context of a key of 24 bytes, as `cukvashe_cmac_tdes_ede3_init` does, whose calls
+/// read no table at an index that depends on the key or the message. The status is as of that call.
+#[unsafe(no_mangle)]
+pub extern "C" fn cukvashe_cmac_tdes_ede3_init_quiet(context: &mut CmacTdesEde3, key: &[u8]) -> i32
+    ensures status { result ≡ status_of 24 (length key.now) 2 }
+    ensures made { result ≡ OK → IsCmacTdesEde3Of context.new key.now [] }
+    ensures quiet { result ≡ OK → IsQuietEde3 context.new.cipher }
+    ensures kept { result ≢ OK → context.new ≡ context.old }
+{
+    message::begin_quiet(&mut context.cipher, &mut context.message, key, 2)
+}
+
 /// Adds bytes to the message, after those that it has.
 #[unsafe(no_mangle)]
 pub extern "C" fn cukvashe_cmac_tdes_ede3_update(context: &mut CmacTdesEde3, bytes: &[u8])
@@ -38,7 +51,7 @@ pub extern "C" fn cukvashe_cmac_tdes_ede3_update(context: &mut CmacTdesEde3, byt
     ensures { (key m : List ℕ) → IsCmacTdesEde3Of context.old key m
         → IsCmacTdesEde3Of context.new key (m ++ bytes.now) }
 {
-    context.message.update(context.cipher.to_cipher(), bytes);
+    context.message.extend(&context.cipher, bytes);
 }
 
 // The tag of the message.
@@ -47,7 +60,7 @@ fn tag_of(context: &CmacTdesEde3) -> [u8; 8]
     ensures { (key m : List ℕ) → IsCmacTdesEde3Of context.now key m
         → result ≡ cmac (ede3_encryption key) m }
 {
-    tags::cmac(context.cipher.to_cipher(), &context.message)
+    tags::cmac(&context.cipher, &context.message)
 }
 
 /// Gives the tag of the message, which may go on.

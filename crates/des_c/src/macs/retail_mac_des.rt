@@ -2,16 +2,17 @@
 
 ghost use Rattle.std.specs.Prelude.{◌≡◌, ◌≢◌, ◌↔◌, ℕ, List, [], ◌++◌, length};
 ghost use Rattle.des.specs.Des.{encryption, decryption};
+ghost use Rattle.des_context.specs.Contexts.{IsQuietDes};
 ghost use Rattle.des_mac.specs.Padding.{padded};
 ghost use Rattle.des_mac.specs.RetailMac.{retail_mac_of};
 ghost use Rattle.des_mac.specs.Tags.{IsTruncated};
 ghost use Rattle.des_c.specs.MacContexts.{IsRetailMacDesOf, Stands};
-ghost use Rattle.des_c.specs.PaddingMethods.{padding_by, status_of};
+ghost use Rattle.des_context.specs.PaddingMethods.{padding_by, status_of};
 
 use super::message::{self, Message};
 use super::tags;
 use des_context::calls;
-use des_context::contexts::{Context, DesContext};
+use des_context::contexts::DesContext;
 use des_context::status::{ERR_KEY_LENGTH, ERR_TAG, OK};
 
 /// The context of the retail MAC over DES.
@@ -47,6 +48,30 @@ pub extern "C" fn cukvashe_retail_mac_des_init(
     status
 }
 
+/// Makes the context of a key of 16 bytes, as `cukvashe_retail_mac_des_init` does, whose calls read
+/// no table at an index that depends on the key or the message. The status is as of that call.
+#[unsafe(no_mangle)]
+pub extern "C" fn cukvashe_retail_mac_des_init_quiet(
+    context: &mut RetailMacDes,
+    key: &[u8],
+    padding: u32,
+) -> i32
+    ensures status { result ≡ status_of 16 (length key.now) padding }
+    ensures made { result ≡ OK → IsRetailMacDesOf context.new padding key.now [] }
+    ensures quiet { result ≡ OK → IsQuietDes context.new.first × IsQuietDes context.new.second }
+    ensures kept { result ≢ OK → context.new ≡ context.old }
+{
+    if key.len() != 16 {
+        return ERR_KEY_LENGTH;
+    }
+    let (first, second) = key.split_at(8);
+    let status = message::begin_quiet(&mut context.first, &mut context.message, first, padding);
+    if status == OK {
+        calls::init_quiet(&mut context.second, second);
+    }
+    status
+}
+
 /// Adds bytes to the message, after those that it has.
 #[unsafe(no_mangle)]
 pub extern "C" fn cukvashe_retail_mac_des_update(context: &mut RetailMacDes, bytes: &[u8])
@@ -54,7 +79,7 @@ pub extern "C" fn cukvashe_retail_mac_des_update(context: &mut RetailMacDes, byt
     ensures { (padding : ℕ) (key m : List ℕ) → IsRetailMacDesOf context.old padding key m
         → IsRetailMacDesOf context.new padding key (m ++ bytes.now) }
 {
-    context.message.update(context.first.to_cipher(), bytes);
+    context.message.extend(&context.first, bytes);
 }
 
 // The tag of the message.
@@ -63,11 +88,7 @@ fn tag_of(context: &RetailMacDes) -> [u8; 8]
     ensures { (padding : ℕ) (key m : List ℕ) → IsRetailMacDesOf context.now padding key m
         → result ≡ retail_mac_of 8 encryption decryption key (padded (padding_by padding) m) }
 {
-    tags::retail_mac(
-        context.first.to_cipher(),
-        context.second.to_cipher(),
-        &context.message,
-    )
+    tags::retail_mac(&context.first, &context.second, &context.message)
 }
 
 /// Gives the tag of the message, which may go on.

@@ -1,14 +1,14 @@
-//! The exports of key check values.
+//! The exports of key check values. No table is read at an index that depends on a key.
 
 ghost use Rattle.std.specs.Prelude.{◌≡◌, ◌≢◌, ◌↔◌, length, map, take, replicate};
 ghost use Rattle.des.specs.Des.{encryption};
 ghost use Rattle.des.specs.TripleCiphers.{ede3_encryption, ede2_encryption};
 
 use des::cipher::KeyedCipher;
+use des_context::payment_lists::check_values;
 use des_context::status::{ERR_COUNTS, ERR_KEY_LENGTH, OK};
-use des_fast::many::KeyForEach;
-use des_fast::{Des, TdesEde2, TdesEde3};
-use des_payment::check_value_lists;
+use des_fast::{Des, TdesEde2, TdesEde3, quiet};
+use std::simd::prelude::*;
 
 // The check value of a key of any cipher.
 fn check_value<C: KeyedCipher + Drop>(key: &[u8], value: &mut [u8; 3]) -> i32
@@ -37,7 +37,7 @@ pub extern "C" fn cukvashe_des_check_value(key: &[u8], value: &mut [u8; 3]) -> i
         → value.new ≡ take 3 (encryption key.now (replicate 8 0)) }
     ensures kept { length key.now ≢ 8 → value.new ≡ value.old }
 {
-    check_value::<Des>(key, value)
+    check_value::<quiet::Des>(key, value)
 }
 
 /// The check value of a key of 24 bytes under `TdesEde3`. The status of a key of another length is
@@ -50,7 +50,7 @@ pub extern "C" fn cukvashe_tdes_ede3_check_value(key: &[u8], value: &mut [u8; 3]
         → value.new ≡ take 3 (ede3_encryption key.now (replicate 8 0)) }
     ensures kept { length key.now ≢ 24 → value.new ≡ value.old }
 {
-    check_value::<TdesEde3>(key, value)
+    check_value::<quiet::TdesEde3>(key, value)
 }
 
 /// The check value of a key of 16 bytes under `TdesEde2`. The status of a key of another length is
@@ -63,21 +63,7 @@ pub extern "C" fn cukvashe_tdes_ede2_check_value(key: &[u8], value: &mut [u8; 3]
         → value.new ≡ take 3 (ede2_encryption key.now (replicate 8 0)) }
     ensures kept { length key.now ≢ 16 → value.new ≡ value.old }
 {
-    check_value::<TdesEde2>(key, value)
-}
-
-// The check values of keys of any cipher.
-fn check_values<C: KeyForEach>(keys: &[C::Key], values: &mut [[u8; 3]]) -> i32
-    ensures accepted { (result ≡ OK) ↔ (length keys.now ≡ length values.old) }
-    ensures refused { (result ≡ ERR_COUNTS) ↔ (length keys.now ≢ length values.old) }
-    ensures values { result ≡ OK → values.new ≡ map
-        (λ key. take 3 (C.encryption (C.Key.bytes_of key) (replicate 8 0))) keys.now }
-    ensures kept { result ≢ OK → values.new ≡ values.old }
-{
-    match check_value_lists::check_values::<C>(keys, values) {
-        Ok(()) => OK,
-        Err(_) => ERR_COUNTS,
-    }
+    check_value::<quiet::TdesEde2>(key, value)
 }
 
 /// The check value of each key at its place, under `Des`. The status is `ERR_COUNTS` where there
@@ -90,7 +76,7 @@ pub extern "C" fn cukvashe_narrow_des_check_values(keys: &[[u8; 8]], values: &mu
         ≡ map (λ key. take 3 (encryption key (replicate 8 0))) keys.now }
     ensures kept { result ≢ OK → values.new ≡ values.old }
 {
-    check_values::<Des>(keys, values)
+    check_values::<u64x2, Des>(keys, values)
 }
 
 /// The check value of each key at its place, under `TdesEde3`. The status is `ERR_COUNTS` where there
@@ -106,7 +92,7 @@ pub extern "C" fn cukvashe_narrow_tdes_ede3_check_values(
         ≡ map (λ key. take 3 (ede3_encryption key (replicate 8 0))) keys.now }
     ensures kept { result ≢ OK → values.new ≡ values.old }
 {
-    check_values::<TdesEde3>(keys, values)
+    check_values::<u64x2, TdesEde3>(keys, values)
 }
 
 /// The check value of each key at its place, under `TdesEde2`. The status is `ERR_COUNTS` where there
@@ -122,5 +108,5 @@ pub extern "C" fn cukvashe_narrow_tdes_ede2_check_values(
         ≡ map (λ key. take 3 (ede2_encryption key (replicate 8 0))) keys.now }
     ensures kept { result ≢ OK → values.new ≡ values.old }
 {
-    check_values::<TdesEde2>(keys, values)
+    check_values::<u64x2, TdesEde2>(keys, values)
 }

@@ -5,9 +5,10 @@ ghost use Rattle.des_payment.specs.Dukpt.{initial_key, transaction_key, pin_key,
 ghost use Rattle.des_payment.specs.Dukpt.{counter_of, IsUsable, IsNextCounter, IsOfTransaction, with_counter};
 ghost use Rattle.des_c.specs.Messages.{message_of as message_by};
 
+use des_context::payment_lists::transaction_keys;
 use des_context::status::{ERR_COUNTS, ERR_NO_SERIAL, OK};
 use des_payment::dukpt::{self, Message};
-use des_payment::transaction_lists;
+use std::simd::prelude::*;
 
 /// The initial key of a terminal, from the base derivation key and a key serial number.
 #[unsafe(no_mangle)]
@@ -45,10 +46,7 @@ pub extern "C" fn cukvashe_narrow_dukpt_transaction_keys(
         (λ serial. transaction_key (initial_key base.now serial) serial) serials.now }
     ensures kept { result ≢ OK → keys.new ≡ keys.old }
 {
-    match transaction_lists::transaction_keys(base, serials, keys) {
-        Ok(()) => OK,
-        Err(_) => ERR_COUNTS,
-    }
+    transaction_keys::<u64x2>(base, serials, keys)
 }
 
 /// The key that encrypts PIN blocks, from the transaction's key.

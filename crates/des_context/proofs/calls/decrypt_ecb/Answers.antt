@@ -6,4 +6,4 @@ use Rattle.des_context.proofs.calls.decrypt_ecb.Goals as goal
 pub returns-clause-answered : goal.returns-clause-answered
 returns-clause-answered g c done key made =
     rw (blocks_of-bytes c.decrypt.new.blocks c.decrypt.ensures.blocks, sym c.blocks_mut-blocks.ensures.value.0)
-    (c.decrypt.ensures.answered key (c.to_cipher.ensures key made))
+    (c.decrypt.ensures.answered key made)

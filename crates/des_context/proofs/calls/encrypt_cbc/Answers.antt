@@ -5,9 +5,9 @@ use Rattle.des_context.proofs.calls.encrypt_cbc.Goals as goal
 -- the bytes end as those of the ciphertext
 pub returns-clause-chained : goal.returns-clause-chained
 returns-clause-chained g c done key made =
-    rw (blocks_of-bytes c.encrypt_cbc.new.blocks c.encrypt_cbc.ensures.blocks, sym c.blocks_mut-blocks.ensures.value.0)
-    (c.encrypt_cbc.ensures.chained key (c.to_cipher.ensures key made))
+    rw (blocks_of-bytes c.chain.new.blocks c.chain.ensures.blocks, sym c.blocks_mut-blocks.ensures.value.0)
+    (c.chain.ensures.chained key made)
 
 pub returns-clause-goes_on : goal.returns-clause-goes_on
 returns-clause-goes_on g c done =
-    rw (blocks_of-bytes c.encrypt_cbc.new.blocks c.encrypt_cbc.ensures.blocks) c.encrypt_cbc.ensures.goes_on
+    rw (blocks_of-bytes c.chain.new.blocks c.chain.ensures.blocks) c.chain.ensures.goes_on

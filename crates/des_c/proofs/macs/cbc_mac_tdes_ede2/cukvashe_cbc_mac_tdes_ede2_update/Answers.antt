@@ -4,6 +4,6 @@ use Rattle.des_c.proofs.macs.cbc_mac_tdes_ede2.cukvashe_cbc_mac_tdes_ede2_update
 pub returns : goal.returns
 returns c padding key m is = record {
   made = is.made;
-  padded_by = c.update.ensures.padding ∙ is.padded_by;
-  progress = c.update.ensures.progress key m is.made.0 (c.to_cipher.ensures key is.made) is.progress;
+  padded_by = c.extend.ensures.padding ∙ is.padded_by;
+  progress = c.extend.ensures.progress key m is.made.0 is.made is.progress;
 }

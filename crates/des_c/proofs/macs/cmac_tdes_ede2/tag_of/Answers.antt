@@ -2,4 +2,4 @@ use Rattle.des_c.proofs.macs.cmac_tdes_ede2.tag_of.Goals as goal
 
 pub returns : goal.returns
 returns c key m is =
-    c.cmac.ensures key m is.made.0 (c.to_cipher.ensures key is.made) is.progress
+    c.cmac.ensures key m is.made.0 is.made is.progress

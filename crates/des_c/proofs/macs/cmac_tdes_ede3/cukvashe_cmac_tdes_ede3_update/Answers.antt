@@ -3,5 +3,5 @@ use Rattle.des_c.proofs.macs.cmac_tdes_ede3.cukvashe_cmac_tdes_ede3_update.Goals
 pub returns : goal.returns
 returns c key m is = record {
   made = is.made;
-  progress = c.update.ensures.progress key m is.made.0 (c.to_cipher.ensures key is.made) is.progress;
+  progress = c.extend.ensures.progress key m is.made.0 is.made is.progress;
 }

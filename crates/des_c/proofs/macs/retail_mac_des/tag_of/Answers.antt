@@ -1,8 +1,5 @@
-use Rattle.std.proofs.Common.{take, drop}
 use Rattle.des_c.proofs.macs.retail_mac_des.tag_of.Goals as goal
 
 pub returns : goal.returns
 returns c padding key m is =
-    rw is.padded_by at
-    (c.retail_mac.ensures key m is.first.0 (c.to_cipher.ensures (take 8 key) is.first) is.second.0
-    (c.to_cipher-2.ensures (drop 8 key) is.second) is.progress)
+    rw is.padded_by at (c.retail_mac.ensures key m is.first.0 is.first is.second.0 is.second is.progress)

@@ -24,10 +24,3 @@ abbrev pub status_of_each : ℕ → ℕ → ℕ → ℕ → ℤ
 status_of_each method keys messages tags =
     if nat_eq method 1 || nat_eq method 2 then (if nat_eq keys tags && nat_eq messages tags then OK else ERR_COUNTS)
     else ERR_PADDING_METHOD
-
--- the same of as many first keys, second keys, messages and tags
-abbrev pub status_of_pairs : ℕ → ℕ → ℕ → ℕ → ℕ → ℤ
-status_of_pairs method first second messages tags =
-    if nat_eq method 1 || nat_eq method 2
-    then (if nat_eq first tags && nat_eq second tags && nat_eq messages tags then OK else ERR_COUNTS)
-    else ERR_PADDING_METHOD

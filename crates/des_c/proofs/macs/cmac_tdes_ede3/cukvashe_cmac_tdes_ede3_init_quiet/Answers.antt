@@ -1,0 +1,12 @@
+use Rattle.std.proofs.Common.{arith, ◌≡◌, pos}
+use Rattle.std.proofs.lemmas.Int.{ints}
+use Rattle.des.specs.TripleCiphers.{ede3_encryption}
+use Rattle.des_c.proofs.macs.cmac_tdes_ede3.cukvashe_cmac_tdes_ede3_init_quiet.Goals as goal
+
+pub returns-clause-made : goal.returns-clause-made
+returns-clause-made c = λ done.
+    let was : c.begin_quiet.result ≡ pos 0 = omega (arith, ints) in
+    record {
+      made = c.begin_quiet.ensures.made was;
+      progress = c.begin_quiet.ensures.begun was (ede3_encryption c.args.key.now);
+    }

@@ -1,0 +1,15 @@
+use Rattle.std.proofs.Common.{ℕ, List, ◌<◌}
+use Rattle.std.proofs.lemmas.List.Elements.{All-from_get_or}
+use Rattle.des.specs.Blocks.{IsBlock}
+use Rattle.des_context.proofs.RelatedChains.{Chains-related_back}
+use Rattle.des_context.proofs.lists.decrypt_cbc_few.Goals as goal
+
+pub returns-clause-chained : goal.returns-clause-chained
+returns-clause-chained g c key made =
+    let iv : List ℕ = c.args.vector.now in
+    let cipher = c.args.cipher.now in
+    let is_iv : IsBlock iv = (c.told-vector, All-from_get_or (λ byte. byte < 256) iv 0 (λ i within. c.fits-vector i)) in
+    Chains-related_back (g.C.Relating.relation key) (g.C.BlockCipherEncrypt.encrypted cipher)
+    (g.C.BlockCipherDecrypt.decrypted cipher) (c.relate_lists.ensures.encrypted key made) iv c.decrypt.new.blocks
+    c.args.blocks.now is_iv c.decrypt.ensures.blocks (g.met.C.BlockCipher.decrypted_is_block cipher)
+    (g.met.C.BlockCipher.encrypts_decrypted cipher) c.decrypt.ensures.unchained

@@ -1,0 +1,38 @@
+-- A group more.
+use Rattle.std.proofs.Common.{◌≡◌, ℕ, ◌+◌, ◌-◌, ◌++◌, List, length, map, take, drop, ap, sym, ◌∙◌, arith}
+use Rattle.std.specs.Simd.Lanes.{zip2}
+use Rattle.std.proofs.lemmas.List.{length-map, take-map, drop-map}
+use Rattle.des.specs.Des.{encryption, decryption}
+use Rattle.des_context.specs.PaddingMethods.{padding_by}
+use Rattle.des_mac.specs.ManyMessages.{texts}
+use Rattle.des_mac.specs.Padding.{padded}
+use Rattle.des_mac.specs.RetailMac.{retail_mac_of}
+use Rattle.des_mac.proofs.ManyCmacs.{answers-more}
+use Rattle.des_context.proofs.macs.retail_macs_each.Goals as goal
+
+-- what a part of a list is mapped to
+mapped-part : {A : Type 0} (f : A → List ℕ) (m n : ℕ) (xs : List A)
+    → map f (take n (drop m xs)) ≡ take n (drop m (map f xs))
+mapped-part f m n xs = sym (ap (take n) (drop-map f m xs) ∙ take-map f n (drop m xs))
+
+pub groups-preserved : goal.groups-preserved
+groups-preserved g c =
+    let m : ℕ = c.groups.from in
+    let count : ℕ = c.next_count.result in
+    let n : ℕ = m + count - m in
+    let f : List ℕ → List ℕ → List ℕ =
+    λ key text. retail_mac_of 8 encryption decryption key (padded (padding_by c.args.padding) text) in
+    let keys : List (List ℕ) = c.args.keys.now in
+    let messages : List (List ℕ) = texts c.args.messages.now in
+    let old : List (List ℕ) = c.args.tags.now in
+    let as_messages : length messages ≡ length old =
+    length-map c.args.messages.now (λ message. message.now) ∙ c.if-messages-tags.false in
+    let next : m + n ≡ m + count = omega arith in record {
+      within = omega (arith, c.next_count.ensures.there);
+      made =
+          answers-more f m n keys messages old c.groups.tags c.write_retail_group.new.tags c.if-keys-tags.false
+          as_messages (omega (arith, c.groups.invariant.within)) c.groups.invariant.made
+          (c.write_retail_group.ensures
+          ∙ ap (zip2 f (take n (drop m keys))) (mapped-part (λ message. message.now) m n c.args.messages.now))
+          ∙ ap (λ (k : ℕ). zip2 f (take k keys) (take k messages) ++ drop k old) next;
+    }

@@ -1,0 +1,44 @@
+//! The check values of many keys, and the keys of many transactions, once for every width.
+
+ghost use Rattle.std.specs.Prelude.{◌≡◌, ◌≢◌, ◌↔◌, length, map, take, replicate};
+ghost use Rattle.des_payment.specs.Dukpt.{initial_key, transaction_key};
+
+use crate::status::{ERR_COUNTS, OK};
+use des_fast::many::{KeyForEach, Slice};
+use des_payment::check_value_lists::check_values_by;
+use des_payment::transaction_lists::transaction_keys_by;
+
+/// The check value of each key at its place. The status is `ERR_COUNTS` where there are not as many
+/// keys as values; the values then stay as they were.
+pub fn check_values<S: Slice, C: KeyForEach>(keys: &[C::Key], values: &mut [[u8; 3]]) -> i32
+    ensures accepted { (result ≡ OK) ↔ (length keys.now ≡ length values.old) }
+    ensures refused { (result ≡ ERR_COUNTS) ↔ (length keys.now ≢ length values.old) }
+    ensures values { result ≡ OK → values.new ≡ map
+        (λ key. take 3 (C.encryption (C.Key.bytes_of key) (replicate 8 0))) keys.now }
+    ensures kept { result ≢ OK → values.new ≡ values.old }
+{
+    match check_values_by::<S, C>(keys, values) {
+        Ok(()) => OK,
+        Err(_) => ERR_COUNTS,
+    }
+}
+
+/// The key of the transaction of each key serial number at its place, from the base derivation key.
+/// The status is `ERR_COUNTS` where there are not as many serial numbers as keys; the keys then
+/// stay as they were.
+pub fn transaction_keys<S: Slice>(
+    base: &[u8; 16],
+    serials: &[[u8; 10]],
+    keys: &mut [[u8; 16]],
+) -> i32
+    ensures accepted { (result ≡ OK) ↔ (length serials.now ≡ length keys.old) }
+    ensures refused { (result ≡ ERR_COUNTS) ↔ (length serials.now ≢ length keys.old) }
+    ensures keys { result ≡ OK → keys.new ≡ map
+        (λ serial. transaction_key (initial_key base.now serial) serial) serials.now }
+    ensures kept { result ≢ OK → keys.new ≡ keys.old }
+{
+    match transaction_keys_by::<S>(base, serials, keys) {
+        Ok(()) => OK,
+        Err(_) => ERR_COUNTS,
+    }
+}
