@@ -15,7 +15,7 @@ use crate::fault::Kind;
 use crate::parity::parity_line;
 use des::WeakKeyError;
 use des::cipher::KeyedCipher;
-use des_fast::{Des, TdesEde2, TdesEde3};
+use des_fast::quiet::{Des, TdesEde2, TdesEde3};
 use des_payment::dukpt::{data_key, initial_key, mac_key, pin_key, transaction_key};
 use des_payment::pin_blocks::{
     decode_format_0, decode_format_1, decode_format_3, encode_format_0, encode_format_1,

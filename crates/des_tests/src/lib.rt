@@ -1,5 +1,5 @@
 //! Tests of the libraries, and of their callers. There is nothing here but tests, and below
-//! `payment` two proved callers of `des_payment`; `known_answers.txt` beside this folder has values
+//! `payment` proved callers of `des_payment`; `known_answers.txt` beside this folder has values
 //! for runs of programs and for tests in C.
 #![tactic(auto)]
 
