@@ -1,0 +1,103 @@
+"""Published answers of triple DES through Python's `cryptography`, which calls OpenSSL: vectors.py KNOWN_ANSWERS.
+
+Ends with status 1 where an answer is another one.
+"""
+
+import sys
+
+from cryptography.exceptions import InvalidSignature
+from cryptography.hazmat.backends.openssl import backend
+from cryptography.hazmat.primitives import cmac, padding
+from cryptography.hazmat.primitives.ciphers import Cipher, modes
+
+try:
+    from cryptography.hazmat.decrepit.ciphers.algorithms import TripleDES
+except ImportError:
+    from cryptography.hazmat.primitives.ciphers.algorithms import TripleDES
+
+
+def of_three_parts(key):
+    """The package wants three: one part three times makes DES, and two make a key of two when the first comes again."""
+    return (key * 3)[:24]
+
+
+def known_answers(path):
+    """Each chain of the file: its name, key, vector (or nothing), text and answer."""
+    chains = []
+    with open(path, encoding="ascii") as lines:
+        for line in lines:
+            words = line.split("#")[0].split()
+            if line[:1].isspace() and words:
+                chains[-1][3] += bytes.fromhex(words[0])
+                chains[-1][4] += bytes.fromhex(words[1])
+            elif words:
+                key, text, answer, *vector = (bytes.fromhex(word) for word in words[1:])
+                chains.append([words[0], of_three_parts(key), vector, text, answer])
+    return [chain for chain in chains if not chain[0].startswith("eee")]
+
+
+def answers(key, vector, data, decrypts):
+    """What comes of the data at once, and in pieces of 1 to 13 bytes."""
+    cipher = Cipher(TripleDES(key), modes.CBC(vector[0]) if vector else modes.ECB())
+    at_once, in_pieces = (cipher.decryptor() if decrypts else cipher.encryptor() for _ in range(2))
+    pieces = [data[at : at + 13] for at in range(0, len(data), 13)]
+    return (
+        at_once.update(data) + at_once.finalize(),
+        b"".join([in_pieces.update(piece) for piece in pieces]) + in_pieces.finalize(),
+    )
+
+
+def check(holds, what):
+    """Ends with a message where something does not hold."""
+    if not holds:
+        sys.exit(f"vectors.py: {what}")
+
+
+def check_long_record():
+    """A record that was padded, of more than one batch, both ways."""
+    text = bytes(index % 251 for index in range(40_003))
+    padder = padding.PKCS7(64).padder()
+    sealed, _ = answers(bytes(range(24)), [bytes(8)], padder.update(text) + padder.finalize(), False)
+    for opened in answers(bytes(range(24)), [bytes(8)], sealed, True):
+        unpadder = padding.PKCS7(64).unpadder()
+        check(unpadder.update(opened) + unpadder.finalize() == text, "a long record")
+
+
+def check_faults():
+    """What the package refuses, and by its own words."""
+    decryptor = Cipher(TripleDES(bytes(range(24))), modes.CBC(bytes(8))).decryptor()
+    decryptor.update(bytes(13))
+    try:
+        decryptor.finalize()
+    except ValueError as fault:
+        check("block length" in str(fault), f"another fault: {fault}")
+    else:
+        check(False, "no fault of a part of a block")
+
+
+def check_cmac():
+    """NIST SP 800-38B, D.4, example 2: CMAC is OpenSSL's own, over the provider's cipher."""
+    key = bytes.fromhex("8aa83bf8cbda10620bc1bf19fbb6cd58bc313d4a371ca8b5")
+    mac = cmac.CMAC(TripleDES(key))
+    mac.update(bytes.fromhex("6bc1bee22e409f96"))
+    try:
+        mac.verify(bytes.fromhex("8e8f293136283797"))
+    except InvalidSignature:
+        check(False, "CMAC")
+
+
+def main():
+    """All of it."""
+    chains = known_answers(sys.argv[1])
+    for name, key, vector, text, answer in chains:
+        for got in answers(key, vector, text, False):
+            check(got == answer, f"{name} {key.hex()}, encryption")
+        for got in answers(key, vector, answer, True):
+            check(got == text, f"{name} {key.hex()}, decryption")
+    check_long_record()
+    check_faults()
+    check_cmac()
+    print(f"Python's cryptography over {backend.openssl_version_text()}: {len(chains)} published answers, both ways")
+
+
+main()
