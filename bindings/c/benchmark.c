@@ -4,71 +4,18 @@
  * the nanoseconds of a whole call, beside those of each of the ways that it chooses from. Keys are set before the clock runs, which is
  * that of the process; the least of a hundred short runs counts (of ten for 1 MiB). An empty cell is a way that there is not.
  */
-#include "internal.h"
+#include "benchmark.h"
 #include <openssl/evp.h>
 #include <openssl/provider.h>
-#include <stdio.h>
-#include <stdlib.h>
-#include <time.h>
 #ifdef HAS_GCRYPT
 #include <gcrypt.h>
 #endif
 
-enum { MOST = 1 << 20, RUNS = 100 };
+enum { MOST = 1 << 20 };
 
 static const size_t sizes[] = {8, 16, 64, 136, 256, 1024, 8192, MOST};
 static uint8_t message[MOST], key[24], iv[8];
 static bool is_v3;
-
-static void fail(const char *what) {
-  fprintf(stderr, "benchmark: %s\n", what);
-  exit(1);
-}
-
-/* What is timed: a call on a message of this number of bytes. */
-typedef void call(void *state, size_t bytes);
-
-static double now(void) {
-  struct timespec t;
-  clock_gettime(CLOCK_PROCESS_CPUTIME_ID, &t);
-  return (double)t.tv_sec * 1e9 + (double)t.tv_nsec;
-}
-
-/* A call with its state, and the least time that it took; none is an empty cell. */
-struct timed {
-  call *call;
-  void *state;
-  double least;
-};
-
-/* The time of a call, over a short run. */
-static double run_of(const struct timed *timed, size_t bytes) {
-  const size_t each = bytes > 4096 ? 1 : 16;
-  size_t calls = 0;
-  double start = now(), end = start;
-  while (end - start < 5e5) {
-    for (size_t i = 0; i < each; i++) timed->call(timed->state, bytes);
-    calls += each;
-    end = now();
-  }
-  return (end - start) / (double)calls;
-}
-
-/* The cells of a row, over a number of blocks. The calls run in turn, so that what slows the processor for a while, as another
-   virtual machine on it, slows all of them. */
-static void cells(struct timed *row, size_t count, size_t bytes, size_t blocks) {
-  for (size_t n = 0; n < count; n++) row[n].least = 1e18;
-  for (int run = 0; run < (bytes > 65536 ? RUNS / 10 : RUNS); run++)
-    for (size_t n = 0; n < count; n++) {
-      double time = row[n].call ? run_of(&row[n], bytes) : 0;
-      if (time < row[n].least) row[n].least = time;
-    }
-  for (size_t n = 0; n < count; n++)
-    if (row[n].call) printf(" %8.1f |", row[n].least / (double)blocks);
-    else printf("          |");
-  printf("\n");
-  fflush(stdout);
-}
 
 /* What a call of this library is: the names of its tables below, and the way that it goes. */
 struct ours {

@@ -1,6 +1,6 @@
 /*
  * What of the library is C: which of two proved calls is taken, by length and processor; proved calls in the header's order of
- * arguments; texts; and wiping.
+ * arguments, and lists of blocks by their length in bytes; texts; and wiping.
  */
 #include "internal.h"
 #include <string.h>
@@ -25,7 +25,11 @@ static bool takes_wide_by_count(size_t count) { return count > 128 && has_wide()
 #define CHOOSE_IF(IS_WIDE, NAME, CALL, ...)                                                                           \
   (IS_WIDE ? cukvashe_wide_##NAME##_##CALL(__VA_ARGS__) : cukvashe_narrow_##NAME##_##CALL(__VA_ARGS__))
 #define CHOOSE(NAME, CALL, ...) CHOOSE_IF(takes_wide(length), NAME, CALL, __VA_ARGS__)
-/* The proved calls refuse lists that are not as many, and here one count is that of both. */
+/* The proved calls refuse a length that is not the count of the other list, or the sum of the counts. */
+#define CHOOSE_IF_BLOCKS(IS_WIDE, NAME, CALL, ...)                                                                    \
+  (length % CUKVASHE_BLOCK_SIZE != 0 ? CUKVASHE_ERR_BLOCKS                                                            \
+                                     : CHOOSE_IF(IS_WIDE, NAME, CALL, __VA_ARGS__, length / CUKVASHE_BLOCK_SIZE))
+/* They refuse lists that differ in length too, and here one count is that of both. */
 #define CHOOSE_BY_COUNT(NAME, CALL, ...) (void)CHOOSE_IF(takes_wide_by_count(count), NAME, CALL, __VA_ARGS__)
 
 /* From a buffer to itself is the call in place: the proved calls of two buffers take two that do not overlap. */
@@ -59,45 +63,69 @@ static bool takes_wide_by_count(size_t count) { return count > 128 && has_wide()
     if (input == output) return cukvashe_##NAME##_decrypt_cbc(context, iv, output, length);                           \
     return CHOOSE(NAME, decrypt_cbc_to, context, iv, input, length, output, length);                                  \
   }                                                                                                                   \
-  void cukvashe_##NAME##_encrypt_each(const uint8_t *keys, uint8_t *blocks, size_t count) {                           \
-    CHOOSE_BY_COUNT(NAME, encrypt_each, keys, count, blocks, count);                                                  \
+  int cukvashe_##NAME##_encrypt_each(const uint8_t *keys, size_t count, uint8_t *blocks, size_t length) {             \
+    return CHOOSE_IF_BLOCKS(takes_wide(length), NAME, encrypt_each, keys, count, blocks);                             \
   }                                                                                                                   \
-  void cukvashe_##NAME##_decrypt_each(const uint8_t *keys, uint8_t *blocks, size_t count) {                           \
-    CHOOSE_BY_COUNT(NAME, decrypt_each, keys, count, blocks, count);                                                  \
+  int cukvashe_##NAME##_decrypt_each(const uint8_t *keys, size_t count, uint8_t *blocks, size_t length) {             \
+    return CHOOSE_IF_BLOCKS(takes_wide(length), NAME, decrypt_each, keys, count, blocks);                             \
   }                                                                                                                   \
   void cukvashe_##NAME##_check_values(const uint8_t *keys, uint8_t *values, size_t count) {                           \
-    (void)cukvashe_narrow_##NAME##_check_values(keys, count, values, count);                                          \
+    CHOOSE_BY_COUNT(NAME, check_values, keys, count, values, count);                                                  \
   }                                                                                                                   \
   int cukvashe_##NAME##_encrypt_cbc_records(const cukvashe_##NAME *context, uint8_t *vectors, const size_t *counts,   \
-                                            size_t records_count, uint8_t *blocks, size_t blocks_count) {             \
-    return CHOOSE_IF(takes_wide_by_count(records_count), NAME, encrypt_cbc_records, context, vectors, records_count,  \
-                     counts, records_count, blocks, blocks_count);                                                    \
+                                            size_t records_count, uint8_t *bytes, size_t length) {                    \
+    return CHOOSE_IF_BLOCKS(takes_wide_by_count(records_count), NAME, encrypt_cbc_records, context, vectors,          \
+                            records_count, counts, records_count, bytes);                                             \
   }                                                                                                                   \
   int cukvashe_##NAME##_decrypt_cbc_records(const cukvashe_##NAME *context, uint8_t *vectors, const size_t *counts,   \
-                                            size_t records_count, uint8_t *blocks, size_t blocks_count) {             \
-    return CHOOSE_IF(takes_wide_by_count(blocks_count), NAME, decrypt_cbc_records, context, vectors, records_count,   \
-                     counts, records_count, blocks, blocks_count);                                                    \
+                                            size_t records_count, uint8_t *bytes, size_t length) {                    \
+    return CHOOSE_IF_BLOCKS(takes_wide(length), NAME, decrypt_cbc_records, context, vectors, records_count, counts,   \
+                            records_count, bytes);                                                                    \
   }                                                                                                                   \
   int cukvashe_cbc_mac_##NAME##_macs(const uint8_t *key, int method, const cukvashe_message *messages, uint8_t *tags, \
                                      size_t count) {                                                                  \
-    return cukvashe_narrow_cbc_mac_##NAME##_macs(key, method, messages, count, tags, count);                          \
+    return CHOOSE_IF(takes_wide_by_count(count), cbc_mac_##NAME, macs, key, method, messages, count, tags, count);    \
   }                                                                                                                   \
   int cukvashe_cbc_mac_##NAME##_macs_each(const uint8_t *keys, int method, const cukvashe_message *messages,          \
                                           uint8_t *tags, size_t count) {                                              \
-    return cukvashe_narrow_cbc_mac_##NAME##_macs_each(keys, count, method, messages, count, tags, count);             \
+    return CHOOSE_IF(takes_wide_by_count(count), cbc_mac_##NAME, macs_each, keys, count, method, messages, count,     \
+                     tags, count);                                                                                    \
   }
 
 DEFINE_CIPHER(des)
 DEFINE_CIPHER(tdes_ede2)
 DEFINE_CIPHER(tdes_ede3)
 
-int cukvashe_retail_mac_des_macs_each(const uint8_t *first, const uint8_t *second, int method,
-                                      const cukvashe_message *messages, uint8_t *tags, size_t count) {
-  return cukvashe_narrow_retail_mac_des_macs_each(first, count, second, count, method, messages, count, tags, count);
+int cukvashe_retail_mac_des_macs(const uint8_t *key, int method, const cukvashe_message *messages, uint8_t *tags,
+                                 size_t count) {
+  return CHOOSE_IF(takes_wide_by_count(count), retail_mac_des, macs, key, method, messages, count, tags, count);
+}
+
+int cukvashe_retail_mac_des_macs_each(const uint8_t *keys, int method, const cukvashe_message *messages, uint8_t *tags,
+                                      size_t count) {
+  return CHOOSE_IF(takes_wide_by_count(count), retail_mac_des, macs_each, keys, count, method, messages, count, tags,
+                   count);
+}
+
+#define DEFINE_CMAC(NAME)                                                                                             \
+  void cukvashe_cmac_##NAME##_macs(const uint8_t *key, const cukvashe_message *messages, uint8_t *tags,               \
+                                   size_t count) {                                                                    \
+    CHOOSE_BY_COUNT(cmac_##NAME, macs, key, messages, count, tags, count);                                            \
+  }                                                                                                                   \
+  void cukvashe_cmac_##NAME##_macs_each(const uint8_t *keys, const cukvashe_message *messages, uint8_t *tags,         \
+                                        size_t count) {                                                               \
+    CHOOSE_BY_COUNT(cmac_##NAME, macs_each, keys, count, messages, count, tags, count);                               \
+  }
+
+DEFINE_CMAC(tdes_ede2)
+DEFINE_CMAC(tdes_ede3)
+
+void cukvashe_verify_tags(const uint8_t *tags, const uint8_t *expected, bool *right, size_t count) {
+  (void)cukvashe_narrow_verify_tags(tags, count, expected, count, right, count);
 }
 
 void cukvashe_dukpt_transaction_keys(const uint8_t base[16], const uint8_t *serials, uint8_t *keys, size_t count) {
-  (void)cukvashe_narrow_dukpt_transaction_keys(base, serials, count, keys, count);
+  CHOOSE_BY_COUNT(dukpt, transaction_keys, base, serials, count, keys, count);
 }
 
 int cukvashe_pad(uint8_t *buffer, size_t length, size_t capacity, int method, size_t *padded_length) {
@@ -131,7 +159,7 @@ const char *cukvashe_strerror(int status) {
       [CUKVASHE_ERR_SERVICE_DIGIT] = "a character of the service code is not a digit",
       [CUKVASHE_ERR_PADDING] = "the last block does not end with the padding",
       [CUKVASHE_ERR_CAPACITY] = "the buffer has no room for the padding",
-      [CUKVASHE_ERR_COUNTS] = "lists that belong together do not have as many elements as each other, or as counts say",
+      [CUKVASHE_ERR_COUNTS] = "the numbers of elements do not agree",
   };
   const size_t place = (size_t)status; /* of a negative number, beyond all */
   return place < sizeof texts / sizeof *texts ? texts[place] : "there is no status of this number";

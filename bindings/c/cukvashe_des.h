@@ -9,8 +9,11 @@
  * LENGTHS
  *
  * Every length and size is a number of bytes, every count a number of elements: keys, messages, records, or blocks of 8
- * bytes. A number of bytes given as a count makes a call write past its buffer. A block has 8 bytes; bit 1 of FIPS 46-3
- * is the highest bit of the first. Data, keys and texts may stand at any address, contexts wherever their type may.
+ * bytes. Lists of blocks take a length beside a count, and if the two do not agree, as where both are bytes or both are
+ * blocks, the call refuses them. The calls that make check values, keys of transactions and tags of many, and
+ * cukvashe_verify_tags, take a count alone, and so does combine of its other components: a number of bytes given there
+ * makes them read, or write, past a buffer. A block has 8 bytes; bit 1 of FIPS 46-3 is the
+ * highest bit of the first. Data, keys and texts may stand at any address, contexts wherever their type may.
  *
  * POINTERS
  *
@@ -27,16 +30,24 @@
  * WHAT YOU MUST UPHOLD
  *
  * The library can't check that a pointer is good for its length, that arguments do not overlap, and that a context was
- * written by its init; if not, behaviour is undefined. You may copy, move and overwrite the bytes of a context. Weak
- * keys are accepted: call cukvashe_weak_key_test if you care. No mode here authenticates. Use an initialization vector
- * that is fresh and that nobody can foresee. Wipe contexts, keys and PINs after use (cukvashe_wipe).
+ * written by its init or init_quiet; if not, behaviour is undefined. You may copy, move and overwrite the bytes of a
+ * context. Weak keys are accepted: call cukvashe_weak_key_test if you care. No mode here authenticates. Use an
+ * initialization vector that is fresh and that nobody can foresee. Wipe contexts, keys and PINs after use
+ * (cukvashe_wipe).
  *
  * SECRETS AND TIME
  *
+ * Calls with a quick context, one that init made, read tables at addresses that depend on the key and the data, where
+ * this header says so. Calls with a quiet one, made by init_quiet, answer alike and read none. They take about three
+ * times as long for a single block, CBC encryption and MACs, and up to five times for CBC decryption of 3 to 10 blocks;
+ * ECB and CBC decryption of 32 blocks and more take at most as much longer as another 32 blocks would. Take quiet ones if
+ * programs of others run on the processor, which could learn the addresses. A copy of a context is of its kind.
+ *
  * Nothing is claimed about time. The calls that can read tables at addresses that depend on secrets, or branch on
- * secrets, say so below. With valgrind it is tested that init, pad, the calls of lists, and ECB and CBC decryption
- * where this header says so, read no tables at such addresses. A call uses at most 25,000 bytes of the stack; those of
- * transaction keys, of records and of the MACs of many messages at most 66,000. This is tested too.
+ * secrets, say so below. With valgrind it is tested that init, pad, the calls of lists, ECB and CBC decryption where
+ * this header says so, and all calls of quiet contexts, read no tables at such addresses. A call uses at most 27,000
+ * bytes of the stack; those of transaction keys, of records and of the MACs of many messages at most 66,000. This is
+ * tested too.
  *
  * WHAT IS PROVED
  *
@@ -44,8 +55,8 @@
  * defines, CBC as FIPS 81, and others by the standards named beside them. No standard defines cukvashe_weak_key_test,
  * cukvashe_set_odd_parity, cukvashe_equal_but_parity, check values, components and card verification values: their
  * rules are the words below. Tested and not proved are the few lines of C in the library: they choose the width of the
- * vectors, hand the arguments of some calls to proved ones in another order, and are cukvashe_wipe, cukvashe_strerror
- * and cukvashe_version.
+ * vectors, hand the arguments of some calls to proved ones in another order, make of the length of a list its number of
+ * blocks, and are cukvashe_wipe, cukvashe_strerror and cukvashe_version.
  */
 #ifndef CUKVASHE_DES_H
 #define CUKVASHE_DES_H
@@ -90,7 +101,7 @@ extern "C" {
 #define CUKVASHE_ERR_SERVICE_DIGIT 16  /* a character of the service code is not a digit */
 #define CUKVASHE_ERR_PADDING 17        /* the last block does not end with the padding */
 #define CUKVASHE_ERR_CAPACITY 18       /* the buffer has no room for the padding */
-#define CUKVASHE_ERR_COUNTS 19         /* lists that belong together are not as many, or not as counts say */
+#define CUKVASHE_ERR_COUNTS 19         /* the numbers of elements do not agree: a count, or a sum of counts, and a length */
 
 /* Sizes, in bytes. */
 #define CUKVASHE_BLOCK_SIZE 8
@@ -141,26 +152,31 @@ void cukvashe_wipe(void *pointer, size_t size);
  * A context holds the round keys, so it is as secret as the key. Its words are the library's own.
  */
 typedef struct {
-  uint64_t words[16];
+  uint64_t words[17];
 } cukvashe_des;
 
 typedef struct {
-  uint64_t words[32];
+  uint64_t words[33];
 } cukvashe_tdes_ede2;
 
 typedef struct {
-  uint64_t words[48];
+  uint64_t words[49];
 } cukvashe_tdes_ede3;
 
 /*
  * int cukvashe_NAME_init(cukvashe_NAME *context, const uint8_t *key, size_t key_length)
+ * int cukvashe_NAME_init_quiet(cukvashe_NAME *context, const uint8_t *key, size_t key_length)
  *
- * Makes the context of a key. The parity bits, the lowest of each byte, are ignored. CUKVASHE_ERR_KEY_LENGTH if the key
- * does not have the cipher's key size.
+ * Makes the context of a key, by init_quiet a quiet one: no call with it reads tables at addresses that depend on the
+ * key or the data (see SECRETS AND TIME). The parity bits, the lowest of each byte, are ignored. CUKVASHE_ERR_KEY_LENGTH if
+ * the key does not have the cipher's key size.
  */
 CUKVASHE_CHECK int cukvashe_des_init(cukvashe_des *context, const uint8_t *key, size_t key_length);
 CUKVASHE_CHECK int cukvashe_tdes_ede2_init(cukvashe_tdes_ede2 *context, const uint8_t *key, size_t key_length);
 CUKVASHE_CHECK int cukvashe_tdes_ede3_init(cukvashe_tdes_ede3 *context, const uint8_t *key, size_t key_length);
+CUKVASHE_CHECK int cukvashe_des_init_quiet(cukvashe_des *context, const uint8_t *key, size_t key_length);
+CUKVASHE_CHECK int cukvashe_tdes_ede2_init_quiet(cukvashe_tdes_ede2 *context, const uint8_t *key, size_t key_length);
+CUKVASHE_CHECK int cukvashe_tdes_ede3_init_quiet(cukvashe_tdes_ede3 *context, const uint8_t *key, size_t key_length);
 
 /*
  * ECB
@@ -175,7 +191,7 @@ CUKVASHE_CHECK int cukvashe_tdes_ede3_init(cukvashe_tdes_ede3 *context, const ui
  *
  * A call takes 128 blocks at a time, or 256 where the processor has wider vectors, and by tables what is left over if
  * that is fewer than 32 blocks. By tables means that they are read at addresses that depend on the key and the block:
- * none are read if the number of blocks modulo 128 is 0 or at least 32.
+ * none are read if the number of blocks modulo 128 is 0 or at least 32, or if the context is quiet.
  */
 CUKVASHE_CHECK int cukvashe_des_encrypt_ecb(const cukvashe_des *context, uint8_t *data, size_t length);
 CUKVASHE_CHECK int cukvashe_des_decrypt_ecb(const cukvashe_des *context, uint8_t *data, size_t length);
@@ -211,7 +227,8 @@ CUKVASHE_CHECK int cukvashe_tdes_ede3_decrypt_ecb_to(const cukvashe_tdes_ede3 *c
  * copy of the vector if you need it again. CUKVASHE_ERR_BLOCKS if `length` is not a multiple of 8.
  *
  * Encryption goes one block at a time, since each waits for the one before it: it reads tables at addresses that depend
- * on the key and the data. Decryption takes blocks as ECB does, with the same rule for tables.
+ * on the key and the data, if the context is not quiet. Decryption takes blocks as ECB does, with the same rule for
+ * tables.
  */
 CUKVASHE_CHECK int cukvashe_des_encrypt_cbc(const cukvashe_des *context, uint8_t iv[8], uint8_t *data, size_t length);
 CUKVASHE_CHECK int cukvashe_des_decrypt_cbc(const cukvashe_des *context, uint8_t iv[8], uint8_t *data, size_t length);
@@ -239,54 +256,57 @@ CUKVASHE_CHECK int cukvashe_tdes_ede3_decrypt_cbc_to(const cukvashe_tdes_ede3 *c
 /*
  * BLOCKS UNDER KEYS OF THEIR OWN
  *
- * void cukvashe_NAME_encrypt_each(const uint8_t *keys, uint8_t *blocks, size_t count)
- * void cukvashe_NAME_decrypt_each(const uint8_t *keys, uint8_t *blocks, size_t count)
+ * int cukvashe_NAME_encrypt_each(const uint8_t *keys, size_t count, uint8_t *blocks, size_t length)
+ * int cukvashe_NAME_decrypt_each(const uint8_t *keys, size_t count, uint8_t *blocks, size_t length)
  *
- * Encrypts or decrypts each of `count` blocks in place under the key at its place: `keys` are `count` keys of the cipher,
- * one after the other. No context is made. 128 blocks go together, or 256 where the processor has wider vectors; fewer
- * take as long as 128. No tables are read at addresses that depend on keys or blocks.
+ * Encrypts or decrypts each block of `length` bytes in place under the key at its place: `keys` are `count` keys of the
+ * cipher, one after the other. CUKVASHE_ERR_BLOCKS if `length` is not a multiple of 8; CUKVASHE_ERR_COUNTS if `count` is
+ * not `length` / 8.
+ *
+ * No context is made. 128 blocks go together, or 256 where the processor has wider vectors; fewer take as long as 128. No
+ * tables are read at addresses that depend on keys or blocks.
  */
-void cukvashe_des_encrypt_each(const uint8_t *keys, uint8_t *blocks, size_t count);
-void cukvashe_des_decrypt_each(const uint8_t *keys, uint8_t *blocks, size_t count);
-void cukvashe_tdes_ede2_encrypt_each(const uint8_t *keys, uint8_t *blocks, size_t count);
-void cukvashe_tdes_ede2_decrypt_each(const uint8_t *keys, uint8_t *blocks, size_t count);
-void cukvashe_tdes_ede3_encrypt_each(const uint8_t *keys, uint8_t *blocks, size_t count);
-void cukvashe_tdes_ede3_decrypt_each(const uint8_t *keys, uint8_t *blocks, size_t count);
+CUKVASHE_CHECK int cukvashe_des_encrypt_each(const uint8_t *keys, size_t count, uint8_t *blocks, size_t length);
+CUKVASHE_CHECK int cukvashe_des_decrypt_each(const uint8_t *keys, size_t count, uint8_t *blocks, size_t length);
+CUKVASHE_CHECK int cukvashe_tdes_ede2_encrypt_each(const uint8_t *keys, size_t count, uint8_t *blocks, size_t length);
+CUKVASHE_CHECK int cukvashe_tdes_ede2_decrypt_each(const uint8_t *keys, size_t count, uint8_t *blocks, size_t length);
+CUKVASHE_CHECK int cukvashe_tdes_ede3_encrypt_each(const uint8_t *keys, size_t count, uint8_t *blocks, size_t length);
+CUKVASHE_CHECK int cukvashe_tdes_ede3_decrypt_each(const uint8_t *keys, size_t count, uint8_t *blocks, size_t length);
 
 /*
  * RECORDS
  *
  * int cukvashe_NAME_encrypt_cbc_records(const cukvashe_NAME *context, uint8_t *vectors, const size_t *counts,
- *                                       size_t records_count, uint8_t *blocks, size_t blocks_count)
+ *                                       size_t records_count, uint8_t *bytes, size_t length)
  * int cukvashe_NAME_decrypt_cbc_records(const cukvashe_NAME *context, uint8_t *vectors, const size_t *counts,
- *                                       size_t records_count, uint8_t *blocks, size_t blocks_count)
+ *                                       size_t records_count, uint8_t *bytes, size_t length)
  *
  * Encrypts or decrypts `records_count` records under one key, in place, each by cipher block chaining from a vector of its
- * own: record k has `counts[k]` of the `blocks_count` blocks, one record after the other, and its vector is the k-th of
- * `vectors`, of 8 bytes each. Each vector becomes the last ciphertext block of its record, as by encrypt_cbc. A record may
- * be empty. CUKVASHE_ERR_COUNTS if the counts do not add up to `blocks_count`.
+ * own. `bytes` has them one after the other, of `length` bytes together: record k has `counts[k]` blocks of 8 bytes, and
+ * its vector is the k-th of `vectors`, of 8 bytes each. Each vector becomes the last ciphertext block of its record, as by
+ * encrypt_cbc. A record may be empty. CUKVASHE_ERR_BLOCKS if `length` is not a multiple of 8; CUKVASHE_ERR_COUNTS if the
+ * sum of the counts is not `length` / 8.
  *
- * Decryption takes as long as one list of all blocks. Encryption takes 128 records at a time, or 256, as long as the
- * longest of them. No tables are read at addresses that depend on the key, the vectors or the blocks.
+ * Decryption takes as long as one list of all blocks. Encryption works on 128 records together, or 256, until the longest
+ * has ended; so sort records of very different lengths. No tables are read at addresses that depend on the key, the
+ * vectors or the blocks.
  */
-CUKVASHE_CHECK int cukvashe_des_encrypt_cbc_records(const cukvashe_des *context, uint8_t *vectors,
-                                                    const size_t *counts, size_t records_count, uint8_t *blocks,
-                                                    size_t blocks_count);
-CUKVASHE_CHECK int cukvashe_des_decrypt_cbc_records(const cukvashe_des *context, uint8_t *vectors,
-                                                    const size_t *counts, size_t records_count, uint8_t *blocks,
-                                                    size_t blocks_count);
+CUKVASHE_CHECK int cukvashe_des_encrypt_cbc_records(const cukvashe_des *context, uint8_t *vectors, const size_t *counts,
+                                                    size_t records_count, uint8_t *bytes, size_t length);
+CUKVASHE_CHECK int cukvashe_des_decrypt_cbc_records(const cukvashe_des *context, uint8_t *vectors, const size_t *counts,
+                                                    size_t records_count, uint8_t *bytes, size_t length);
 CUKVASHE_CHECK int cukvashe_tdes_ede2_encrypt_cbc_records(const cukvashe_tdes_ede2 *context, uint8_t *vectors,
-                                                          const size_t *counts, size_t records_count, uint8_t *blocks,
-                                                          size_t blocks_count);
+                                                          const size_t *counts, size_t records_count, uint8_t *bytes,
+                                                          size_t length);
 CUKVASHE_CHECK int cukvashe_tdes_ede2_decrypt_cbc_records(const cukvashe_tdes_ede2 *context, uint8_t *vectors,
-                                                          const size_t *counts, size_t records_count, uint8_t *blocks,
-                                                          size_t blocks_count);
+                                                          const size_t *counts, size_t records_count, uint8_t *bytes,
+                                                          size_t length);
 CUKVASHE_CHECK int cukvashe_tdes_ede3_encrypt_cbc_records(const cukvashe_tdes_ede3 *context, uint8_t *vectors,
-                                                          const size_t *counts, size_t records_count, uint8_t *blocks,
-                                                          size_t blocks_count);
+                                                          const size_t *counts, size_t records_count, uint8_t *bytes,
+                                                          size_t length);
 CUKVASHE_CHECK int cukvashe_tdes_ede3_decrypt_cbc_records(const cukvashe_tdes_ede3 *context, uint8_t *vectors,
-                                                          const size_t *counts, size_t records_count, uint8_t *blocks,
-                                                          size_t blocks_count);
+                                                          const size_t *counts, size_t records_count, uint8_t *bytes,
+                                                          size_t length);
 
 /*
  * PADDING
@@ -338,41 +358,44 @@ CUKVASHE_CHECK bool cukvashe_equal_but_parity(const uint8_t *first, const uint8_
  *
  * CBC-MAC is safe only if every message under a key has the same length, which both sides know. Padding method 1 hides
  * zeros at the end of a message. Tags have 64 bits: use a key for far fewer than 2^32 messages; of a tag that is cut to
- * 4 bytes, one guess in 2^32 is right. All calls read tables at addresses that depend on the key and the message.
+ * 4 bytes, one guess in 2^32 is right. All calls read tables at addresses that depend on the key and the message, if the
+ * context is not quiet.
  *
  * A context holds round keys and bytes of the message. A copy is independent: for messages with the same beginning, add
  * that once and copy.
  */
 typedef struct {
-  uint64_t words[20];
+  uint64_t words[21];
 } cukvashe_cbc_mac_des;
 
 typedef struct {
-  uint64_t words[36];
+  uint64_t words[37];
 } cukvashe_cbc_mac_tdes_ede2;
 
 typedef struct {
-  uint64_t words[52];
+  uint64_t words[53];
 } cukvashe_cbc_mac_tdes_ede3;
 
 typedef struct {
-  uint64_t words[36];
+  uint64_t words[38];
 } cukvashe_retail_mac_des;
 
 typedef struct {
-  uint64_t words[36];
+  uint64_t words[37];
 } cukvashe_cmac_tdes_ede2;
 
 typedef struct {
-  uint64_t words[52];
+  uint64_t words[53];
 } cukvashe_cmac_tdes_ede3;
 
 /*
  * int cukvashe_MAC_init(cukvashe_MAC *context, const uint8_t *key, size_t key_length, int method)
+ * int cukvashe_MAC_init_quiet(cukvashe_MAC *context, const uint8_t *key, size_t key_length, int method)
  *
- * Makes the context of a key and an empty message. CUKVASHE_ERR_KEY_LENGTH if the key does not have the key size, else
- * CUKVASHE_ERR_PADDING_METHOD if `method` is neither CUKVASHE_MAC_PADDING_1 nor CUKVASHE_MAC_PADDING_2. The sender has
- * chosen the method: the other one makes another tag. CMAC takes no method.
+ * Makes the context of a key and an empty message, by init_quiet a quiet one (see SECRETS AND TIME).
+ * CUKVASHE_ERR_KEY_LENGTH if the key does not have the key size, else CUKVASHE_ERR_PADDING_METHOD if `method` is neither
+ * CUKVASHE_MAC_PADDING_1 nor CUKVASHE_MAC_PADDING_2. The sender has chosen the method: the other one makes another tag.
+ * CMAC takes no method.
  */
 CUKVASHE_CHECK int cukvashe_cbc_mac_des_init(cukvashe_cbc_mac_des *context, const uint8_t *key, size_t key_length,
                                              int method);
@@ -386,6 +409,18 @@ CUKVASHE_CHECK int cukvashe_cmac_tdes_ede2_init(cukvashe_cmac_tdes_ede2 *context
                                                 size_t key_length);
 CUKVASHE_CHECK int cukvashe_cmac_tdes_ede3_init(cukvashe_cmac_tdes_ede3 *context, const uint8_t *key,
                                                 size_t key_length);
+CUKVASHE_CHECK int cukvashe_cbc_mac_des_init_quiet(cukvashe_cbc_mac_des *context, const uint8_t *key,
+                                                   size_t key_length, int method);
+CUKVASHE_CHECK int cukvashe_cbc_mac_tdes_ede2_init_quiet(cukvashe_cbc_mac_tdes_ede2 *context, const uint8_t *key,
+                                                         size_t key_length, int method);
+CUKVASHE_CHECK int cukvashe_cbc_mac_tdes_ede3_init_quiet(cukvashe_cbc_mac_tdes_ede3 *context, const uint8_t *key,
+                                                         size_t key_length, int method);
+CUKVASHE_CHECK int cukvashe_retail_mac_des_init_quiet(cukvashe_retail_mac_des *context, const uint8_t *key,
+                                                      size_t key_length, int method);
+CUKVASHE_CHECK int cukvashe_cmac_tdes_ede2_init_quiet(cukvashe_cmac_tdes_ede2 *context, const uint8_t *key,
+                                                      size_t key_length);
+CUKVASHE_CHECK int cukvashe_cmac_tdes_ede3_init_quiet(cukvashe_cmac_tdes_ede3 *context, const uint8_t *key,
+                                                      size_t key_length);
 
 /*
  * void cukvashe_MAC_update(cukvashe_MAC *context, const uint8_t *message, size_t length)
@@ -438,17 +473,21 @@ CUKVASHE_CHECK int cukvashe_cmac_tdes_ede3_verify(const cukvashe_cmac_tdes_ede3 
  * int cukvashe_MAC_macs(const uint8_t *key, int method, const cukvashe_message *messages, uint8_t *tags, size_t count)
  * int cukvashe_MAC_macs_each(const uint8_t *keys, int method, const cukvashe_message *messages, uint8_t *tags,
  *                            size_t count)
- * int cukvashe_retail_mac_des_macs_each(const uint8_t *first, const uint8_t *second, int method,
- *                                       const cukvashe_message *messages, uint8_t *tags, size_t count)
+ * void cukvashe_CMAC_macs(const uint8_t *key, const cukvashe_message *messages, uint8_t *tags, size_t count)
+ * void cukvashe_CMAC_macs_each(const uint8_t *keys, const cukvashe_message *messages, uint8_t *tags, size_t count)
  *
- * Writes the tags, of 8 bytes each, of `count` messages; MAC is a CBC-MAC. `macs` takes one key for all, `macs_each` the
- * key at the message's place of `count` keys, one after the other; of the retail MAC `first` are `count` keys of 8 bytes
- * and `second` as many: split keys of 16 bytes, as init takes them, since `keys` and `keys + 8` give wrong tags.
- * CUKVASHE_ERR_PADDING_METHOD as by init. To check a tag, or together the xors of its eight bytes with those made here:
- * 0 if they agree. memcmp may stop at the first wrong byte.
+ * Writes the tags, of 8 bytes each, of `count` messages; MAC is a CBC-MAC or retail_mac_des, CMAC is cmac_tdes_ede2 or
+ * cmac_tdes_ede3. `macs` takes one key for all, `macs_each` the key at the message's place of `count` keys, one after the
+ * other. Keys have the key size of the MAC, those of the retail MAC 16 bytes. CUKVASHE_ERR_PADDING_METHOD as by init.
  *
- * 128 messages go together, and take as long as the longest of them: sort messages of very different lengths. No tables
- * are read at addresses that depend on keys or messages.
+ * 128 or 256 messages are worked on together, until the longest has ended; so sort messages of very different lengths. No
+ * tables are read at addresses that depend on keys or messages.
+ *
+ * void cukvashe_verify_tags(const uint8_t *tags, const uint8_t *expected, bool *right, size_t count)
+ *
+ * Writes for each of `count` tags of 8 bytes whether it is the one at its place in `expected`, the tags that macs or
+ * macs_each made: true where all 8 bytes agree. Every byte is compared, wherever two tags differ; memcmp may stop at the
+ * first wrong byte. Tags that were cut are not taken.
  */
 typedef struct {
   const uint8_t *bytes;
@@ -467,21 +506,30 @@ CUKVASHE_CHECK int cukvashe_cbc_mac_tdes_ede3_macs(const uint8_t *key, int metho
                                                    uint8_t *tags, size_t count);
 CUKVASHE_CHECK int cukvashe_cbc_mac_tdes_ede3_macs_each(const uint8_t *keys, int method,
                                                         const cukvashe_message *messages, uint8_t *tags, size_t count);
-CUKVASHE_CHECK int cukvashe_retail_mac_des_macs_each(const uint8_t *first, const uint8_t *second, int method,
-                                                     const cukvashe_message *messages, uint8_t *tags, size_t count);
+CUKVASHE_CHECK int cukvashe_retail_mac_des_macs(const uint8_t *key, int method, const cukvashe_message *messages,
+                                                uint8_t *tags, size_t count);
+CUKVASHE_CHECK int cukvashe_retail_mac_des_macs_each(const uint8_t *keys, int method, const cukvashe_message *messages,
+                                                     uint8_t *tags, size_t count);
+void cukvashe_cmac_tdes_ede2_macs(const uint8_t *key, const cukvashe_message *messages, uint8_t *tags, size_t count);
+void cukvashe_cmac_tdes_ede2_macs_each(const uint8_t *keys, const cukvashe_message *messages, uint8_t *tags,
+                                       size_t count);
+void cukvashe_cmac_tdes_ede3_macs(const uint8_t *key, const cukvashe_message *messages, uint8_t *tags, size_t count);
+void cukvashe_cmac_tdes_ede3_macs_each(const uint8_t *keys, const cukvashe_message *messages, uint8_t *tags,
+                                       size_t count);
+void cukvashe_verify_tags(const uint8_t *tags, const uint8_t *expected, bool *right, size_t count);
 
 /*
  * CHECK VALUES AND COMPONENTS
  *
  * int cukvashe_NAME_check_value(const uint8_t *key, size_t key_length, uint8_t value[3])
  *
- * The check value of a key: the first three bytes of the block of zeros, encrypted under it, which reads tables at
+ * The check value of a key: the first three bytes of the block of zeros, encrypted under it. No tables are read at
  * addresses that depend on the key. CUKVASHE_ERR_KEY_LENGTH if the key does not have the cipher's key size.
  *
  * void cukvashe_NAME_check_values(const uint8_t *keys, uint8_t *values, size_t count)
  *
- * The check values, of 3 bytes each, of `count` keys of the cipher, one after the other. 128 keys go together, and no
- * tables are read at addresses that depend on them.
+ * The check values, of 3 bytes each, of `count` keys of the cipher, one after the other. 128 or 256 keys go together,
+ * and no tables are read at addresses that depend on them.
  *
  * int cukvashe_combine_SIZE(const uint8_t first[SIZE], const uint8_t second[SIZE], const uint8_t *others,
  *                           size_t others_count, uint8_t key[SIZE])
@@ -515,8 +563,8 @@ CUKVASHE_CHECK int cukvashe_combine_24(const uint8_t first[24], const uint8_t se
  * authenticate and encrypt the data of the request or, if `is_response`, of the response.
  *
  * transaction_keys writes the keys of `count` transactions from the base derivation key: what transaction_key makes of
- * initial_key, for each of `count` key serial numbers, one after the other. The terminals may be different ones. 128 keys
- * go together, no tables are read at addresses that depend on keys, and no branch depends on one.
+ * initial_key, for each of `count` key serial numbers, one after the other. The terminals may be different ones. 128 or
+ * 256 keys go together, no tables are read at addresses that depend on keys, and no branch depends on one.
  *
  * A transaction's counter is not 0 and has at most ten one bits: is_usable says whether that holds. The other counters
  * have keys here all the same; for counter 0 transaction_key gives the initial key itself. So ask is_usable of each key
@@ -524,7 +572,7 @@ CUKVASHE_CHECK int cukvashe_combine_24(const uint8_t first[24], const uint8_t se
  *
  * next_serial gives the next key serial number whose counter is usable. CUKVASHE_ERR_NO_SERIAL if there is none.
  *
- * initial_key, transaction_key and data_key read tables at addresses that depend on keys.
+ * None of these calls reads tables at addresses that depend on keys, or branches on keys.
  */
 void cukvashe_dukpt_initial_key(const uint8_t base[16], const uint8_t serial[10], uint8_t key[16]);
 void cukvashe_dukpt_transaction_key(const uint8_t initial[16], const uint8_t serial[10], uint8_t key[16]);
@@ -572,8 +620,8 @@ CUKVASHE_CHECK int cukvashe_pin_decode_3(const uint8_t block[8], const char *acc
  * Writes the card verification value, three ASCII digits and a zero byte, under a key pair, of an account number of 13
  * to 19 digits, an expiry date of four, in the order that the issuer takes, and a service code of three: texts as those
  * of PIN blocks. The status is that of the first fault of CUKVASHE_ERR_ACCOUNT_LENGTH, _ACCOUNT_DIGIT, _EXPIRY_LENGTH,
- * _EXPIRY_DIGIT, _SERVICE_LENGTH, _SERVICE_DIGIT. Reads tables at addresses that depend on the key, and branches on what
- * the key makes of the texts.
+ * _EXPIRY_DIGIT, _SERVICE_LENGTH, _SERVICE_DIGIT. Branches on what the key makes of the texts, and reads no tables at
+ * addresses that depend on the key.
  */
 CUKVASHE_CHECK int cukvashe_cvv(const uint8_t key[16], const char *account, size_t account_length, const char *expiry,
                                 size_t expiry_length, const char *service, size_t service_length, char value[4]);

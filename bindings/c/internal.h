@@ -38,30 +38,50 @@ struct processor cukvashe_internal_processor(void);
                                                       uint8_t *blocks, size_t blocks_count);                          \
   int cukvashe_##WIDTH##_##NAME##_decrypt_cbc_records(const cukvashe_##NAME *context, uint8_t *vectors,               \
                                                       size_t vectors_count, const size_t *sizes, size_t sizes_count,  \
-                                                      uint8_t *blocks, size_t blocks_count);
+                                                      uint8_t *blocks, size_t blocks_count);                          \
+  int cukvashe_##WIDTH##_##NAME##_check_values(const uint8_t *keys, size_t keys_count, uint8_t *values,               \
+                                               size_t values_count);                                                  \
+  int cukvashe_##WIDTH##_cbc_mac_##NAME##_macs(const uint8_t *key, int method, const cukvashe_message *messages,      \
+                                               size_t messages_count, uint8_t *tags, size_t tags_count);              \
+  int cukvashe_##WIDTH##_cbc_mac_##NAME##_macs_each(const uint8_t *keys, size_t keys_count, int method,               \
+                                                    const cukvashe_message *messages, size_t messages_count,          \
+                                                    uint8_t *tags, size_t tags_count);
 
 #define DECLARE_CIPHER(NAME)                                                                                          \
   DECLARE_WIDTH(NAME, narrow)                                                                                         \
   DECLARE_WIDTH(NAME, wide)                                                                                           \
   int cukvashe_narrow_##NAME##_encrypt_cbc_to(const cukvashe_##NAME *context, uint8_t iv[8], const uint8_t *input,    \
-                                              size_t input_length, uint8_t *output, size_t output_length);            \
-  int cukvashe_narrow_##NAME##_check_values(const uint8_t *keys, size_t keys_count, uint8_t *values,                  \
-                                            size_t values_count);                                                     \
-  int cukvashe_narrow_cbc_mac_##NAME##_macs(const uint8_t *key, int method, const cukvashe_message *messages,         \
-                                            size_t messages_count, uint8_t *tags, size_t tags_count);                 \
-  int cukvashe_narrow_cbc_mac_##NAME##_macs_each(const uint8_t *keys, size_t keys_count, int method,                  \
-                                                 const cukvashe_message *messages, size_t messages_count,             \
-                                                 uint8_t *tags, size_t tags_count);
+                                              size_t input_length, uint8_t *output, size_t output_length);
 
 DECLARE_CIPHER(des)
 DECLARE_CIPHER(tdes_ede2)
 DECLARE_CIPHER(tdes_ede3)
 
-int cukvashe_narrow_retail_mac_des_macs_each(const uint8_t *first, size_t first_count, const uint8_t *second,
-                                             size_t second_count, int method, const cukvashe_message *messages,
-                                             size_t messages_count, uint8_t *tags, size_t tags_count);
-int cukvashe_narrow_dukpt_transaction_keys(const uint8_t base[16], const uint8_t *serials, size_t serials_count,
-                                           uint8_t *keys, size_t keys_count);
+#define DECLARE_LISTS(WIDTH)                                                                                          \
+  int cukvashe_##WIDTH##_retail_mac_des_macs(const uint8_t key[16], int method, const cukvashe_message *messages,     \
+                                             size_t messages_count, uint8_t *tags, size_t tags_count);                \
+  int cukvashe_##WIDTH##_retail_mac_des_macs_each(const uint8_t *keys, size_t keys_count, int method,                 \
+                                                  const cukvashe_message *messages, size_t messages_count,            \
+                                                  uint8_t *tags, size_t tags_count);                                  \
+  int cukvashe_##WIDTH##_dukpt_transaction_keys(const uint8_t base[16], const uint8_t *serials, size_t serials_count, \
+                                                uint8_t *keys, size_t keys_count);
+
+#define DECLARE_CMAC(NAME, WIDTH)                                                                                     \
+  int cukvashe_##WIDTH##_cmac_##NAME##_macs(const uint8_t *key, const cukvashe_message *messages,                     \
+                                            size_t messages_count, uint8_t *tags, size_t tags_count);                 \
+  int cukvashe_##WIDTH##_cmac_##NAME##_macs_each(const uint8_t *keys, size_t keys_count,                              \
+                                                 const cukvashe_message *messages, size_t messages_count,             \
+                                                 uint8_t *tags, size_t tags_count);
+
+DECLARE_LISTS(narrow)
+DECLARE_LISTS(wide)
+DECLARE_CMAC(tdes_ede2, narrow)
+DECLARE_CMAC(tdes_ede2, wide)
+DECLARE_CMAC(tdes_ede3, narrow)
+DECLARE_CMAC(tdes_ede3, wide)
+
+int cukvashe_narrow_verify_tags(const uint8_t *tags, size_t tags_count, const uint8_t *expected, size_t expected_count,
+                                bool *right, size_t right_count);
 int cukvashe_narrow_pad(uint8_t *buffer, size_t capacity, size_t length, int method, size_t *padded_length);
 bool cukvashe_narrow_equal_but_parity(const uint8_t *first, size_t first_length, const uint8_t *second,
                                       size_t second_length);

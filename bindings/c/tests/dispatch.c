@@ -83,17 +83,28 @@ static int made(const char *name, const void *context, const void *iv, const voi
     CHECK(vectors_count == sizes_count);                                                                              \
     return made(#WIDTH " " #NAME " " #CALL, context, vectors, sizes, sizes_count, blocks, blocks_count);              \
   }
-#define TAGS(NAME)                                                                                                    \
-  int cukvashe_narrow_cbc_mac_##NAME##_macs(const uint8_t *key, int method, const cukvashe_message *messages,         \
-                                            size_t messages_count, uint8_t *tags, size_t tags_count) {                \
+#define TAGS(NAME, WIDTH)                                                                                             \
+  int cukvashe_##WIDTH##_cbc_mac_##NAME##_macs(const uint8_t *key, int method, const cukvashe_message *messages,      \
+                                               size_t messages_count, uint8_t *tags, size_t tags_count) {             \
     CHECK(method == 7);                                                                                               \
-    return made("narrow " #NAME " macs", key, NULL, messages, messages_count, tags, tags_count);                      \
+    return made(#WIDTH " " #NAME " macs", key, NULL, messages, messages_count, tags, tags_count);                     \
   }                                                                                                                   \
-  int cukvashe_narrow_cbc_mac_##NAME##_macs_each(const uint8_t *keys, size_t keys_count, int method,                  \
+  int cukvashe_##WIDTH##_cbc_mac_##NAME##_macs_each(const uint8_t *keys, size_t keys_count, int method,               \
+                                                    const cukvashe_message *messages, size_t messages_count,          \
+                                                    uint8_t *tags, size_t tags_count) {                               \
+    CHECK(method == 7 && keys_count == tags_count);                                                                   \
+    return made(#WIDTH " " #NAME " macs_each", keys, NULL, messages, messages_count, tags, tags_count);               \
+  }
+#define CMAC_TAGS(NAME, WIDTH)                                                                                        \
+  int cukvashe_##WIDTH##_cmac_##NAME##_macs(const uint8_t *key, const cukvashe_message *messages,                     \
+                                            size_t messages_count, uint8_t *tags, size_t tags_count) {                \
+    return made(#WIDTH " " #NAME " cmacs", key, NULL, messages, messages_count, tags, tags_count);                    \
+  }                                                                                                                   \
+  int cukvashe_##WIDTH##_cmac_##NAME##_macs_each(const uint8_t *keys, size_t keys_count,                              \
                                                  const cukvashe_message *messages, size_t messages_count,             \
                                                  uint8_t *tags, size_t tags_count) {                                  \
-    CHECK(method == 7 && keys_count == tags_count);                                                                   \
-    return made("narrow " #NAME " macs_each", keys, NULL, messages, messages_count, tags, tags_count);                \
+    CHECK(keys_count == tags_count);                                                                                  \
+    return made(#WIDTH " " #NAME " cmacs_each", keys, NULL, messages, messages_count, tags, tags_count);              \
   }
 #define EXPORTS_OF_WIDTH(NAME, WIDTH)                                                                                 \
   PLACE(NAME, WIDTH, encrypt_ecb)                                                                                     \
@@ -102,30 +113,46 @@ static int made(const char *name, const void *context, const void *iv, const voi
   CHAIN_TO(NAME, WIDTH, decrypt_cbc)                                                                                  \
   FOR_EACH(NAME, WIDTH, encrypt_each)                                                                                 \
   FOR_EACH(NAME, WIDTH, decrypt_each)                                                                                 \
+  FOR_EACH(NAME, WIDTH, check_values)                                                                                 \
+  TAGS(NAME, WIDTH)                                                                                                   \
   RECORDS(NAME, WIDTH, encrypt_cbc_records)                                                                           \
   RECORDS(NAME, WIDTH, decrypt_cbc_records)
 #define EXPORTS(NAME)                                                                                                 \
   EXPORTS_OF_WIDTH(NAME, narrow)                                                                                      \
   EXPORTS_OF_WIDTH(NAME, wide)                                                                                        \
   CHAIN_IN_PLACE(NAME)                                                                                                \
-  CHAIN_TO(NAME, narrow, encrypt_cbc)                                                                                 \
-  FOR_EACH(NAME, narrow, check_values)                                                                                \
-  TAGS(NAME)
+  CHAIN_TO(NAME, narrow, encrypt_cbc)
 
 EXPORTS(des)
 EXPORTS(tdes_ede2)
 EXPORTS(tdes_ede3)
 
-int cukvashe_narrow_retail_mac_des_macs_each(const uint8_t *first, size_t first_count, const uint8_t *second,
-                                             size_t second_count, int method, const cukvashe_message *messages,
-                                             size_t messages_count, uint8_t *tags, size_t tags_count) {
-  CHECK(method == 7 && first_count == tags_count && second_count == tags_count);
-  return made("narrow retail macs_each", first, second, messages, messages_count, tags, tags_count);
-}
+#define EXPORTS_OF_LISTS(WIDTH)                                                                                       \
+  CMAC_TAGS(tdes_ede2, WIDTH)                                                                                         \
+  CMAC_TAGS(tdes_ede3, WIDTH)                                                                                         \
+  int cukvashe_##WIDTH##_retail_mac_des_macs(const uint8_t key[16], int method, const cukvashe_message *messages,     \
+                                             size_t messages_count, uint8_t *tags, size_t tags_count) {               \
+    CHECK(method == 7);                                                                                               \
+    return made(#WIDTH " retail macs", key, NULL, messages, messages_count, tags, tags_count);                        \
+  }                                                                                                                   \
+  int cukvashe_##WIDTH##_retail_mac_des_macs_each(const uint8_t *keys, size_t keys_count, int method,                 \
+                                                  const cukvashe_message *messages, size_t messages_count,            \
+                                                  uint8_t *tags, size_t tags_count) {                                 \
+    CHECK(method == 7 && keys_count == tags_count);                                                                   \
+    return made(#WIDTH " retail macs_each", keys, NULL, messages, messages_count, tags, tags_count);                  \
+  }                                                                                                                   \
+  int cukvashe_##WIDTH##_dukpt_transaction_keys(const uint8_t base[16], const uint8_t *serials, size_t serials_count, \
+                                                uint8_t *keys, size_t keys_count) {                                   \
+    return made(#WIDTH " dukpt transaction_keys", base, NULL, serials, serials_count, keys, keys_count);              \
+  }
 
-int cukvashe_narrow_dukpt_transaction_keys(const uint8_t base[16], const uint8_t *serials, size_t serials_count,
-                                           uint8_t *keys, size_t keys_count) {
-  return made("narrow dukpt transaction_keys", base, NULL, serials, serials_count, keys, keys_count);
+EXPORTS_OF_LISTS(narrow)
+EXPORTS_OF_LISTS(wide)
+
+int cukvashe_narrow_verify_tags(const uint8_t *tags, size_t tags_count, const uint8_t *expected, size_t expected_count,
+                                bool *right, size_t right_count) {
+  CHECK(tags_count == right_count);
+  return made("narrow verify tags", tags, NULL, expected, expected_count, right, right_count);
 }
 
 int cukvashe_narrow_pad(uint8_t *buffer, size_t capacity, size_t length, int method, size_t *padded_length) {
@@ -142,14 +169,19 @@ bool cukvashe_narrow_equal_but_parity(const uint8_t *first, size_t first_length,
 }
 
 /* The one call that was made since the last check had this name and these arguments. */
-static void was(const char *width, const char *cipher, const char *name, const void *context, const void *iv,
-                const void *input, const void *output, size_t length) {
+static void was_of(const char *width, const char *cipher, const char *name, const void *context, const void *iv,
+                   const void *input, size_t input_length, const void *output, size_t output_length) {
   char wanted[80];
   snprintf(wanted, sizeof wanted, "%s %s %s", width, cipher, name);
   CHECK(calls == 1 && strcmp(last.name, wanted) == 0);
   CHECK(last.context == context && last.iv == iv && last.input == input && last.output == output);
-  CHECK(last.output_length == length && last.input_length == (input ? length : 0));
+  CHECK(last.output_length == output_length && last.input_length == input_length);
   calls = 0;
+}
+
+static void was(const char *width, const char *cipher, const char *name, const void *context, const void *iv,
+                const void *input, const void *output, size_t length) {
+  was_of(width, cipher, name, context, iv, input, input ? length : 0, output, length);
 }
 
 static const size_t sizes[1];
@@ -186,21 +218,35 @@ static uint8_t iv[8], base[16], input[8], output[8];
   }                                                                                                                   \
   static void NAME##_hands_on_count(size_t count) {                                                                   \
     const char *width = is_v3 && count > 128 ? "wide" : "narrow";                                                     \
-    cukvashe_##NAME##_encrypt_each(input, output, count);                                                             \
-    was(width, #NAME, "encrypt_each", NULL, NULL, input, output, count);                                              \
-    cukvashe_##NAME##_decrypt_each(input, output, count);                                                             \
-    was(width, #NAME, "decrypt_each", NULL, NULL, input, output, count);                                              \
     cukvashe_##NAME##_check_values(input, output, count);                                                             \
-    was("narrow", #NAME, "check_values", NULL, NULL, input, output, count);                                           \
-    static cukvashe_##NAME context;                                                                                   \
-    CHECK(cukvashe_##NAME##_encrypt_cbc_records(&context, iv, sizes, count, output, count) == STATUS);                \
-    was(width, #NAME, "encrypt_cbc_records", &context, iv, sizes, output, count);                                     \
-    CHECK(cukvashe_##NAME##_decrypt_cbc_records(&context, iv, sizes, count, output, count) == STATUS);                \
-    was(width, #NAME, "decrypt_cbc_records", &context, iv, sizes, output, count);                                     \
+    was(width, #NAME, "check_values", NULL, NULL, input, output, count);                                              \
     CHECK(cukvashe_cbc_mac_##NAME##_macs(base, 7, messages, output, count) == STATUS);                                \
-    was("narrow", #NAME, "macs", base, NULL, messages, output, count);                                                \
+    was(width, #NAME, "macs", base, NULL, messages, output, count);                                                   \
     CHECK(cukvashe_cbc_mac_##NAME##_macs_each(base, 7, messages, output, count) == STATUS);                           \
-    was("narrow", #NAME, "macs_each", base, NULL, messages, output, count);                                           \
+    was(width, #NAME, "macs_each", base, NULL, messages, output, count);                                              \
+  }                                                                                                                   \
+  static void NAME##_hands_on_blocks(size_t count, size_t length) {                                                   \
+    static cukvashe_##NAME context;                                                                                   \
+    const char *width = is_v3 && length > 1024 ? "wide" : "narrow";                                                   \
+    const char *of_chains = is_v3 && count > 128 ? "wide" : "narrow";                                                 \
+    const size_t blocks = length / 8;                                                                                 \
+    CHECK(cukvashe_##NAME##_encrypt_each(input, count, output, length) == STATUS);                                    \
+    was_of(width, #NAME, "encrypt_each", NULL, NULL, input, count, output, blocks);                                   \
+    CHECK(cukvashe_##NAME##_decrypt_each(input, count, output, length) == STATUS);                                    \
+    was_of(width, #NAME, "decrypt_each", NULL, NULL, input, count, output, blocks);                                   \
+    CHECK(cukvashe_##NAME##_encrypt_cbc_records(&context, iv, sizes, count, output, length) == STATUS);               \
+    was_of(of_chains, #NAME, "encrypt_cbc_records", &context, iv, sizes, count, output, blocks);                      \
+    CHECK(cukvashe_##NAME##_decrypt_cbc_records(&context, iv, sizes, count, output, length) == STATUS);               \
+    was_of(width, #NAME, "decrypt_cbc_records", &context, iv, sizes, count, output, blocks);                          \
+  }                                                                                                                   \
+  static void NAME##_refuses_length(size_t count, size_t length) {                                                    \
+    static cukvashe_##NAME context;                                                                                   \
+    const int refused = CUKVASHE_ERR_BLOCKS;                                                                          \
+    CHECK(cukvashe_##NAME##_encrypt_each(input, count, output, length) == refused);                                   \
+    CHECK(cukvashe_##NAME##_decrypt_each(input, count, output, length) == refused);                                   \
+    CHECK(cukvashe_##NAME##_encrypt_cbc_records(&context, iv, sizes, count, output, length) == refused);              \
+    CHECK(cukvashe_##NAME##_decrypt_cbc_records(&context, iv, sizes, count, output, length) == refused);              \
+    CHECK(calls == 0);                                                                                                \
   }
 
 HANDS_ON(des)
@@ -213,23 +259,51 @@ static void hands_on(size_t length) {
   tdes_ede3_hands_on(length);
 }
 
+static void hands_on_cmacs(const char *width, size_t count) {
+  cukvashe_cmac_tdes_ede2_macs(base, messages, output, count);
+  was(width, "tdes_ede2", "cmacs", base, NULL, messages, output, count);
+  cukvashe_cmac_tdes_ede2_macs_each(base, messages, output, count);
+  was(width, "tdes_ede2", "cmacs_each", base, NULL, messages, output, count);
+  cukvashe_cmac_tdes_ede3_macs(base, messages, output, count);
+  was(width, "tdes_ede3", "cmacs", base, NULL, messages, output, count);
+  cukvashe_cmac_tdes_ede3_macs_each(base, messages, output, count);
+  was(width, "tdes_ede3", "cmacs_each", base, NULL, messages, output, count);
+}
+
 static void hands_on_count(size_t count) {
+  const char *width = is_v3 && count > 128 ? "wide" : "narrow";
   des_hands_on_count(count);
   tdes_ede2_hands_on_count(count);
   tdes_ede3_hands_on_count(count);
   cukvashe_dukpt_transaction_keys(base, input, output, count);
-  was("narrow", "dukpt", "transaction_keys", base, NULL, input, output, count);
+  was(width, "dukpt", "transaction_keys", base, NULL, input, output, count);
+  CHECK(cukvashe_retail_mac_des_macs(base, 7, messages, output, count) == STATUS);
+  was(width, "retail", "macs", base, NULL, messages, output, count);
+  CHECK(cukvashe_retail_mac_des_macs_each(base, 7, messages, output, count) == STATUS);
+  was(width, "retail", "macs_each", base, NULL, messages, output, count);
+  hands_on_cmacs(width, count);
+  static bool right[1];
+  cukvashe_verify_tags(base, input, right, count);
+  was("narrow", "verify", "tags", base, NULL, input, right, count);
 }
 
-static void hands_on_records(size_t records, size_t blocks) {
-  static cukvashe_des context;
-  CHECK(cukvashe_des_encrypt_cbc_records(&context, iv, sizes, records, output, blocks) == STATUS);
-  CHECK(strcmp(last.name, is_v3 && records > 128 ? "wide des encrypt_cbc_records" : "narrow des encrypt_cbc_records") == 0);
-  CHECK(last.input_length == records && last.output_length == blocks);
-  CHECK(cukvashe_des_decrypt_cbc_records(&context, iv, sizes, records, output, blocks) == STATUS);
-  CHECK(strcmp(last.name, is_v3 && blocks > 128 ? "wide des decrypt_cbc_records" : "narrow des decrypt_cbc_records") == 0);
-  CHECK(last.input_length == records && last.output_length == blocks);
-  calls = 0;
+/* Lists of blocks: a length that is not whole blocks goes no further, and what is, goes on as it is, whether it agrees with the
+   count or not. */
+static void hands_on_blocks(size_t count, size_t length) {
+  if (length % 8 == 0) {
+    des_hands_on_blocks(count, length);
+    tdes_ede2_hands_on_blocks(count, length);
+    tdes_ede3_hands_on_blocks(count, length);
+  } else {
+    des_refuses_length(count, length);
+    tdes_ede2_refuses_length(count, length);
+    tdes_ede3_refuses_length(count, length);
+  }
+}
+
+static void hands_on_any_blocks(size_t length) {
+  const size_t counts[] = {length / 8, length / 8 + 1, length, 8 * length, 0, 128, 129, SIZE_MAX};
+  for (size_t i = 0; i < sizeof counts / sizeof *counts; i++) hands_on_blocks(counts[i], length);
 }
 
 static void hands_on_the_rest(void) {
@@ -292,14 +366,12 @@ int main(int count, char **words) {
   CHECK(is_v3 || strcmp(words[1], "narrow") == 0);
   for (size_t length = 0; length <= 1024; length++) hands_on(length);
   for (size_t blocks = 0; blocks <= 128; blocks++) hands_on_count(blocks);
+  for (size_t length = 0; length <= 1024; length++) hands_on_blocks(length / 8, length);
   CHECK(questions == 0);
   for (size_t i = 0; i < sizeof lengths / sizeof *lengths; i++) hands_on(lengths[i]);
   for (size_t i = 0; i < sizeof lengths / sizeof *lengths; i++) hands_on_count(lengths[i]);
   hands_on_count(129);
-  hands_on_records(128, 129);
-  hands_on_records(129, 128);
-  CHECK(cukvashe_retail_mac_des_macs_each(base, iv, 7, messages, output, 5) == STATUS);
-  was("narrow", "retail", "macs_each", base, iv, messages, output, 5);
+  for (size_t i = 0; i < sizeof lengths / sizeof *lengths; i++) hands_on_any_blocks(lengths[i]);
   CHECK(questions == 1);
   hands_on_the_rest();
   cukvashe_wipe(NULL, 0);

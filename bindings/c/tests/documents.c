@@ -19,6 +19,11 @@ int main(void) {
       0x38, 0x41, 0x3d, 0x4b, 0xa2, 0x32, 0x5c, 0xf1, 0x14, 0x1f, 0x70, 0x74, 0x71, 0xac, 0x2c, 0xed,
       0x57, 0xdb, 0x53, 0x0f, 0x01, 0x23, 0xb5, 0xac, 0xdd, 0xa7, 0x7e, 0xbd, 0xe0, 0xc6, 0x36, 0x14,
   };
+  /* The same as two records, of one block and of three. */
+  uint8_t vectors[16] = {0x12, 0x34, 0x56, 0x78, 0x90, 0xab, 0xcd, 0xef, 0x38, 0x41, 0x3d, 0x4b, 0xa2, 0x32, 0x5c, 0xf1};
+  static const size_t counts[2] = {1, 3}, lengths[2] = {8, 24};
+  uint8_t records[32];
+  memcpy(records, data, sizeof records);
   size_t length = 0;
   /* OpenSSL's, by three runs of `openssl enc` over the padded message. */
   static const uint8_t mac_key[16] = {0x01, 0x23, 0x45, 0x67, 0x89, 0xab, 0xcd, 0xef, 0xfe, 0xdc, 0xba, 0x98, 0x76, 0x54, 0x32, 0x10};
@@ -33,6 +38,9 @@ int main(void) {
   failed += holds("the record", length == 24 && memcmp(data, "The qufck brown fox jump", 24) == 0);
   failed += holds("the next vector", memcmp(iv, last, 8) == 0);
   failed += holds("a record of no whole blocks", decrypt_record(key, iv, data, 31, &length) == CUKVASHE_ERR_BLOCKS);
+  failed += holds("lengths in bytes", decrypt_records(key, vectors, lengths, 2, records, sizeof records) == CUKVASHE_ERR_COUNTS);
+  failed += holds("the status of records", decrypt_records(key, vectors, counts, 2, records, sizeof records) == CUKVASHE_OK);
+  failed += holds("two records", memcmp(records, data, sizeof records) == 0 && memcmp(vectors + 8, last, 8) == 0);
   failed += holds("the tag", accepts(mac_key, message, 22, tag));
   tag[7] ^= 1;
   failed += holds("a turned tag", !accepts(mac_key, message, 22, tag));

@@ -1,14 +1,16 @@
 /* Calls for lists, of keys, records and messages, beside the calls of one, in lists of many lengths; at published values; and that
-   lists which are not as many are refused, also by the calls that the library hides. */
+   numbers of elements which do not agree are refused, also by the calls that the library hides. */
 #include "mac_calls.h"
 
 enum { PAINT = 0xa5, MORE = 24 };
 
-typedef void of_each(const uint8_t *keys, uint8_t *blocks, size_t count);
+typedef int of_each(const uint8_t *keys, size_t count, uint8_t *blocks, size_t length);
+typedef void of_values(const uint8_t *keys, uint8_t *values, size_t count);
 
-/* The calls of a cipher: those of the header, and those of each width, of which keys and blocks have counts of their own. */
+/* The calls of a cipher. */
 struct lists {
-  of_each *encrypt_each, *decrypt_each, *check_values;
+  of_each *encrypt_each, *decrypt_each;
+  of_values *check_values;
 };
 
 static const struct lists lists[CIPHERS] = {
@@ -48,14 +50,37 @@ static void answers_each(int n, size_t count) {
   uint8_t values[3 * LONGEST];
   const struct cipher *cipher = &ciphers[n];
   put_answers(cipher, count);
-  lists[n].encrypt_each(keys, put(plain, 8 * count), count);
-  CHECK(is(answers, 8 * count));
-  lists[n].decrypt_each(keys, put(answers, 8 * count), count);
-  CHECK(is(plain, 8 * count));
+  CHECK(lists[n].encrypt_each(keys, count, put(plain, 8 * count), 8 * count) == CUKVASHE_OK && is(answers, 8 * count));
+  CHECK(lists[n].decrypt_each(keys, count, put(answers, 8 * count), 8 * count) == CUKVASHE_OK && is(plain, 8 * count));
   for (size_t i = 0; i < count; i++)
     CHECK(cipher->check_value(keys + cipher->key_size * i, cipher->key_size, values + 3 * i) == CUKVASHE_OK);
   lists[n].check_values(keys, put(plain, 3 * count), count);
   CHECK(is(values, 3 * count));
+}
+
+/* What must come of a number of elements and a length in bytes. */
+static int status_of(size_t count, size_t length) {
+  if (length % 8 != 0) return CUKVASHE_ERR_BLOCKS;
+  return count == length / 8 ? CUKVASHE_OK : CUKVASHE_ERR_COUNTS;
+}
+
+/* Counts and lengths that do not agree, with no memory after the keys: none of it is read, and no block is changed. */
+static void refuses_each(int n, size_t count) {
+  const size_t length = 8 * count;
+  const size_t given[][2] = {{count, count},        {length, length},       {length, count},     {count, length + 1},
+                             {count, length + 7},   {count, length + 8},    {count + 1, length}, {2 * count, length},
+                             {count, SIZE_MAX},     {count, SIZE_MAX - 7},  {0, length},         {count, 0},
+                             {SIZE_MAX, length},    {count + ((size_t)1 << 61), length}};
+  uint8_t *ending = (uint8_t *)malloc(ciphers[n].key_size * count);
+  random_bytes(plain, sizeof plain);
+  if (count > 0) memcpy(ending, keys, ciphers[n].key_size * count);
+  for (size_t i = 0; i < sizeof given / sizeof *given; i++) {
+    int status = status_of(given[i][0], given[i][1]);
+    if (status == CUKVASHE_OK) continue;
+    CHECK(lists[n].encrypt_each(ending, given[i][0], put(plain, length), given[i][1]) == status && is(plain, length));
+    CHECK(lists[n].decrypt_each(ending, given[i][0], put(plain, length), given[i][1]) == status && is(plain, length));
+  }
+  free(ending);
 }
 
 /* The key of NIST Special Publication 800-67, appendix B, and its first block, at places of a list of others. */
@@ -70,9 +95,9 @@ static void answers_known_blocks(void) {
     put_words(keys + 24 * places[i], parts, 3);
     random_bytes(plain, sizeof plain);
     memcpy(plain + 8 * places[i], block, 8);
-    cukvashe_tdes_ede3_encrypt_each(keys, plain, 300);
+    CHECK(cukvashe_tdes_ede3_encrypt_each(keys, 300, plain, 2400) == CUKVASHE_OK);
     CHECK(memcmp(plain + 8 * places[i], answer, 8) == 0);
-    cukvashe_tdes_ede3_decrypt_each(keys, plain, 300);
+    CHECK(cukvashe_tdes_ede3_decrypt_each(keys, 300, plain, 2400) == CUKVASHE_OK);
     CHECK(memcmp(plain + 8 * places[i], block, 8) == 0);
     cukvashe_tdes_ede3_check_values(keys, plain, 300);
     CHECK(memcmp(plain + 3 * places[i], value, 3) == 0);
@@ -82,11 +107,12 @@ static void answers_known_blocks(void) {
 static void nothing_of_nothing(void) {
   static const uint8_t base[16] = {0};
   for (int n = 0; n < CIPHERS; n++) {
-    lists[n].encrypt_each(NULL, NULL, 0);
-    lists[n].decrypt_each(NULL, NULL, 0);
+    CHECK(lists[n].encrypt_each(NULL, 0, NULL, 0) == CUKVASHE_OK);
+    CHECK(lists[n].decrypt_each(NULL, 0, NULL, 0) == CUKVASHE_OK);
     lists[n].check_values(NULL, NULL, 0);
   }
   cukvashe_dukpt_transaction_keys(base, NULL, NULL, 0);
+  cukvashe_verify_tags(NULL, NULL, NULL, 0);
 }
 
 /* Transactions of random terminals, some of them with counters that have any number of ones, beside the calls of one. */
@@ -120,7 +146,7 @@ static void answers_known_transactions(void) {
   CHECK(memcmp(made, wanted, sizeof made) == 0);
 }
 
-/* Records of 0 to 4 blocks, and one of 40, beside the calls of one record. */
+/* Records of 0 to 4 blocks, and one of 40. */
 static size_t sizes[LONGEST];
 
 static size_t put_sizes(size_t count) {
@@ -133,100 +159,178 @@ static size_t put_sizes(size_t count) {
   return sum;
 }
 
+/* Under one key, from `vectors`; `next` are the vectors that the calls of one record leave. */
+static uint8_t vectors[8 * LONGEST], next[8 * LONGEST], left[8 * LONGEST];
+
 #define RECORDS(name)                                                                                                 \
-  static void name##_records(size_t count) {                                                                          \
-    static uint8_t vectors[8 * LONGEST], next[8 * LONGEST];                                                           \
-    const struct cipher *cipher = &ciphers[name##_number];                                                            \
-    union context context;                                                                                            \
-    size_t blocks = put_sizes(count), at = 0;                                                                         \
-    random_bytes(keys, cipher->key_size);                                                                             \
-    random_bytes(plain, sizeof plain);                                                                                \
-    random_bytes(vectors, sizeof vectors);                                                                            \
-    CHECK(cipher->init(&context, keys, cipher->key_size) == CUKVASHE_OK);                                             \
-    memcpy(answers, plain, sizeof answers);                                                                           \
-    memcpy(next, vectors, sizeof next);                                                                               \
-    for (size_t i = 0; i < count; at += 8 * sizes[i++])                                                               \
-      CHECK(cipher->ways[PUBLIC_WAY].encrypt_cbc(&context, next + 8 * i, answers + at, 8 * sizes[i]) == CUKVASHE_OK); \
-    uint8_t *list = put(plain, 8 * blocks), left[8 * LONGEST];                                                        \
-    memcpy(left, vectors, sizeof left);                                                                               \
-    CHECK(cukvashe_##name##_encrypt_cbc_records(&context.name, left, sizes, count, list, blocks) == CUKVASHE_OK);     \
-    CHECK(is(answers, 8 * blocks) && memcmp(left, next, 8 * count) == 0);                                             \
-    memcpy(left, vectors, sizeof left);                                                                               \
-    CHECK(cukvashe_##name##_decrypt_cbc_records(&context.name, left, sizes, count, list, blocks) == CUKVASHE_OK);     \
-    CHECK(is(plain, 8 * blocks) && memcmp(left, next, 8 * count) == 0);                                               \
-    memcpy(left, vectors, sizeof left);                                                                               \
-    sizes[0] += 1;                                                                                                    \
-    int status = cukvashe_##name##_encrypt_cbc_records(&context.name, left, sizes, count, list, blocks);              \
-    CHECK(status == (count > 0 ? CUKVASHE_ERR_COUNTS : CUKVASHE_OK));                                                 \
-    status = cukvashe_##name##_decrypt_cbc_records(&context.name, left, sizes, count, list, blocks);                  \
-    CHECK(status == (count > 0 ? CUKVASHE_ERR_COUNTS : CUKVASHE_OK));                                                 \
-    CHECK(is(plain, 8 * blocks) && memcmp(left, vectors, sizeof left) == 0);                                          \
-    CHECK(cukvashe_##name##_decrypt_cbc_records(&context.name, left, NULL, 0, list, 1) == CUKVASHE_ERR_COUNTS);       \
+  static int name##_encrypt_records(const size_t *counts, size_t count, size_t length) {                              \
+    return cukvashe_##name##_encrypt_cbc_records(&chaining.name, left, counts, count, room + MORE, length);           \
+  }                                                                                                                   \
+  static int name##_decrypt_records(const size_t *counts, size_t count, size_t length) {                              \
+    return cukvashe_##name##_decrypt_cbc_records(&chaining.name, left, counts, count, room + MORE, length);           \
   }
 
-enum { des_number = DES, tdes_ede2_number = EDE2, tdes_ede3_number = EDE3 };
+static union context chaining;
 
 RECORDS(des)
 RECORDS(tdes_ede2)
 RECORDS(tdes_ede3)
 
-typedef int macs_of(const uint8_t *keys, int method, const cukvashe_message *messages, uint8_t *tags, size_t count);
+typedef int of_records(const size_t *counts, size_t count, size_t length);
 
-static int retail(const uint8_t *pairs, int method, const cukvashe_message *messages, uint8_t *tags, size_t count) {
-  static uint8_t first[8 * LONGEST], second[8 * LONGEST];
-  for (size_t i = 0; i < count; i++) {
-    memcpy(first + 8 * i, pairs + 16 * i, 8);
-    memcpy(second + 8 * i, pairs + 16 * i + 8, 8);
-  }
-  return cukvashe_retail_mac_des_macs_each(first, second, method, messages, tags, count);
-}
-
-/* In the order of `macs`; CMAC has no such call. */
-static const struct {
-  const char *name;
-  macs_of *one, *each;
-} tags_of[] = {
-    {"cbc_mac_des", cukvashe_cbc_mac_des_macs, cukvashe_cbc_mac_des_macs_each},
-    {"cbc_mac_tdes_ede2", cukvashe_cbc_mac_tdes_ede2_macs, cukvashe_cbc_mac_tdes_ede2_macs_each},
-    {"cbc_mac_tdes_ede3", cukvashe_cbc_mac_tdes_ede3_macs, cukvashe_cbc_mac_tdes_ede3_macs_each},
-    {"retail_mac_des", NULL, retail},
+static of_records *const records[CIPHERS][2] = {
+    {des_encrypt_records, des_decrypt_records},
+    {tdes_ede2_encrypt_records, tdes_ede2_decrypt_records},
+    {tdes_ede3_encrypt_records, tdes_ede3_decrypt_records},
 };
 
-static const struct mac *mac_named(const char *name) {
-  for (int n = 0; n < MACS; n++)
-    if (strcmp(macs[n].name, name) == 0) return &macs[n];
-  CHECK(!name);
-  return NULL;
+/* Each record by the call of one. */
+static void put_records(const struct cipher *cipher, size_t count) {
+  size_t at = 0;
+  random_bytes(keys, cipher->key_size);
+  random_bytes(plain, sizeof plain);
+  random_bytes(vectors, sizeof vectors);
+  CHECK(cipher->init(&chaining, keys, cipher->key_size) == CUKVASHE_OK);
+  memcpy(answers, plain, sizeof answers);
+  memcpy(next, vectors, sizeof next);
+  for (size_t i = 0; i < count; at += 8 * sizes[i++])
+    CHECK(cipher->ways[PUBLIC_WAY].encrypt_cbc(&chaining, next + 8 * i, answers + at, 8 * sizes[i]) == CUKVASHE_OK);
 }
 
-/* Messages of 0 to 40 bytes at any address, beside the calls of one. */
-static void answers_macs(size_t count) {
-  static cukvashe_message messages[LONGEST];
-  static uint8_t tags[8 * LONGEST];
+static void answers_records(int n, size_t count) {
+  size_t length = 8 * put_sizes(count);
+  put_records(&ciphers[n], count);
+  put(plain, length);
+  memcpy(left, vectors, sizeof left);
+  CHECK(records[n][0](sizes, count, length) == CUKVASHE_OK && is(answers, length) && memcmp(left, next, 8 * count) == 0);
+  memcpy(left, vectors, sizeof left);
+  CHECK(records[n][1](sizes, count, length) == CUKVASHE_OK && is(plain, length) && memcmp(left, next, 8 * count) == 0);
+}
+
+/* No block and no vector is changed by either call. */
+static void refuses_record_of(int n, const size_t *counts, size_t count, size_t length, size_t given, int status) {
+  memcpy(left, vectors, sizeof left);
+  put(plain, length);
+  for (int call = 0; call < 2; call++) CHECK(records[n][call](counts, count, given) == status);
+  CHECK(is(plain, length) && memcmp(left, vectors, sizeof left) == 0);
+}
+
+/* Counts of blocks with a length in blocks, lengths in bytes for counts, and others that do not agree. */
+static void refuses_records(int n, size_t count) {
+  static size_t lengths[LONGEST];
+  const size_t blocks = put_sizes(count), length = 8 * blocks;
+  put_records(&ciphers[n], count);
+  for (size_t i = 0; i < count; i++) lengths[i] = 8 * sizes[i];
+  for (size_t more = 1; more < 8; more++)
+    refuses_record_of(n, sizes, count, length, length + more, CUKVASHE_ERR_BLOCKS);
+  refuses_record_of(n, sizes, count, length, length + 8, CUKVASHE_ERR_COUNTS);
+  if (count == 0) return;
+  refuses_record_of(n, sizes, count, length, blocks, blocks % 8 ? CUKVASHE_ERR_BLOCKS : CUKVASHE_ERR_COUNTS);
+  refuses_record_of(n, lengths, count, length, length, CUKVASHE_ERR_COUNTS);
+  refuses_record_of(n, lengths, count, length, blocks, blocks % 8 ? CUKVASHE_ERR_BLOCKS : CUKVASHE_ERR_COUNTS);
+  refuses_record_of(n, sizes, count, length, 0, CUKVASHE_ERR_COUNTS);
+  refuses_record_of(n, sizes, 0, length, length, CUKVASHE_ERR_COUNTS);
+  sizes[0] += 1;
+  refuses_record_of(n, sizes, count, length, length, CUKVASHE_ERR_COUNTS);
+  sizes[0] += ((size_t)1 << 61) - 1; /* eight times as much is the length again, in 64 bits */
+  refuses_record_of(n, sizes, count, length, length, CUKVASHE_ERR_COUNTS);
+  sizes[0] -= (size_t)1 << 61;
+  if (count < 2) return;
+  sizes[0] += sizes[1] + 1; /* the sum is the right one, in 64 bits */
+  sizes[1] = SIZE_MAX;
+  refuses_record_of(n, sizes, count, length, length, CUKVASHE_ERR_COUNTS);
+}
+
+typedef int macs_of(const uint8_t *keys, int method, const cukvashe_message *messages, uint8_t *tags, size_t count);
+
+/* CMAC takes no padding method, and has no status. */
+#define CMACS(name)                                                                                                   \
+  static int name##_macs(const uint8_t *key, int method, const cukvashe_message *messages, uint8_t *tags,             \
+                         size_t count) {                                                                              \
+    (void)method;                                                                                                     \
+    cukvashe_##name##_macs(key, messages, tags, count);                                                               \
+    return CUKVASHE_OK;                                                                                               \
+  }                                                                                                                   \
+  static int name##_macs_each(const uint8_t *keys, int method, const cukvashe_message *messages, uint8_t *tags,       \
+                              size_t count) {                                                                         \
+    (void)method;                                                                                                     \
+    cukvashe_##name##_macs_each(keys, messages, tags, count);                                                         \
+    return CUKVASHE_OK;                                                                                               \
+  }
+
+CMACS(cmac_tdes_ede2)
+CMACS(cmac_tdes_ede3)
+
+/* In the order of `macs`: the calls under one key, and under a key for each message. */
+static macs_of *const tags_of[MACS][2] = {
+    {cukvashe_cbc_mac_des_macs, cukvashe_cbc_mac_des_macs_each},
+    {cukvashe_cbc_mac_tdes_ede2_macs, cukvashe_cbc_mac_tdes_ede2_macs_each},
+    {cukvashe_cbc_mac_tdes_ede3_macs, cukvashe_cbc_mac_tdes_ede3_macs_each},
+    {cukvashe_retail_mac_des_macs, cukvashe_retail_mac_des_macs_each},
+    {cmac_tdes_ede2_macs, cmac_tdes_ede2_macs_each},
+    {cmac_tdes_ede3_macs, cmac_tdes_ede3_macs_each},
+};
+
+/* The tag of each message by the calls of one, under the first key or each under the key at its place. */
+static uint8_t tags[8 * LONGEST];
+
+static void put_tags(const struct mac *mac, int each, int method, const cukvashe_message *messages, size_t count) {
   union mac_context context;
+  for (size_t i = 0; i < count; i++) {
+    CHECK(mac->init(&context, keys + (each ? mac->key_size * i : 0), mac->key_size, method) == CUKVASHE_OK);
+    mac->update(&context, messages[i].bytes, messages[i].length);
+    mac->final(&context, tags + 8 * i);
+  }
+}
+
+static cukvashe_message messages[LONGEST];
+
+/* Keys, and messages of 0 to 40 bytes at any address. */
+static void put_messages(size_t count) {
   random_bytes(keys, sizeof keys);
   random_bytes(plain, sizeof plain);
   for (size_t i = 0; i < count; i++) {
     messages[i].length = random_word() % 41;
     messages[i].bytes = messages[i].length ? plain + random_word() % (sizeof plain - 40) : NULL;
   }
-  for (int n = 0; n < 4; n++)
-    for (int method = 1; method <= 2; method++)
-      for (int each = tags_of[n].one == NULL; each < 2; each++) {
-        const struct mac *mac = mac_named(tags_of[n].name);
-        for (size_t i = 0; i < count; i++) {
-          CHECK(mac->init(&context, keys + (each ? mac->key_size * i : 0), mac->key_size, method) == CUKVASHE_OK);
-          mac->update(&context, messages[i].bytes, messages[i].length);
-          mac->final(&context, tags + 8 * i);
-        }
-        macs_of *call = each ? tags_of[n].each : tags_of[n].one;
+}
+
+static void answers_macs(size_t count) {
+  put_messages(count);
+  for (int n = 0; n < MACS; n++)
+    for (int method = 1; method <= 1 + macs[n].is_padded; method++)
+      for (int each = 0; each < 2; each++) {
+        macs_of *call = tags_of[n][each];
+        put_tags(&macs[n], each, method, messages, count);
         CHECK(call(keys, method, messages, put(plain, 0), count) == CUKVASHE_OK && is(tags, 8 * count));
+        if (!macs[n].is_padded) continue;
         CHECK(call(keys, 0, messages, put(plain, 0), count) == CUKVASHE_ERR_PADDING_METHOD && is(plain, 0));
         CHECK(call(keys, 3, messages, put(plain, 0), count) == CUKVASHE_ERR_PADDING_METHOD && is(plain, 0));
       }
 }
 
+/* Tags of which some have one bit that is wrong, at any place of them. */
+static void put_expected(size_t count) {
+  random_bytes(plain, sizeof plain);
+  memcpy(tags, plain, 8 * count);
+  for (size_t i = 0; i < count; i++)
+    if (i % 3 > 0) tags[8 * i + i / 3 % 8] ^= (uint8_t)(1 << i / 24 % 8);
+}
+
+static void verifies_tags(size_t count) {
+  static bool right[LONGEST + 2];
+  put_expected(count);
+  memset(right, true, sizeof right);
+  cukvashe_verify_tags(tags, plain, right + 1, count);
+  for (size_t i = 0; i < count; i++) CHECK(right[i + 1] == (i % 3 == 0));
+  memset(right, false, sizeof right);
+  cukvashe_verify_tags(plain, tags, right + 1, count);
+  for (size_t i = 0; i < count; i++) CHECK(right[i + 1] == (i % 3 == 0));
+  CHECK(!right[0] && !right[count + 1]);
+}
+
 #ifdef FORCED
+/* Keys and blocks, or values, have counts of their own. */
 typedef int of_counts(const uint8_t *keys, size_t keys_count, uint8_t *blocks, size_t blocks_count);
 
 #define BOTH(width)                                                                                                   \
@@ -245,26 +349,122 @@ static void answers_by_width(int width, int n, size_t count) {
   CHECK(forced[width][n][1](keys, count, put(answers, 8 * count), count) == CUKVASHE_OK && is(plain, 8 * count));
 }
 
-/* Lists that are not as many: nothing is changed. */
+typedef int transactions(const uint8_t base[16], const uint8_t *serials, size_t serials_count, uint8_t *made,
+                         size_t made_count);
+
+static of_counts *const values_of[2][CIPHERS] = {
+    {cukvashe_narrow_des_check_values, cukvashe_narrow_tdes_ede2_check_values, cukvashe_narrow_tdes_ede3_check_values},
+    {cukvashe_wide_des_check_values, cukvashe_wide_tdes_ede2_check_values, cukvashe_wide_tdes_ede3_check_values},
+};
+static transactions *const transactions_of[2] = {cukvashe_narrow_dukpt_transaction_keys,
+                                                 cukvashe_wide_dukpt_transaction_keys};
+
+static void values_by_width(int width, int n, size_t count) {
+  static uint8_t values[3 * LONGEST];
+  random_bytes(keys, sizeof keys);
+  for (size_t i = 0; i < count; i++)
+    CHECK(ciphers[n].check_value(keys + ciphers[n].key_size * i, ciphers[n].key_size, values + 3 * i) == CUKVASHE_OK);
+  CHECK(values_of[width][n](keys, count, put(plain, 0), count) == CUKVASHE_OK && is(values, 3 * count));
+}
+
+static void transactions_by_width(int width, size_t count) {
+  static uint8_t wanted[16 * LONGEST];
+  uint8_t initial[16];
+  random_bytes(keys, sizeof keys);
+  for (size_t i = 0; i < count; i++) {
+    cukvashe_dukpt_initial_key(keys, keys + 10 * i, initial);
+    cukvashe_dukpt_transaction_key(initial, keys + 10 * i, wanted + 16 * i);
+  }
+  CHECK(transactions_of[width](keys, keys, count, put(plain, 0), count) == CUKVASHE_OK && is(wanted, 16 * count));
+}
+
+/* The tags of a width, of counts that may differ: `first` keys, of those under one none, and `second` tags. */
+#define OF_WIDTH(width)                                                                                               \
+  static int width##_tags(int n, int each, int method, size_t first, size_t count, uint8_t *made, size_t second) {    \
+    switch (2 * n + each) {                                                                                           \
+      case 0: return cukvashe_##width##_cbc_mac_des_macs(keys, method, messages, count, made, second);                \
+      case 1: return cukvashe_##width##_cbc_mac_des_macs_each(keys, first, method, messages, count, made, second);    \
+      case 2: return cukvashe_##width##_cbc_mac_tdes_ede2_macs(keys, method, messages, count, made, second);          \
+      case 3:                                                                                                         \
+        return cukvashe_##width##_cbc_mac_tdes_ede2_macs_each(keys, first, method, messages, count, made, second);    \
+      case 4: return cukvashe_##width##_cbc_mac_tdes_ede3_macs(keys, method, messages, count, made, second);          \
+      case 5:                                                                                                         \
+        return cukvashe_##width##_cbc_mac_tdes_ede3_macs_each(keys, first, method, messages, count, made, second);    \
+      case 6: return cukvashe_##width##_retail_mac_des_macs(keys, method, messages, count, made, second);             \
+      case 7:                                                                                                         \
+        return cukvashe_##width##_retail_mac_des_macs_each(keys, first, method, messages, count, made, second);       \
+      case 8: return cukvashe_##width##_cmac_tdes_ede2_macs(keys, messages, count, made, second);                     \
+      case 9: return cukvashe_##width##_cmac_tdes_ede2_macs_each(keys, first, messages, count, made, second);         \
+      case 10: return cukvashe_##width##_cmac_tdes_ede3_macs(keys, messages, count, made, second);                    \
+      default: return cukvashe_##width##_cmac_tdes_ede3_macs_each(keys, first, messages, count, made, second);        \
+    }                                                                                                                 \
+  }
+
+OF_WIDTH(narrow)
+OF_WIDTH(wide)
+
+typedef int tags_of_width(int n, int each, int method, size_t first, size_t count, uint8_t *made, size_t second);
+
+static tags_of_width *const tags_by[2] = {narrow_tags, wide_tags};
+
+static void tags_by_width(int width, size_t count) {
+  put_messages(count);
+  for (int n = 0; n < MACS; n++)
+    for (int each = 0; each < 2; each++) {
+      put_tags(&macs[n], each, 2, messages, count);
+      CHECK(tags_by[width](n, each, 2, count, count, put(plain, 0), count) == CUKVASHE_OK && is(tags, 8 * count));
+    }
+}
+
+/* Lists that differ in length: nothing is changed. */
+static void refuses_counts_of_tags(int width, size_t first, size_t second) {
+  for (int n = 0; n < MACS; n++)
+    for (int each = 0; each < 2; each++) {
+      CHECK(tags_by[width](n, each, 1, first, first, put(plain, 0), second) == CUKVASHE_ERR_COUNTS && is(plain, 0));
+      if (each) CHECK(tags_by[width](n, each, 1, first, second, room, second) == CUKVASHE_ERR_COUNTS && is(plain, 0));
+    }
+}
+
+/* Tags, those that are expected, and answers: of three lists one is longer. */
+static void refuses_counts_of_answers(size_t first, size_t second) {
+  static bool right[LONGEST];
+  put_expected(first > second ? first : second);
+  for (size_t i = 0; i < LONGEST; i++) right[i] = i % 3 == 1;
+  CHECK(cukvashe_narrow_verify_tags(tags, first, plain, second, right, second) == CUKVASHE_ERR_COUNTS);
+  CHECK(cukvashe_narrow_verify_tags(tags, second, plain, first, right, second) == CUKVASHE_ERR_COUNTS);
+  CHECK(cukvashe_narrow_verify_tags(tags, second, plain, second, right, first) == CUKVASHE_ERR_COUNTS);
+  for (size_t i = 0; i < LONGEST; i++) CHECK(right[i] == (i % 3 == 1));
+}
+
 static void refuses_counts(size_t first, size_t second) {
-  static of_counts *const values[] = {cukvashe_narrow_des_check_values, cukvashe_narrow_tdes_ede2_check_values,
-                                      cukvashe_narrow_tdes_ede3_check_values};
-  for (int n = 0; n < CIPHERS; n++) {
-    for (int width = 0; width < count_of_ways() - 1; width++)
+  refuses_counts_of_answers(first, second);
+  for (int width = 0; width < count_of_ways() - 1; width++) {
+    for (int n = 0; n < CIPHERS; n++) {
       for (int call = 0; call < 2; call++) {
         int status = forced[width][n][call](keys, first, put(plain, 8 * second), second);
         CHECK(status == CUKVASHE_ERR_COUNTS && is(plain, 8 * second));
       }
-    CHECK(values[n](keys, first, put(plain, 3 * second), second) == CUKVASHE_ERR_COUNTS && is(plain, 3 * second));
+      int status = values_of[width][n](keys, first, put(plain, 3 * second), second);
+      CHECK(status == CUKVASHE_ERR_COUNTS && is(plain, 3 * second));
+    }
+    CHECK(transactions_of[width](keys, plain, first, put(keys, 16 * second), second) == CUKVASHE_ERR_COUNTS);
+    CHECK(is(keys, 16 * second));
+    refuses_counts_of_tags(width, first, second);
   }
-  CHECK(cukvashe_narrow_dukpt_transaction_keys(keys, plain, first, put(keys, 16 * second), second) == CUKVASHE_ERR_COUNTS);
-  CHECK(is(keys, 16 * second));
 }
 
 static void by_hidden_calls(void) {
   for (int n = 0; n < CIPHERS; n++)
     for (int width = 0; width < count_of_ways() - 1; width++)
-      for (int i = 0; i < COUNTS; i++) answers_by_width(width, n, counts[i]);
+      for (int i = 0; i < COUNTS; i++) {
+        answers_by_width(width, n, counts[i]);
+        values_by_width(width, n, counts[i]);
+      }
+  for (int width = 0; width < count_of_ways() - 1; width++)
+    for (int i = 0; i < COUNTS; i++) {
+      transactions_by_width(width, counts[i]);
+      tags_by_width(width, counts[i]);
+    }
   for (size_t more = 1; more < 3; more++)
     for (int i = 0; i < COUNTS && counts[i] + more < LONGEST; i++) {
       refuses_counts(counts[i], counts[i] + more);
@@ -277,18 +477,21 @@ static void by_hidden_calls(void) {}
 
 int main(void) {
   for (int i = 0; i < COUNTS; i++) {
-    for (int n = 0; n < CIPHERS; n++) answers_each(n, counts[i]);
+    for (int n = 0; n < CIPHERS; n++) {
+      answers_each(n, counts[i]);
+      refuses_each(n, counts[i]);
+      answers_records(n, counts[i]);
+      refuses_records(n, counts[i]);
+    }
     answers_transactions(counts[i]);
-    des_records(counts[i]);
-    tdes_ede2_records(counts[i]);
-    tdes_ede3_records(counts[i]);
     answers_macs(counts[i]);
+    verifies_tags(counts[i]);
   }
   answers_known_blocks();
   answers_known_transactions();
   nothing_of_nothing();
   by_hidden_calls();
-  printf("lists: keys for each block, check values, transactions, records and MACs, in lists of %d lengths, by %d ways\n", (int)COUNTS,
+  printf("lists: keys for each block, check values, transactions, records, MACs and their verification, in lists of %d lengths, by %d ways\n", (int)COUNTS,
          count_of_ways());
   return 0;
 }

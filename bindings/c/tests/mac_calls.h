@@ -19,19 +19,20 @@ struct mac {
   size_t key_size, context_size;
   int is_padded; /* whether `init` takes a padding method */
   int (*init)(union mac_context *, const uint8_t *key, size_t length, int method);
+  int (*init_quiet)(union mac_context *, const uint8_t *key, size_t length, int method);
   void (*update)(union mac_context *, const uint8_t *message, size_t length);
   void (*final)(const union mac_context *, uint8_t *tag);
   int (*verify)(const union mac_context *, const uint8_t *tag, size_t length);
 };
 
-#define PADDED_INIT(name)                                                                          \
-  static int name##_init(union mac_context *c, const uint8_t *key, size_t length, int method) {            \
-    return cukvashe_##name##_init(&c->name, key, length, method);                                  \
+#define PADDED_INIT(name, call)                                                                    \
+  static int name##_##call(union mac_context *c, const uint8_t *key, size_t length, int method) {  \
+    return cukvashe_##name##_##call(&c->name, key, length, method);                                \
   }
-#define INIT(name)                                                                                 \
-  static int name##_init(union mac_context *c, const uint8_t *key, size_t length, int method) {            \
+#define INIT(name, call)                                                                           \
+  static int name##_##call(union mac_context *c, const uint8_t *key, size_t length, int method) {  \
     (void)method;                                                                                  \
-    return cukvashe_##name##_init(&c->name, key, length);                                          \
+    return cukvashe_##name##_##call(&c->name, key, length);                                        \
   }
 #define DEFINE_MAC(name)                                                                           \
   static void name##_update(union mac_context *c, const uint8_t *message, size_t length) {                 \
@@ -45,16 +46,22 @@ struct mac {
   }
 #define MAC(name, key_size, is_padded)                                                             \
   {                                                                                                \
-    #name, key_size, sizeof(cukvashe_##name), is_padded, name##_init, name##_update, name##_final, \
-        name##_verify                                                                              \
+    #name, key_size, sizeof(cukvashe_##name), is_padded, name##_init, name##_init_quiet,           \
+        name##_update, name##_final, name##_verify                                                 \
   }
 
-PADDED_INIT(cbc_mac_des)
-PADDED_INIT(cbc_mac_tdes_ede2)
-PADDED_INIT(cbc_mac_tdes_ede3)
-PADDED_INIT(retail_mac_des)
-INIT(cmac_tdes_ede2)
-INIT(cmac_tdes_ede3)
+PADDED_INIT(cbc_mac_des, init)
+PADDED_INIT(cbc_mac_des, init_quiet)
+PADDED_INIT(cbc_mac_tdes_ede2, init)
+PADDED_INIT(cbc_mac_tdes_ede2, init_quiet)
+PADDED_INIT(cbc_mac_tdes_ede3, init)
+PADDED_INIT(cbc_mac_tdes_ede3, init_quiet)
+PADDED_INIT(retail_mac_des, init)
+PADDED_INIT(retail_mac_des, init_quiet)
+INIT(cmac_tdes_ede2, init)
+INIT(cmac_tdes_ede2, init_quiet)
+INIT(cmac_tdes_ede3, init)
+INIT(cmac_tdes_ede3, init_quiet)
 DEFINE_MAC(cbc_mac_des)
 DEFINE_MAC(cbc_mac_tdes_ede2)
 DEFINE_MAC(cbc_mac_tdes_ede3)

@@ -147,7 +147,9 @@ static void returns_statuses(void) {
   CHECK(seen(cukvashe_cvv(key, account, 13, "8701", 4, "10a", 3, text)) == CUKVASHE_ERR_SERVICE_DIGIT);
   CHECK(seen(cukvashe_unpad(block, 0, CUKVASHE_PKCS7, &length)) == CUKVASHE_ERR_PADDING);
   CHECK(seen(cukvashe_pad(block, 8, 8, CUKVASHE_PKCS7, &length)) == CUKVASHE_ERR_CAPACITY);
-  CHECK(seen(cukvashe_des_decrypt_cbc_records(&context, made, &length, 0, block, 1)) == CUKVASHE_ERR_COUNTS);
+  CHECK(seen(cukvashe_des_decrypt_cbc_records(&context, made, &length, 0, block, 8)) == CUKVASHE_ERR_COUNTS);
+  CHECK(seen(cukvashe_des_encrypt_each(key, 8, block, 8)) == CUKVASHE_ERR_COUNTS);
+  CHECK(seen(cukvashe_des_encrypt_each(key, 1, block, 1)) == CUKVASHE_ERR_BLOCKS);
 }
 
 /* Words that the sentence of each status has. */
@@ -157,7 +159,7 @@ static const char *const words[] = {
     "account number does not have 13 to 19 digits", "character of the account number", "fill digit",
     "expiry date does not have four digits", "character of the expiry date", "service code does not have three digits",
     "character of the service code", "does not end with the padding", "no room for the padding",
-    "as many elements as each other",
+    "numbers of elements do not agree",
 };
 
 /* Every status was returned by some call, and has a sentence of its own; other numbers have one sentence. */
@@ -216,10 +218,10 @@ static void has_numbers(void) {
   CHECK(CUKVASHE_FILL_SIZE == 10 && CUKVASHE_PIN_SIZE == 13 && CUKVASHE_CVV_SIZE == 4);
   CHECK(CUKVASHE_PKCS7 == 11 && CUKVASHE_ISO7816 == 12);
   CHECK(CUKVASHE_MAC_PADDING_1 == 1 && CUKVASHE_MAC_PADDING_2 == 2);
-  CHECK(sizeof(cukvashe_des) == 128 && sizeof(cukvashe_tdes_ede2) == 256 && sizeof(cukvashe_tdes_ede3) == 384);
-  CHECK(sizeof(cukvashe_cbc_mac_des) == 160 && sizeof(cukvashe_cbc_mac_tdes_ede2) == 288);
-  CHECK(sizeof(cukvashe_cbc_mac_tdes_ede3) == 416 && sizeof(cukvashe_retail_mac_des) == 288);
-  CHECK(sizeof(cukvashe_cmac_tdes_ede2) == 288 && sizeof(cukvashe_cmac_tdes_ede3) == 416);
+  CHECK(sizeof(cukvashe_des) == 136 && sizeof(cukvashe_tdes_ede2) == 264 && sizeof(cukvashe_tdes_ede3) == 392);
+  CHECK(sizeof(cukvashe_cbc_mac_des) == 168 && sizeof(cukvashe_cbc_mac_tdes_ede2) == 296);
+  CHECK(sizeof(cukvashe_cbc_mac_tdes_ede3) == 424 && sizeof(cukvashe_retail_mac_des) == 304);
+  CHECK(sizeof(cukvashe_cmac_tdes_ede2) == 296 && sizeof(cukvashe_cmac_tdes_ede3) == 424);
   CHECK(strcmp(cukvashe_version(), CUKVASHE_VERSION) == 0);
 }
 

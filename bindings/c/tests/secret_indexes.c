@@ -1,7 +1,8 @@
 /*
  * Under valgrind, with keys, vectors and data marked undefined: memcheck reports where an index or a branch depends on them.
  * `secret_indexes calls` runs the calls that must give no report; each other word runs one that must give one: `short`, a list that
- * goes by tables, and `rest`, a list whose rest does, both of which read them so; and `planted`, a lookup here.
+ * goes by tables, and `rest`, a list whose rest does, `chain` and `message`, of quick contexts, which all read them so; `cvv`, which
+ * branches on the digits that the key makes; and `planted`, a lookup here.
  */
 #include "mac_calls.h"
 #include <valgrind/memcheck.h>
@@ -64,6 +65,44 @@ static void verifies(const struct mac *mac) {
   CHECK(is_status(mac->verify(&context, tag, sizeof tag), CUKVASHE_ERR_TAG));
 }
 
+/* Every call of quiet contexts, of lists of any length. */
+static void quiet_calls_of(const struct cipher *cipher) {
+  static const size_t few[] = {1, 2, 3, 4, 5, 6, 7, 8, 9, 10, 11, 12, 20, 40, 257};
+  union context context;
+  hide(key, sizeof key);
+  CHECK(cipher->init_quiet(&context, key, cipher->key_size) == CUKVASHE_OK);
+  for (int n = 0; n < count_of_ways(); n++) {
+    const struct way *way = &cipher->ways[n];
+    for (size_t i = 0; i < sizeof few / sizeof *few; i++) {
+      size_t length = 8 * few[i];
+      hide(data, sizeof data);
+      hide(iv, sizeof iv);
+      CHECK(way->encrypt_ecb(&context, data, length) == CUKVASHE_OK);
+      CHECK(way->decrypt_ecb(&context, data, length) == CUKVASHE_OK);
+      CHECK(way->encrypt_ecb_to(&context, data, other, length) == CUKVASHE_OK);
+      CHECK(way->decrypt_ecb_to(&context, other, data, length) == CUKVASHE_OK);
+      CHECK(way->encrypt_cbc(&context, iv, data, length) == CUKVASHE_OK);
+      CHECK(way->decrypt_cbc(&context, iv, data, length) == CUKVASHE_OK);
+      CHECK(way->encrypt_cbc_to(&context, iv, data, other, length) == CUKVASHE_OK);
+      CHECK(way->decrypt_cbc_to(&context, iv, data, other, length) == CUKVASHE_OK);
+    }
+  }
+}
+
+/* A message in pieces. Its length is no secret. */
+static void quiet_message(const struct mac *mac, int method) {
+  union mac_context context;
+  uint8_t tag[8];
+  hide(key, sizeof key);
+  hide(data, sizeof data);
+  CHECK(mac->init_quiet(&context, key, mac->key_size, method) == CUKVASHE_OK);
+  for (size_t length = 0; length < 20; length++) {
+    mac->update(&context, data, length);
+    mac->final(&context, tag);
+    CHECK(is_status(mac->verify(&context, tag, sizeof tag), CUKVASHE_OK));
+  }
+}
+
 /* Padding is written without a look at the bytes before it. Keys for PINs and for MACs are masks of a transaction's key. */
 static void others(void) {
   size_t padded;
@@ -78,24 +117,48 @@ static void others(void) {
   cukvashe_dukpt_mac_key(key, true, other);
 }
 
-/* Records of one block, and messages of 20 bytes, whose lengths are no secret. */
+/* Records, both ways, under a context that INIT makes. */
+#define RECORDS(NAME, INIT, KEY_SIZE)                                                                                      \
+  do {                                                                                                                     \
+    cukvashe_##NAME context;                                                                                               \
+    CHECK(cukvashe_##NAME##_##INIT(&context, keys, KEY_SIZE) == CUKVASHE_OK);                                              \
+    CHECK(cukvashe_##NAME##_encrypt_cbc_records(&context, data, sizes, count, bytes, length) == CUKVASHE_OK);              \
+    CHECK(cukvashe_##NAME##_decrypt_cbc_records(&context, data, sizes, count, bytes, length) == CUKVASHE_OK);              \
+  } while (0)
+
+/* Records of 0 to 3 blocks, and messages of 20 bytes, whose lengths are no secret. */
 static void records_and_messages(uint8_t *keys, size_t count) {
+  static uint8_t bytes[3 * 8 * MOST_BLOCKS];
   static size_t sizes[MOST_BLOCKS];
   static cukvashe_message messages[MOST_BLOCKS];
-  cukvashe_tdes_ede3 context;
   hide(keys, 24 * MOST_BLOCKS);
   hide(data, sizeof data);
-  CHECK(cukvashe_tdes_ede3_init(&context, keys, 24) == CUKVASHE_OK);
+  hide(bytes, sizeof bytes);
+  size_t length = 0;
   for (size_t i = 0; i < count; i++) {
-    sizes[i] = 1;
+    sizes[i] = (i + 1) % 4;
+    length += 8 * sizes[i];
     messages[i].bytes = data + 8 * (i % 100);
     messages[i].length = 20;
   }
-  CHECK(cukvashe_tdes_ede3_encrypt_cbc_records(&context, data, sizes, count, other, count) == CUKVASHE_OK);
-  CHECK(cukvashe_tdes_ede3_decrypt_cbc_records(&context, data, sizes, count, other, count) == CUKVASHE_OK);
+  RECORDS(des, init, 8);
+  RECORDS(tdes_ede2, init, 16);
+  RECORDS(tdes_ede3, init, 24);
+  RECORDS(tdes_ede3, init_quiet, 24);
+  CHECK(cukvashe_cbc_mac_des_macs(keys, CUKVASHE_MAC_PADDING_1, messages, other, count) == CUKVASHE_OK);
   CHECK(cukvashe_cbc_mac_tdes_ede2_macs(keys, CUKVASHE_MAC_PADDING_2, messages, other, count) == CUKVASHE_OK);
+  CHECK(cukvashe_cbc_mac_tdes_ede3_macs(keys, CUKVASHE_MAC_PADDING_1, messages, other, count) == CUKVASHE_OK);
   CHECK(cukvashe_cbc_mac_des_macs_each(keys, CUKVASHE_MAC_PADDING_1, messages, other, count) == CUKVASHE_OK);
-  CHECK(cukvashe_retail_mac_des_macs_each(keys, keys + 8 * MOST_BLOCKS, 2, messages, other, count) == CUKVASHE_OK);
+  CHECK(cukvashe_cbc_mac_tdes_ede2_macs_each(keys, CUKVASHE_MAC_PADDING_2, messages, other, count) == CUKVASHE_OK);
+  CHECK(cukvashe_cbc_mac_tdes_ede3_macs_each(keys, CUKVASHE_MAC_PADDING_1, messages, other, count) == CUKVASHE_OK);
+  CHECK(cukvashe_retail_mac_des_macs(keys, CUKVASHE_MAC_PADDING_1, messages, other, count) == CUKVASHE_OK);
+  CHECK(cukvashe_retail_mac_des_macs_each(keys, CUKVASHE_MAC_PADDING_2, messages, other, count) == CUKVASHE_OK);
+  cukvashe_cmac_tdes_ede2_macs(keys, messages, other, count);
+  cukvashe_cmac_tdes_ede2_macs_each(keys, messages, other, count);
+  cukvashe_cmac_tdes_ede3_macs(keys, messages, other, count);
+  cukvashe_cmac_tdes_ede3_macs_each(keys, messages, other, count);
+  static bool right[MOST_BLOCKS];
+  cukvashe_verify_tags(data, other, right, count);
 }
 
 /* Lists of any length under keys of their own, check values, and keys of transactions. Key serial numbers are no secret. */
@@ -107,12 +170,12 @@ static void lists_of_keys(void) {
     hide(keys, sizeof keys);
     hide(data, sizeof data);
     hide(base, sizeof base);
-    cukvashe_des_encrypt_each(keys, data, count);
-    cukvashe_des_decrypt_each(keys, data, count);
-    cukvashe_tdes_ede2_encrypt_each(keys, data, count);
-    cukvashe_tdes_ede2_decrypt_each(keys, data, count);
-    cukvashe_tdes_ede3_encrypt_each(keys, data, count);
-    cukvashe_tdes_ede3_decrypt_each(keys, data, count);
+    CHECK(cukvashe_des_encrypt_each(keys, count, data, 8 * count) == CUKVASHE_OK);
+    CHECK(cukvashe_des_decrypt_each(keys, count, data, 8 * count) == CUKVASHE_OK);
+    CHECK(cukvashe_tdes_ede2_encrypt_each(keys, count, data, 8 * count) == CUKVASHE_OK);
+    CHECK(cukvashe_tdes_ede2_decrypt_each(keys, count, data, 8 * count) == CUKVASHE_OK);
+    CHECK(cukvashe_tdes_ede3_encrypt_each(keys, count, data, 8 * count) == CUKVASHE_OK);
+    CHECK(cukvashe_tdes_ede3_decrypt_each(keys, count, data, 8 * count) == CUKVASHE_OK);
     cukvashe_des_check_values(keys, data, count);
     cukvashe_tdes_ede2_check_values(keys, data, count);
     cukvashe_tdes_ede3_check_values(keys, data, count);
@@ -122,12 +185,45 @@ static void lists_of_keys(void) {
   }
 }
 
+/* Check values, and the keys of a transaction, one by one. */
+static void calls_of_one_key(void) {
+  static const uint8_t serial[10] = {0xff, 0xff, 0x98, 0x76, 0x54, 0x32, 0x10, 0xef, 0xf8, 0x00};
+  hide(key, sizeof key);
+  CHECK(cukvashe_des_check_value(key, 8, data) == CUKVASHE_OK);
+  CHECK(cukvashe_tdes_ede2_check_value(key, 16, data) == CUKVASHE_OK);
+  CHECK(cukvashe_tdes_ede3_check_value(key, 24, data) == CUKVASHE_OK);
+  cukvashe_dukpt_initial_key(key, serial, data);
+  cukvashe_dukpt_transaction_key(data, serial, other);
+  cukvashe_dukpt_data_key(other, false, data);
+  cukvashe_dukpt_data_key(other, true, data);
+}
+
+static void value_of_card(void) {
+  char value[4];
+  hide(key, sizeof key);
+  CHECK(is_status(cukvashe_cvv(key, "4123456789012345", 16, "8701", 4, "101", 3, value), CUKVASHE_OK));
+}
+
 static void list_of(size_t count) {
   union context context;
   hide(key, sizeof key);
   hide(data, sizeof data);
   CHECK(ciphers[DES].init(&context, key, 8) == CUKVASHE_OK);
   CHECK(cukvashe_des_encrypt_ecb(&context.des, data, 8 * count) == CUKVASHE_OK);
+}
+
+static void chain_of_one(void) {
+  union context context;
+  hide(key, sizeof key);
+  CHECK(ciphers[EDE3].init(&context, key, 24) == CUKVASHE_OK);
+  CHECK(cukvashe_tdes_ede3_encrypt_cbc(&context.tdes_ede3, iv, data, 8) == CUKVASHE_OK);
+}
+
+static void message_of_two(void) {
+  union mac_context context;
+  hide(key, sizeof key);
+  CHECK(macs[RETAIL_MAC].init(&context, key, 16, CUKVASHE_MAC_PADDING_2) == CUKVASHE_OK);
+  macs[RETAIL_MAC].update(&context, data, 16);
 }
 
 /* What is read has to be kept: valgrind leaves out a read that nothing uses. */
@@ -141,13 +237,22 @@ int main(int count, char **words) {
   CHECK(count == 2);
   if (strcmp(words[1], "calls") == 0) {
     for (int n = 0; n < CIPHERS; n++) calls_of(&ciphers[n]);
+    for (int n = 0; n < CIPHERS; n++) quiet_calls_of(&ciphers[n]);
     for (int n = 0; n < MACS; n++) verifies(&macs[n]);
+    for (int n = 0; n < 2 * MACS; n++) quiet_message(&macs[n / 2], n % 2 + 1);
     others();
+    calls_of_one_key();
     lists_of_keys();
   } else if (strcmp(words[1], "short") == 0) {
     list_of(18);
   } else if (strcmp(words[1], "rest") == 0) {
     list_of(256 + 1);
+  } else if (strcmp(words[1], "chain") == 0) {
+    chain_of_one();
+  } else if (strcmp(words[1], "message") == 0) {
+    message_of_two();
+  } else if (strcmp(words[1], "cvv") == 0) {
+    value_of_card();
   } else {
     CHECK(strcmp(words[1], "planted") == 0);
     planted();

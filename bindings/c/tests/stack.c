@@ -7,7 +7,7 @@
 enum { STACK = 1 << 18, LIST = 300, PAINT = 0xa5 };
 
 /* What the header says, in bytes. */
-enum { LIMIT = 25000, LIMIT_OF_LISTS = 66000 };
+enum { LIMIT = 27000, LIMIT_OF_LISTS = 66000 };
 
 /* One call, by the test of its kind, or none. */
 struct work {
@@ -27,7 +27,7 @@ static volatile int returned;
 
 static void no_call(const struct work *work) { (void)work; }
 
-enum { OF_CIPHER = 10 };
+enum { OF_CIPHER = 11, INITS = 2 };
 
 static void of_cipher(const struct work *work) {
   const struct cipher *cipher = &ciphers[work->number];
@@ -35,26 +35,28 @@ static void of_cipher(const struct work *work) {
   size_t length = 8 * work->count;
   switch (work->call) {
     case 0: returned = cipher->init(&context, key, cipher->key_size); break;
-    case 1: returned = cipher->check_value(key, cipher->key_size, blocks); break;
-    case 2: returned = way->encrypt_ecb(&context, blocks, length); break;
-    case 3: returned = way->decrypt_ecb(&context, blocks, length); break;
-    case 4: returned = way->encrypt_ecb_to(&context, blocks, others, length); break;
-    case 5: returned = way->decrypt_ecb_to(&context, blocks, others, length); break;
-    case 6: returned = way->encrypt_cbc(&context, iv, blocks, length); break;
-    case 7: returned = way->decrypt_cbc(&context, iv, blocks, length); break;
-    case 8: returned = way->encrypt_cbc_to(&context, iv, blocks, others, length); break;
+    case 1: returned = cipher->init_quiet(&context, key, cipher->key_size); break;
+    case 2: returned = cipher->check_value(key, cipher->key_size, blocks); break;
+    case 3: returned = way->encrypt_ecb(&context, blocks, length); break;
+    case 4: returned = way->decrypt_ecb(&context, blocks, length); break;
+    case 5: returned = way->encrypt_ecb_to(&context, blocks, others, length); break;
+    case 6: returned = way->decrypt_ecb_to(&context, blocks, others, length); break;
+    case 7: returned = way->encrypt_cbc(&context, iv, blocks, length); break;
+    case 8: returned = way->decrypt_cbc(&context, iv, blocks, length); break;
+    case 9: returned = way->encrypt_cbc_to(&context, iv, blocks, others, length); break;
     default: returned = way->decrypt_cbc_to(&context, iv, blocks, others, length); break;
   }
 }
 
-enum { OF_MAC = 4 };
+enum { OF_MAC = 5 };
 
 static void of_mac(const struct work *work) {
   const struct mac *calls = &macs[work->number];
   switch (work->call) {
     case 0: returned = calls->init(&mac, key, calls->key_size, CUKVASHE_MAC_PADDING_2); break;
-    case 1: calls->update(&mac, blocks, 8 * work->count); break;
-    case 2: calls->final(&mac, iv); break;
+    case 1: returned = calls->init_quiet(&mac, key, calls->key_size, CUKVASHE_MAC_PADDING_2); break;
+    case 2: calls->update(&mac, blocks, 8 * work->count); break;
+    case 3: calls->final(&mac, iv); break;
     default: returned = calls->verify(&mac, iv, 8); break;
   }
 }
@@ -88,12 +90,12 @@ static void of_list(const struct work *work) {
   static uint8_t keys[24 * LIST];
   const size_t count = work->count;
   switch (3 * work->call + work->number) {
-    case 0: cukvashe_des_encrypt_each(keys, blocks, count); break;
-    case 1: cukvashe_tdes_ede2_encrypt_each(keys, blocks, count); break;
-    case 2: cukvashe_tdes_ede3_encrypt_each(keys, blocks, count); break;
-    case 3: cukvashe_des_decrypt_each(keys, blocks, count); break;
-    case 4: cukvashe_tdes_ede2_decrypt_each(keys, blocks, count); break;
-    case 5: cukvashe_tdes_ede3_decrypt_each(keys, blocks, count); break;
+    case 0: returned = cukvashe_des_encrypt_each(keys, count, blocks, 8 * count); break;
+    case 1: returned = cukvashe_tdes_ede2_encrypt_each(keys, count, blocks, 8 * count); break;
+    case 2: returned = cukvashe_tdes_ede3_encrypt_each(keys, count, blocks, 8 * count); break;
+    case 3: returned = cukvashe_des_decrypt_each(keys, count, blocks, 8 * count); break;
+    case 4: returned = cukvashe_tdes_ede2_decrypt_each(keys, count, blocks, 8 * count); break;
+    case 5: returned = cukvashe_tdes_ede3_decrypt_each(keys, count, blocks, 8 * count); break;
     case 6: cukvashe_des_check_values(keys, blocks, count); break;
     case 7: cukvashe_tdes_ede2_check_values(keys, blocks, count); break;
     case 8: cukvashe_tdes_ede3_check_values(keys, blocks, count); break;
@@ -101,12 +103,13 @@ static void of_list(const struct work *work) {
   }
 }
 
-enum { OF_RECORD = 13 };
+enum { OF_RECORD = 19 };
 
 static void of_record(const struct work *work) {
   static size_t sizes[LIST];
   static cukvashe_message messages[LIST];
   static uint8_t keys[24 * LIST];
+  static bool right[LIST];
   const size_t count = work->count;
   for (size_t i = 0; i < count; i++) {
     sizes[i] = 1;
@@ -114,19 +117,25 @@ static void of_record(const struct work *work) {
     messages[i].length = 20;
   }
   switch (work->call) {
-    case 0: returned = cukvashe_des_encrypt_cbc_records(&context.des, blocks, sizes, count, others, count); break;
-    case 1: returned = cukvashe_tdes_ede2_encrypt_cbc_records(&context.tdes_ede2, blocks, sizes, count, others, count); break;
-    case 2: returned = cukvashe_tdes_ede3_encrypt_cbc_records(&context.tdes_ede3, blocks, sizes, count, others, count); break;
-    case 3: returned = cukvashe_des_decrypt_cbc_records(&context.des, blocks, sizes, count, others, count); break;
-    case 4: returned = cukvashe_tdes_ede2_decrypt_cbc_records(&context.tdes_ede2, blocks, sizes, count, others, count); break;
-    case 5: returned = cukvashe_tdes_ede3_decrypt_cbc_records(&context.tdes_ede3, blocks, sizes, count, others, count); break;
+    case 0: returned = cukvashe_des_encrypt_cbc_records(&context.des, blocks, sizes, count, others, 8 * count); break;
+    case 1: returned = cukvashe_tdes_ede2_encrypt_cbc_records(&context.tdes_ede2, blocks, sizes, count, others, 8 * count); break;
+    case 2: returned = cukvashe_tdes_ede3_encrypt_cbc_records(&context.tdes_ede3, blocks, sizes, count, others, 8 * count); break;
+    case 3: returned = cukvashe_des_decrypt_cbc_records(&context.des, blocks, sizes, count, others, 8 * count); break;
+    case 4: returned = cukvashe_tdes_ede2_decrypt_cbc_records(&context.tdes_ede2, blocks, sizes, count, others, 8 * count); break;
+    case 5: returned = cukvashe_tdes_ede3_decrypt_cbc_records(&context.tdes_ede3, blocks, sizes, count, others, 8 * count); break;
     case 6: returned = cukvashe_cbc_mac_des_macs(key, 1, messages, others, count); break;
     case 7: returned = cukvashe_cbc_mac_tdes_ede2_macs(key, 1, messages, others, count); break;
     case 8: returned = cukvashe_cbc_mac_tdes_ede3_macs(key, 2, messages, others, count); break;
     case 9: returned = cukvashe_cbc_mac_des_macs_each(keys, 1, messages, others, count); break;
     case 10: returned = cukvashe_cbc_mac_tdes_ede2_macs_each(keys, 1, messages, others, count); break;
     case 11: returned = cukvashe_cbc_mac_tdes_ede3_macs_each(keys, 2, messages, others, count); break;
-    default: returned = cukvashe_retail_mac_des_macs_each(keys, keys + 8 * LIST, 2, messages, others, count); break;
+    case 12: returned = cukvashe_retail_mac_des_macs(key, 2, messages, others, count); break;
+    case 13: returned = cukvashe_retail_mac_des_macs_each(keys, 2, messages, others, count); break;
+    case 14: cukvashe_cmac_tdes_ede2_macs(key, messages, others, count); break;
+    case 15: cukvashe_cmac_tdes_ede2_macs_each(keys, messages, others, count); break;
+    case 16: cukvashe_cmac_tdes_ede3_macs(key, messages, others, count); break;
+    case 17: cukvashe_cmac_tdes_ede3_macs_each(keys, messages, others, count); break;
+    default: cukvashe_verify_tags(blocks, others, right, count); break;
   }
 }
 
@@ -182,14 +191,18 @@ static void measure(void (*test)(const struct work *), int call, int number, int
   measure_within(LIMIT, test, call, number, way, count);
 }
 
-static void measure_ciphers(void) {
+/* The calls of a context, which is made by a call of `init` or `init_quiet`. */
+static void measure_cipher(int cipher, int init) {
   static const size_t sizes[] = {1, 3, 32, 128, 129, LIST};
-  for (int cipher = 0; cipher < CIPHERS; cipher++) {
-    measure(of_cipher, 0, cipher, 0, 0);
-    for (int call = 1; call < OF_CIPHER; call++)
-      for (int way = 0; way < count_of_ways(); way++)
-        for (size_t i = 0; i < sizeof sizes / sizeof *sizes; i++) measure(of_cipher, call, cipher, way, sizes[i]);
-  }
+  measure(of_cipher, init, cipher, 0, 0);
+  for (int call = INITS; call < OF_CIPHER; call++)
+    for (int way = 0; way < count_of_ways(); way++)
+      for (size_t i = 0; i < sizeof sizes / sizeof *sizes; i++) measure(of_cipher, call, cipher, way, sizes[i]);
+}
+
+static void measure_mac(int number, int init) {
+  measure(of_mac, init, number, 0, 0);
+  for (int call = INITS; call < OF_MAC; call++) measure(of_mac, call, number, 0, LIST);
 }
 
 static void measure_lists(void) {
@@ -210,7 +223,8 @@ int main(void) {
   random_bytes(key, sizeof key);
   random_bytes(others, sizeof others);
   none = used_by(&nothing);
-  measure_ciphers();
+  for (int cipher = 0; cipher < CIPHERS; cipher++)
+    for (int init = 0; init < INITS; init++) measure_cipher(cipher, init);
   printf("stack: at most %zu bytes by calls of ciphers", most);
   CHECK(most > 1000);
   most = 0;
@@ -221,7 +235,7 @@ int main(void) {
   for (int call = 0; call < OF_KEY; call++) measure(of_key, call, 0, 0, 0);
   for (int call = 0; call < OF_TEXT; call++) measure(of_text, call, 0, 0, 0);
   for (int number = 0; number < MACS; number++)
-    for (int call = 0; call < OF_MAC; call++) measure(of_mac, call, number, 0, LIST);
+    for (int init = 0; init < INITS; init++) measure_mac(number, init);
   CHECK(most > 100);
   printf(", and %zu by all others\n", most);
   return 0;

@@ -15,6 +15,8 @@ void spread_tdes_ede3_decrypt(const uint8_t *key, uint8_t *blocks, size_t count)
 void spread_tdes_ede3_decrypt_cbc(const uint8_t *key, const uint8_t *iv, uint8_t *blocks, size_t count);
 void quiet_des(const uint8_t *key, uint8_t *blocks, size_t count);
 void quiet_tdes_ede3(const uint8_t *key, uint8_t *blocks, size_t count);
+void many_des(const uint8_t *key, const uint8_t *iv, uint8_t *blocks, size_t count);
+void many_tdes_ede3(const uint8_t *key, const uint8_t *iv, uint8_t *blocks, size_t count);
 bool keyed_records(const uint8_t *keys, size_t keys_count, uint8_t *vectors, size_t vectors_count, uint8_t *blocks, size_t count);
 
 int main(int arguments, char **words) {
@@ -35,6 +37,10 @@ int main(int arguments, char **words) {
     quiet_des(key, blocks, counts[i]);
     quiet_tdes_ede3(key, blocks, counts[i]);
     CHECK(keyed_records(keys, counts[i] / 2, vectors, counts[i] / 2, blocks, counts[i] / 2 * 2));
+  }
+  for (size_t count = 0; count <= 12; count++) {
+    many_des(key, vector, blocks, count);
+    many_tdes_ede3(key, vector, blocks, count);
   }
   if (strcmp(words[1], "control") == 0 && blocks[0] > key[0]) puts("more");
   printf("secret indexes: calls that the header does not have, %s, run by valgrind: %s\n", words[1], RUNNING_ON_VALGRIND ? "yes" : "no");

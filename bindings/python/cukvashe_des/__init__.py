@@ -17,18 +17,21 @@ Messages are authenticated by objects as those of `hmac`, with `update`, `digest
     mac.update(message)
     mac.verify(tag)                                # TagMismatch, a ValueError, if it is not the tag
 
+`TdesEde3(key, quiet=True)`, and so each cipher and MAC, reads no tables at addresses that depend on the key or the data, which
+other programs on the processor could learn; single blocks, CBC encryption and MACs then take about three times as long.
+
 `check_value` and `combine` make check values and keys of components, the calls named `dukpt_` the keys of a transaction,
 those named `pin_` PIN blocks, which are not encrypted, and `cvv` card verification values.
 
 Lists go in one call: `encrypt_each` and `decrypt_each` with a key for each block, `check_values` of many keys and
-`dukpt_transaction_keys` of many key serial numbers. They take arrays, as of shape (n, 8) or (n, 16), where they stand, and
-other threads of Python run meanwhile:
+`dukpt_transaction_keys` of many key serial numbers. They take arrays of `uint8` or of words `>u8`, as of shape (n, 8) or
+(n, 16), where they stand, and other threads of Python run meanwhile:
 
     keys = cukvashe_des.dukpt_transaction_keys(base, serials)
     blocks = cukvashe_des.decrypt_each(cukvashe_des.TdesEde2, keys, blocks)
 
 `decrypt_cbc_records(cipher, vectors, counts, blocks)` and its inverse take a column of records, `macs` and `macs_each` many
-messages.
+messages, and `verify_tags` compares the tags that came with those that these made.
 
 A fault is a ValueError of its own name, an argument of the wrong type a TypeError. The texts of both tell lengths, and no other
 value that was given.
@@ -90,6 +93,7 @@ from ._lists import (
     encrypt_each_into,
     macs,
     macs_each,
+    verify_tags,
 )
 from ._macs import TAG_SIZE, CbcMacDes, CbcMacTdesEde2, CbcMacTdesEde3, CmacTdesEde2, CmacTdesEde3, RetailMacDes
 from ._padding import pad, unpad
@@ -105,7 +109,7 @@ __all__ = [
     "dukpt_initial_key", "dukpt_is_usable", "dukpt_mac_key", "dukpt_next_serial", "dukpt_pin_key", "dukpt_transaction_key",
     "dukpt_transaction_keys", "encrypt_cbc_records", "encrypt_each", "encrypt_each_into", "equal_but_parity", "is_weak_key",
     "macs", "macs_each", "pad", "pin_decode_0", "pin_decode_1", "pin_decode_3", "pin_encode_0", "pin_encode_1", "pin_encode_3",
-    "unpad", "with_odd_parity",
+    "unpad", "verify_tags", "with_odd_parity",
 ]
 
 # Texts of errors and of `help` name the package, and not the file that defines a class.

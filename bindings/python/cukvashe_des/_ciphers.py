@@ -15,7 +15,8 @@ if TYPE_CHECKING:
 
 
 class Cipher(Keyed):
-    """A block cipher under one key. Nothing writes it once it is made, so threads may share it."""
+    """A block cipher under one key. Nothing writes it once it is made, so threads may share it. A quiet one reads no tables at
+    addresses that depend on the key or the data. A single block and CBC encryption then take about three times as long."""
 
     __slots__ = ()
 
@@ -25,6 +26,7 @@ class Cipher(Keyed):
     _words: ClassVar[int] = 0
     _context_type: ClassVar[Any]
     _init: ClassVar[_Call]
+    _init_quiet: ClassVar[_Call]
     _value: ClassVar[_Call]
     _encrypt_ecb: ClassVar[_Call]
     _decrypt_ecb: ClassVar[_Call]
@@ -38,6 +40,7 @@ class Cipher(Keyed):
     def __init_subclass__(cls) -> None:
         cls._context_type = context_type(cls._words)
         cls._init = function(cls.name + "_init", INT, POINTER, POINTER, SIZE)
+        cls._init_quiet = function(cls.name + "_init_quiet", INT, POINTER, POINTER, SIZE)
         cls._value = function(cls.name + "_check_value", INT, POINTER, SIZE, POINTER)
         for call in ("encrypt_ecb", "decrypt_ecb"):
             setattr(cls, f"_{call}", function(f"{cls.name}_{call}", INT, POINTER, POINTER, SIZE))
@@ -47,10 +50,11 @@ class Cipher(Keyed):
             to = function(f"{cls.name}_{call}_to", INT, POINTER, POINTER, POINTER, POINTER, SIZE)
             setattr(cls, f"_{call}_to", to)
 
-    def __init__(self, key: ReadableBuffer) -> None:
+    def __init__(self, key: ReadableBuffer, *, quiet: bool = False) -> None:
         context = self._context_type()
+        init = type(self)._init_quiet if quiet else type(self)._init
         with key_of(key, self.key_size) as held:
-            type(self)._init(context, held, len(held))
+            init(context, held, len(held))
         self._context = context
 
     def encrypt_ecb(self, data: ReadableBuffer) -> bytes:
@@ -122,18 +126,18 @@ class Des(Cipher):
     """DES, under a key of 8 bytes."""
 
     __slots__ = ()
-    name, key_size, _words = "des", 8, 16
+    name, key_size, _words = "des", 8, 17
 
 
 class TdesEde2(Cipher):
     """Triple DES: encryption, decryption, encryption, under the two parts of a key of 16 bytes and the first again."""
 
     __slots__ = ()
-    name, key_size, _words = "tdes_ede2", 16, 32
+    name, key_size, _words = "tdes_ede2", 16, 33
 
 
 class TdesEde3(Cipher):
     """Triple DES: encryption, decryption, encryption, under the three parts of a key of 24 bytes."""
 
     __slots__ = ()
-    name, key_size, _words = "tdes_ede3", 24, 48
+    name, key_size, _words = "tdes_ede3", 24, 49

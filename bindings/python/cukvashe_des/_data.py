@@ -4,6 +4,7 @@ from __future__ import annotations
 
 import contextlib
 import ctypes
+import re
 from typing import TYPE_CHECKING, Any, Iterator, NoReturn, Optional, Tuple, TypeVar, Union
 
 from ._faults import BlockLength, Closed, KeyLength, VectorLength
@@ -119,26 +120,44 @@ _give_back.argtypes, _give_back.restype = (ctypes.POINTER(_Buffer),), None
 
 @contextlib.contextmanager
 def lent(data: ReadableBuffer) -> Iterator[Tuple[Any, int]]:
-    """Where the bytes of an object begin, and how many there are. They are copied only where they do not lie in one piece. Until
-    the call ends nobody can change their number; who changes the bytes themselves meanwhile gets an answer to some of both."""
-    buffer = _Buffer()
+    """Where the bytes of an object begin, and how many there are. Where they do not lie in one piece they are copied, and
+    the copy is wiped after the call. Until the call ends nobody can change their number; who changes the bytes themselves
+    meanwhile gets an answer to some of both."""
     with memoryview(data) as view:
-        _take_buffer(view if view.c_contiguous else view.tobytes(), ctypes.byref(buffer), 0)
-        try:
-            yield buffer.start, buffer.length
-        finally:
-            _give_back(ctypes.byref(buffer))
+        if view.c_contiguous:
+            buffer = _Buffer()
+            _take_buffer(view, ctypes.byref(buffer), 0)
+            try:
+                yield buffer.start, buffer.length
+            finally:
+                _give_back(ctypes.byref(buffer))
+        else:
+            with _held(bytearray(view)) as held:
+                yield ctypes.addressof(held), len(held)
 
 
 @contextlib.contextmanager
 def kept_apart(data: ReadableBuffer, written: memoryview) -> Iterator[Tuple[Any, int]]:
-    """The same of data of which none may be written by the call: a copy, wiped after it, where what it writes overlaps them."""
+    """The same of data of which none may be written by the call: where what it writes overlaps them they are copied, and
+    the copy is wiped after it."""
     with lent(data) as (start, length), lent(written) as (place, size):
         if not length or not size or start + length <= place or place + size <= start:
             yield start, length
         else:
-            with _held(bytearray(ctypes.string_at(start, length))) as held:
-                yield held, length
+            with _held(bytearray((ctypes.c_uint8 * length).from_address(start))) as held:
+                yield ctypes.addressof(held), length
+
+
+# Bytes, and words whose most significant byte comes first, as a memoryview names them.
+_IN_ORDER = re.compile("[@=<>!]?[Bbc]|[>!][HhIiLlQq]")
+
+
+def row_size(view: memoryview) -> Optional[int]:
+    """The bytes of a row, which is the last dimension of more than one, else None. A TypeError where the items are neither
+    bytes nor words whose most significant byte comes first: of others the bytes of each element would be out of order."""
+    if not _IN_ORDER.fullmatch(view.format):
+        raise TypeError("a list has items of one byte, or words with the most significant byte first (uint8 or >u8)")
+    return view.itemsize * view.shape[-1] if view.ndim > 1 else None
 
 
 def pointer_to(data: WriteableBuffer) -> Any:

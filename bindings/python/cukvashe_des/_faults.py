@@ -32,7 +32,7 @@ class SerialLength(ValueError):
 
 
 class CountMismatch(ValueError):
-    """Lists that belong together do not have as many elements as each other."""
+    """Numbers of elements do not agree: lists differ in length, or counts or lengths do not add up to what is given."""
 
 
 class WeakKey(ValueError):

@@ -43,7 +43,7 @@ def _place() -> str:
     named = os.environ.get("CUKVASHE_DES_LIBRARY")
     if os.path.exists(packaged):
         return packaged
-    return named or (built if os.path.exists(built) else _FILE + ".1")
+    return named or (built if os.path.exists(built) else _FILE + ".2")
 
 
 def _load() -> ctypes.CDLL:

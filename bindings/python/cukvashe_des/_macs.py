@@ -21,7 +21,8 @@ _Self = TypeVar("_Self", bound="Mac")
 
 
 class Mac(Keyed):
-    """A message authentication code of a message that comes in pieces. Threads may share one: its calls take turns."""
+    """A message authentication code of a message that comes in pieces. Threads may share one: its calls take turns. A quiet one
+    reads no tables at addresses that depend on the key or the message, and takes about three times as long."""
 
     __slots__ = ("_lock",)
 
@@ -33,6 +34,7 @@ class Mac(Keyed):
     _paddings: ClassVar[Tuple[Any, ...]] = ()
     _context_type: ClassVar[Any]
     _init: ClassVar[_Call]
+    _init_quiet: ClassVar[_Call]
     _update: ClassVar[_Call]
     _final: ClassVar[_Call]
     _verify: ClassVar[_Call]
@@ -42,14 +44,16 @@ class Mac(Keyed):
             return
         cls._context_type = context_type(cls._words)
         cls._init = function(cls.name + "_init", INT, POINTER, POINTER, SIZE, *cls._paddings)
+        cls._init_quiet = function(cls.name + "_init_quiet", INT, POINTER, POINTER, SIZE, *cls._paddings)
         cls._update = function(cls.name + "_update", None, POINTER, POINTER, SIZE)
         cls._final = function(cls.name + "_final", None, POINTER, POINTER)
         cls._verify = function(cls.name + "_verify", INT, POINTER, POINTER, SIZE)
 
-    def _begin(self, key: ReadableBuffer, *padding: int) -> None:
+    def _begin(self, quiet: bool, key: ReadableBuffer, *padding: int) -> None:
         context = self._context_type()
+        init = type(self)._init_quiet if quiet else type(self)._init
         with key_of(key, self.key_size) as held:
-            if type(self)._init(context, held, len(held), *padding) != OK:
+            if init(context, held, len(held), *padding) != OK:
                 raise PaddingMethod("padding is by method 1 or 2")
         self._context, self._lock = context, threading.Lock()
 
@@ -106,11 +110,11 @@ class PaddedMac(Mac):
     __slots__ = ()
     _paddings = (INT,)
 
-    def __init__(self, key: ReadableBuffer, padding: int, data: ReadableBuffer = b"") -> None:
+    def __init__(self, key: ReadableBuffer, padding: int, data: ReadableBuffer = b"", *, quiet: bool = False) -> None:
         if not isinstance(padding, int) or isinstance(padding, bool):
             raise TypeError("the padding method, the second argument, is the number 1 or 2")
         # A number that C has no room for would lose bits.
-        self._begin(key, padding if padding in (1, 2) else 0)
+        self._begin(quiet, key, padding if padding in (1, 2) else 0)
         self.update(data)
 
 
@@ -119,8 +123,8 @@ class Cmac(Mac):
 
     __slots__ = ()
 
-    def __init__(self, key: ReadableBuffer, data: ReadableBuffer = b"") -> None:
-        self._begin(key)
+    def __init__(self, key: ReadableBuffer, data: ReadableBuffer = b"", *, quiet: bool = False) -> None:
+        self._begin(quiet, key)
         self.update(data)
 
 
@@ -128,39 +132,39 @@ class CbcMacDes(PaddedMac):
     """CBC-MAC over DES, under a key of 8 bytes. It is safe only where every message has one length."""
 
     __slots__ = ()
-    name, key_size, _words = "cbc_mac_des", 8, 20
+    name, key_size, _words = "cbc_mac_des", 8, 21
 
 
 class CbcMacTdesEde2(PaddedMac):
     """CBC-MAC over triple DES, under a key of 16 bytes. It is safe only where every message has one length."""
 
     __slots__ = ()
-    name, key_size, _words = "cbc_mac_tdes_ede2", 16, 36
+    name, key_size, _words = "cbc_mac_tdes_ede2", 16, 37
 
 
 class CbcMacTdesEde3(PaddedMac):
     """CBC-MAC over triple DES, under a key of 24 bytes. It is safe only where every message has one length."""
 
     __slots__ = ()
-    name, key_size, _words = "cbc_mac_tdes_ede3", 24, 52
+    name, key_size, _words = "cbc_mac_tdes_ede3", 24, 53
 
 
 class RetailMacDes(PaddedMac):
     """The retail MAC over DES, under a key of 16 bytes, two keys."""
 
     __slots__ = ()
-    name, key_size, _words = "retail_mac_des", 16, 36
+    name, key_size, _words = "retail_mac_des", 16, 38
 
 
 class CmacTdesEde2(Cmac):
     """CMAC over triple DES, under a key of 16 bytes."""
 
     __slots__ = ()
-    name, key_size, _words = "cmac_tdes_ede2", 16, 36
+    name, key_size, _words = "cmac_tdes_ede2", 16, 37
 
 
 class CmacTdesEde3(Cmac):
     """CMAC over triple DES, under a key of 24 bytes."""
 
     __slots__ = ()
-    name, key_size, _words = "cmac_tdes_ede3", 24, 52
+    name, key_size, _words = "cmac_tdes_ede3", 24, 53

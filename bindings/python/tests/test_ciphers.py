@@ -38,22 +38,25 @@ class KnownAnswers(unittest.TestCase):
             if kind is None:
                 continue
             met.add(name)
-            if iv:
-                self.chain(kind(key), iv, plain, answer)
-            else:
-                self.electronic_codebook(kind(key), plain, answer)
+            for quiet in (False, True):
+                if iv:
+                    self.chain(kind(key, quiet=quiet), iv, plain, answer)
+                else:
+                    self.electronic_codebook(kind(key, quiet=quiet), plain, answer)
         self.assertLessEqual({"des", "ede2", "ede3", "des-cbc", "ede3-cbc"}, met)
 
     def test_lists(self):
         """The published blocks, again and again. A chain of their answers is decrypted to each block xor the answer before it,
         so its encryption gives the answers back."""
         for kind, answer in ANSWERS.items():
-            cipher = kind(KEY[: kind.key_size])
+            ciphers = kind(KEY[: kind.key_size]), kind(KEY[: kind.key_size], quiet=True)
             for count in (*COUNTS, LONG):
                 plain, encrypted = (TEXT * LONG)[: 8 * count], (answer * LONG)[: 8 * count]
                 before = (CHAIN_IV + encrypted)[: 8 * count]
-                self.electronic_codebook(cipher, plain, encrypted)
-                self.chain(cipher, CHAIN_IV, bytes(byte ^ other for byte, other in zip(plain, before)), encrypted)
+                chained = bytes(byte ^ other for byte, other in zip(plain, before))
+                for cipher in ciphers:
+                    self.electronic_codebook(cipher, plain, encrypted)
+                    self.chain(cipher, CHAIN_IV, chained, encrypted)
 
     def test_chain_in_pieces(self):
         """What the calls in place make of pieces is what the call of the whole makes, in both directions."""
@@ -71,10 +74,11 @@ class Lengths(unittest.TestCase):
     def test_keys(self):
         for kind in ANSWERS:
             for length in LENGTHS:
-                if length == kind.key_size:
-                    self.assertIsInstance(kind(bytes(length)), kind)
-                else:
-                    self.assertRaisesRegex(KeyLength, f"not {length}$", kind, bytes(length))
+                for quiet in (False, True):
+                    if length == kind.key_size:
+                        self.assertIsInstance(kind(bytes(length), quiet=quiet), kind)
+                    else:
+                        self.assertRaisesRegex(KeyLength, f"not {length}$", kind, bytes(length), quiet=quiet)
 
     def test_data(self):
         """Each call refuses each length that is not whole blocks, and those in place change nothing."""
@@ -101,6 +105,15 @@ class Lengths(unittest.TestCase):
                     else:
                         self.assertRaisesRegex(VectorLength, f"not {length}$", call, bytes(length), data)
                         self.assertEqual(data, TEXT)
+
+    def test_quiet(self):
+        """A quiet cipher is made by its own call, and is asked for by name alone."""
+        for kind in ANSWERS:
+            key = KEY[: kind.key_size]
+            contexts = [bytes(kind(key, **words)._context) for words in ({}, {"quiet": False}, {"quiet": True})]
+            self.assertEqual(contexts[0], contexts[1])
+            self.assertNotEqual(contexts[0], contexts[2])
+            self.assertRaises(TypeError, kind, key, True)
 
     def test_sizes(self):
         """What the classes say of themselves."""

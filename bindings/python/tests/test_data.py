@@ -328,15 +328,16 @@ class Threads(unittest.TestCase):
             self.together(4, work)
 
 
-class Wiped(unittest.TestCase):
-    """Memory that held a key is wiped as soon as nothing uses it."""
+class WatchesWiping(unittest.TestCase):
+    """What the package wipes: the sizes in `wiped`, and what the last memory held in `held`."""
 
     def setUp(self):
-        self.wiped = []
+        self.wiped, self.held = [], b""
         real = _data.wipe
 
         def wipe(memory, size):
             self.assertEqual(ctypes.sizeof(memory), size)
+            self.held = bytes(memory)
             real(memory, size)
             self.assertFalse(any(bytes(memory)))
             self.wiped.append(size)
@@ -344,6 +345,10 @@ class Wiped(unittest.TestCase):
         patched = mock.patch.object(_data, "wipe", wipe)
         patched.start()
         self.addCleanup(patched.stop)
+
+
+class Wiped(WatchesWiping):
+    """Memory that held a key is wiped as soon as nothing uses it."""
 
     def test_objects(self):
         """The copy of the key at once; the context by close, by the end of `with`, and by the end of the last use."""

@@ -16,6 +16,7 @@ from cukvashe_des import (
     SerialLength,
     TdesEde2,
     TdesEde3,
+    VectorLength,
     _data,
     check_value,
     check_values,
@@ -28,8 +29,8 @@ from cukvashe_des import (
     encrypt_each_into,
 )
 
-from .test_data import views
-from .values import ANSWERS, COUNTS, KEY, LISTS, PADDED_MACS, PAIR, SERIALS, TEXT
+from .test_data import WatchesWiping, views
+from .values import ANSWERS, CMACS, COUNTS, ELEMENTS, KEY, LISTS, PADDED_MACS, PAIR, SERIALS, TEXT
 
 try:
     import numpy
@@ -103,7 +104,10 @@ class Records(unittest.TestCase):
         for call in (cukvashe_des.encrypt_cbc_records, cukvashe_des.decrypt_cbc_records):
             for counts in ([1, 1], [1, 3], [4], [], [3], [1, 1, 1], [-1, 4], [2**64, 3], [2**64 - 1, 4]):
                 self.assertRaises(CountMismatch, call, cipher, bytes(16), counts, bytes(24))
-            self.assertRaises(cukvashe_des.VectorLength, call, cipher, bytes(15), [3], bytes(24))
+            # Lengths in bytes, and counts of which eight times as much is right in 64 bits.
+            for counts in ([8, 16], [2**61 + 1, 2]):
+                self.assertRaises(CountMismatch, call, cipher, bytes(16), counts, bytes(24))
+            self.assertRaises(VectorLength, call, cipher, bytes(15), [3], bytes(24))
             self.assertRaises(BlockLength, call, cipher, bytes(8), [3], bytes(23))
             for wrong in (b"12", "12", 3, None, [1.5], ["1"]):
                 self.assertRaises(TypeError, call, cipher, bytes(16), wrong, bytes(24))
@@ -115,45 +119,147 @@ class Records(unittest.TestCase):
 
 class Messages(unittest.TestCase):
     def test_macs(self):
-        for kind in PADDED_MACS:
-            for padding in (1, 2):
-                for count in COUNTS:
-                    lengths = [k % 41 for k in range(count)]
-                    text, keys, at, pieces = some(sum(lengths), 3), some(kind.key_size * count), 0, []
-                    for length in lengths:
-                        pieces.append(text[at : at + length])
-                        at += length
-                    key = KEY[: kind.key_size]
-                    tags = b"".join(kind(key, padding, piece).digest() for piece in pieces)
-                    if kind is not RetailMacDes:
-                        self.assertEqual(cukvashe_des.macs(kind, key, padding, lengths, text), tags)
-                    tags = b"".join(kind(key, padding, piece).digest() for key, piece in zip(parts(keys, kind.key_size), pieces))
-                    self.assertEqual(cukvashe_des.macs_each(kind, keys, padding, iter(lengths), text), tags)
+        kinds = [(kind, (padding,)) for kind in PADDED_MACS for padding in (1, 2)] + [(kind, ()) for kind in CMACS]
+        for kind, method in kinds:
+            padding = method[0] if method else None
+            for count in COUNTS:
+                lengths = [k % 41 for k in range(count)]
+                text, keys, at, pieces = some(sum(lengths), 3), some(kind.key_size * count), 0, []
+                for length in lengths:
+                    pieces.append(text[at : at + length])
+                    at += length
+                key = KEY[: kind.key_size]
+                tags = b"".join(kind(key, *method, piece).digest() for piece in pieces)
+                self.assertEqual(cukvashe_des.macs(kind, key, padding, lengths, text), tags)
+                tags = b"".join(kind(key, *method, piece).digest() for key, piece in zip(parts(keys, kind.key_size), pieces))
+                self.assertEqual(cukvashe_des.macs_each(kind, keys, padding, iter(lengths), text), tags)
 
     def test_refused(self):
-        for kind in PADDED_MACS:
-            key = KEY[: kind.key_size]
-            self.assertRaises(TypeError, cukvashe_des.macs, RetailMacDes, PAIR, 1, [1, 2], b"abc")
-            for call, keys in ((cukvashe_des.macs, key), (cukvashe_des.macs_each, key * 2))[kind is RetailMacDes :]:
+        for kind in PADDED_MACS + CMACS:
+            key, right = KEY[: kind.key_size], 1 if kind in PADDED_MACS else None
+            for call, keys in ((cukvashe_des.macs, key), (cukvashe_des.macs_each, key * 2)):
                 for lengths in ([1, 1], [3, 1], [-1, 4], [2**64, 3], [2**64 - 1, 4]):
-                    self.assertRaises(CountMismatch, call, kind, keys, 1, lengths, b"abc")
+                    self.assertRaises(CountMismatch, call, kind, keys, right, lengths, b"abc")
                 for padding in (0, 3, -1, 2**40):
-                    self.assertRaises(cukvashe_des.PaddingMethod, call, kind, keys, padding, [1, 2], b"abc")
-                self.assertRaises(KeyLength, call, kind, keys[:-1], 1, [1, 2], b"abc")
-                self.assertRaises(TypeError, call, kind, keys, "1", [1, 2], b"abc")
-                self.assertRaises(TypeError, call, TdesEde3, keys, 1, [1, 2], b"abc")
-            self.assertRaises(CountMismatch, cukvashe_des.macs_each, kind, key, 1, [1, 2], b"abc")
+                    fault = cukvashe_des.PaddingMethod if right else TypeError
+                    self.assertRaises(fault, call, kind, keys, padding, [1, 2], b"abc")
+                self.assertRaises(KeyLength, call, kind, keys[:-1], right, [1, 2], b"abc")
+                for padding in ("1", True, None if right else 1):
+                    self.assertRaises(TypeError, call, kind, keys, padding, [1, 2], b"abc")
+                self.assertRaises(TypeError, call, TdesEde3, keys, right, [1, 2], b"abc")
+            self.assertRaises(CountMismatch, cukvashe_des.macs_each, kind, key, right, [1, 2], b"abc")
+
+
+class Tags(unittest.TestCase):
+    def test_verified(self):
+        for count in COUNTS:
+            expected, right = some(8 * count, 3), [place % 3 == 0 for place in range(count)]
+            tags = bytearray(expected)
+            for place in range(count):
+                if not right[place]:
+                    tags[8 * place + place // 3 % 8] ^= 1 << place // 24 % 8
+            self.assertEqual(cukvashe_des.verify_tags(tags, expected), right)
+            self.assertEqual(cukvashe_des.verify_tags(expected, tags), right)
+            self.assertEqual(cukvashe_des.verify_tags(expected, expected), [True] * count)
+
+    def test_made(self):
+        keys, lengths, text = PAIR * 3, (20, 0, 4), some(24)
+        tags = cukvashe_des.macs_each(RetailMacDes, keys, 2, lengths, text)
+        self.assertEqual(cukvashe_des.verify_tags(tags[:16] + bytes(8), tags), [True, True, False])
+
+    def test_refused(self):
+        for tags, expected in ((8, 0), (0, 8), (8, 16), (8, 7), (7, 8), (7, 7), (4, 4), (12, 12)):
+            self.assertRaises(CountMismatch, cukvashe_des.verify_tags, bytes(tags), bytes(expected))
+
+
+def views_of_list(value, size):
+    """Elements of a size as data of other kinds: in one piece or not, in rows, in rows of rows, in big-endian words."""
+    count = len(value) // size
+    yield bytearray(value)
+    yield memoryview(bytearray(b"head" + value + b"tail"))[4 : 4 + len(value)].toreadonly()
+    yield memoryview(bytes(byte for pair in zip(value, value[::-1]) for byte in pair))[::2]
+    yield memoryview(value[::-1])[::-1]
+    yield array.array("b", value)
+    yield (ctypes.c_char * len(value)).from_buffer_copy(value)
+    yield memoryview(value).cast("B", (count, size))
+    yield memoryview(value).cast("c", (1, count, size))
+    yield memoryview(b"".join(reversed(parts(value, size)))).cast("B", (count, size))[::-1]
+    yield (ctypes.c_uint16.__ctype_be__ * (len(value) // 2)).from_buffer_copy(value)
+    yield (ctypes.c_uint16.__ctype_be__ * (size // 2) * count).from_buffer_copy(value)
+    if size % 8 == 0:
+        yield (ctypes.c_uint64.__ctype_be__ * (size // 8) * count).from_buffer_copy(value)
+
+
+def wrong_rows(value, size):
+    """The same bytes in rows of another size, of bytes and of words."""
+    for row in range(1, len(value) + 1):
+        if len(value) % row == 0 and row != size:
+            yield memoryview(value).cast("B", (len(value) // row, row))
+            yield memoryview(value).cast("B", (1, len(value) // row, row))
+    yield (ctypes.c_uint16.__ctype_be__ * 1 * (len(value) // 2)).from_buffer_copy(value)
+
+
+def wrong_words(value, size):
+    """The same bytes as words of a machine that has the least byte first, and as other items."""
+    for kind in (ctypes.c_uint16, ctypes.c_int32, ctypes.c_uint64, ctypes.c_double, ctypes.c_double.__ctype_be__):
+        if size % ctypes.sizeof(kind) == 0:
+            yield (kind * (len(value) // ctypes.sizeof(kind))).from_buffer_copy(value)
+            yield (kind * (size // ctypes.sizeof(kind)) * (len(value) // size)).from_buffer_copy(value)
+    yield array.array("H", value)
+    yield memoryview(value).cast("H")
+    yield memoryview(value).cast("?")
 
 
 class Kinds(unittest.TestCase):
-    def test_views(self):
-        """Each argument as data of each kind, which stay as they were."""
+    def each_place(self, views_of):
+        """Each call for lists of elements, the place of a list, and its arguments with one of the views in that place."""
         for call, arguments in LISTS:
-            answer = call(*arguments)
             for at, value in enumerate(arguments):
-                for view in views(value) if isinstance(value, bytes) else ():
-                    self.assertEqual(call(*arguments[:at], view, *arguments[at + 1 :]), answer)
+                for view in views_of(value, ELEMENTS[call, at]) if (call, at) in ELEMENTS else ():
+                    yield call, at, arguments, (*arguments[:at], view, *arguments[at + 1 :])
                     self.assertEqual(memoryview(view).tobytes(), value)
+
+    def test_views(self):
+        """Lists as data of each kind, which stay as they were."""
+        for call, _, arguments, given in self.each_place(views_of_list):
+            self.assertEqual(call(*given), call(*arguments))
+
+    def test_other_rows(self):
+        faults = {24: KeyLength, 16: KeyLength, 10: SerialLength, 8: BlockLength}
+        for call, at, _, given in self.each_place(wrong_rows):
+            size = ELEMENTS[call, at]
+            fault = VectorLength if "records" in call.__name__ and at == 1 else faults[size]
+            fault = CountMismatch if call is cukvashe_des.verify_tags else fault
+            with self.assertRaisesRegex(fault, f"^rows of [0-9]+ bytes are not [a-z ]+ of {size}$"):
+                call(*given)
+
+    def test_other_words(self):
+        for call, _, _, given in self.each_place(wrong_words):
+            with self.assertRaisesRegex(TypeError, "most significant byte first"):
+                call(*given)
+
+    def test_refused_in_place(self):
+        """Where rows or words are refused, of the blocks or the keys, the blocks stay."""
+        for call in (encrypt_each_into, decrypt_each_into):
+            data = bytearray(TEXT)
+            for shape in ((2, 12), (24, 1), (1, 6, 4)):
+                self.assertRaises(BlockLength, call, TdesEde3, KEY * 3, memoryview(data).cast("B", shape))
+            for words in "HQd":
+                self.assertRaises(TypeError, call, TdesEde3, KEY * 3, memoryview(data).cast(words))
+            for keys in wrong_rows(KEY * 3, 24):
+                self.assertRaises(KeyLength, call, TdesEde3, keys, data)
+            for keys in wrong_words(KEY * 3, 24):
+                self.assertRaises(TypeError, call, TdesEde3, keys, data)
+            self.assertEqual(data, TEXT)
+
+    def test_views_of_messages(self):
+        """The keys and messages of MACs as data of each kind, which stay as they were."""
+        for call, arguments in LISTS:
+            for at, value in enumerate(arguments):
+                if isinstance(value, bytes) and (call, at) not in ELEMENTS:
+                    for view in views(value):
+                        self.assertEqual(call(*arguments[:at], view, *arguments[at + 1 :]), call(*arguments))
+                        self.assertEqual(memoryview(view).tobytes(), value)
 
     def test_other_types(self):
         for call, arguments in LISTS:
@@ -189,10 +295,27 @@ class Kinds(unittest.TestCase):
         for kind, answer in ANSWERS.items():
             keys = numpy.tile(numpy.frombuffer(KEY[: kind.key_size], numpy.uint8), (3, 1))
             self.assertEqual(encrypt_each(kind, keys, blocks), answer)
+            self.assertEqual(encrypt_each(kind, keys.view(">u8"), blocks.view(">u8")), answer)
+            self.assertEqual(encrypt_each(kind, numpy.asfortranarray(keys), numpy.asfortranarray(blocks)), answer)
             changed = blocks.copy()
             encrypt_each_into(kind, keys, changed)
             self.assertEqual(changed.tobytes(), answer)
             self.assertEqual(decrypt_each(kind, keys, changed), TEXT)
+            self.assertRaises(KeyLength, check_values, kind, numpy.zeros((3, kind.key_size + 8), numpy.uint8))
+            self.assertRaises(BlockLength, encrypt_each, kind, keys, blocks.reshape(2, 12))
+            for other in (keys.view(numpy.uint64), keys.view(f"S{kind.key_size}"), keys.astype(object), keys.astype(float)):
+                self.assertRaises(TypeError, encrypt_each, kind, other, blocks)
+                self.assertRaises(TypeError, check_values, kind, other)
+
+    @unittest.skipIf(numpy is None, "numpy is not installed")
+    def test_numpy_counts(self):
+        """Counts in an array of any integers."""
+        cipher, counts = TdesEde3(KEY), (1, 2)
+        answer = cukvashe_des.encrypt_cbc_records(cipher, TEXT[:16], counts, TEXT)
+        for kind in (numpy.uint64, numpy.int64, numpy.uint8, ">u4"):
+            self.assertEqual(cukvashe_des.encrypt_cbc_records(cipher, TEXT[:16], numpy.array(counts, kind), TEXT), answer)
+        for other in (numpy.array(counts, float), numpy.array([counts])):
+            self.assertRaises(TypeError, cukvashe_des.encrypt_cbc_records, cipher, TEXT[:16], other, TEXT)
 
     def test_overlap(self):
         """Keys that are written over meanwhile are taken as they were."""
@@ -273,9 +396,53 @@ class Threads(unittest.TestCase):
         self.assertEqual(blocks, answer)
 
 
-class Array(unittest.TestCase):
+class Words(unittest.TestCase):
     def test_words(self):
-        words = array.array("Q", TEXT)
+        """Words with the most significant byte first are changed in place."""
+        words = (ctypes.c_uint64.__ctype_be__ * 3).from_buffer_copy(TEXT)
         encrypt_each_into(TdesEde3, KEY * 3, words)
-        self.assertEqual(words.tobytes(), ANSWERS[TdesEde3])
+        self.assertEqual(bytes(words), ANSWERS[TdesEde3])
         self.assertIn("encrypt_each", cukvashe_des.__all__)
+
+
+class Wiped(WatchesWiping):
+    """Copies that a call makes of keys are wiped after it: of keys in pieces, and of those that it writes over."""
+
+    def test_pieces(self):
+        for kind in ANSWERS:
+            keys = KEY[: kind.key_size] * 3
+            spread = memoryview(bytes(byte for byte in keys for _ in range(2)))[::2]
+            for call, arguments in ((check_values, ()), (encrypt_each, (TEXT,)), (encrypt_each_into, (bytearray(TEXT),))):
+                self.wiped.clear()
+                call(kind, keys, *arguments)
+                self.assertEqual(self.wiped, [])
+                call(kind, spread, *arguments)
+                self.assertEqual((self.wiped, self.held), ([len(keys)], keys))
+
+    def test_pieces_of_a_refused_call(self):
+        spread = memoryview(bytes(byte for byte in KEY * 2 for _ in range(2)))[::2]
+        for call, blocks in ((encrypt_each, TEXT), (encrypt_each_into, bytearray(TEXT))):
+            self.wiped.clear()
+            self.assertRaises(CountMismatch, call, TdesEde3, spread, blocks)
+            self.assertEqual(self.wiped, [48])
+
+    def test_overlap(self):
+        for kind in ANSWERS:
+            data, size = bytearray(some(8 * 40)), kind.key_size * 10
+            keys = bytes(data[:size])
+            self.wiped.clear()
+            encrypt_each_into(kind, memoryview(data)[:size], memoryview(data)[:80])
+            self.assertEqual((self.wiped, self.held), ([size], keys))
+
+    def test_messages(self):
+        keys = PAIR * 3
+        spread = memoryview(bytes(byte for byte in keys for _ in range(2)))[::2]
+        cukvashe_des.macs_each(RetailMacDes, keys, 2, (20, 0, 4), some(24))
+        self.assertEqual(self.wiped, [])
+        cukvashe_des.macs_each(RetailMacDes, spread, 2, (20, 0, 4), some(24))
+        self.assertEqual((self.wiped, self.held), ([len(keys)], keys))
+
+    def test_transactions(self):
+        serials = bytes.fromhex("ffff9876543210e00001" "ffff9876543210e00002")
+        keys = cukvashe_des.dukpt_transaction_keys(PAIR, serials)
+        self.assertEqual((sorted(self.wiped), len(keys)), ([16, 32], 32))

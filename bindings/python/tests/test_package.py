@@ -111,7 +111,7 @@ class Package(unittest.TestCase):
             package = os.path.join(folder, "bindings", "python", "cukvashe_des")
             shutil.copytree(PACKAGE, package, ignore=shutil.ignore_patterns("*.so", "__pycache__"))
             system, named = os.path.join(folder, "system"), os.path.join(folder, "named.so")
-            places = [os.path.join(system, "libcukvashe_des.so.1"), os.path.join(folder, "bindings", "out", "lib", "libcukvashe_des.so"),
+            places = [os.path.join(system, "libcukvashe_des.so.2"), os.path.join(folder, "bindings", "out", "lib", "libcukvashe_des.so"),
                       named, os.path.join(package, "libcukvashe_des.so")]
             program = "import os, cukvashe_des._library as library; print(os.path.realpath(library._library._name))"
             environment = dict(os.environ, LD_LIBRARY_PATH=system, PYTHONDONTWRITEBYTECODE="1", PYTHONPATH=os.path.dirname(package))
@@ -122,7 +122,7 @@ class Package(unittest.TestCase):
                 if place == named:
                     environment["CUKVASHE_DES_LIBRARY"] = named
                 done = subprocess.run([sys.executable, "-c", program], cwd=folder, env=environment, capture_output=True, text=True, check=False)
-                expected = os.path.join(folder, "libcukvashe_des.so.1") if place == places[0] else place
+                expected = os.path.join(folder, "libcukvashe_des.so.2") if place == places[0] else place
                 self.assertEqual((done.stdout.strip(), done.stderr), (os.path.realpath(expected), ""))
 
     def test_other_version(self):

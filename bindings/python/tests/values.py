@@ -125,7 +125,26 @@ LISTS = [
     (cukvashe_des.decrypt_cbc_records, (TdesEde3(KEY), MESSAGE[:16], (1, 2), MESSAGE)),
     (cukvashe_des.macs, (CbcMacTdesEde2, PAIR, 2, (20, 4), MESSAGE)),
     (cukvashe_des.macs_each, (RetailMacDes, PAIR * 2, 2, (20, 4), MESSAGE)),
+    (cukvashe_des.macs_each, (CmacTdesEde2, PAIR * 2, None, (20, 4), MESSAGE)),
+    (cukvashe_des.verify_tags, (MESSAGE, MESSAGE[:8] + bytes(8) + MESSAGE[16:])),
 ]
+
+# Where in those arguments a list of elements stands, and their size.
+ELEMENTS = {
+    (cukvashe_des.encrypt_each, 1): 24,
+    (cukvashe_des.encrypt_each, 2): 8,
+    (cukvashe_des.decrypt_each, 1): 16,
+    (cukvashe_des.decrypt_each, 2): 8,
+    (cukvashe_des.check_values, 1): 24,
+    (cukvashe_des.dukpt_transaction_keys, 1): 10,
+    (cukvashe_des.encrypt_cbc_records, 1): 8,
+    (cukvashe_des.encrypt_cbc_records, 3): 8,
+    (cukvashe_des.decrypt_cbc_records, 1): 8,
+    (cukvashe_des.decrypt_cbc_records, 3): 8,
+    (cukvashe_des.macs_each, 1): 16,
+    (cukvashe_des.verify_tags, 0): 8,
+    (cukvashe_des.verify_tags, 1): 8,
+}
 
 
 def methods():

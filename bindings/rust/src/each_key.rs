@@ -1,7 +1,8 @@
 //! Lists in which each block has a key of its own.
 
 use crate::error::CountsDiffer;
-use crate::{ffi, Block, Des, TdesEde2, TdesEde3};
+use crate::ffi::{self, OK};
+use crate::{Block, Des, TdesEde2, TdesEde3};
 
 /// A cipher that takes lists in which each block has a key of its own, 128 or 256 of them at a time. No table is read at an index
 /// that depends on a key or a block.
@@ -21,10 +22,10 @@ pub trait KeyForEach {
     /// A key, an array of as many bytes as the key size.
     type Key;
 
-    /// Encrypts each block in place under the key at its place; where there are not as many keys as blocks, the blocks stay.
+    /// Encrypts each block in place under the key at its place; where keys and blocks differ in number, the blocks stay.
     fn encrypt_each(keys: &[Self::Key], blocks: &mut [Block]) -> Result<(), CountsDiffer>;
 
-    /// Decrypts each block in place under the key at its place; where there are not as many keys as blocks, the blocks stay.
+    /// Decrypts each block in place under the key at its place; where keys and blocks differ in number, the blocks stay.
     fn decrypt_each(keys: &[Self::Key], blocks: &mut [Block]) -> Result<(), CountsDiffer>;
 }
 
@@ -37,23 +38,29 @@ pub(crate) fn count_of_both<A, B>(first: &[A], second: &[B]) -> Result<usize, Co
     }
 }
 
+/// What a status of lists of whole blocks says.
+pub(crate) fn agreeing(status: i32) -> Result<(), CountsDiffer> {
+    match status {
+        OK => Ok(()),
+        _ => Err(CountsDiffer),
+    }
+}
+
 macro_rules! key_for_each {
     ($($cipher:ident: $size:literal, $encrypt:ident, $decrypt:ident;)*) => {
-        // SAFETY of each call below: the pointers are of references to as many elements as the count says, which don't overlap,
+        // SAFETY of each call below: the pointers are of references, good for the count and the length, which don't overlap,
         // since one is of blocks that no other reference reads.
         $(impl KeyForEach for $cipher {
             type Key = [u8; $size];
 
             fn encrypt_each(keys: &[Self::Key], blocks: &mut [Block]) -> Result<(), CountsDiffer> {
-                let count = count_of_both(keys, blocks)?;
-                unsafe { ffi::$encrypt(keys.as_flattened().as_ptr(), blocks.as_flattened_mut().as_mut_ptr(), count) };
-                Ok(())
+                let (count, keys, blocks) = (keys.len(), keys.as_flattened(), blocks.as_flattened_mut());
+                agreeing(unsafe { ffi::$encrypt(keys.as_ptr(), count, blocks.as_mut_ptr(), blocks.len()) })
             }
 
             fn decrypt_each(keys: &[Self::Key], blocks: &mut [Block]) -> Result<(), CountsDiffer> {
-                let count = count_of_both(keys, blocks)?;
-                unsafe { ffi::$decrypt(keys.as_flattened().as_ptr(), blocks.as_flattened_mut().as_mut_ptr(), count) };
-                Ok(())
+                let (count, keys, blocks) = (keys.len(), keys.as_flattened(), blocks.as_flattened_mut());
+                agreeing(unsafe { ffi::$decrypt(keys.as_ptr(), count, blocks.as_mut_ptr(), blocks.len()) })
             }
         })*
     };

@@ -45,13 +45,14 @@ sentences!(DataError:
     DataError::LengthsDiffer => "input and output differ in length",
 );
 
-/// The error of lists that belong together and do not have as many elements as each other. Nothing was changed.
+/// The error of numbers of elements that do not agree: lists differ in length, or counts do not add up to the number of blocks.
+/// Nothing was changed.
 #[derive(Clone, Copy, Debug, PartialEq, Eq)]
 pub struct CountsDiffer;
 
 impl fmt::Display for CountsDiffer {
     fn fmt(&self, f: &mut fmt::Formatter<'_>) -> fmt::Result {
-        f.write_str("the lists do not have as many elements as each other")
+        f.write_str("the numbers of elements do not agree")
     }
 }
 

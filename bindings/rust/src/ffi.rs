@@ -60,20 +60,21 @@ pub fn wipe<T: Plain>(values: &mut [T]) {
     unsafe { cukvashe_wipe(values.as_mut_ptr().cast(), size_of_val(values)) }
 }
 
-pub type Des = Context<16>;
-pub type TdesEde2 = Context<32>;
-pub type TdesEde3 = Context<48>;
-pub type CbcMacDes = Context<20>;
-pub type CbcMacTdesEde2 = Context<36>;
-pub type CbcMacTdesEde3 = Context<52>;
-pub type RetailMacDes = Context<36>;
-pub type CmacTdesEde2 = Context<36>;
-pub type CmacTdesEde3 = Context<52>;
+pub type Des = Context<17>;
+pub type TdesEde2 = Context<33>;
+pub type TdesEde3 = Context<49>;
+pub type CbcMacDes = Context<21>;
+pub type CbcMacTdesEde2 = Context<37>;
+pub type CbcMacTdesEde3 = Context<53>;
+pub type RetailMacDes = Context<38>;
+pub type CmacTdesEde2 = Context<37>;
+pub type CmacTdesEde3 = Context<53>;
 
 extern "C" {
     pub fn cukvashe_wipe(pointer: *mut c_void, size: usize);
 
     pub fn cukvashe_des_init(context: *mut Des, key: *const u8, key_length: usize) -> c_int;
+    pub fn cukvashe_des_init_quiet(context: *mut Des, key: *const u8, key_length: usize) -> c_int;
     pub fn cukvashe_des_encrypt_ecb(context: *const Des, data: *mut u8, length: usize) -> c_int;
     pub fn cukvashe_des_encrypt_ecb_to(context: *const Des, input: *const u8, output: *mut u8, length: usize) -> c_int;
     pub fn cukvashe_des_encrypt_cbc(context: *const Des, iv: *mut [u8; 8], data: *mut u8, length: usize) -> c_int;
@@ -95,23 +96,23 @@ extern "C" {
         length: usize,
     ) -> c_int;
     pub fn cukvashe_des_check_value(key: *const u8, key_length: usize, value: *mut [u8; 3]) -> c_int;
-    pub fn cukvashe_des_encrypt_each(keys: *const u8, blocks: *mut u8, count: usize);
-    pub fn cukvashe_des_decrypt_each(keys: *const u8, blocks: *mut u8, count: usize);
+    pub fn cukvashe_des_encrypt_each(keys: *const u8, count: usize, blocks: *mut u8, length: usize) -> c_int;
+    pub fn cukvashe_des_decrypt_each(keys: *const u8, count: usize, blocks: *mut u8, length: usize) -> c_int;
     pub fn cukvashe_des_encrypt_cbc_records(
         context: *const Des,
         vectors: *mut u8,
         counts: *const usize,
         records_count: usize,
-        blocks: *mut u8,
-        blocks_count: usize,
+        bytes: *mut u8,
+        length: usize,
     ) -> c_int;
     pub fn cukvashe_des_decrypt_cbc_records(
         context: *const Des,
         vectors: *mut u8,
         counts: *const usize,
         records_count: usize,
-        blocks: *mut u8,
-        blocks_count: usize,
+        bytes: *mut u8,
+        length: usize,
     ) -> c_int;
     pub fn cukvashe_cbc_mac_des_macs(
         key: *const u8,
@@ -130,6 +131,7 @@ extern "C" {
     pub fn cukvashe_des_check_values(keys: *const u8, values: *mut u8, count: usize);
 
     pub fn cukvashe_tdes_ede2_init(context: *mut TdesEde2, key: *const u8, key_length: usize) -> c_int;
+    pub fn cukvashe_tdes_ede2_init_quiet(context: *mut TdesEde2, key: *const u8, key_length: usize) -> c_int;
     pub fn cukvashe_tdes_ede2_encrypt_ecb(context: *const TdesEde2, data: *mut u8, length: usize) -> c_int;
     pub fn cukvashe_tdes_ede2_encrypt_ecb_to(
         context: *const TdesEde2,
@@ -171,23 +173,23 @@ extern "C" {
         length: usize,
     ) -> c_int;
     pub fn cukvashe_tdes_ede2_check_value(key: *const u8, key_length: usize, value: *mut [u8; 3]) -> c_int;
-    pub fn cukvashe_tdes_ede2_encrypt_each(keys: *const u8, blocks: *mut u8, count: usize);
-    pub fn cukvashe_tdes_ede2_decrypt_each(keys: *const u8, blocks: *mut u8, count: usize);
+    pub fn cukvashe_tdes_ede2_encrypt_each(keys: *const u8, count: usize, blocks: *mut u8, length: usize) -> c_int;
+    pub fn cukvashe_tdes_ede2_decrypt_each(keys: *const u8, count: usize, blocks: *mut u8, length: usize) -> c_int;
     pub fn cukvashe_tdes_ede2_encrypt_cbc_records(
         context: *const TdesEde2,
         vectors: *mut u8,
         counts: *const usize,
         records_count: usize,
-        blocks: *mut u8,
-        blocks_count: usize,
+        bytes: *mut u8,
+        length: usize,
     ) -> c_int;
     pub fn cukvashe_tdes_ede2_decrypt_cbc_records(
         context: *const TdesEde2,
         vectors: *mut u8,
         counts: *const usize,
         records_count: usize,
-        blocks: *mut u8,
-        blocks_count: usize,
+        bytes: *mut u8,
+        length: usize,
     ) -> c_int;
     pub fn cukvashe_cbc_mac_tdes_ede2_macs(
         key: *const u8,
@@ -206,6 +208,7 @@ extern "C" {
     pub fn cukvashe_tdes_ede2_check_values(keys: *const u8, values: *mut u8, count: usize);
 
     pub fn cukvashe_tdes_ede3_init(context: *mut TdesEde3, key: *const u8, key_length: usize) -> c_int;
+    pub fn cukvashe_tdes_ede3_init_quiet(context: *mut TdesEde3, key: *const u8, key_length: usize) -> c_int;
     pub fn cukvashe_tdes_ede3_encrypt_ecb(context: *const TdesEde3, data: *mut u8, length: usize) -> c_int;
     pub fn cukvashe_tdes_ede3_encrypt_ecb_to(
         context: *const TdesEde3,
@@ -247,23 +250,23 @@ extern "C" {
         length: usize,
     ) -> c_int;
     pub fn cukvashe_tdes_ede3_check_value(key: *const u8, key_length: usize, value: *mut [u8; 3]) -> c_int;
-    pub fn cukvashe_tdes_ede3_encrypt_each(keys: *const u8, blocks: *mut u8, count: usize);
-    pub fn cukvashe_tdes_ede3_decrypt_each(keys: *const u8, blocks: *mut u8, count: usize);
+    pub fn cukvashe_tdes_ede3_encrypt_each(keys: *const u8, count: usize, blocks: *mut u8, length: usize) -> c_int;
+    pub fn cukvashe_tdes_ede3_decrypt_each(keys: *const u8, count: usize, blocks: *mut u8, length: usize) -> c_int;
     pub fn cukvashe_tdes_ede3_encrypt_cbc_records(
         context: *const TdesEde3,
         vectors: *mut u8,
         counts: *const usize,
         records_count: usize,
-        blocks: *mut u8,
-        blocks_count: usize,
+        bytes: *mut u8,
+        length: usize,
     ) -> c_int;
     pub fn cukvashe_tdes_ede3_decrypt_cbc_records(
         context: *const TdesEde3,
         vectors: *mut u8,
         counts: *const usize,
         records_count: usize,
-        blocks: *mut u8,
-        blocks_count: usize,
+        bytes: *mut u8,
+        length: usize,
     ) -> c_int;
     pub fn cukvashe_cbc_mac_tdes_ede3_macs(
         key: *const u8,
@@ -287,11 +290,23 @@ extern "C" {
         key_length: usize,
         method: c_int,
     ) -> c_int;
+    pub fn cukvashe_cbc_mac_des_init_quiet(
+        context: *mut CbcMacDes,
+        key: *const u8,
+        key_length: usize,
+        method: c_int,
+    ) -> c_int;
     pub fn cukvashe_cbc_mac_des_update(context: *mut CbcMacDes, message: *const u8, length: usize);
     pub fn cukvashe_cbc_mac_des_final(context: *const CbcMacDes, tag: *mut [u8; 8]);
     pub fn cukvashe_cbc_mac_des_verify(context: *const CbcMacDes, tag: *const u8, tag_length: usize) -> c_int;
 
     pub fn cukvashe_cbc_mac_tdes_ede2_init(
+        context: *mut CbcMacTdesEde2,
+        key: *const u8,
+        key_length: usize,
+        method: c_int,
+    ) -> c_int;
+    pub fn cukvashe_cbc_mac_tdes_ede2_init_quiet(
         context: *mut CbcMacTdesEde2,
         key: *const u8,
         key_length: usize,
@@ -311,6 +326,12 @@ extern "C" {
         key_length: usize,
         method: c_int,
     ) -> c_int;
+    pub fn cukvashe_cbc_mac_tdes_ede3_init_quiet(
+        context: *mut CbcMacTdesEde3,
+        key: *const u8,
+        key_length: usize,
+        method: c_int,
+    ) -> c_int;
     pub fn cukvashe_cbc_mac_tdes_ede3_update(context: *mut CbcMacTdesEde3, message: *const u8, length: usize);
     pub fn cukvashe_cbc_mac_tdes_ede3_final(context: *const CbcMacTdesEde3, tag: *mut [u8; 8]);
     pub fn cukvashe_cbc_mac_tdes_ede3_verify(
@@ -325,13 +346,25 @@ extern "C" {
         key_length: usize,
         method: c_int,
     ) -> c_int;
+    pub fn cukvashe_retail_mac_des_init_quiet(
+        context: *mut RetailMacDes,
+        key: *const u8,
+        key_length: usize,
+        method: c_int,
+    ) -> c_int;
     pub fn cukvashe_retail_mac_des_update(context: *mut RetailMacDes, message: *const u8, length: usize);
     pub fn cukvashe_retail_mac_des_final(context: *const RetailMacDes, tag: *mut [u8; 8]);
     pub fn cukvashe_retail_mac_des_verify(context: *const RetailMacDes, tag: *const u8, tag_length: usize) -> c_int;
 
+    pub fn cukvashe_retail_mac_des_macs(
+        key: *const u8,
+        method: c_int,
+        messages: *const Message,
+        tags: *mut u8,
+        count: usize,
+    ) -> c_int;
     pub fn cukvashe_retail_mac_des_macs_each(
-        first: *const u8,
-        second: *const u8,
+        keys: *const u8,
         method: c_int,
         messages: *const Message,
         tags: *mut u8,
@@ -339,14 +372,22 @@ extern "C" {
     ) -> c_int;
 
     pub fn cukvashe_cmac_tdes_ede2_init(context: *mut CmacTdesEde2, key: *const u8, key_length: usize) -> c_int;
+    pub fn cukvashe_cmac_tdes_ede2_init_quiet(context: *mut CmacTdesEde2, key: *const u8, key_length: usize) -> c_int;
     pub fn cukvashe_cmac_tdes_ede2_update(context: *mut CmacTdesEde2, message: *const u8, length: usize);
     pub fn cukvashe_cmac_tdes_ede2_final(context: *const CmacTdesEde2, tag: *mut [u8; 8]);
     pub fn cukvashe_cmac_tdes_ede2_verify(context: *const CmacTdesEde2, tag: *const u8, tag_length: usize) -> c_int;
+    pub fn cukvashe_cmac_tdes_ede2_macs(key: *const u8, messages: *const Message, tags: *mut u8, count: usize);
+    pub fn cukvashe_cmac_tdes_ede2_macs_each(keys: *const u8, messages: *const Message, tags: *mut u8, count: usize);
 
     pub fn cukvashe_cmac_tdes_ede3_init(context: *mut CmacTdesEde3, key: *const u8, key_length: usize) -> c_int;
+    pub fn cukvashe_cmac_tdes_ede3_init_quiet(context: *mut CmacTdesEde3, key: *const u8, key_length: usize) -> c_int;
     pub fn cukvashe_cmac_tdes_ede3_update(context: *mut CmacTdesEde3, message: *const u8, length: usize);
     pub fn cukvashe_cmac_tdes_ede3_final(context: *const CmacTdesEde3, tag: *mut [u8; 8]);
     pub fn cukvashe_cmac_tdes_ede3_verify(context: *const CmacTdesEde3, tag: *const u8, tag_length: usize) -> c_int;
+    pub fn cukvashe_cmac_tdes_ede3_macs(key: *const u8, messages: *const Message, tags: *mut u8, count: usize);
+    pub fn cukvashe_cmac_tdes_ede3_macs_each(keys: *const u8, messages: *const Message, tags: *mut u8, count: usize);
+
+    pub fn cukvashe_verify_tags(tags: *const u8, expected: *const u8, right: *mut bool, count: usize);
 
     pub fn cukvashe_pad(
         buffer: *mut u8,

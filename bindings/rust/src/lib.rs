@@ -16,6 +16,9 @@
 //! authenticates messages, and [`payment`] has check values, keys of components and of transactions, PIN blocks and card
 //! verification values. [`KeyForEach`] takes lists in which each block has a key of its own.
 //!
+//! `new_quiet` of each cipher and MAC makes one whose calls read no table at an index that depends on the key or the data, which
+//! other programs on the processor could learn.
+//!
 //! The crate needs no `std` and allocates no memory. Ciphers, MACs and PINs can be shared by threads, and are wiped when they
 //! are dropped. A move may leave a copy behind that is not wiped: a value in a `Box` stays where it is. Keys that you pass or
 //! get are yours to wipe.
@@ -89,8 +92,9 @@ pub trait BlockCipher: Clone + fmt::Debug {
     fn decrypt_cbc_to(&self, iv: &mut Block, input: &[u8], output: &mut [u8]) -> Result<(), DataError>;
 
     /// Encrypts records in place, each by cipher block chaining from the vector at its place, which becomes its last ciphertext
-    /// block: record k has `counts[k]` blocks, one record after the other. 128 or 256 records go together, and no table is read
-    /// at an index that depends on a secret. At an error nothing is changed.
+    /// block: record k has `counts[k]` blocks, one record after the other. 128 or 256 records are worked on together, until the
+    /// longest has ended, and no table is read at an index that depends on a secret. Where vectors and counts differ in number,
+    /// or the counts do not add up to the number of blocks, nothing is changed.
     fn encrypt_cbc_records(
         &self,
         vectors: &mut [Block],
@@ -98,7 +102,7 @@ pub trait BlockCipher: Clone + fmt::Debug {
         blocks: &mut [Block],
     ) -> Result<(), CountsDiffer>;
 
-    /// Decrypts records in place, as `encrypt_cbc_records` encrypts them.
+    /// Decrypts records in place, as `encrypt_cbc_records` encrypts them. The error is as of that call.
     fn decrypt_cbc_records(
         &self,
         vectors: &mut [Block],
@@ -157,7 +161,7 @@ fn whole(status: i32) -> Result<(), DataError> {
 
 /// A cipher: its type, its context, and its calls of the library.
 macro_rules! cipher {
-    ($(#[$doc:meta])* $name:ident, $key_size:literal, $init:ident,
+    ($(#[$doc:meta])* $name:ident, $key_size:literal, $init:ident, $init_quiet:ident,
      $encrypt_ecb:ident, $decrypt_ecb:ident, $encrypt_ecb_to:ident, $decrypt_ecb_to:ident,
      $encrypt_cbc:ident, $decrypt_cbc:ident, $encrypt_cbc_to:ident, $decrypt_cbc_to:ident,
      $encrypt_records:ident, $decrypt_records:ident) => {
@@ -174,6 +178,15 @@ macro_rules! cipher {
                 // SAFETY: the pointers are of references, good for their lengths, and don't overlap. The status is 0,
                 // since the key has its length.
                 unsafe { ffi::$init(&mut cipher.context, key.as_ptr(), key.len()) };
+                cipher
+            }
+
+            /// The quiet cipher of a key, which answers as that of `new`: no call of it, or of a clone, reads a table at an
+            /// index that depends on the key or the data. A single block and CBC encryption take about three times as long.
+            pub fn new_quiet(key: &[u8; $key_size]) -> Self {
+                let mut cipher = $name { context: ffi::$name::empty() };
+                // SAFETY: as of `new`.
+                unsafe { ffi::$init_quiet(&mut cipher.context, key.as_ptr(), key.len()) };
                 cipher
             }
         }
@@ -229,12 +242,12 @@ macro_rules! cipher {
                 counts: &[usize],
                 blocks: &mut [Block],
             ) -> Result<(), CountsDiffer> {
-                let (records, total) = (each_key::count_of_both(vectors, counts)?, blocks.len());
-                let (vectors, blocks) = (vectors.as_flattened_mut().as_mut_ptr(), blocks.as_flattened_mut().as_mut_ptr());
-                match unsafe { ffi::$encrypt_records(&self.context, vectors, counts.as_ptr(), records, blocks, total) } {
-                    OK => Ok(()),
-                    _ => Err(CountsDiffer),
-                }
+                let (records, vectors) = (each_key::count_of_both(vectors, counts)?, vectors.as_flattened_mut());
+                let (vectors, bytes) = (vectors.as_mut_ptr(), blocks.as_flattened_mut());
+                let (length, bytes, counts) = (bytes.len(), bytes.as_mut_ptr(), counts.as_ptr());
+                each_key::agreeing(unsafe {
+                    ffi::$encrypt_records(&self.context, vectors, counts, records, bytes, length)
+                })
             }
 
             fn decrypt_cbc_records(
@@ -243,12 +256,12 @@ macro_rules! cipher {
                 counts: &[usize],
                 blocks: &mut [Block],
             ) -> Result<(), CountsDiffer> {
-                let (records, total) = (each_key::count_of_both(vectors, counts)?, blocks.len());
-                let (vectors, blocks) = (vectors.as_flattened_mut().as_mut_ptr(), blocks.as_flattened_mut().as_mut_ptr());
-                match unsafe { ffi::$decrypt_records(&self.context, vectors, counts.as_ptr(), records, blocks, total) } {
-                    OK => Ok(()),
-                    _ => Err(CountsDiffer),
-                }
+                let (records, vectors) = (each_key::count_of_both(vectors, counts)?, vectors.as_flattened_mut());
+                let (vectors, bytes) = (vectors.as_mut_ptr(), blocks.as_flattened_mut());
+                let (length, bytes, counts) = (bytes.len(), bytes.as_mut_ptr(), counts.as_ptr());
+                each_key::agreeing(unsafe {
+                    ffi::$decrypt_records(&self.context, vectors, counts, records, bytes, length)
+                })
             }
         }
 
@@ -264,6 +277,7 @@ cipher!(
     /// DES, under a key of 8 bytes.
     Des, 8,
     cukvashe_des_init,
+    cukvashe_des_init_quiet,
     cukvashe_des_encrypt_ecb,
     cukvashe_des_decrypt_ecb,
     cukvashe_des_encrypt_ecb_to,
@@ -280,6 +294,7 @@ cipher!(
     /// Triple DES in the EDE form, under a key of 16 bytes, two parts of 8.
     TdesEde2, 16,
     cukvashe_tdes_ede2_init,
+    cukvashe_tdes_ede2_init_quiet,
     cukvashe_tdes_ede2_encrypt_ecb,
     cukvashe_tdes_ede2_decrypt_ecb,
     cukvashe_tdes_ede2_encrypt_ecb_to,
@@ -296,6 +311,7 @@ cipher!(
     /// Triple DES in the EDE form, under a key of 24 bytes, three parts of 8.
     TdesEde3, 24,
     cukvashe_tdes_ede3_init,
+    cukvashe_tdes_ede3_init_quiet,
     cukvashe_tdes_ede3_encrypt_ecb,
     cukvashe_tdes_ede3_decrypt_ecb,
     cukvashe_tdes_ede3_encrypt_ecb_to,

@@ -2,8 +2,9 @@
 //! algorithms 1 and 3, with padding methods 1 and 2), and CMAC (NIST SP 800-38B).
 //!
 //! CBC-MAC is safe only where every message under a key has one length. Padding method 1 hides zeros at the end of a message.
-//! The calls of one message read tables at indexes that depend on key and message; `macs` and `macs_each`, of many messages, read
-//! none, and take 128 at a time, as long as the longest of them.
+//! The calls of one message read tables at indexes that depend on key and message, except where `new_quiet` made the MAC. `macs` and
+//! `macs_each`, of many messages, read none, and work on 128 or 256 together, until the longest has ended; so sort messages of
+//! very different lengths.
 //!
 //! ```
 //! use cukvashe_des::mac::{Mac, MacError, Method2, RetailMacDes};
@@ -107,13 +108,25 @@ pub trait Mac: Clone + fmt::Debug {
 
 /// A MAC: its type, its context, and its calls of the library. In brackets stand its parameter and what `init` takes more.
 macro_rules! mac {
-    ($(#[$doc:meta])* $name:ident [$($padding:ident)?], $key_size:literal, $init:ident, $update:ident,
+    ($(#[$doc:meta])* $name:ident [$($padding:ident)?], $key_size:literal, $init:ident, $init_quiet:ident, $update:ident,
      $finalize:ident, $verify:ident) => {
         $(#[$doc])*
         #[derive(Clone)]
         pub struct $name$(<$padding: Padding>)? {
             context: ffi::$name,
             padding: PhantomData<($($padding,)?)>,
+        }
+
+        impl$(<$padding: Padding>)? $name$(<$padding>)? {
+            /// The quiet state of the message of no bytes under a key: no call of it, or of a clone, reads a table at an
+            /// index that depends on the key or the message. It takes about three times as long.
+            pub fn new_quiet(key: &[u8; $key_size]) -> Self {
+                let mut mac = $name { context: ffi::$name::empty(), padding: PhantomData };
+                // SAFETY: the pointers are of references, good for their lengths, and don't overlap. The status is 0, since
+                // the key has its length, and there is a padding of each method.
+                unsafe { ffi::$init_quiet(&mut mac.context, key.as_ptr(), key.len() $(, $padding::METHOD)?) };
+                mac
+            }
         }
 
         // SAFETY of each call below: the context is one that `init` wrote, and the other pointers are of references, good
@@ -157,37 +170,37 @@ macro_rules! mac {
 
 mac!(
     /// CBC-MAC over DES.
-    CbcMacDes [P], 8, cukvashe_cbc_mac_des_init, cukvashe_cbc_mac_des_update,
+    CbcMacDes [P], 8, cukvashe_cbc_mac_des_init, cukvashe_cbc_mac_des_init_quiet, cukvashe_cbc_mac_des_update,
     cukvashe_cbc_mac_des_final, cukvashe_cbc_mac_des_verify
 );
 mac!(
     /// CBC-MAC over triple DES, EDE with two keys.
-    CbcMacTdesEde2 [P], 16, cukvashe_cbc_mac_tdes_ede2_init, cukvashe_cbc_mac_tdes_ede2_update,
+    CbcMacTdesEde2 [P], 16, cukvashe_cbc_mac_tdes_ede2_init, cukvashe_cbc_mac_tdes_ede2_init_quiet, cukvashe_cbc_mac_tdes_ede2_update,
     cukvashe_cbc_mac_tdes_ede2_final, cukvashe_cbc_mac_tdes_ede2_verify
 );
 mac!(
     /// CBC-MAC over triple DES, EDE with three keys.
-    CbcMacTdesEde3 [P], 24, cukvashe_cbc_mac_tdes_ede3_init, cukvashe_cbc_mac_tdes_ede3_update,
+    CbcMacTdesEde3 [P], 24, cukvashe_cbc_mac_tdes_ede3_init, cukvashe_cbc_mac_tdes_ede3_init_quiet, cukvashe_cbc_mac_tdes_ede3_update,
     cukvashe_cbc_mac_tdes_ede3_final, cukvashe_cbc_mac_tdes_ede3_verify
 );
 mac!(
     /// The retail MAC over DES, with two keys.
-    RetailMacDes [P], 16, cukvashe_retail_mac_des_init, cukvashe_retail_mac_des_update,
+    RetailMacDes [P], 16, cukvashe_retail_mac_des_init, cukvashe_retail_mac_des_init_quiet, cukvashe_retail_mac_des_update,
     cukvashe_retail_mac_des_final, cukvashe_retail_mac_des_verify
 );
 mac!(
     /// CMAC over triple DES, EDE with two keys.
-    CmacTdesEde2 [], 16, cukvashe_cmac_tdes_ede2_init, cukvashe_cmac_tdes_ede2_update,
+    CmacTdesEde2 [], 16, cukvashe_cmac_tdes_ede2_init, cukvashe_cmac_tdes_ede2_init_quiet, cukvashe_cmac_tdes_ede2_update,
     cukvashe_cmac_tdes_ede2_final, cukvashe_cmac_tdes_ede2_verify
 );
 mac!(
     /// CMAC over triple DES, EDE with three keys.
-    CmacTdesEde3 [], 24, cukvashe_cmac_tdes_ede3_init, cukvashe_cmac_tdes_ede3_update,
+    CmacTdesEde3 [], 24, cukvashe_cmac_tdes_ede3_init, cukvashe_cmac_tdes_ede3_init_quiet, cukvashe_cmac_tdes_ede3_update,
     cukvashe_cmac_tdes_ede3_final, cukvashe_cmac_tdes_ede3_verify
 );
 
 /// How many messages go together.
-const GROUP: usize = 128;
+const GROUP: usize = 256;
 
 /// Takes groups of messages and the places of their tags to a call, with the number of the first message of each.
 fn in_groups(messages: &[&[u8]], tags: &mut [[u8; 8]], call: impl Fn(usize, *const Message, *mut u8, usize)) {
@@ -200,21 +213,29 @@ fn in_groups(messages: &[&[u8]], tags: &mut [[u8; 8]], call: impl Fn(usize, *con
     }
 }
 
+/// The call of many messages under one key.
 macro_rules! macs {
-    ($($name:ident: $size:literal, $one:ident, $each:ident;)*) => {
-        // SAFETY of the calls below: the pointers are of references to as many elements as the count says, which don't overlap,
-        // and the status is 0, since there is a padding of each method.
-        $(impl<P: Padding> $name<P> {
-            /// Writes the tag of each message at its place; where there are not as many messages as tags, the tags stay.
+    ($name:ident [$($padding:ident)?], $size:literal, $call:ident) => {
+        impl$(<$padding: Padding>)? $name$(<$padding>)? {
+            /// Writes the tag of each message at its place; where messages and tags differ in number, the tags stay.
             pub fn macs(key: &[u8; $size], messages: &[&[u8]], tags: &mut [[u8; 8]]) -> Result<(), CountsDiffer> {
                 count_of_both(messages, tags)?;
                 in_groups(messages, tags, |_, held, tags, count| {
-                    unsafe { ffi::$one(key.as_ptr(), P::METHOD, held, tags, count) };
+                    // SAFETY: the pointers are of references to as many elements as the count says, which don't overlap; a
+                    // status is 0, since there is a padding of each method.
+                    unsafe { ffi::$call(key.as_ptr(), $($padding::METHOD,)? held, tags, count) };
                 });
                 Ok(())
             }
+        }
+    };
+}
 
-            /// Writes the tag of each message at its place, under the key there; where the lists are not as many, the tags stay.
+/// The call of many messages under a key for each.
+macro_rules! macs_each {
+    ($name:ident [$($padding:ident)?], $size:literal, $call:ident) => {
+        impl$(<$padding: Padding>)? $name$(<$padding>)? {
+            /// Writes the tag of each message at its place, under the key there; where the lists differ in length, the tags stay.
             pub fn macs_each(
                 keys: &[[u8; $size]],
                 messages: &[&[u8]],
@@ -223,37 +244,49 @@ macro_rules! macs {
                 count_of_both(keys, messages)?;
                 count_of_both(messages, tags)?;
                 in_groups(messages, tags, |from, held, tags, count| {
-                    unsafe { ffi::$each(keys[from..].as_flattened().as_ptr(), P::METHOD, held, tags, count) };
+                    let keys = keys[from..].as_flattened().as_ptr();
+                    // SAFETY: as of `macs`.
+                    unsafe { ffi::$call(keys, $($padding::METHOD,)? held, tags, count) };
                 });
                 Ok(())
             }
-        })*
+        }
     };
 }
 
-macs!(
-    CbcMacDes: 8, cukvashe_cbc_mac_des_macs, cukvashe_cbc_mac_des_macs_each;
-    CbcMacTdesEde2: 16, cukvashe_cbc_mac_tdes_ede2_macs, cukvashe_cbc_mac_tdes_ede2_macs_each;
-    CbcMacTdesEde3: 24, cukvashe_cbc_mac_tdes_ede3_macs, cukvashe_cbc_mac_tdes_ede3_macs_each;
-);
+macs!(CbcMacDes[P], 8, cukvashe_cbc_mac_des_macs);
+macs!(CbcMacTdesEde2[P], 16, cukvashe_cbc_mac_tdes_ede2_macs);
+macs!(CbcMacTdesEde3[P], 24, cukvashe_cbc_mac_tdes_ede3_macs);
+macs!(RetailMacDes[P], 16, cukvashe_retail_mac_des_macs);
+macs!(CmacTdesEde2 [], 16, cukvashe_cmac_tdes_ede2_macs);
+macs!(CmacTdesEde3 [], 24, cukvashe_cmac_tdes_ede3_macs);
+macs_each!(CbcMacDes[P], 8, cukvashe_cbc_mac_des_macs_each);
+macs_each!(CbcMacTdesEde2[P], 16, cukvashe_cbc_mac_tdes_ede2_macs_each);
+macs_each!(CbcMacTdesEde3[P], 24, cukvashe_cbc_mac_tdes_ede3_macs_each);
+macs_each!(RetailMacDes[P], 16, cukvashe_retail_mac_des_macs_each);
+macs_each!(CmacTdesEde2 [], 16, cukvashe_cmac_tdes_ede2_macs_each);
+macs_each!(CmacTdesEde3 [], 24, cukvashe_cmac_tdes_ede3_macs_each);
 
-impl<P: Padding> RetailMacDes<P> {
-    /// Writes the tag of each message at its place, under the key there; where the lists are not as many, the tags stay.
-    pub fn macs_each(keys: &[[u8; 16]], messages: &[&[u8]], tags: &mut [[u8; 8]]) -> Result<(), CountsDiffer> {
-        count_of_both(keys, messages)?;
-        count_of_both(messages, tags)?;
-        in_groups(messages, tags, |from, held, tags, count| {
-            let mut halves = [[[0; 8]; GROUP]; 2];
-            for (at, key) in keys[from..from + count].iter().enumerate() {
-                halves[0][at].copy_from_slice(&key[..8]);
-                halves[1][at].copy_from_slice(&key[8..]);
-            }
-            let [first, second] = &halves;
-            let (first, second) = (first.as_flattened().as_ptr(), second.as_flattened().as_ptr());
-            // SAFETY: the pointers are of as many elements as the count says, which don't overlap; the status is 0.
-            unsafe { ffi::cukvashe_retail_mac_des_macs_each(first, second, P::METHOD, held, tags, count) };
-            ffi::wipe(halves.as_flattened_mut().as_flattened_mut());
-        });
-        Ok(())
-    }
+/// Writes of each tag whether it is the one at its place in `expected`, the tags that `macs` or `macs_each` made: every byte is
+/// compared, wherever two tags differ. `Ok` says only that the lists are as long: look at `right`.
+/// `CountsDiffer` where the lists differ in length; `right` then stays.
+///
+/// ```
+/// use cukvashe_des::mac::{verify_tags, CmacTdesEde3};
+///
+/// let messages: [&[u8]; 2] = [b"Now is the time ", b"for it"];
+/// let mut expected = [[0; 8]; 2];
+/// CmacTdesEde3::macs(&[7; 24], &messages, &mut expected)?;
+/// let mut right = [false; 2];
+/// verify_tags(&[expected[0], [0; 8]], &expected, &mut right)?;
+/// assert_eq!(right, [true, false]);
+/// # Ok::<(), cukvashe_des::CountsDiffer>(())
+/// ```
+pub fn verify_tags(tags: &[[u8; 8]], expected: &[[u8; 8]], right: &mut [bool]) -> Result<(), CountsDiffer> {
+    let count = count_of_both(tags, expected)?;
+    count_of_both(tags, right)?;
+    let (tags, expected) = (tags.as_flattened().as_ptr(), expected.as_flattened().as_ptr());
+    // SAFETY: the pointers are of references to as many elements as the count says, and only `right` is written.
+    unsafe { ffi::cukvashe_verify_tags(tags, expected, right.as_mut_ptr(), count) };
+    Ok(())
 }

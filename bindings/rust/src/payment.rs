@@ -2,9 +2,9 @@
 //! DES, ANSI X9.24-1:2009) as the host makes them.
 //!
 //! A key of a transaction has 16 bytes, two halves of 8, and a key serial number ten, of which the last 21 bits are the
-//! transaction counter. PINs, account numbers, dates and codes are texts, slices of ASCII digits. `check_value`, `initial_key`,
-//! `transaction_key`, `data_key` and `cvv` read tables at indexes that depend on keys, the calls that make a key of components
-//! branch on it, and those of PIN blocks on the PIN.
+//! transaction counter. PINs, account numbers, dates and codes are texts, slices of ASCII digits. No call reads a table at an
+//! index that depends on a key or a PIN; `cvv` branches on what the key makes, the calls that make a key of components branch on
+//! it, and those of PIN blocks on the PIN.
 //!
 //! ```
 //! use cukvashe_des::payment::pin_blocks::{decode_format_0, encode_format_0, Pin};
@@ -49,8 +49,8 @@ pub trait CheckValue: KeyForEach {
     /// The check value of a key: the first three bytes of the block of zeros, encrypted under it.
     fn check_value(key: &[u8]) -> Result<[u8; 3], InvalidLength>;
 
-    /// Writes the check value of each key at its place, 128 keys at a time, without tables; where there are not as many keys as
-    /// values, the values stay.
+    /// Writes the check value of each key at its place, 128 keys at a time, without tables; where keys and values differ in
+    /// number, the values stay.
     fn check_values(keys: &[Self::Key], values: &mut [[u8; 3]]) -> Result<(), CountsDiffer>;
 }
 
@@ -124,8 +124,9 @@ pub fn transaction_key(initial: &[u8; 16], serial: &[u8; 10]) -> [u8; 16] {
 }
 
 /// Writes the key of the transaction of each key serial number at its place, from the base derivation key: what
-/// [`transaction_key`] makes of [`initial_key`], 128 at a time, without tables. The terminals may be different ones. Where there
-/// are not as many serial numbers as keys, the keys stay. Every counter is taken: ask [`is_usable`] first.
+/// [`transaction_key`] makes of [`initial_key`], 128 or 256 at a time, with no table at an index that depends on a key. The
+/// terminals may be different ones. Where serial numbers and keys differ in number, the keys stay. Every counter is taken: ask
+/// [`is_usable`] first. Such a key encrypts nothing itself: take [`pin_key`], [`mac_key`] or [`data_key`] of it.
 pub fn transaction_keys(base: &[u8; 16], serials: &[[u8; 10]], keys: &mut [[u8; 16]]) -> Result<(), CountsDiffer> {
     let count = count_of_both(serials, keys)?;
     let (serials, keys) = (serials.as_flattened(), keys.as_flattened_mut());

@@ -61,14 +61,14 @@ fn chain(cipher: &impl BlockCipher, iv: &Block, plain: &[u8], answer: &[u8]) {
     assert_eq!((vector, &blocks), (last, &blocks_of(plain)));
 }
 
-/// Known answers of one cipher, alone and in lists: the published blocks, again and again. A chain of their answers is decrypted
-/// to each block xor the answer before it, so its encryption gives the answers back.
-fn answers<C: BlockCipher>(name: &str) {
+/// Known answers of one cipher, made by a call, alone and in lists: the published blocks, again and again. A chain of their
+/// answers is decrypted to each block xor the answer before it, so its encryption gives the answers back.
+fn answers<C: BlockCipher>(name: &str, new: fn(&[u8]) -> C) {
     for list in ciphertexts(name) {
-        electronic_codebook(&C::new_from_slice(&list.key).unwrap(), &list.plain, &list.answer);
+        electronic_codebook(&new(&list.key), &list.plain, &list.answer);
     }
     let text = ciphertexts(name).into_iter().find(|list| list.plain == TEXT).unwrap();
-    let cipher = C::new_from_slice(&text.key).unwrap();
+    let cipher = new(&text.key);
     for count in COUNTS {
         let plain: Vec<u8> = text.plain.iter().copied().cycle().take(8 * count).collect();
         let answer: Vec<u8> = text.answer.iter().copied().cycle().take(8 * count).collect();
@@ -79,19 +79,33 @@ fn answers<C: BlockCipher>(name: &str) {
     }
 }
 
-fn chains<C: BlockCipher>(name: &str) {
+fn chains<C: BlockCipher>(name: &str, new: fn(&[u8]) -> C) {
     for list in ciphertexts(name) {
-        chain(&C::new_from_slice(&list.key).unwrap(), &list.iv.unwrap(), &list.plain, &list.answer);
+        chain(&new(&list.key), &list.iv.unwrap(), &list.plain, &list.answer);
     }
+}
+
+/// The cipher of a key of the cipher's size.
+fn quick<C: BlockCipher>(key: &[u8]) -> C {
+    C::new_from_slice(key).unwrap()
 }
 
 #[test]
 fn ciphers_answer() {
-    answers::<Des>("des");
-    answers::<TdesEde2>("ede2");
-    answers::<TdesEde3>("ede3");
-    chains::<Des>("des-cbc");
-    chains::<TdesEde3>("ede3-cbc");
+    answers::<Des>("des", quick);
+    answers::<TdesEde2>("ede2", quick);
+    answers::<TdesEde3>("ede3", quick);
+    chains::<Des>("des-cbc", quick);
+    chains::<TdesEde3>("ede3-cbc", quick);
+}
+
+#[test]
+fn quiet_ciphers_answer() {
+    answers("des", |key| Des::new_quiet(key.try_into().unwrap()));
+    answers("ede2", |key| TdesEde2::new_quiet(key.try_into().unwrap()));
+    answers("ede3", |key| TdesEde3::new_quiet(key.try_into().unwrap()));
+    chains("des-cbc", |key| Des::new_quiet(key.try_into().unwrap()));
+    chains("ede3-cbc", |key| TdesEde3::new_quiet(key.try_into().unwrap()));
 }
 
 /// A cipher of an array is that of the slice.

@@ -1,7 +1,10 @@
-//! Calls for lists, beside the calls of one, at each count; and lists that are not as many.
+//! Calls for lists, beside the calls of one, at each count; and numbers of elements that do not agree.
 
 use crate::common::{COUNTS, KEY, TEXT};
-use cukvashe_des::mac::{CbcMacDes, CbcMacTdesEde2, CbcMacTdesEde3, Mac, Method1, Method2, RetailMacDes};
+use cukvashe_des::mac::{
+    verify_tags, CbcMacDes, CbcMacTdesEde2, CbcMacTdesEde3, CmacTdesEde2, CmacTdesEde3, Mac, Method1, Method2,
+    RetailMacDes,
+};
 use cukvashe_des::payment::{initial_key, transaction_key, transaction_keys, CheckValue};
 use cukvashe_des::{Block, BlockCipher, CountsDiffer, Des, KeyForEach, TdesEde2, TdesEde3};
 
@@ -32,7 +35,7 @@ fn lists_answer<C: BlockCipher + CheckValue + KeyForEach<Key = [u8; SIZE]>, cons
     }
 }
 
-/// As many blocks and values are refused, and stay.
+/// So many blocks and values, which differ in number from the keys, are refused, and stay.
 fn refuses<C: CheckValue + KeyForEach<Key = [u8; SIZE]>, const SIZE: usize>(keys: &[[u8; SIZE]], count: usize) {
     let (mut blocks, mut values) = (some::<8>(count, 3), some::<3>(count, 3));
     assert_eq!(C::encrypt_each(keys, &mut blocks), Err(CountsDiffer));
@@ -88,12 +91,26 @@ fn records_answer<C: BlockCipher>() {
         left = vectors.clone();
         assert_eq!(cipher.decrypt_cbc_records(&mut left, &counts, &mut blocks), Ok(()));
         assert_eq!((&left, &blocks), (&next, &plain));
-        let more = [&counts[..], &[1]].concat();
-        assert_eq!(cipher.encrypt_cbc_records(&mut left, &more, &mut blocks), Err(CountsDiffer));
-        left.push([0; 8]);
-        assert_eq!(cipher.decrypt_cbc_records(&mut left, &more, &mut blocks), Err(CountsDiffer));
-        assert_eq!((&left[..records], &blocks), (&next[..], &plain));
+        let (total, more) = (plain.len(), [&counts[..], &[1]].concat());
+        refuses_records(&cipher, records, &more, total);
+        refuses_records(&cipher, records + 1, &more, total);
+        refuses_records(&cipher, records, &counts, total + 1);
+        refuses_records(&cipher, records + 1, &counts, total);
+        // The sum is the right one, in 64 bits; and lengths in bytes.
+        refuses_records(&cipher, 2, &[usize::MAX, total + 1], total);
+        if total > 0 {
+            let lengths: Vec<usize> = counts.iter().map(|count| 8 * count).collect();
+            refuses_records(&cipher, records, &lengths, total);
+        }
     }
+}
+
+/// Counts that do not agree with so many vectors or blocks are refused, and both stay.
+fn refuses_records<C: BlockCipher>(cipher: &C, vectors: usize, counts: &[usize], blocks: usize) {
+    let (mut left, mut changed) = (some::<8>(vectors, 1), some::<8>(blocks, 77));
+    assert_eq!(cipher.encrypt_cbc_records(&mut left, counts, &mut changed), Err(CountsDiffer));
+    assert_eq!(cipher.decrypt_cbc_records(&mut left, counts, &mut changed), Err(CountsDiffer));
+    assert_eq!((left, changed), (some::<8>(vectors, 1), some::<8>(blocks, 77)));
 }
 
 #[test]
@@ -106,7 +123,7 @@ fn lists_of_records_answer() {
 type EachOf<const SIZE: usize> = fn(&[[u8; SIZE]], &[&[u8]], &mut [[u8; 8]]) -> Result<(), CountsDiffer>;
 type OneOf<const SIZE: usize> = fn(&[u8; SIZE], &[&[u8]], &mut [[u8; 8]]) -> Result<(), CountsDiffer>;
 
-fn macs_answer<M: Mac, const SIZE: usize>(each: EachOf<SIZE>, one: Option<OneOf<SIZE>>) {
+fn macs_answer<M: Mac, const SIZE: usize>(each: EachOf<SIZE>, one: OneOf<SIZE>) {
     let text = some::<8>(20, 3).concat();
     for count in COUNTS {
         let keys = some::<SIZE>(count, 1);
@@ -118,26 +135,47 @@ fn macs_answer<M: Mac, const SIZE: usize>(each: EachOf<SIZE>, one: Option<OneOf<
         let mut more = some::<8>(count + 1, 5);
         assert_eq!(each(&keys, &messages, &mut more), Err(CountsDiffer));
         assert_eq!(more, some::<8>(count + 1, 5));
-        let Some((one, key)) = one.zip(keys.first()) else { continue };
+        let Some(key) = keys.first() else { continue };
         assert_eq!(one(key, &messages, &mut tags), Ok(()));
         let wanted: Vec<_> = messages.iter().map(|text| M::mac(key, text).unwrap()).collect();
         assert_eq!(tags, wanted);
         assert_eq!(one(key, &messages, &mut more), Err(CountsDiffer));
+        assert_eq!(more, some::<8>(count + 1, 5));
     }
 }
 
 #[test]
 fn lists_of_messages_answer() {
-    macs_answer::<CbcMacDes<Method1>, 8>(CbcMacDes::<Method1>::macs_each, Some(CbcMacDes::<Method1>::macs));
-    macs_answer::<CbcMacDes<Method2>, 8>(CbcMacDes::<Method2>::macs_each, Some(CbcMacDes::<Method2>::macs));
-    macs_answer::<CbcMacTdesEde2<Method2>, 16>(
-        CbcMacTdesEde2::<Method2>::macs_each,
-        Some(CbcMacTdesEde2::<Method2>::macs),
-    );
-    macs_answer::<CbcMacTdesEde3<Method1>, 24>(
-        CbcMacTdesEde3::<Method1>::macs_each,
-        Some(CbcMacTdesEde3::<Method1>::macs),
-    );
-    macs_answer::<RetailMacDes<Method1>, 16>(RetailMacDes::<Method1>::macs_each, None);
-    macs_answer::<RetailMacDes<Method2>, 16>(RetailMacDes::<Method2>::macs_each, None);
+    macs_answer::<CbcMacDes<Method1>, 8>(CbcMacDes::<Method1>::macs_each, CbcMacDes::<Method1>::macs);
+    macs_answer::<CbcMacDes<Method2>, 8>(CbcMacDes::<Method2>::macs_each, CbcMacDes::<Method2>::macs);
+    macs_answer::<CbcMacTdesEde2<Method1>, 16>(CbcMacTdesEde2::<Method1>::macs_each, CbcMacTdesEde2::<Method1>::macs);
+    macs_answer::<CbcMacTdesEde2<Method2>, 16>(CbcMacTdesEde2::<Method2>::macs_each, CbcMacTdesEde2::<Method2>::macs);
+    macs_answer::<CbcMacTdesEde3<Method1>, 24>(CbcMacTdesEde3::<Method1>::macs_each, CbcMacTdesEde3::<Method1>::macs);
+    macs_answer::<CbcMacTdesEde3<Method2>, 24>(CbcMacTdesEde3::<Method2>::macs_each, CbcMacTdesEde3::<Method2>::macs);
+    macs_answer::<RetailMacDes<Method1>, 16>(RetailMacDes::<Method1>::macs_each, RetailMacDes::<Method1>::macs);
+    macs_answer::<RetailMacDes<Method2>, 16>(RetailMacDes::<Method2>::macs_each, RetailMacDes::<Method2>::macs);
+    macs_answer::<CmacTdesEde2, 16>(CmacTdesEde2::macs_each, CmacTdesEde2::macs);
+    macs_answer::<CmacTdesEde3, 24>(CmacTdesEde3::macs_each, CmacTdesEde3::macs);
+}
+
+/// Of each three tags two have one bit that is wrong, at any place.
+#[test]
+fn lists_of_tags_are_verified() {
+    for count in COUNTS {
+        let expected = some::<8>(count, 3);
+        let wanted: Vec<bool> = (0..count).map(|place| place % 3 == 0).collect();
+        let mut tags = expected.clone();
+        for place in (0..count).filter(|place| place % 3 > 0) {
+            tags[place][place / 3 % 8] ^= 1 << (place / 24 % 8);
+        }
+        for initial in [false, true] {
+            let mut right = vec![initial; count];
+            assert_eq!(verify_tags(&tags, &expected, &mut right), Ok(()));
+            assert_eq!(right, wanted);
+            let mut more = vec![initial; count + 1];
+            assert_eq!(verify_tags(&tags, &expected, &mut more), Err(CountsDiffer));
+            assert_eq!(verify_tags(&tags, &some::<8>(count + 1, 3), &mut right), Err(CountsDiffer));
+            assert_eq!((more, right), (vec![initial; count + 1], wanted.clone()));
+        }
+    }
 }

@@ -4,11 +4,17 @@ use crate::common::*;
 use cukvashe_des::mac::*;
 use cukvashe_des::{Block, InvalidLength};
 
-/// The tag of a message at once, and cut at some places: by pieces, and by a clone.
+/// The tag of a message at once, and as `answers_cut`.
 fn answers<M: Mac>(key: &[u8], message: &[u8], tag: Block) {
     assert_eq!(M::mac(key, message), Ok(tag));
+    answers_cut(&M::new_from_slice(key).unwrap(), message, tag);
+    refuses_tags::<M>(key, message, tag);
+}
+
+/// The tag of a message that is cut at some places, from the state of no bytes: by pieces, and by a clone.
+fn answers_cut<M: Mac>(begun: &M, message: &[u8], tag: Block) {
     for cut in [0, 1, 7, 8, 9, message.len() / 2, message.len()].into_iter().filter(|&cut| cut <= message.len()) {
-        let mut mac = M::new_from_slice(key).unwrap();
+        let mut mac = begun.clone();
         mac.update(&message[..cut]);
         let mut other = mac.clone();
         mac.update(&message[cut..]);
@@ -16,7 +22,6 @@ fn answers<M: Mac>(key: &[u8], message: &[u8], tag: Block) {
         assert_eq!((mac.clone().finalize(), other.finalize()), (tag, tag));
         assert_eq!(mac.verify(&tag), Ok(()));
     }
-    refuses_tags::<M>(key, message, tag);
 }
 
 /// Lengths that no tag has, and each byte turned.
@@ -62,6 +67,27 @@ fn macs_answer() {
     known::<RetailMacDes<Method2>>("retail_mac_des", "2", 16);
     known::<CmacTdesEde2>("cmac_tdes_ede2", "-", 16);
     known::<CmacTdesEde3>("cmac_tdes_ede3", "-", 24);
+}
+
+/// The known answers of a MAC by a quiet state.
+fn known_quiet<M: Mac>(name: &str, method: &str, new: fn(&[u8]) -> M) {
+    for known in tags(name, method) {
+        answers_cut(&new(&known.key), &known.message, known.tag);
+    }
+}
+
+#[test]
+fn quiet_macs_answer() {
+    known_quiet("cbc_mac_des", "1", |key| CbcMacDes::<Method1>::new_quiet(key.try_into().unwrap()));
+    known_quiet("cbc_mac_des", "2", |key| CbcMacDes::<Method2>::new_quiet(key.try_into().unwrap()));
+    known_quiet("cbc_mac_tdes_ede2", "1", |key| CbcMacTdesEde2::<Method1>::new_quiet(key.try_into().unwrap()));
+    known_quiet("cbc_mac_tdes_ede2", "2", |key| CbcMacTdesEde2::<Method2>::new_quiet(key.try_into().unwrap()));
+    known_quiet("cbc_mac_tdes_ede3", "1", |key| CbcMacTdesEde3::<Method1>::new_quiet(key.try_into().unwrap()));
+    known_quiet("cbc_mac_tdes_ede3", "2", |key| CbcMacTdesEde3::<Method2>::new_quiet(key.try_into().unwrap()));
+    known_quiet("retail_mac_des", "1", |key| RetailMacDes::<Method1>::new_quiet(key.try_into().unwrap()));
+    known_quiet("retail_mac_des", "2", |key| RetailMacDes::<Method2>::new_quiet(key.try_into().unwrap()));
+    known_quiet("cmac_tdes_ede2", "-", |key| CmacTdesEde2::new_quiet(key.try_into().unwrap()));
+    known_quiet("cmac_tdes_ede3", "-", |key| CmacTdesEde3::new_quiet(key.try_into().unwrap()));
 }
 
 /// The examples of CMAC over triple DES that go with NIST SP 800-38B.

@@ -112,7 +112,7 @@ fn errors_are_sentences() {
         (Box::new(InvalidLength), "the key does not have the key size"),
         (Box::new(DataError::NotBlocks), "the data are not whole blocks of 8 bytes"),
         (Box::new(DataError::LengthsDiffer), "input and output differ in length"),
-        (Box::new(CountsDiffer), "the lists do not have as many elements as each other"),
+        (Box::new(CountsDiffer), "the numbers of elements do not agree"),
         (Box::new(KeyTestError::WeakKey), "the key is weak"),
         (Box::new(KeyTestError::InvalidLength), "the key does not have 8, 16 or 24 bytes"),
         (Box::new(MacError), "the tag is not that of the message"),

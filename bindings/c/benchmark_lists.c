@@ -1,0 +1,302 @@
+/*
+ * Nanoseconds for a block, a message or a key of lists of short messages, 256 at once: by batches of 128, by those of 256 where the
+ * processor has them, and by a peer one at a time. The peer is OpenSSL's own functions of DES, called with nothing around them, or,
+ * where OpenSSL has no such call, this library's call of one. Then quiet contexts and lists of few blocks, beside OpenSSL and
+ * libgcrypt, and threads, by the clock on the wall. The least of a hundred short runs counts; an empty cell is a way that there is not.
+ */
+#define OPENSSL_SUPPRESS_DEPRECATED
+#include "benchmark.h"
+#include <openssl/des.h>
+#include <pthread.h>
+#include <string.h>
+#ifdef HAS_GCRYPT
+#include <gcrypt.h>
+#endif
+
+enum { COUNT = 256, RECORD = 8, LENGTH = 64, MOST = 1 << 20, MOST_THREADS = 4 };
+
+static bool is_v3;
+static uint8_t keys[COUNT * 24], vectors[COUNT * 8], blocks[COUNT * RECORD * 8], texts[COUNT * LENGTH], tags[COUNT * 8];
+static uint8_t serials[COUNT * 10], transaction_keys[COUNT * 16], list[MOST];
+static size_t counts[COUNT];
+static cukvashe_message messages[COUNT];
+static cukvashe_des des, quiet_des;
+static cukvashe_tdes_ede3 ede3, quiet_ede3;
+static DES_key_schedule schedules[3];
+
+static void check(int status) {
+  if (status) fail(cukvashe_strerror(status));
+}
+
+/* Which call is timed: of a single DES or of EDE3, by batches of 128 or 256. */
+struct of {
+  bool is_triple, is_wide;
+};
+
+/* The calls of a list, by cipher and width. */
+#define BY_WIDTH(OF, CALL, ...)                                                                              \
+  check((OF)->is_triple ? (OF)->is_wide ? cukvashe_wide_tdes_ede3_##CALL(__VA_ARGS__)                        \
+                                        : cukvashe_narrow_tdes_ede3_##CALL(__VA_ARGS__)                      \
+                        : (OF)->is_wide ? cukvashe_wide_des_##CALL(__VA_ARGS__)                              \
+                                        : cukvashe_narrow_des_##CALL(__VA_ARGS__))
+
+static DES_cblock *block_at(size_t k) { return (DES_cblock *)(blocks + 8 * k); }
+static DES_cblock *key_at(size_t k) { return (DES_cblock *)(keys + 8 * k); }
+
+/* A key for each of 256 blocks: what it takes to set up each key and encrypt one block. */
+static void each_key(void *state, size_t bytes) {
+  const struct of *of = (const struct of *)state;
+  (void)bytes;
+  BY_WIDTH(of, encrypt_each, keys, COUNT, blocks, COUNT);
+}
+
+static void openssl_each_key(void *state, size_t bytes) {
+  const struct of *of = (const struct of *)state;
+  (void)bytes;
+  for (size_t k = 0; k < COUNT; k++) {
+    const size_t parts = of->is_triple ? 3 : 1;
+    for (size_t part = 0; part < parts; part++) DES_set_key_unchecked(key_at(parts * k + part), &schedules[part]);
+    if (of->is_triple)
+      DES_ecb3_encrypt(block_at(k), block_at(k), &schedules[0], &schedules[1], &schedules[2], DES_ENCRYPT);
+    else
+      DES_ecb_encrypt(block_at(k), block_at(k), &schedules[0], DES_ENCRYPT);
+  }
+}
+
+/* CBC encryption of 256 records of eight blocks under one key. */
+static void records(void *state, size_t bytes) {
+  const struct of *of = (const struct of *)state;
+  (void)bytes;
+  if (of->is_triple)
+    check((of->is_wide ? cukvashe_wide_tdes_ede3_encrypt_cbc_records : cukvashe_narrow_tdes_ede3_encrypt_cbc_records)(
+        &ede3, vectors, COUNT, counts, COUNT, blocks, COUNT * RECORD));
+  else
+    check((of->is_wide ? cukvashe_wide_des_encrypt_cbc_records : cukvashe_narrow_des_encrypt_cbc_records)(
+        &des, vectors, COUNT, counts, COUNT, blocks, COUNT * RECORD));
+}
+
+static void openssl_records(void *state, size_t bytes) {
+  const struct of *of = (const struct of *)state;
+  (void)bytes;
+  for (size_t k = 0; k < COUNT; k++) {
+    uint8_t *record = blocks + 8 * RECORD * k;
+    DES_cblock *vector = (DES_cblock *)(vectors + 8 * k);
+    if (of->is_triple)
+      DES_ede3_cbc_encrypt(record, record, 8 * RECORD, &schedules[0], &schedules[1], &schedules[2], vector, DES_ENCRYPT);
+    else
+      DES_ncbc_encrypt(record, record, 8 * RECORD, &schedules[0], vector, DES_ENCRYPT);
+  }
+}
+
+/* The MACs of 256 messages of 64 bytes, each under a key of its own. */
+static void retail_macs(void *state, size_t bytes) {
+  const struct of *of = (const struct of *)state;
+  (void)bytes;
+  check((of->is_wide ? cukvashe_wide_retail_mac_des_macs_each : cukvashe_narrow_retail_mac_des_macs_each)(
+      keys, COUNT, 2, messages, COUNT, tags, COUNT));
+}
+
+static void one_retail_mac(void *state, size_t bytes) {
+  (void)state, (void)bytes;
+  for (size_t k = 0; k < COUNT; k++) {
+    cukvashe_retail_mac_des mac;
+    check(cukvashe_retail_mac_des_init(&mac, keys + 16 * k, 16, 2));
+    cukvashe_retail_mac_des_update(&mac, messages[k].bytes, messages[k].length);
+    cukvashe_retail_mac_des_final(&mac, tags + 8 * k);
+  }
+}
+
+/* The keys of 256 transactions from one base key. */
+static void transactions(void *state, size_t bytes) {
+  const struct of *of = (const struct of *)state;
+  (void)bytes;
+  check((of->is_wide ? cukvashe_wide_dukpt_transaction_keys : cukvashe_narrow_dukpt_transaction_keys)(
+      keys, serials, COUNT, transaction_keys, COUNT));
+}
+
+static void one_transaction(void *state, size_t bytes) {
+  uint8_t initial[16];
+  (void)state, (void)bytes;
+  for (size_t k = 0; k < COUNT; k++) {
+    cukvashe_dukpt_initial_key(keys, serials + 10 * k, initial);
+    cukvashe_dukpt_transaction_key(initial, serials + 10 * k, transaction_keys + 16 * k);
+  }
+}
+
+/* The cells of a row by both widths and a peer, for each of so many parts, and what the quicker width takes of the peer's time. */
+static void row_of(const char *what, call *by_batches, call *by_peer, bool is_triple, size_t parts) {
+  struct of narrow = {is_triple, false}, wide = {is_triple, true};
+  struct timed row[3] = {{by_batches, &narrow, 0}, {is_v3 ? by_batches : NULL, &wide, 0}, {by_peer, &narrow, 0}};
+  time_all(row, 3, 0);
+  printf("| %s | %8.1f |", what, row[0].least / (double)parts);
+  if (is_v3) printf(" %8.1f |", row[1].least / (double)parts);
+  else printf("          |");
+  printf(" %8.1f | %5.3f |", row[2].least / (double)parts, row[0].least / row[2].least);
+  if (is_v3) printf(" %5.3f |\n", row[1].least / row[2].least);
+  else printf("       |\n");
+  fflush(stdout);
+}
+
+static void rows_of_messages(void) {
+  printf("| 256 at once | 128 together | 256 together | one at a time | 128 / one | 256 / one |\n|---|---|---|---|---|---|\n");
+  row_of("a key for each block, DES, beside OpenSSL", each_key, openssl_each_key, false, COUNT);
+  row_of("a key for each block, EDE3, beside OpenSSL", each_key, openssl_each_key, true, COUNT);
+  row_of("a block of records of 8 blocks, CBC encryption, DES, beside OpenSSL", records, openssl_records, false, COUNT * RECORD);
+  row_of("a block of records of 8 blocks, CBC encryption, EDE3, beside OpenSSL", records, openssl_records, true, COUNT * RECORD);
+  row_of("retail MAC of 64 bytes under a key of its own, beside one call each", retail_macs, one_retail_mac, false, COUNT);
+  row_of("keys of a transaction, beside two calls each", transactions, one_transaction, false, COUNT);
+}
+
+/* Lists of few blocks, by contexts of one kind or the other, and by peers. */
+static void quick_ede3(void *state, size_t bytes) {
+  (void)state;
+  check(cukvashe_tdes_ede3_decrypt_cbc(&ede3, vectors, list, bytes));
+}
+
+static void quiet_ede3_list(void *state, size_t bytes) {
+  (void)state;
+  check(cukvashe_tdes_ede3_decrypt_cbc(&quiet_ede3, vectors, list, bytes));
+}
+
+static void quiet_des_list(void *state, size_t bytes) {
+  (void)state;
+  check(cukvashe_des_decrypt_cbc(&quiet_des, vectors, list, bytes));
+}
+
+static void quick_des(void *state, size_t bytes) {
+  (void)state;
+  check(cukvashe_des_decrypt_cbc(&des, vectors, list, bytes));
+}
+
+static void blocks_one_by_one(void *state, size_t bytes) {
+  (void)state;
+  for (size_t from = 0; from < bytes; from += 8) check(cukvashe_tdes_ede3_decrypt_cbc(&ede3, vectors, list + from, 8));
+}
+
+static void des_one_by_one(void *state, size_t bytes) {
+  (void)state;
+  for (size_t from = 0; from < bytes; from += 8) check(cukvashe_des_decrypt_cbc(&des, vectors, list + from, 8));
+}
+
+static void openssl_ede3(void *state, size_t bytes) {
+  (void)state;
+  DES_ede3_cbc_encrypt(list, list, (long)bytes, &schedules[0], &schedules[1], &schedules[2], (DES_cblock *)vectors, DES_DECRYPT);
+}
+
+static void openssl_des(void *state, size_t bytes) {
+  (void)state;
+  DES_ncbc_encrypt(list, list, (long)bytes, &schedules[0], (DES_cblock *)vectors, DES_DECRYPT);
+}
+
+#ifdef HAS_GCRYPT
+static void gcrypt_call(void *state, size_t bytes) {
+  if (gcry_cipher_decrypt(*(gcry_cipher_hd_t *)state, list, bytes, NULL, 0)) fail("gcry_cipher_decrypt");
+}
+
+static gcry_cipher_hd_t gcrypt_of(bool is_triple) {
+  gcry_cipher_hd_t handle;
+  if (gcry_cipher_open(&handle, is_triple ? GCRY_CIPHER_3DES : GCRY_CIPHER_DES, GCRY_CIPHER_MODE_CBC, 0) ||
+      gcry_cipher_setkey(handle, keys, is_triple ? 24 : 8) || gcry_cipher_setiv(handle, vectors, 8))
+    fail("gcry_cipher_open");
+  return handle;
+}
+#endif
+
+static void rows_of_few(bool is_triple) {
+  static const size_t sizes[] = {1, 2, 3, 4, 8, 9, 12, 16, 20, 24, 31, 32};
+  struct timed row[5] = {{is_triple ? quick_ede3 : quick_des, NULL, 0},
+                         {is_triple ? quiet_ede3_list : quiet_des_list, NULL, 0},
+                         {is_triple ? blocks_one_by_one : des_one_by_one, NULL, 0},
+                         {is_triple ? openssl_ede3 : openssl_des, NULL, 0}};
+#ifdef HAS_GCRYPT
+  gcry_cipher_hd_t handle = gcrypt_of(is_triple);
+  row[4].call = gcrypt_call;
+  row[4].state = &handle;
+#endif
+  for (size_t i = 0; i < sizeof sizes / sizeof *sizes; i++) {
+    printf("| %s | %3zu |", is_triple ? "EDE3" : "DES ", sizes[i]);
+    cells(row, 5, 8 * sizes[i], sizes[i]);
+  }
+#ifdef HAS_GCRYPT
+  gcry_cipher_close(handle);
+#endif
+}
+
+/* A list of 1 MiB, divided among threads: the time on the wall. */
+struct part {
+  uint8_t *from;
+  size_t length;
+};
+
+static void *decrypt_part(void *state) {
+  const struct part *part = (const struct part *)state;
+  check(cukvashe_tdes_ede3_decrypt_ecb(&ede3, part->from, part->length));
+  return NULL;
+}
+
+static double wall(void) {
+  struct timespec t;
+  clock_gettime(CLOCK_MONOTONIC, &t);
+  return (double)t.tv_sec * 1e9 + (double)t.tv_nsec;
+}
+
+static double threads_take(size_t count) {
+  pthread_t threads[MOST_THREADS];
+  struct part parts[MOST_THREADS];
+  const double start = wall();
+  for (size_t k = 0; k < count; k++) {
+    parts[k] = (struct part){list + MOST / count * k, MOST / count};
+    if (pthread_create(&threads[k], NULL, decrypt_part, &parts[k])) fail("pthread_create");
+  }
+  for (size_t k = 0; k < count; k++)
+    if (pthread_join(threads[k], NULL)) fail("pthread_join");
+  return wall() - start;
+}
+
+static void rows_of_threads(void) {
+  static const size_t threads[] = {1, 2, 4};
+  double least[3] = {1e18, 1e18, 1e18};
+  for (int run = 0; run < 4 * RUNS; run++)
+    for (size_t i = 0; i < 3; i++) {
+      double time = threads_take(threads[i]);
+      if (time < least[i]) least[i] = time;
+    }
+  for (size_t i = 0; i < 3; i++)
+    printf("| %zu | %8.1f | %5.2f |\n", threads[i], least[i] / (MOST / 8), least[i] / least[0]);
+}
+
+static void prepare(void) {
+  for (size_t i = 0; i < sizeof keys; i++) keys[i] = (uint8_t)(17 * i * i + 59 * i + 3);
+  for (size_t i = 0; i < sizeof texts; i++) texts[i] = (uint8_t)(31 * i + i / 64);
+  for (size_t k = 0; k < COUNT; k++) {
+    counts[k] = RECORD;
+    messages[k] = (cukvashe_message){texts + LENGTH * k, LENGTH};
+    memcpy(serials + 10 * k, "\xff\xff\x98\x76\x54\x32\x10\xe0\x00", 9);
+    serials[10 * k + 8] = (uint8_t)(k >> 3);
+    serials[10 * k + 9] = (uint8_t)(37 * k | 1);
+  }
+  for (size_t part = 0; part < 3; part++) DES_set_key_unchecked(key_at(part), &schedules[part]);
+  check(cukvashe_des_init(&des, keys, 8));
+  check(cukvashe_tdes_ede3_init(&ede3, keys, 24));
+  check(cukvashe_des_init_quiet(&quiet_des, keys, 8));
+  check(cukvashe_tdes_ede3_init_quiet(&quiet_ede3, keys, 24));
+}
+
+int main(void) {
+  const struct processor words = cukvashe_internal_processor();
+  is_v3 = cukvashe_internal_is_v3(&words);
+#ifdef HAS_GCRYPT
+  gcry_check_version(NULL);
+  gcry_control(GCRYCTL_INITIALIZATION_FINISHED, 0);
+#endif
+  prepare();
+  printf("\nNanoseconds of one of 256, and how long it takes as a part of what it takes alone\n\n");
+  rows_of_messages();
+  printf("\nNanoseconds for a block of a list of few, CBC decryption\n\n");
+  printf("| cipher | blocks | quick | quiet | one by one | OpenSSL | libgcrypt |\n|---|---|---|---|---|---|---|\n");
+  rows_of_few(false);
+  rows_of_few(true);
+  printf("\nNanoseconds for a block of 1 MiB, EDE3, by threads\n\n| threads | time | of one |\n|---|---|---|\n");
+  rows_of_threads();
+  return 0;
+}
