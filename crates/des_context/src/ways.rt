@@ -15,8 +15,8 @@ use des_fast::quiet::SideBySide;
 /// and the width.
 pub const FEWEST: usize = 32;
 
-/// The fewest blocks that are quicker in a batch than one by one by a cipher that reads no table,
-/// whatever the cipher, the direction and the width.
+/// The fewest blocks of a quiet context that go in a batch: fewer go four side by side, or one by
+/// one where CBC is decrypted.
 pub const FEWEST_QUIET: usize = 11;
 
 // How many blocks of a list go in batches: the whole batches, and also what is left over where that
