@@ -120,8 +120,8 @@ int cukvashe_retail_mac_des_macs_each(const uint8_t *keys, int method, const cuk
 DEFINE_CMAC(tdes_ede2)
 DEFINE_CMAC(tdes_ede3)
 
-void cukvashe_verify_tags(const uint8_t *tags, const uint8_t *expected, bool *right, size_t count) {
-  (void)cukvashe_narrow_verify_tags(tags, count, expected, count, right, count);
+void cukvashe_compare_tags(const uint8_t *tags, const uint8_t *expected, bool *right, size_t count) {
+  (void)cukvashe_narrow_compare_tags(tags, count, expected, count, right, count);
 }
 
 void cukvashe_dukpt_transaction_keys(const uint8_t base[16], const uint8_t *serials, uint8_t *keys, size_t count) {

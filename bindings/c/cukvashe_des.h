@@ -11,7 +11,7 @@
  * Every length and size is a number of bytes, every count a number of elements: keys, messages, records, or blocks of 8
  * bytes. Lists of blocks take a length beside a count, and if the two do not agree, as where both are bytes or both are
  * blocks, the call refuses them. The calls that make check values, keys of transactions and tags of many, and
- * cukvashe_verify_tags, take a count alone, and so does combine of its other components: a number of bytes given there
+ * cukvashe_compare_tags, take a count alone, and so does combine of its other components: a number of bytes given there
  * makes them read, or write, past a buffer. A block has 8 bytes; bit 1 of FIPS 46-3 is the
  * highest bit of the first. Data, keys and texts may stand at any address, contexts wherever their type may.
  *
@@ -263,8 +263,8 @@ CUKVASHE_CHECK int cukvashe_tdes_ede3_decrypt_cbc_to(const cukvashe_tdes_ede3 *c
  * cipher, one after the other. CUKVASHE_ERR_BLOCKS if `length` is not a multiple of 8; CUKVASHE_ERR_COUNTS if `count` is
  * not `length` / 8.
  *
- * No context is made. 128 blocks go together, or 256 where the processor has wider vectors; fewer take as long as 128. No
- * tables are read at addresses that depend on keys or blocks.
+ * No context is made. 128 blocks go together, or 256 where the processor has wider vectors; a shorter list takes the time
+ * of 128. No tables are read at addresses that depend on keys or blocks.
  */
 CUKVASHE_CHECK int cukvashe_des_encrypt_each(const uint8_t *keys, size_t count, uint8_t *blocks, size_t length);
 CUKVASHE_CHECK int cukvashe_des_decrypt_each(const uint8_t *keys, size_t count, uint8_t *blocks, size_t length);
@@ -483,7 +483,7 @@ CUKVASHE_CHECK int cukvashe_cmac_tdes_ede3_verify(const cukvashe_cmac_tdes_ede3 
  * 128 or 256 messages are worked on together, until the longest has ended; so sort messages of very different lengths. No
  * tables are read at addresses that depend on keys or messages.
  *
- * void cukvashe_verify_tags(const uint8_t *tags, const uint8_t *expected, bool *right, size_t count)
+ * void cukvashe_compare_tags(const uint8_t *tags, const uint8_t *expected, bool *right, size_t count)
  *
  * Writes for each of `count` tags of 8 bytes whether it is the one at its place in `expected`, the tags that macs or
  * macs_each made: true where all 8 bytes agree. Every byte is compared, wherever two tags differ; memcmp may stop at the
@@ -516,7 +516,7 @@ void cukvashe_cmac_tdes_ede2_macs_each(const uint8_t *keys, const cukvashe_messa
 void cukvashe_cmac_tdes_ede3_macs(const uint8_t *key, const cukvashe_message *messages, uint8_t *tags, size_t count);
 void cukvashe_cmac_tdes_ede3_macs_each(const uint8_t *keys, const cukvashe_message *messages, uint8_t *tags,
                                        size_t count);
-void cukvashe_verify_tags(const uint8_t *tags, const uint8_t *expected, bool *right, size_t count);
+void cukvashe_compare_tags(const uint8_t *tags, const uint8_t *expected, bool *right, size_t count);
 
 /*
  * CHECK VALUES AND COMPONENTS

@@ -80,7 +80,7 @@ DECLARE_CMAC(tdes_ede2, wide)
 DECLARE_CMAC(tdes_ede3, narrow)
 DECLARE_CMAC(tdes_ede3, wide)
 
-int cukvashe_narrow_verify_tags(const uint8_t *tags, size_t tags_count, const uint8_t *expected, size_t expected_count,
+int cukvashe_narrow_compare_tags(const uint8_t *tags, size_t tags_count, const uint8_t *expected, size_t expected_count,
                                 bool *right, size_t right_count);
 int cukvashe_narrow_pad(uint8_t *buffer, size_t capacity, size_t length, int method, size_t *padded_length);
 bool cukvashe_narrow_equal_but_parity(const uint8_t *first, size_t first_length, const uint8_t *second,

@@ -112,7 +112,7 @@ static void nothing_of_nothing(void) {
     lists[n].check_values(NULL, NULL, 0);
   }
   cukvashe_dukpt_transaction_keys(base, NULL, NULL, 0);
-  cukvashe_verify_tags(NULL, NULL, NULL, 0);
+  cukvashe_compare_tags(NULL, NULL, NULL, 0);
 }
 
 /* Transactions of random terminals, some of them with counters that have any number of ones, beside the calls of one. */
@@ -321,10 +321,10 @@ static void verifies_tags(size_t count) {
   static bool right[LONGEST + 2];
   put_expected(count);
   memset(right, true, sizeof right);
-  cukvashe_verify_tags(tags, plain, right + 1, count);
+  cukvashe_compare_tags(tags, plain, right + 1, count);
   for (size_t i = 0; i < count; i++) CHECK(right[i + 1] == (i % 3 == 0));
   memset(right, false, sizeof right);
-  cukvashe_verify_tags(plain, tags, right + 1, count);
+  cukvashe_compare_tags(plain, tags, right + 1, count);
   for (size_t i = 0; i < count; i++) CHECK(right[i + 1] == (i % 3 == 0));
   CHECK(!right[0] && !right[count + 1]);
 }
@@ -430,9 +430,9 @@ static void refuses_counts_of_answers(size_t first, size_t second) {
   static bool right[LONGEST];
   put_expected(first > second ? first : second);
   for (size_t i = 0; i < LONGEST; i++) right[i] = i % 3 == 1;
-  CHECK(cukvashe_narrow_verify_tags(tags, first, plain, second, right, second) == CUKVASHE_ERR_COUNTS);
-  CHECK(cukvashe_narrow_verify_tags(tags, second, plain, first, right, second) == CUKVASHE_ERR_COUNTS);
-  CHECK(cukvashe_narrow_verify_tags(tags, second, plain, second, right, first) == CUKVASHE_ERR_COUNTS);
+  CHECK(cukvashe_narrow_compare_tags(tags, first, plain, second, right, second) == CUKVASHE_ERR_COUNTS);
+  CHECK(cukvashe_narrow_compare_tags(tags, second, plain, first, right, second) == CUKVASHE_ERR_COUNTS);
+  CHECK(cukvashe_narrow_compare_tags(tags, second, plain, second, right, first) == CUKVASHE_ERR_COUNTS);
   for (size_t i = 0; i < LONGEST; i++) CHECK(right[i] == (i % 3 == 1));
 }
 

@@ -158,7 +158,7 @@ static void records_and_messages(uint8_t *keys, size_t count) {
   cukvashe_cmac_tdes_ede3_macs(keys, messages, other, count);
   cukvashe_cmac_tdes_ede3_macs_each(keys, messages, other, count);
   static bool right[MOST_BLOCKS];
-  cukvashe_verify_tags(data, other, right, count);
+  cukvashe_compare_tags(data, other, right, count);
 }
 
 /* Lists of any length under keys of their own, check values, and keys of transactions. Key serial numbers are no secret. */

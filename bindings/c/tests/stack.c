@@ -135,7 +135,7 @@ static void of_record(const struct work *work) {
     case 15: cukvashe_cmac_tdes_ede2_macs_each(keys, messages, others, count); break;
     case 16: cukvashe_cmac_tdes_ede3_macs(key, messages, others, count); break;
     case 17: cukvashe_cmac_tdes_ede3_macs_each(keys, messages, others, count); break;
-    default: cukvashe_verify_tags(blocks, others, right, count); break;
+    default: cukvashe_compare_tags(blocks, others, right, count); break;
   }
 }
 

@@ -28,10 +28,13 @@ Lists go in one call: `encrypt_each` and `decrypt_each` with a key for each bloc
 (n, 16), where they stand, and other threads of Python run meanwhile:
 
     keys = cukvashe_des.dukpt_transaction_keys(base, serials)
-    blocks = cukvashe_des.decrypt_each(cukvashe_des.TdesEde2, keys, blocks)
+    pin_keys = b"".join(cukvashe_des.dukpt_pin_key(keys[at : at + 16]) for at in range(0, len(keys), 16))
+    blocks = cukvashe_des.decrypt_each(cukvashe_des.TdesEde2, pin_keys, blocks)
+
+The key of a transaction encrypts nothing itself, so each is made the PIN key of its transaction first.
 
 `decrypt_cbc_records(cipher, vectors, counts, blocks)` and its inverse take a column of records, `macs` and `macs_each` many
-messages, and `verify_tags` compares the tags that came with those that these made.
+messages, and `wrong_tags` gives the places of the tags that came and are not those that these made.
 
 A fault is a ValueError of its own name, an argument of the wrong type a TypeError. The texts of both tell lengths, and no other
 value that was given.
@@ -93,7 +96,7 @@ from ._lists import (
     encrypt_each_into,
     macs,
     macs_each,
-    verify_tags,
+    wrong_tags,
 )
 from ._macs import TAG_SIZE, CbcMacDes, CbcMacTdesEde2, CbcMacTdesEde3, CmacTdesEde2, CmacTdesEde3, RetailMacDes
 from ._padding import pad, unpad
@@ -109,7 +112,7 @@ __all__ = [
     "dukpt_initial_key", "dukpt_is_usable", "dukpt_mac_key", "dukpt_next_serial", "dukpt_pin_key", "dukpt_transaction_key",
     "dukpt_transaction_keys", "encrypt_cbc_records", "encrypt_each", "encrypt_each_into", "equal_but_parity", "is_weak_key",
     "macs", "macs_each", "pad", "pin_decode_0", "pin_decode_1", "pin_decode_3", "pin_encode_0", "pin_encode_1", "pin_encode_3",
-    "unpad", "verify_tags", "with_odd_parity",
+    "unpad", "with_odd_parity", "wrong_tags",
 ]
 
 # Texts of errors and of `help` name the package, and not the file that defines a class.

@@ -42,7 +42,7 @@ _CMACS = {
     for name in ("cmac_tdes_ede2", "cmac_tdes_ede3")
     for call in ("_macs", "_macs_each")
 }
-_verify_tags = function("verify_tags", None, POINTER, POINTER, POINTER, SIZE)
+_compare_tags = function("compare_tags", None, POINTER, POINTER, POINTER, SIZE)
 _transaction_keys = function("dukpt_transaction_keys", None, POINTER, POINTER, POINTER, SIZE)
 
 
@@ -136,6 +136,7 @@ def dukpt_transaction_keys(base: ReadableBuffer, serials: ReadableBuffer) -> byt
     """The keys of transactions, of 16 bytes each, from the base derivation key and key serial numbers of ten bytes, one
     after the other, as in an array of shape (n, 10): what dukpt_transaction_key makes of dukpt_initial_key, for each.
     The terminals may be different ones. Every counter is taken: ask dukpt_is_usable of each serial number that was sent.
+    Such a key encrypts nothing itself: take dukpt_pin_key, dukpt_mac_key or dukpt_data_key of it.
 
     KeyLength where the base key does not have 16 bytes; SerialLength where there are no whole key serial numbers, or
     rows of another size."""
@@ -198,6 +199,15 @@ def decrypt_cbc_records(
     return _recorded("decrypt_cbc_records", cipher, vectors, counts, blocks)
 
 
+@contextlib.contextmanager
+def _lent_bytes(messages: ReadableBuffer) -> Iterator[Tuple[Any, int]]:
+    """Where messages begin, and how many bytes they have. Words that are not in the order of their bytes are refused."""
+    with memoryview(messages) as view:
+        row_size(view)
+        with lent(view) as bytes_and_length:
+            yield bytes_and_length
+
+
 def _messages_of(start: int, length: int, lengths: Iterable[int]) -> array[int]:
     """Where each message begins, and its length, by turns."""
     held = _numbers_of(lengths)
@@ -242,7 +252,7 @@ def macs(
     128 or 256 messages are worked on together, until the longest has ended; so sort messages of very different lengths.
     KeyLength, PaddingMethod; CountMismatch where the lengths do not add up to the bytes."""
     name = _mac_of(kind, padding)
-    with key_of(key, kind.key_size) as held, lent(messages) as (start, length):
+    with key_of(key, kind.key_size) as held, _lent_bytes(messages) as (start, length):
         pairs = _messages_of(start or 0, length, lengths)
         tags = room(len(pairs) // 2 * TAG_SIZE)
         _write_tags(name + "_macs", held, padding, pairs, tags)
@@ -256,7 +266,7 @@ def macs_each(
     other, as those of `encrypt_each` do. KeyLength where there are no whole keys, or rows of another size; CountMismatch
     where the numbers of keys and messages differ, too."""
     name = _mac_of(kind, padding)
-    with _list_of(keys, kind.key_size, KeyLength, "keys") as (first, count), lent(messages) as (start, length):
+    with _list_of(keys, kind.key_size, KeyLength, "keys") as (first, count), _lent_bytes(messages) as (start, length):
         pairs = _messages_of(start or 0, length, lengths)
         if count != len(pairs) // 2:
             raise CountMismatch("the numbers of keys and messages differ")
@@ -265,10 +275,10 @@ def macs_each(
     return bytes(tags)
 
 
-def verify_tags(tags: ReadableBuffer, expected: ReadableBuffer) -> List[bool]:
-    """Of each tag of 8 bytes whether it is the one at its place in `expected`, the tags that `macs` or `macs_each` made.
-    Every byte is compared, wherever two tags differ. A wrong tag raises nothing, and the list is true in an `if`: take
-    `all`, and see that there are as many tags as you expect.
+def wrong_tags(tags: ReadableBuffer, expected: ReadableBuffer) -> List[int]:
+    """The places of the tags, of 8 bytes each, that are not the one at their place in `expected`, the tags that `macs` or
+    `macs_each` made: an empty list, which is false in an `if`, where all are right. Every byte is compared, wherever two
+    tags differ.
 
     CountMismatch where there are no whole tags, rows of another size, or the numbers of tags differ."""
     with _list_of(tags, TAG_SIZE, CountMismatch, "tags") as (start, count):
@@ -276,5 +286,5 @@ def verify_tags(tags: ReadableBuffer, expected: ReadableBuffer) -> List[bool]:
             if count != expected_count:
                 raise CountMismatch("the numbers of tags and expected tags differ")
             right = room(count)
-            _verify_tags(start, other, right, count)
-    return [answer != 0 for answer in right]
+            _compare_tags(start, other, right, count)
+    return [place for place, answer in enumerate(right) if not answer]

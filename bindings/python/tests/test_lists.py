@@ -147,29 +147,33 @@ class Messages(unittest.TestCase):
                 for padding in ("1", True, None if right else 1):
                     self.assertRaises(TypeError, call, kind, keys, padding, [1, 2], b"abc")
                 self.assertRaises(TypeError, call, TdesEde3, keys, right, [1, 2], b"abc")
+                for words in (array.array("H", b"ab"), (ctypes.c_uint64 * 1)()):
+                    with self.assertRaisesRegex(TypeError, "most significant byte first"):
+                        call(kind, keys, right, [1, memoryview(words).nbytes - 1], words)
             self.assertRaises(CountMismatch, cukvashe_des.macs_each, kind, key, right, [1, 2], b"abc")
 
 
 class Tags(unittest.TestCase):
-    def test_verified(self):
+    def test_compared(self):
         for count in COUNTS:
             expected, right = some(8 * count, 3), [place % 3 == 0 for place in range(count)]
             tags = bytearray(expected)
             for place in range(count):
                 if not right[place]:
                     tags[8 * place + place // 3 % 8] ^= 1 << place // 24 % 8
-            self.assertEqual(cukvashe_des.verify_tags(tags, expected), right)
-            self.assertEqual(cukvashe_des.verify_tags(expected, tags), right)
-            self.assertEqual(cukvashe_des.verify_tags(expected, expected), [True] * count)
+            wrong = [place for place in range(count) if not right[place]]
+            self.assertEqual(cukvashe_des.wrong_tags(tags, expected), wrong)
+            self.assertEqual(cukvashe_des.wrong_tags(expected, tags), wrong)
+            self.assertEqual(cukvashe_des.wrong_tags(expected, expected), [])
 
     def test_made(self):
         keys, lengths, text = PAIR * 3, (20, 0, 4), some(24)
         tags = cukvashe_des.macs_each(RetailMacDes, keys, 2, lengths, text)
-        self.assertEqual(cukvashe_des.verify_tags(tags[:16] + bytes(8), tags), [True, True, False])
+        self.assertEqual(cukvashe_des.wrong_tags(tags[:16] + bytes(8), tags), [2])
 
     def test_refused(self):
         for tags, expected in ((8, 0), (0, 8), (8, 16), (8, 7), (7, 8), (7, 7), (4, 4), (12, 12)):
-            self.assertRaises(CountMismatch, cukvashe_des.verify_tags, bytes(tags), bytes(expected))
+            self.assertRaises(CountMismatch, cukvashe_des.wrong_tags, bytes(tags), bytes(expected))
 
 
 def views_of_list(value, size):
@@ -229,7 +233,7 @@ class Kinds(unittest.TestCase):
         for call, at, _, given in self.each_place(wrong_rows):
             size = ELEMENTS[call, at]
             fault = VectorLength if "records" in call.__name__ and at == 1 else faults[size]
-            fault = CountMismatch if call is cukvashe_des.verify_tags else fault
+            fault = CountMismatch if call is cukvashe_des.wrong_tags else fault
             with self.assertRaisesRegex(fault, f"^rows of [0-9]+ bytes are not [a-z ]+ of {size}$"):
                 call(*given)
 

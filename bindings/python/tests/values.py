@@ -126,7 +126,7 @@ LISTS = [
     (cukvashe_des.macs, (CbcMacTdesEde2, PAIR, 2, (20, 4), MESSAGE)),
     (cukvashe_des.macs_each, (RetailMacDes, PAIR * 2, 2, (20, 4), MESSAGE)),
     (cukvashe_des.macs_each, (CmacTdesEde2, PAIR * 2, None, (20, 4), MESSAGE)),
-    (cukvashe_des.verify_tags, (MESSAGE, MESSAGE[:8] + bytes(8) + MESSAGE[16:])),
+    (cukvashe_des.wrong_tags, (MESSAGE, MESSAGE[:8] + bytes(8) + MESSAGE[16:])),
 ]
 
 # Where in those arguments a list of elements stands, and their size.
@@ -142,8 +142,8 @@ ELEMENTS = {
     (cukvashe_des.decrypt_cbc_records, 1): 8,
     (cukvashe_des.decrypt_cbc_records, 3): 8,
     (cukvashe_des.macs_each, 1): 16,
-    (cukvashe_des.verify_tags, 0): 8,
-    (cukvashe_des.verify_tags, 1): 8,
+    (cukvashe_des.wrong_tags, 0): 8,
+    (cukvashe_des.wrong_tags, 1): 8,
 }
 
 

@@ -387,7 +387,7 @@ extern "C" {
     pub fn cukvashe_cmac_tdes_ede3_macs(key: *const u8, messages: *const Message, tags: *mut u8, count: usize);
     pub fn cukvashe_cmac_tdes_ede3_macs_each(keys: *const u8, messages: *const Message, tags: *mut u8, count: usize);
 
-    pub fn cukvashe_verify_tags(tags: *const u8, expected: *const u8, right: *mut bool, count: usize);
+    pub fn cukvashe_compare_tags(tags: *const u8, expected: *const u8, right: *mut bool, count: usize);
 
     pub fn cukvashe_pad(
         buffer: *mut u8,

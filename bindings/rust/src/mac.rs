@@ -268,25 +268,25 @@ macs_each!(CmacTdesEde2 [], 16, cukvashe_cmac_tdes_ede2_macs_each);
 macs_each!(CmacTdesEde3 [], 24, cukvashe_cmac_tdes_ede3_macs_each);
 
 /// Writes of each tag whether it is the one at its place in `expected`, the tags that `macs` or `macs_each` made: every byte is
-/// compared, wherever two tags differ. `Ok` says only that the lists are as long: look at `right`.
+/// compared, wherever two tags differ. `Ok` says only that the lists have the same length: look at `right`.
 /// `CountsDiffer` where the lists differ in length; `right` then stays.
 ///
 /// ```
-/// use cukvashe_des::mac::{verify_tags, CmacTdesEde3};
+/// use cukvashe_des::mac::{compare_tags, CmacTdesEde3};
 ///
 /// let messages: [&[u8]; 2] = [b"Now is the time ", b"for it"];
 /// let mut expected = [[0; 8]; 2];
 /// CmacTdesEde3::macs(&[7; 24], &messages, &mut expected)?;
 /// let mut right = [false; 2];
-/// verify_tags(&[expected[0], [0; 8]], &expected, &mut right)?;
+/// compare_tags(&[expected[0], [0; 8]], &expected, &mut right)?;
 /// assert_eq!(right, [true, false]);
 /// # Ok::<(), cukvashe_des::CountsDiffer>(())
 /// ```
-pub fn verify_tags(tags: &[[u8; 8]], expected: &[[u8; 8]], right: &mut [bool]) -> Result<(), CountsDiffer> {
+pub fn compare_tags(tags: &[[u8; 8]], expected: &[[u8; 8]], right: &mut [bool]) -> Result<(), CountsDiffer> {
     let count = count_of_both(tags, expected)?;
     count_of_both(tags, right)?;
     let (tags, expected) = (tags.as_flattened().as_ptr(), expected.as_flattened().as_ptr());
     // SAFETY: the pointers are of references to as many elements as the count says, and only `right` is written.
-    unsafe { ffi::cukvashe_verify_tags(tags, expected, right.as_mut_ptr(), count) };
+    unsafe { ffi::cukvashe_compare_tags(tags, expected, right.as_mut_ptr(), count) };
     Ok(())
 }

@@ -38,8 +38,8 @@ fn is_key_length(count: usize, size: u8) -> bool
 }
 
 /// The bytes of a key that hexadecimal digits write: of `size` bytes, 8, 16 or 24, or for 0 of one
-/// of these. The fault is `KeyLength` where there are not as many digits, `KeyText` where a character
-/// is none, and else `Memory`.
+/// of these. The fault is `KeyLength` where the number of digits is another, `KeyText` where a
+/// character is none, and else `Memory`.
 pub fn key_of_digits(alloc: Global, digits: &[u8], size: u8) -> Result<Vec<u8>, Kind>
     requires { (size ≡ 0) ⊎ IsKeySize size }
     ensures fault { FailsBy (key_fault size digits.now) result }

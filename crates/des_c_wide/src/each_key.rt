@@ -11,7 +11,7 @@ use des_fast::{Des, TdesEde2, TdesEde3};
 use std::simd::prelude::*;
 
 /// Encrypts each block in place by `Des` under the key at its place. The status is `ERR_COUNTS`
-/// where there are not as many keys as blocks; the blocks then stay.
+/// where the numbers of keys and blocks differ; the blocks then stay.
 #[unsafe(no_mangle)]
 pub extern "C" fn cukvashe_wide_des_encrypt_each(keys: &[[u8; 8]], blocks: &mut [[u8; 8]]) -> i32
     ensures accepted { (result ≡ OK) ↔ (length keys.now ≡ length blocks.old) }
@@ -23,7 +23,7 @@ pub extern "C" fn cukvashe_wide_des_encrypt_each(keys: &[[u8; 8]], blocks: &mut 
 }
 
 /// Decrypts each block in place by `Des` under the key at its place. The status is `ERR_COUNTS`
-/// where there are not as many keys as blocks; the blocks then stay.
+/// where the numbers of keys and blocks differ; the blocks then stay.
 #[unsafe(no_mangle)]
 pub extern "C" fn cukvashe_wide_des_decrypt_each(keys: &[[u8; 8]], blocks: &mut [[u8; 8]]) -> i32
     ensures accepted { (result ≡ OK) ↔ (length keys.now ≡ length blocks.old) }
@@ -34,8 +34,8 @@ pub extern "C" fn cukvashe_wide_des_decrypt_each(keys: &[[u8; 8]], blocks: &mut 
     decrypt_each::<u64x4, Des>(keys, blocks)
 }
 
-/// Encrypts each block in place by `TdesEde2` under the key at its place. The status is `ERR_COUNTS`
-/// where there are not as many keys as blocks; the blocks then stay.
+/// Encrypts each block in place by `TdesEde2` under the key at its place. The status is
+/// `ERR_COUNTS` where the numbers of keys and blocks differ; the blocks then stay.
 #[unsafe(no_mangle)]
 pub extern "C" fn cukvashe_wide_tdes_ede2_encrypt_each(
     keys: &[[u8; 16]],
@@ -49,8 +49,8 @@ pub extern "C" fn cukvashe_wide_tdes_ede2_encrypt_each(
     encrypt_each::<u64x4, TdesEde2>(keys, blocks)
 }
 
-/// Decrypts each block in place by `TdesEde2` under the key at its place. The status is `ERR_COUNTS`
-/// where there are not as many keys as blocks; the blocks then stay.
+/// Decrypts each block in place by `TdesEde2` under the key at its place. The status is
+/// `ERR_COUNTS` where the numbers of keys and blocks differ; the blocks then stay.
 #[unsafe(no_mangle)]
 pub extern "C" fn cukvashe_wide_tdes_ede2_decrypt_each(
     keys: &[[u8; 16]],
@@ -64,8 +64,8 @@ pub extern "C" fn cukvashe_wide_tdes_ede2_decrypt_each(
     decrypt_each::<u64x4, TdesEde2>(keys, blocks)
 }
 
-/// Encrypts each block in place by `TdesEde3` under the key at its place. The status is `ERR_COUNTS`
-/// where there are not as many keys as blocks; the blocks then stay.
+/// Encrypts each block in place by `TdesEde3` under the key at its place. The status is
+/// `ERR_COUNTS` where the numbers of keys and blocks differ; the blocks then stay.
 #[unsafe(no_mangle)]
 pub extern "C" fn cukvashe_wide_tdes_ede3_encrypt_each(
     keys: &[[u8; 24]],
@@ -79,8 +79,8 @@ pub extern "C" fn cukvashe_wide_tdes_ede3_encrypt_each(
     encrypt_each::<u64x4, TdesEde3>(keys, blocks)
 }
 
-/// Decrypts each block in place by `TdesEde3` under the key at its place. The status is `ERR_COUNTS`
-/// where there are not as many keys as blocks; the blocks then stay.
+/// Decrypts each block in place by `TdesEde3` under the key at its place. The status is
+/// `ERR_COUNTS` where the numbers of keys and blocks differ; the blocks then stay.
 #[unsafe(no_mangle)]
 pub extern "C" fn cukvashe_wide_tdes_ede3_decrypt_each(
     keys: &[[u8; 24]],

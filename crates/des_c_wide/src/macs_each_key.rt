@@ -16,9 +16,9 @@ use des_context::status::{ERR_COUNTS, OK};
 use des_fast::{Des, TdesEde2, TdesEde3};
 use std::simd::prelude::*;
 
-/// Writes the tag of CBC-MAC over DES, of each message at its
-/// place, under the key there, with padding method 1 or 2. The status of another padding is
-/// `ERR_PADDING_METHOD`, that of lists that are not as many `ERR_COUNTS`; the tags then stay.
+/// Writes the tag of CBC-MAC over DES, of each message at its place, under the key there, with
+/// padding method 1 or 2. The status of another padding is `ERR_PADDING_METHOD`, that of lists of
+/// different lengths `ERR_COUNTS`; the tags then stay.
 #[unsafe(no_mangle)]
 pub extern "C" fn cukvashe_wide_cbc_mac_des_macs_each(
     keys: &[[u8; 8]],
@@ -35,9 +35,9 @@ pub extern "C" fn cukvashe_wide_cbc_mac_des_macs_each(
     cbc_macs_each::<u64x4, Des>(keys, padding, messages, tags)
 }
 
-/// Writes the tag of CBC-MAC over triple DES, EDE with two keys, of each message at its
-/// place, under the key there, with padding method 1 or 2. The status of another padding is
-/// `ERR_PADDING_METHOD`, that of lists that are not as many `ERR_COUNTS`; the tags then stay.
+/// Writes the tag of CBC-MAC over triple DES, EDE with two keys, of each message at its place,
+/// under the key there, with padding method 1 or 2. The status of another padding is
+/// `ERR_PADDING_METHOD`, that of lists of different lengths `ERR_COUNTS`; the tags then stay.
 #[unsafe(no_mangle)]
 pub extern "C" fn cukvashe_wide_cbc_mac_tdes_ede2_macs_each(
     keys: &[[u8; 16]],
@@ -54,9 +54,9 @@ pub extern "C" fn cukvashe_wide_cbc_mac_tdes_ede2_macs_each(
     cbc_macs_each::<u64x4, TdesEde2>(keys, padding, messages, tags)
 }
 
-/// Writes the tag of CBC-MAC over triple DES, EDE with three keys, of each message at its
-/// place, under the key there, with padding method 1 or 2. The status of another padding is
-/// `ERR_PADDING_METHOD`, that of lists that are not as many `ERR_COUNTS`; the tags then stay.
+/// Writes the tag of CBC-MAC over triple DES, EDE with three keys, of each message at its place,
+/// under the key there, with padding method 1 or 2. The status of another padding is
+/// `ERR_PADDING_METHOD`, that of lists of different lengths `ERR_COUNTS`; the tags then stay.
 #[unsafe(no_mangle)]
 pub extern "C" fn cukvashe_wide_cbc_mac_tdes_ede3_macs_each(
     keys: &[[u8; 24]],
@@ -75,7 +75,7 @@ pub extern "C" fn cukvashe_wide_cbc_mac_tdes_ede3_macs_each(
 
 /// Writes the tag of the retail MAC over DES, of each message at its place, under the two keys that
 /// are the halves of the key there, with padding method 1 or 2. The status of another padding is
-/// `ERR_PADDING_METHOD`, that of lists that are not as many `ERR_COUNTS`; the tags then stay.
+/// `ERR_PADDING_METHOD`, that of lists of different lengths `ERR_COUNTS`; the tags then stay.
 #[unsafe(no_mangle)]
 pub extern "C" fn cukvashe_wide_retail_mac_des_macs_each(
     keys: &[[u8; 16]],
@@ -93,9 +93,8 @@ pub extern "C" fn cukvashe_wide_retail_mac_des_macs_each(
     retail_macs_each::<u64x4>(keys, padding, messages, tags)
 }
 
-/// Writes the tag of CMAC over triple DES, EDE with two keys, of each message at its place,
-/// under the key there. The status of lists that are not as many is `ERR_COUNTS`; the tags then
-/// stay.
+/// Writes the tag of CMAC over triple DES, EDE with two keys, of each message at its place, under
+/// the key there. The status of lists of different lengths is `ERR_COUNTS`; the tags then stay.
 #[unsafe(no_mangle)]
 pub extern "C" fn cukvashe_wide_cmac_tdes_ede2_macs_each(
     keys: &[[u8; 16]],
@@ -113,9 +112,8 @@ pub extern "C" fn cukvashe_wide_cmac_tdes_ede2_macs_each(
     cmacs_each::<u64x4, TdesEde2>(keys, messages, tags)
 }
 
-/// Writes the tag of CMAC over triple DES, EDE with three keys, of each message at its place,
-/// under the key there. The status of lists that are not as many is `ERR_COUNTS`; the tags then
-/// stay.
+/// Writes the tag of CMAC over triple DES, EDE with three keys, of each message at its place, under
+/// the key there. The status of lists of different lengths is `ERR_COUNTS`; the tags then stay.
 #[unsafe(no_mangle)]
 pub extern "C" fn cukvashe_wide_cmac_tdes_ede3_macs_each(
     keys: &[[u8; 24]],

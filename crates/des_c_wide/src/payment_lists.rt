@@ -10,8 +10,8 @@ use des_context::status::{ERR_COUNTS, OK};
 use des_fast::{Des, TdesEde2, TdesEde3};
 use std::simd::prelude::*;
 
-/// The check value of each key at its place, under `Des`. The status is `ERR_COUNTS` where there
-/// are not as many keys as values; the values then stay.
+/// The check value of each key at its place, under `Des`. The status is `ERR_COUNTS` where the
+/// numbers of keys and values differ; the values then stay.
 #[unsafe(no_mangle)]
 pub extern "C" fn cukvashe_wide_des_check_values(keys: &[[u8; 8]], values: &mut [[u8; 3]]) -> i32
     ensures accepted { (result ≡ OK) ↔ (length keys.now ≡ length values.old) }
@@ -23,8 +23,8 @@ pub extern "C" fn cukvashe_wide_des_check_values(keys: &[[u8; 8]], values: &mut 
     check_values::<u64x4, Des>(keys, values)
 }
 
-/// The check value of each key at its place, under `TdesEde3`. The status is `ERR_COUNTS` where there
-/// are not as many keys as values; the values then stay.
+/// The check value of each key at its place, under `TdesEde3`. The status is `ERR_COUNTS` where the
+/// numbers of keys and values differ; the values then stay.
 #[unsafe(no_mangle)]
 pub extern "C" fn cukvashe_wide_tdes_ede3_check_values(
     keys: &[[u8; 24]],
@@ -39,8 +39,8 @@ pub extern "C" fn cukvashe_wide_tdes_ede3_check_values(
     check_values::<u64x4, TdesEde3>(keys, values)
 }
 
-/// The check value of each key at its place, under `TdesEde2`. The status is `ERR_COUNTS` where there
-/// are not as many keys as values; the values then stay.
+/// The check value of each key at its place, under `TdesEde2`. The status is `ERR_COUNTS` where the
+/// numbers of keys and values differ; the values then stay.
 #[unsafe(no_mangle)]
 pub extern "C" fn cukvashe_wide_tdes_ede2_check_values(
     keys: &[[u8; 16]],
@@ -56,7 +56,7 @@ pub extern "C" fn cukvashe_wide_tdes_ede2_check_values(
 }
 
 /// The key of the transaction of each key serial number at its place, from the base derivation key.
-/// The status is `ERR_COUNTS` where there are not as many serial numbers as keys; the keys then
+/// The status is `ERR_COUNTS` where the numbers of serial numbers and keys differ; the keys then
 /// stay.
 #[unsafe(no_mangle)]
 pub extern "C" fn cukvashe_wide_dukpt_transaction_keys(

@@ -7,8 +7,8 @@ ghost use Rattle.std.specs.Simd.Lanes.{zip2};
 use crate::status::{ERR_COUNTS, OK};
 use des_fast::many::{KeyForEach, Slice};
 
-/// Encrypts each block in place under the key at its place. The status is `ERR_COUNTS` where there
-/// are not as many keys as blocks; the blocks then stay as they were.
+/// Encrypts each block in place under the key at its place. The status is `ERR_COUNTS` where the
+/// numbers of keys and blocks differ; the blocks then stay as they were.
 pub fn encrypt_each<S: Slice, C: KeyForEach>(keys: &[C::Key], blocks: &mut [[u8; 8]]) -> i32
     ensures accepted { (result ≡ OK) ↔ (length keys.now ≡ length blocks.old) }
     ensures refused { (result ≡ ERR_COUNTS) ↔ (length keys.now ≢ length blocks.old) }

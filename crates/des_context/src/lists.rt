@@ -13,7 +13,7 @@ use des::cipher::{Relating, are_blocks};
 use des_fast::many::{ManyBlocks, Slice};
 use des_fast::quiet::SideBySide;
 
-/// Encrypts each block. A quiet list meets no table.
+/// Encrypts each block. A quiet list reads no table at a secret index: tested, not proved.
 pub fn encrypt<S: Slice, C: Relating + ManyBlocks>(cipher: &C, quiet: bool, blocks: &mut [[u8; 8]])
     ensures blocks { All IsBlock blocks.new }
     ensures answered { (key : List ℕ) → C.is_made_from cipher.now key
@@ -24,7 +24,7 @@ pub fn encrypt<S: Slice, C: Relating + ManyBlocks>(cipher: &C, quiet: bool, bloc
     are_blocks(blocks);
 }
 
-/// Decrypts each block. A quiet list meets no table.
+/// Decrypts each block. A quiet list reads no table at a secret index: tested, not proved.
 pub fn decrypt<S: Slice, C: Relating + ManyBlocks>(cipher: &C, quiet: bool, blocks: &mut [[u8; 8]])
     ensures blocks { All IsBlock blocks.new }
     ensures answered { (key : List ℕ) → C.is_made_from cipher.now key
@@ -71,7 +71,7 @@ pub fn encrypt_cbc<C: Relating>(cipher: &C, vector: &mut [u8; 8], blocks: &mut [
 }
 
 /// Decrypts a list that CBC chained from the vector, which becomes the one that the chain goes on
-/// with. A quiet list meets no table.
+/// with. A quiet list reads no table at a secret index: tested, not proved.
 pub fn decrypt_cbc<S: Slice, C: Relating + ManyBlocks>(
     cipher: &C,
     quiet: bool,

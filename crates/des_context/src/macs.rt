@@ -38,7 +38,7 @@ fn cbc_macs_by<S: Slice, C: KeyForEach + Drop>(
 }
 
 /// Writes the tag of CBC-MAC of each message at its place, with padding method 1 or 2. The status
-/// of another padding is `ERR_PADDING_METHOD`, that of messages and tags that are not as many
+/// of another padding is `ERR_PADDING_METHOD`, that of messages and tags of different numbers
 /// `ERR_COUNTS`; the tags then stay as they were.
 pub fn cbc_macs<S: Slice, C: KeyForEach + Drop>(
     key: &C::Key,
@@ -256,8 +256,8 @@ pub fn retail_macs_each<S: Slice>(
     OK
 }
 
-/// Writes the tag of CMAC of each message at its place. The status is `ERR_COUNTS` where there are
-/// not as many tags as messages; the tags then stay as they were.
+/// Writes the tag of CMAC of each message at its place. The status is `ERR_COUNTS` where the
+/// numbers of messages and tags differ; the tags then stay as they were.
 pub fn cmacs<S: Slice, C: KeyForEach + Drop>(
     key: &C::Key,
     messages: &[&[u8]],

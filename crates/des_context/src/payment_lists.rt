@@ -8,8 +8,8 @@ use des_fast::many::{KeyForEach, Slice};
 use des_payment::check_value_lists::check_values_by;
 use des_payment::transaction_lists::transaction_keys_by;
 
-/// The check value of each key at its place. The status is `ERR_COUNTS` where there are not as many
-/// keys as values; the values then stay as they were.
+/// The check value of each key at its place. The status is `ERR_COUNTS` where the numbers of keys
+/// and values differ; the values then stay as they were.
 pub fn check_values<S: Slice, C: KeyForEach>(keys: &[C::Key], values: &mut [[u8; 3]]) -> i32
     ensures accepted { (result ≡ OK) ↔ (length keys.now ≡ length values.old) }
     ensures refused { (result ≡ ERR_COUNTS) ↔ (length keys.now ≢ length values.old) }
@@ -24,7 +24,7 @@ pub fn check_values<S: Slice, C: KeyForEach>(keys: &[C::Key], values: &mut [[u8;
 }
 
 /// The key of the transaction of each key serial number at its place, from the base derivation key.
-/// The status is `ERR_COUNTS` where there are not as many serial numbers as keys; the keys then
+/// The status is `ERR_COUNTS` where the numbers of serial numbers and keys differ; the keys then
 /// stay as they were.
 pub fn transaction_keys<S: Slice>(
     base: &[u8; 16],

@@ -60,8 +60,8 @@ fn unchain<S: Slice, C: Relating + SpreadOnce>(
 
 /// Encrypts records in place by CBC, in step: `sizes[k]` blocks are record k, one record after
 /// another in `blocks`, and `vectors[k]`, from which it is chained, becomes its last ciphertext
-/// block. The status is `ERR_COUNTS` where vectors and sizes are not as many, or the sizes do not
-/// sum up to the number of blocks; vectors and blocks then stay as they were.
+/// block. The status is `ERR_COUNTS` where the numbers of vectors and sizes differ, or the sizes do
+/// not add up to the number of blocks; vectors and blocks then stay as they were.
 pub fn encrypt_cbc_records<S: Slice, K: Context>(
     context: &K,
     vectors: &mut [[u8; 8]],

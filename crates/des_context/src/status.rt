@@ -58,5 +58,5 @@ pub const ERR_PADDING: i32 = 17;
 /// There is no room for the padding.
 pub const ERR_CAPACITY: i32 = 18;
 
-/// Lists that belong together are not as many, or sizes do not sum up to what is there.
+/// Lists that belong together differ in length, or sizes do not add up to what is there.
 pub const ERR_COUNTS: i32 = 19;

@@ -84,7 +84,7 @@ fn unchain_batches<S: Slice, C: ManyBlocks>(cipher: &C, iv: &[u8; 8], blocks: &m
     }
 }
 
-/// Encrypts each block. A quiet list meets no table.
+/// Encrypts each block. A quiet list reads no table at a secret index: tested, not proved.
 pub fn encrypt<S: Slice, C: ManyBlocks>(cipher: &C, quiet: bool, blocks: &mut [[u8; 8]])
     ensures blocks { All IsBlock blocks.old }
     ensures encrypted { blocks.new ≡ map (C.encrypted cipher.now) blocks.old }
@@ -95,7 +95,7 @@ pub fn encrypt<S: Slice, C: ManyBlocks>(cipher: &C, quiet: bool, blocks: &mut [[
     cipher.encrypt_blocks(singles);
 }
 
-/// Decrypts each block. A quiet list meets no table.
+/// Decrypts each block. A quiet list reads no table at a secret index: tested, not proved.
 pub fn decrypt<S: Slice, C: ManyBlocks>(cipher: &C, quiet: bool, blocks: &mut [[u8; 8]])
     ensures blocks { All IsBlock blocks.old }
     ensures decrypted { blocks.new ≡ map (C.decrypted cipher.now) blocks.old }
@@ -106,7 +106,8 @@ pub fn decrypt<S: Slice, C: ManyBlocks>(cipher: &C, quiet: bool, blocks: &mut [[
     cipher.decrypt_blocks(singles);
 }
 
-/// Decrypts a list that CBC chained from the vector. A quiet list meets no table.
+/// Decrypts a list that CBC chained from the vector. A quiet list reads no table at a secret index:
+/// tested, not proved.
 pub fn unchain<S: Slice, C: ManyBlocks>(
     cipher: &C,
     quiet: bool,

@@ -150,8 +150,8 @@ impl<P: Padding> BlockLists for PaddedMessages<'_, P> {
 }
 
 /// The tags of CBC-MAC of many messages under one key, `S::BATCH` at a time: as `CbcMac::mac` makes
-/// each. Where messages and tags are not as many, the answer is `NotEqualError`, and the tags stay
-/// as they were.
+/// each. Where the numbers of messages and tags differ, the answer is `NotEqualError`, and the tags
+/// stay as they were.
 pub fn cbc_macs_by<S: Slice, C: KeyForEach + Drop, P: Padding>(
     key: &C::Key,
     messages: &[&[u8]],
@@ -173,8 +173,8 @@ pub fn cbc_macs_by<S: Slice, C: KeyForEach + Drop, P: Padding>(
     C::chain_ends_by::<S, PaddedMessages<P>>(key, tags, &lists)
 }
 
-/// The same, each message under the key at its place. Where keys, messages and tags are not as
-/// many, the answer is `NotEqualError`, and the tags stay as they were.
+/// The same, each message under the key at its place. Where the numbers of keys, messages and tags
+/// differ, the answer is `NotEqualError`, and the tags stay as they were.
 pub fn cbc_macs_each_by<S: Slice, C: KeyForEach + Drop, P: Padding>(
     keys: &[C::Key],
     messages: &[&[u8]],
@@ -198,7 +198,7 @@ pub fn cbc_macs_each_by<S: Slice, C: KeyForEach + Drop, P: Padding>(
 }
 
 /// The tags of the retail MAC of many messages under two keys, `S::BATCH` at a time: as
-/// `RetailMac::mac` makes each. Where messages and tags are not as many, the answer is
+/// `RetailMac::mac` makes each. Where the numbers of messages and tags differ, the answer is
 /// `NotEqualError`, and the tags stay as they were.
 pub fn retail_macs_by<S: Slice, C: KeyForEach + ManyBlocks + Drop, P: Padding>(
     first: &C::Key,
@@ -219,7 +219,7 @@ pub fn retail_macs_by<S: Slice, C: KeyForEach + ManyBlocks + Drop, P: Padding>(
 }
 
 /// The tags of the retail MAC of many messages, each under the two keys at its place, `S::BATCH` at
-/// a time: as `RetailMac::mac` makes each. Where keys, messages and tags are not as many, the
+/// a time: as `RetailMac::mac` makes each. Where the numbers of keys, messages and tags differ, the
 /// answer is `NotEqualError`, and the tags stay as they were.
 pub fn retail_macs_each_by<S: Slice, C: KeyForEach + Drop, P: Padding>(
     first: &[C::Key],

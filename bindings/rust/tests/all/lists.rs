@@ -2,7 +2,7 @@
 
 use crate::common::{COUNTS, KEY, TEXT};
 use cukvashe_des::mac::{
-    verify_tags, CbcMacDes, CbcMacTdesEde2, CbcMacTdesEde3, CmacTdesEde2, CmacTdesEde3, Mac, Method1, Method2,
+    compare_tags, CbcMacDes, CbcMacTdesEde2, CbcMacTdesEde3, CmacTdesEde2, CmacTdesEde3, Mac, Method1, Method2,
     RetailMacDes,
 };
 use cukvashe_des::payment::{initial_key, transaction_key, transaction_keys, CheckValue};
@@ -170,11 +170,11 @@ fn lists_of_tags_are_verified() {
         }
         for initial in [false, true] {
             let mut right = vec![initial; count];
-            assert_eq!(verify_tags(&tags, &expected, &mut right), Ok(()));
+            assert_eq!(compare_tags(&tags, &expected, &mut right), Ok(()));
             assert_eq!(right, wanted);
             let mut more = vec![initial; count + 1];
-            assert_eq!(verify_tags(&tags, &expected, &mut more), Err(CountsDiffer));
-            assert_eq!(verify_tags(&tags, &some::<8>(count + 1, 3), &mut right), Err(CountsDiffer));
+            assert_eq!(compare_tags(&tags, &expected, &mut more), Err(CountsDiffer));
+            assert_eq!(compare_tags(&tags, &some::<8>(count + 1, 3), &mut right), Err(CountsDiffer));
             assert_eq!((more, right), (vec![initial; count + 1], wanted.clone()));
         }
     }

@@ -15,8 +15,8 @@ use std::simd::prelude::*;
 
 /// Encrypts records in place by CBC with `Des`: `sizes[k]` blocks are record k, one after another,
 /// and `vectors[k]`, from which it is chained, becomes its last ciphertext block. The status is
-/// `ERR_COUNTS` where vectors and sizes are not as many, or the sizes do not sum up to the number of
-/// blocks; vectors and blocks then stay.
+/// `ERR_COUNTS` where the numbers of vectors and sizes differ, or the sizes do not add up to the
+/// number of blocks; vectors and blocks then stay.
 #[unsafe(no_mangle)]
 pub extern "C" fn cukvashe_narrow_des_encrypt_cbc_records(
     context: &DesContext,
@@ -58,10 +58,10 @@ pub extern "C" fn cukvashe_narrow_des_decrypt_cbc_records(
     decrypt_cbc_records::<u64x2, _>(context, vectors, sizes, blocks)
 }
 
-/// Encrypts records in place by CBC with `TdesEde2`: `sizes[k]` blocks are record k, one after another,
-/// and `vectors[k]`, from which it is chained, becomes its last ciphertext block. The status is
-/// `ERR_COUNTS` where vectors and sizes are not as many, or the sizes do not sum up to the number of
-/// blocks; vectors and blocks then stay.
+/// Encrypts records in place by CBC with `TdesEde2`: `sizes[k]` blocks are record k, one after
+/// another, and `vectors[k]`, from which it is chained, becomes its last ciphertext block. The
+/// status is `ERR_COUNTS` where the numbers of vectors and sizes differ, or the sizes do not add up
+/// to the number of blocks; vectors and blocks then stay.
 #[unsafe(no_mangle)]
 pub extern "C" fn cukvashe_narrow_tdes_ede2_encrypt_cbc_records(
     context: &TdesEde2Context,
@@ -103,10 +103,10 @@ pub extern "C" fn cukvashe_narrow_tdes_ede2_decrypt_cbc_records(
     decrypt_cbc_records::<u64x2, _>(context, vectors, sizes, blocks)
 }
 
-/// Encrypts records in place by CBC with `TdesEde3`: `sizes[k]` blocks are record k, one after another,
-/// and `vectors[k]`, from which it is chained, becomes its last ciphertext block. The status is
-/// `ERR_COUNTS` where vectors and sizes are not as many, or the sizes do not sum up to the number of
-/// blocks; vectors and blocks then stay.
+/// Encrypts records in place by CBC with `TdesEde3`: `sizes[k]` blocks are record k, one after
+/// another, and `vectors[k]`, from which it is chained, becomes its last ciphertext block. The
+/// status is `ERR_COUNTS` where the numbers of vectors and sizes differ, or the sizes do not add up
+/// to the number of blocks; vectors and blocks then stay.
 #[unsafe(no_mangle)]
 pub extern "C" fn cukvashe_narrow_tdes_ede3_encrypt_cbc_records(
     context: &TdesEde3Context,

@@ -15,9 +15,9 @@ use des_context::status::{ERR_COUNTS, OK};
 use des_fast::{Des, TdesEde2, TdesEde3};
 use std::simd::prelude::*;
 
-/// Writes the tag of CBC-MAC over DES, of each message at its
-/// place, with padding method 1 or 2. The status of another padding is `ERR_PADDING_METHOD`, that
-/// of messages and tags that are not as many `ERR_COUNTS`; the tags then stay.
+/// Writes the tag of CBC-MAC over DES, of each message at its place, with padding method 1 or 2.
+/// The status of another padding is `ERR_PADDING_METHOD`, that of messages and tags of different
+/// numbers `ERR_COUNTS`; the tags then stay.
 #[unsafe(no_mangle)]
 pub extern "C" fn cukvashe_narrow_cbc_mac_des_macs(
     key: &[u8; 8],
@@ -33,9 +33,9 @@ pub extern "C" fn cukvashe_narrow_cbc_mac_des_macs(
     cbc_macs::<u64x2, Des>(key, padding, messages, tags)
 }
 
-/// Writes the tag of CBC-MAC over triple DES, EDE with two keys, of each message at its
-/// place, with padding method 1 or 2. The status of another padding is `ERR_PADDING_METHOD`, that
-/// of messages and tags that are not as many `ERR_COUNTS`; the tags then stay.
+/// Writes the tag of CBC-MAC over triple DES, EDE with two keys, of each message at its place, with
+/// padding method 1 or 2. The status of another padding is `ERR_PADDING_METHOD`, that of messages
+/// and tags of different numbers `ERR_COUNTS`; the tags then stay.
 #[unsafe(no_mangle)]
 pub extern "C" fn cukvashe_narrow_cbc_mac_tdes_ede2_macs(
     key: &[u8; 16],
@@ -51,9 +51,9 @@ pub extern "C" fn cukvashe_narrow_cbc_mac_tdes_ede2_macs(
     cbc_macs::<u64x2, TdesEde2>(key, padding, messages, tags)
 }
 
-/// Writes the tag of CBC-MAC over triple DES, EDE with three keys, of each message at its
-/// place, with padding method 1 or 2. The status of another padding is `ERR_PADDING_METHOD`, that
-/// of messages and tags that are not as many `ERR_COUNTS`; the tags then stay.
+/// Writes the tag of CBC-MAC over triple DES, EDE with three keys, of each message at its place,
+/// with padding method 1 or 2. The status of another padding is `ERR_PADDING_METHOD`, that of
+/// messages and tags of different numbers `ERR_COUNTS`; the tags then stay.
 #[unsafe(no_mangle)]
 pub extern "C" fn cukvashe_narrow_cbc_mac_tdes_ede3_macs(
     key: &[u8; 24],
@@ -71,7 +71,7 @@ pub extern "C" fn cukvashe_narrow_cbc_mac_tdes_ede3_macs(
 
 /// Writes the tag of the retail MAC over DES, of each message at its place, under the two keys that
 /// are the halves of the key, with padding method 1 or 2. The status of another padding is
-/// `ERR_PADDING_METHOD`, that of messages and tags that are not as many `ERR_COUNTS`; the tags then
+/// `ERR_PADDING_METHOD`, that of messages and tags of different numbers `ERR_COUNTS`; the tags then
 /// stay.
 #[unsafe(no_mangle)]
 pub extern "C" fn cukvashe_narrow_retail_mac_des_macs(
@@ -88,8 +88,8 @@ pub extern "C" fn cukvashe_narrow_retail_mac_des_macs(
     retail_macs::<u64x2>(key, padding, messages, tags)
 }
 
-/// Writes the tag of CMAC over triple DES, EDE with two keys, of each message at its place.
-/// The status of messages and tags that are not as many is `ERR_COUNTS`; the tags then stay.
+/// Writes the tag of CMAC over triple DES, EDE with two keys, of each message at its place. The
+/// status of messages and tags of different numbers is `ERR_COUNTS`; the tags then stay.
 #[unsafe(no_mangle)]
 pub extern "C" fn cukvashe_narrow_cmac_tdes_ede2_macs(
     key: &[u8; 16],
@@ -105,8 +105,8 @@ pub extern "C" fn cukvashe_narrow_cmac_tdes_ede2_macs(
     cmacs::<u64x2, TdesEde2>(key, messages, tags)
 }
 
-/// Writes the tag of CMAC over triple DES, EDE with three keys, of each message at its place.
-/// The status of messages and tags that are not as many is `ERR_COUNTS`; the tags then stay.
+/// Writes the tag of CMAC over triple DES, EDE with three keys, of each message at its place. The
+/// status of messages and tags of different numbers is `ERR_COUNTS`; the tags then stay.
 #[unsafe(no_mangle)]
 pub extern "C" fn cukvashe_narrow_cmac_tdes_ede3_macs(
     key: &[u8; 24],

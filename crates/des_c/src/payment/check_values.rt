@@ -66,8 +66,8 @@ pub extern "C" fn cukvashe_tdes_ede2_check_value(key: &[u8], value: &mut [u8; 3]
     check_value::<quiet::TdesEde2>(key, value)
 }
 
-/// The check value of each key at its place, under `Des`. The status is `ERR_COUNTS` where there
-/// are not as many keys as values; the values then stay.
+/// The check value of each key at its place, under `Des`. The status is `ERR_COUNTS` where the
+/// numbers of keys and values differ; the values then stay.
 #[unsafe(no_mangle)]
 pub extern "C" fn cukvashe_narrow_des_check_values(keys: &[[u8; 8]], values: &mut [[u8; 3]]) -> i32
     ensures accepted { (result ≡ OK) ↔ (length keys.now ≡ length values.old) }
@@ -79,8 +79,8 @@ pub extern "C" fn cukvashe_narrow_des_check_values(keys: &[[u8; 8]], values: &mu
     check_values::<u64x2, Des>(keys, values)
 }
 
-/// The check value of each key at its place, under `TdesEde3`. The status is `ERR_COUNTS` where there
-/// are not as many keys as values; the values then stay.
+/// The check value of each key at its place, under `TdesEde3`. The status is `ERR_COUNTS` where the
+/// numbers of keys and values differ; the values then stay.
 #[unsafe(no_mangle)]
 pub extern "C" fn cukvashe_narrow_tdes_ede3_check_values(
     keys: &[[u8; 24]],
@@ -95,8 +95,8 @@ pub extern "C" fn cukvashe_narrow_tdes_ede3_check_values(
     check_values::<u64x2, TdesEde3>(keys, values)
 }
 
-/// The check value of each key at its place, under `TdesEde2`. The status is `ERR_COUNTS` where there
-/// are not as many keys as values; the values then stay.
+/// The check value of each key at its place, under `TdesEde2`. The status is `ERR_COUNTS` where the
+/// numbers of keys and values differ; the values then stay.
 #[unsafe(no_mangle)]
 pub extern "C" fn cukvashe_narrow_tdes_ede2_check_values(
     keys: &[[u8; 16]],

@@ -32,7 +32,7 @@ pub extern "C" fn cukvashe_dukpt_transaction_key(
 }
 
 /// The key of the transaction of each key serial number at its place, from the base derivation key.
-/// The status is `ERR_COUNTS` where there are not as many serial numbers as keys; the keys then
+/// The status is `ERR_COUNTS` where the numbers of serial numbers and keys differ; the keys then
 /// stay.
 #[unsafe(no_mangle)]
 pub extern "C" fn cukvashe_narrow_dukpt_transaction_keys(

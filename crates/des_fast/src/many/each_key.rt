@@ -82,8 +82,8 @@ pub trait KeyForEach: KeyedCipher {
     }
 
     /// Makes each block the end of the chain from it through the list at its place, all under one
-    /// key, as `chain_ends_each_by` under many. Where blocks and lists are not as many, the answer
-    /// is `NotEqualError`, and the blocks stay as they were.
+    /// key, as `chain_ends_each_by` under many. Where the numbers of blocks and lists differ, the
+    /// answer is `NotEqualError`, and the blocks stay as they were.
     final fn chain_ends_by<S: Slice, L: BlockLists>(
         key: &Self::Key,
         chains: &mut [[u8; 8]],
@@ -106,8 +106,8 @@ pub trait KeyForEach: KeyedCipher {
     /// Makes each block the end of the chain from it through the list at its place, under the key
     /// at its place: H(j + 1) = E(D(j + 1) ^ H(j)), with H(0) the block and D(j + 1) the block of
     /// the list at j. From blocks of zeros it makes the chains of CBC-MAC. The lists of a batch go
-    /// in step, so that a batch takes the time of its longest list. Where keys, blocks and lists
-    /// are not as many, the answer is `NotEqualError`, and the blocks stay as they were.
+    /// in step, so that a batch takes the time of its longest list. Where the numbers of keys,
+    /// blocks and lists differ, the answer is `NotEqualError`, and the blocks stay as they were.
     final fn chain_ends_each_by<S: Slice, L: BlockLists>(
         keys: &[Self::Key],
         chains: &mut [[u8; 8]],

@@ -180,8 +180,8 @@ fn write_group<S: Slice, C: KeyForEach>(keys: &[C::Key], messages: &[&[u8]], tag
 }
 
 /// The tags of CMAC of many messages under one key, `S::BATCH` at a time: as `Cmac::mac` makes
-/// each. Where messages and tags are not as many, the answer is `NotEqualError`, and the tags stay
-/// as they were.
+/// each. Where the numbers of messages and tags differ, the answer is `NotEqualError`, and the tags
+/// stay as they were.
 pub fn cmacs_by<S: Slice, C: KeyForEach + Drop>(
     key: &C::Key,
     messages: &[&[u8]],
@@ -204,8 +204,8 @@ pub fn cmacs_by<S: Slice, C: KeyForEach + Drop>(
 }
 
 /// The same, each message under the key at its place; groups of at most 256 are treated together.
-/// Where keys, messages and tags are not as many, the answer is `NotEqualError`, and the tags stay
-/// as they were.
+/// Where the numbers of keys, messages and tags differ, the answer is `NotEqualError`, and the tags
+/// stay as they were.
 pub fn cmacs_each_by<S: Slice, C: KeyForEach + Drop>(
     keys: &[C::Key],
     messages: &[&[u8]],

@@ -6,10 +6,10 @@ use des_context::status::{ERR_COUNTS, OK};
 use des_mac::many;
 
 /// Writes of each tag whether it is the one at its place in `expected`. Every byte is looked at,
-/// wherever two differ. The status of lists that are not as many is `ERR_COUNTS`; `right` then
+/// wherever two differ. The status of lists of different lengths is `ERR_COUNTS`; `right` then
 /// stays.
 #[unsafe(no_mangle)]
-pub extern "C" fn cukvashe_narrow_verify_tags(
+pub extern "C" fn cukvashe_narrow_compare_tags(
     tags: &[[u8; 8]],
     expected: &[[u8; 8]],
     right: &mut [bool],
