@@ -225,8 +225,9 @@ static void has_numbers(void) {
   CHECK(strcmp(cukvashe_version(), CUKVASHE_VERSION) == 0);
 }
 
-/* All of a buffer, a part of it, and nothing. */
+/* All of a buffer, a part of it, nothing, and a long one. */
 static void wipes(void) {
+  static uint8_t many[100000];
   uint8_t bytes[40];
   for (size_t size = 0; size <= MOST; size++) {
     memset(bytes, PAINT, sizeof bytes);
@@ -234,6 +235,9 @@ static void wipes(void) {
     for (size_t i = 0; i < sizeof bytes; i++) CHECK(bytes[i] == (3 <= i && i < 3 + size ? 0 : PAINT));
   }
   cukvashe_wipe(NULL, 0);
+  memset(many, PAINT, sizeof many);
+  cukvashe_wipe(many, sizeof many);
+  for (size_t i = 0; i < sizeof many; i++) CHECK(many[i] == 0);
 }
 
 int main(void) {

@@ -54,6 +54,30 @@ fn secrets_are_not_shown() {
     each_secret!(shown);
 }
 
+/// Compares the bytes of two values.
+fn differ<T>(quick: T, quiet: T) {
+    let bytes = |value: *const T| {
+        // SAFETY: the value is there as long as this looks at it. Its types are made of words, with nothing between them.
+        unsafe { slice::from_raw_parts(value.cast::<u8>(), size_of::<T>()) }
+    };
+    assert!(bytes(&quick) != bytes(&quiet));
+}
+
+/// What `new_quiet` makes says so in its context: it is not what `new` makes.
+#[test]
+fn quiet_ones_are_not_quick() {
+    let (one, two) = (KEY[..8].try_into().unwrap(), KEY[..16].try_into().unwrap());
+    differ(Des::new(one), Des::new_quiet(one));
+    differ(TdesEde2::new(two), TdesEde2::new_quiet(two));
+    differ(TdesEde3::new(&KEY), TdesEde3::new_quiet(&KEY));
+    differ(CbcMacDes::<Method1>::new_from_slice(one).unwrap(), CbcMacDes::new_quiet(one));
+    differ(CbcMacTdesEde2::<Method2>::new_from_slice(two).unwrap(), CbcMacTdesEde2::new_quiet(two));
+    differ(CbcMacTdesEde3::<Method1>::new_from_slice(&KEY).unwrap(), CbcMacTdesEde3::new_quiet(&KEY));
+    differ(RetailMacDes::<Method2>::new_from_slice(two).unwrap(), RetailMacDes::new_quiet(two));
+    differ(CmacTdesEde2::new_from_slice(two).unwrap(), CmacTdesEde2::new_quiet(two));
+    differ(CmacTdesEde3::new_from_slice(&KEY).unwrap(), CmacTdesEde3::new_quiet(&KEY));
+}
+
 /// Drops a value, and looks at the bytes where it was.
 fn is_wiped<T>(value: T) {
     let mut place = MaybeUninit::new(value);
