@@ -5,6 +5,7 @@
 #include "internal.h"
 #include <string.h>
 
+#if HAS_WIDE
 /* The processor is asked once, since a virtual one may take long to answer. Threads that ask at once all store one answer. */
 static bool has_wide(void) {
   enum { NOT_ASKED, NO, YES };
@@ -24,6 +25,10 @@ static bool takes_wide_by_count(size_t count) { return count > 128 && has_wide()
 
 #define CHOOSE_IF(IS_WIDE, NAME, CALL, ...)                                                                           \
   (IS_WIDE ? cukvashe_wide_##NAME##_##CALL(__VA_ARGS__) : cukvashe_narrow_##NAME##_##CALL(__VA_ARGS__))
+#else
+#define CHOOSE_IF(IS_WIDE, NAME, CALL, ...) cukvashe_narrow_##NAME##_##CALL(__VA_ARGS__)
+#endif
+
 #define CHOOSE(NAME, CALL, ...) CHOOSE_IF(takes_wide(length), NAME, CALL, __VA_ARGS__)
 /* The proved calls refuse a length that is not the count of the other list, or the sum of the counts. */
 #define CHOOSE_IF_BLOCKS(IS_WIDE, NAME, CALL, ...)                                                                    \

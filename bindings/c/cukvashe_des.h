@@ -1,10 +1,10 @@
 /*
  * Cukvashe: DES and triple DES (FIPS 46-3), for C99 and C++11
  *
- * Link with -lcukvashe_des. The library runs on Linux on x86-64-v2 (SSE4.2) and takes wider vectors where the
- * processor has them. No call allocates memory, keeps a pointer after it returns, or prints. All state is in the
- * contexts and buffers that you pass, so calls may run in any threads at the same time, as long as none writes what
- * another reads.
+ * Link with -lcukvashe_des. The library runs on Linux, on aarch64 and on x86-64-v2 (SSE4.2), where it takes wider
+ * vectors if the processor has them. No call allocates memory, keeps a pointer after it returns, or prints. All state is
+ * in the contexts and buffers that you pass, so calls may run in any threads at the same time, as long as none writes
+ * what another reads.
  *
  * LENGTHS
  *
@@ -44,10 +44,10 @@
  * programs of others run on the processor, which could learn the addresses. A copy of a context is of its kind.
  *
  * Nothing is claimed about time. The calls that can read tables at addresses that depend on secrets, or branch on
- * secrets, say so below. With valgrind it is tested that init, pad, the calls of lists, ECB and CBC decryption where
- * this header says so, and all calls of quiet contexts, read no tables at such addresses. A call uses at most 27,000
- * bytes of the stack; those of transaction keys, of records and of the MACs of many messages at most 66,000. This is
- * tested too.
+ * secrets, say so below. On x86-64 it is tested with valgrind that init, pad, the calls of lists, ECB and CBC decryption
+ * where this header says so, and all calls of quiet contexts, read no tables at such addresses. On aarch64 that is not
+ * tested: nothing is claimed there of addresses and branches. A call uses at most 27,000 bytes of the stack; those of
+ * transaction keys, of records and of the MACs of many messages at most 66,000. This is tested on both.
  *
  * WHAT IS PROVED
  *
@@ -189,8 +189,8 @@ CUKVASHE_CHECK int cukvashe_tdes_ede3_init_quiet(cukvashe_tdes_ede3 *context, co
  * Encrypts or decrypts each block of `length` bytes by itself, in place or from `input` to `output`, in this order.
  * Nothing is padded (see PADDING). CUKVASHE_ERR_BLOCKS if `length` is not a multiple of 8.
  *
- * A call takes 128 blocks at a time, or 256 where the processor has wider vectors, and by tables what is left over if
- * that is fewer than 32 blocks. By tables means that they are read at addresses that depend on the key and the block:
+ * A call takes 128 blocks at a time, or 256 on x86-64 with wider vectors, and by tables what is left over if that is
+ * fewer than 32 blocks. By tables means that they are read at addresses that depend on the key and the block:
  * none are read if the number of blocks modulo 128 is 0 or at least 32, or if the context is quiet.
  */
 CUKVASHE_CHECK int cukvashe_des_encrypt_ecb(const cukvashe_des *context, uint8_t *data, size_t length);
@@ -263,8 +263,8 @@ CUKVASHE_CHECK int cukvashe_tdes_ede3_decrypt_cbc_to(const cukvashe_tdes_ede3 *c
  * cipher, one after the other. CUKVASHE_ERR_BLOCKS if `length` is not a multiple of 8; CUKVASHE_ERR_COUNTS if `count` is
  * not `length` / 8.
  *
- * No context is made. 128 blocks go together, or 256 where the processor has wider vectors; a shorter list takes the time
- * of 128. No tables are read at addresses that depend on keys or blocks.
+ * No context is made. 128 blocks go together, or 256 on x86-64 with wider vectors; a shorter list takes the time of 128.
+ * No tables are read at addresses that depend on keys or blocks.
  */
 CUKVASHE_CHECK int cukvashe_des_encrypt_each(const uint8_t *keys, size_t count, uint8_t *blocks, size_t length);
 CUKVASHE_CHECK int cukvashe_des_decrypt_each(const uint8_t *keys, size_t count, uint8_t *blocks, size_t length);

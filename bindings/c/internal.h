@@ -4,19 +4,17 @@
 
 #include <cukvashe_des.h>
 
-/* What decides whether a processor is of x86-64-v3: words that `cpuid` writes, and 0 for those that it does not have. */
-struct processor {
-  uint32_t leaf_1_ecx, leaf_7_ebx, leaf_80000001_ecx;
-  uint32_t xcr0; /* what the operating system saves (XGETBV of 0), or 0 if OSXSAVE is not set */
-};
-
-bool cukvashe_internal_is_v3(const struct processor *words);
-struct processor cukvashe_internal_processor(void);
+/* Whether the library has wide calls. It takes them where the processor has x86-64-v3. */
+#ifdef __x86_64__
+#define HAS_WIDE 1
+#else
+#define HAS_WIDE 0
+#endif
 
 /*
  * Proved exports take a slice as a pointer and a length, so each of two slices has a length of its own; a slice of slices is a
- * pointer to such pairs, as cukvashe_message. `narrow` calls are for
- * any processor and take 128 blocks at a time, `wide` ones are for x86-64-v3 and take 256.
+ * pointer to such pairs, as cukvashe_message. `narrow` calls are for any processor and take 128 blocks at a time, `wide` ones
+ * are for x86-64-v3 and take 256.
  */
 #define DECLARE_WIDTH(NAME, WIDTH)                                                                                    \
   int cukvashe_##WIDTH##_##NAME##_encrypt_ecb(const cukvashe_##NAME *context, uint8_t *data, size_t length);          \
@@ -49,7 +47,6 @@ struct processor cukvashe_internal_processor(void);
 
 #define DECLARE_CIPHER(NAME)                                                                                          \
   DECLARE_WIDTH(NAME, narrow)                                                                                         \
-  DECLARE_WIDTH(NAME, wide)                                                                                           \
   int cukvashe_narrow_##NAME##_encrypt_cbc_to(const cukvashe_##NAME *context, uint8_t iv[8], const uint8_t *input,    \
                                               size_t input_length, uint8_t *output, size_t output_length);
 
@@ -74,16 +71,31 @@ DECLARE_CIPHER(tdes_ede3)
                                                  uint8_t *tags, size_t tags_count);
 
 DECLARE_LISTS(narrow)
-DECLARE_LISTS(wide)
 DECLARE_CMAC(tdes_ede2, narrow)
-DECLARE_CMAC(tdes_ede2, wide)
 DECLARE_CMAC(tdes_ede3, narrow)
-DECLARE_CMAC(tdes_ede3, wide)
 
 int cukvashe_narrow_compare_tags(const uint8_t *tags, size_t tags_count, const uint8_t *expected, size_t expected_count,
                                 bool *right, size_t right_count);
 int cukvashe_narrow_pad(uint8_t *buffer, size_t capacity, size_t length, int method, size_t *padded_length);
 bool cukvashe_narrow_equal_but_parity(const uint8_t *first, size_t first_length, const uint8_t *second,
                                       size_t second_length);
+
+#if HAS_WIDE
+DECLARE_WIDTH(des, wide)
+DECLARE_WIDTH(tdes_ede2, wide)
+DECLARE_WIDTH(tdes_ede3, wide)
+DECLARE_LISTS(wide)
+DECLARE_CMAC(tdes_ede2, wide)
+DECLARE_CMAC(tdes_ede3, wide)
+
+/* What decides whether a processor is of x86-64-v3: words that `cpuid` writes, and 0 for those that it does not have. */
+struct processor {
+  uint32_t leaf_1_ecx, leaf_7_ebx, leaf_80000001_ecx;
+  uint32_t xcr0; /* what the operating system saves (XGETBV of 0), or 0 if OSXSAVE is not set */
+};
+
+bool cukvashe_internal_is_v3(const struct processor *words);
+struct processor cukvashe_internal_processor(void);
+#endif
 
 #endif

@@ -1,5 +1,5 @@
-//! Finds the library: in the folder that CUKVASHE_DES_LIB_DIR names, else where `bindings/build` of the repository puts it,
-//! else where `pkg-config` says. The static one is taken where it is there.
+//! Finds the library: in the folder that CUKVASHE_DES_LIB_DIR names, else where `bindings/build` of the repository puts it for
+//! the target's processor, else where `pkg-config` says. The static one is taken where it is there.
 
 use std::env;
 use std::fs;
@@ -32,18 +32,34 @@ fn fits(folder: &Path) -> bool {
     first_two == (Some(env!("CARGO_PKG_VERSION_MAJOR")), Some(env!("CARGO_PKG_VERSION_MINOR")))
 }
 
+/// Whether `pkg-config` speaks of the target: it is for this machine's processor, or the variable names one that is not.
+fn may_ask(processor: &str) -> bool {
+    let host = env::var("HOST").unwrap_or_default();
+    host.split('-').next() == Some(processor) || env::var_os("PKG_CONFIG").is_some()
+}
+
 /// The folder of the library.
-fn folder() -> Option<PathBuf> {
-    let built = || Some(Path::new(env!("CARGO_MANIFEST_DIR")).join("../out/lib")).filter(|folder| folder.exists());
-    env::var_os("CUKVASHE_DES_LIB_DIR").map(PathBuf::from).or_else(built).or_else(installed)
+fn folder(processor: &str) -> Option<PathBuf> {
+    let out = Path::new(env!("CARGO_MANIFEST_DIR")).join("../out");
+    let built = if processor == "x86_64" { out.join("lib") } else { out.join(processor).join("lib") };
+    let named = env::var_os("CUKVASHE_DES_LIB_DIR").map(PathBuf::from);
+    let found = named.or_else(|| Some(built).filter(|folder| folder.exists()));
+    found.or_else(|| may_ask(processor).then(installed).flatten())
 }
 
 fn main() {
     for variable in ["CUKVASHE_DES_LIB_DIR", "PKG_CONFIG", "PKG_CONFIG_PATH"] {
         println!("cargo:rerun-if-env-changed={variable}");
     }
-    let Some(folder) = folder() else {
-        eprintln!("libcukvashe_des is not found: run bindings/build, install it where pkg-config looks, or set CUKVASHE_DES_LIB_DIR");
+    let processor = env::var("CARGO_CFG_TARGET_ARCH").unwrap_or_default();
+    let Some(folder) = folder(&processor) else {
+        let target = if processor == "x86_64" { String::new() } else { format!(" --target {processor}") };
+        let install = if may_ask(&processor) {
+            "install it where pkg-config looks"
+        } else {
+            "name the target's pkg-config by PKG_CONFIG"
+        };
+        eprintln!("libcukvashe_des is not found: run bindings/build{target}, {install}, or set CUKVASHE_DES_LIB_DIR");
         std::process::exit(1);
     };
     if folder.is_relative() {

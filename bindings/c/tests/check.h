@@ -81,7 +81,7 @@ DEFINE_PUBLIC(tdes_ede2)
 DEFINE_PUBLIC(tdes_ede3)
 
 #ifdef FORCED
-/* The two widths as well, whatever the length: names that the library hides. */
+/* Each width as well, whatever the length: names that the library hides. */
 #include "../internal.h"
 
 #define DEFINE_FORCED(name, width)                                                                                    \
@@ -113,21 +113,27 @@ DEFINE_PUBLIC(tdes_ede3)
         name##_##width##_decrypt_ecb_to, name##_encrypt_cbc, name##_##width##_decrypt_cbc, name##_encrypt_cbc_to,     \
         name##_##width##_decrypt_cbc_to                                                                               \
   }
+#define DEFINE_WIDTH(width) DEFINE_FORCED(des, width) DEFINE_FORCED(tdes_ede2, width) DEFINE_FORCED(tdes_ede3, width)
+#if HAS_WIDE
+#define EACH_WIDTH(of_width) of_width(narrow) of_width(wide)
 #define WAYS(name) {PUBLIC(name) FORCED_WAY(name, narrow) FORCED_WAY(name, wide)}
+#else
+#define EACH_WIDTH(of_width) of_width(narrow)
+#define WAYS(name) {PUBLIC(name) FORCED_WAY(name, narrow)}
+#endif
 
-DEFINE_FORCED(des, narrow)
-DEFINE_FORCED(des, wide)
-DEFINE_FORCED(tdes_ede2, narrow)
-DEFINE_FORCED(tdes_ede2, wide)
-DEFINE_FORCED(tdes_ede3, narrow)
-DEFINE_FORCED(tdes_ede3, wide)
+EACH_WIDTH(DEFINE_WIDTH)
 
-enum { PUBLIC_WAY = 0, NARROW = 1, WIDE = 2, MOST_WAYS = 3 };
+enum { PUBLIC_WAY = 0, MOST_WAYS = 2 + HAS_WIDE };
 
 /* How many ways this processor has. */
 static inline int count_of_ways(void) {
+#if HAS_WIDE
   struct processor words = cukvashe_internal_processor();
   return cukvashe_internal_is_v3(&words) ? 3 : 2;
+#else
+  return 2;
+#endif
 }
 #else
 #define WAYS(name) {PUBLIC(name)}

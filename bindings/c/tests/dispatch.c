@@ -30,6 +30,7 @@ static int calls, questions, is_v3;
 /* A status that no call has: it must come back as it is. */
 enum { STATUS = 4711 };
 
+#if HAS_WIDE
 struct processor cukvashe_internal_processor(void) {
   const struct processor words = {1, 2, 3, 4};
   questions++;
@@ -40,6 +41,7 @@ bool cukvashe_internal_is_v3(const struct processor *words) {
   CHECK(words->leaf_1_ecx == 1 && words->leaf_7_ebx == 2 && words->leaf_80000001_ecx == 3 && words->xcr0 == 4);
   return is_v3;
 }
+#endif
 
 static int made(const char *name, const void *context, const void *iv, const void *input, size_t input_length,
                 const void *output, size_t output_length) {
@@ -119,7 +121,6 @@ static int made(const char *name, const void *context, const void *iv, const voi
   RECORDS(NAME, WIDTH, decrypt_cbc_records)
 #define EXPORTS(NAME)                                                                                                 \
   EXPORTS_OF_WIDTH(NAME, narrow)                                                                                      \
-  EXPORTS_OF_WIDTH(NAME, wide)                                                                                        \
   CHAIN_IN_PLACE(NAME)                                                                                                \
   CHAIN_TO(NAME, narrow, encrypt_cbc)
 
@@ -147,7 +148,13 @@ EXPORTS(tdes_ede3)
   }
 
 EXPORTS_OF_LISTS(narrow)
+
+#if HAS_WIDE
+EXPORTS_OF_WIDTH(des, wide)
+EXPORTS_OF_WIDTH(tdes_ede2, wide)
+EXPORTS_OF_WIDTH(tdes_ede3, wide)
 EXPORTS_OF_LISTS(wide)
+#endif
 
 int cukvashe_narrow_compare_tags(const uint8_t *tags, size_t tags_count, const uint8_t *expected, size_t expected_count,
                                 bool *right, size_t right_count) {
@@ -372,12 +379,12 @@ int main(int count, char **words) {
   for (size_t i = 0; i < sizeof lengths / sizeof *lengths; i++) hands_on_count(lengths[i]);
   hands_on_count(129);
   for (size_t i = 0; i < sizeof lengths / sizeof *lengths; i++) hands_on_any_blocks(lengths[i]);
-  CHECK(questions == 1);
+  CHECK(questions == HAS_WIDE);
   hands_on_the_rest();
   cukvashe_wipe(NULL, 0);
   CHECK(cukvashe_strerror(-1) == cukvashe_strerror(INT_MIN) && cukvashe_strerror(0) != cukvashe_strerror(-1));
   for (size_t i = 0; i < SECRET; i++) secret[i] = (uint8_t)(3 * i + 101);
   CHECK(leaves_secret(keeps_secret) && !leaves_secret(wipes_secret));
-  printf("dispatch: %s calls above 1,024 bytes, and the processor was asked once\n", words[1]);
+  printf("dispatch: %s calls above 1,024 bytes, and the processor was asked %s\n", words[1], HAS_WIDE ? "once" : "nothing");
   return 0;
 }

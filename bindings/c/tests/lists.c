@@ -338,11 +338,11 @@ typedef int of_counts(const uint8_t *keys, size_t keys_count, uint8_t *blocks, s
     {cukvashe_##width##_des_encrypt_each, cukvashe_##width##_des_decrypt_each},                                       \
         {cukvashe_##width##_tdes_ede2_encrypt_each, cukvashe_##width##_tdes_ede2_decrypt_each},                       \
         {cukvashe_##width##_tdes_ede3_encrypt_each, cukvashe_##width##_tdes_ede3_decrypt_each},                       \
-  }
+  },
 
-static of_counts *const forced[2][CIPHERS][2] = {BOTH(narrow), BOTH(wide)};
+static of_counts *const forced[][CIPHERS][2] = {EACH_WIDTH(BOTH)};
 
-/* Both widths at each length. */
+/* Each width at each length. */
 static void answers_by_width(int width, int n, size_t count) {
   put_answers(&ciphers[n], count);
   CHECK(forced[width][n][0](keys, count, put(plain, 8 * count), count) == CUKVASHE_OK && is(answers, 8 * count));
@@ -352,12 +352,13 @@ static void answers_by_width(int width, int n, size_t count) {
 typedef int transactions(const uint8_t base[16], const uint8_t *serials, size_t serials_count, uint8_t *made,
                          size_t made_count);
 
-static of_counts *const values_of[2][CIPHERS] = {
-    {cukvashe_narrow_des_check_values, cukvashe_narrow_tdes_ede2_check_values, cukvashe_narrow_tdes_ede3_check_values},
-    {cukvashe_wide_des_check_values, cukvashe_wide_tdes_ede2_check_values, cukvashe_wide_tdes_ede3_check_values},
-};
-static transactions *const transactions_of[2] = {cukvashe_narrow_dukpt_transaction_keys,
-                                                 cukvashe_wide_dukpt_transaction_keys};
+#define VALUES(width)                                                                                                 \
+  {cukvashe_##width##_des_check_values, cukvashe_##width##_tdes_ede2_check_values,                                    \
+   cukvashe_##width##_tdes_ede3_check_values},
+#define TRANSACTIONS(width) cukvashe_##width##_dukpt_transaction_keys,
+
+static of_counts *const values_of[][CIPHERS] = {EACH_WIDTH(VALUES)};
+static transactions *const transactions_of[] = {EACH_WIDTH(TRANSACTIONS)};
 
 static void values_by_width(int width, int n, size_t count) {
   static uint8_t values[3 * LONGEST];
@@ -400,12 +401,13 @@ static void transactions_by_width(int width, size_t count) {
     }                                                                                                                 \
   }
 
-OF_WIDTH(narrow)
-OF_WIDTH(wide)
+EACH_WIDTH(OF_WIDTH)
 
 typedef int tags_of_width(int n, int each, int method, size_t first, size_t count, uint8_t *made, size_t second);
 
-static tags_of_width *const tags_by[2] = {narrow_tags, wide_tags};
+#define TAGS_BY(width) width##_tags,
+
+static tags_of_width *const tags_by[] = {EACH_WIDTH(TAGS_BY)};
 
 static void tags_by_width(int width, size_t count) {
   put_messages(count);

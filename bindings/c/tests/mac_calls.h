@@ -1,4 +1,4 @@
-/* The calls of each MAC in a table. */
+/* The calls of each MAC in a table, and a test of one tag. */
 #ifndef MAC_CALLS_H
 #define MAC_CALLS_H
 
@@ -14,12 +14,13 @@ union mac_context {
   cukvashe_cmac_tdes_ede3 cmac_tdes_ede3;
 };
 
+typedef int mac_init(union mac_context *, const uint8_t *key, size_t length, int method);
+
 struct mac {
   const char *name;
   size_t key_size, context_size;
   int is_padded; /* whether `init` takes a padding method */
-  int (*init)(union mac_context *, const uint8_t *key, size_t length, int method);
-  int (*init_quiet)(union mac_context *, const uint8_t *key, size_t length, int method);
+  mac_init *init, *init_quiet;
   void (*update)(union mac_context *, const uint8_t *message, size_t length);
   void (*final)(const union mac_context *, uint8_t *tag);
   int (*verify)(const union mac_context *, const uint8_t *tag, size_t length);
@@ -79,5 +80,21 @@ static const struct mac macs[MACS] = {
     MAC(cmac_tdes_ede2, CUKVASHE_CMAC_TDES_EDE2_KEY_SIZE, 0),
     MAC(cmac_tdes_ede3, CUKVASHE_CMAC_TDES_EDE3_KEY_SIZE, 0),
 };
+
+/* A tag of a context that `init` makes, from pieces of random length; a tag is taken on the way. */
+static inline void is_mac(const struct mac *mac, mac_init *init, const uint8_t *key, int method, const uint8_t *message,
+                          size_t length, const uint8_t wanted[8]) {
+  union mac_context context;
+  uint8_t tag[8];
+  CHECK(init(&context, key, mac->key_size, method) == CUKVASHE_OK);
+  for (size_t start = 0, end; start < length; start = end) {
+    end = start + 1 + random_word() % (length - start);
+    mac->update(&context, message + start, end - start);
+    mac->final(&context, tag);
+  }
+  mac->final(&context, tag);
+  CHECK(memcmp(tag, wanted, 8) == 0);
+  CHECK(mac->verify(&context, wanted, 8) == CUKVASHE_OK);
+}
 
 #endif

@@ -1,10 +1,6 @@
-/* MACs: published values, cut at every place; each MAC beside OpenSSL under random keys, messages and cuts, and for messages of many
-   lengths. */
-#define OPENSSL_SUPPRESS_DEPRECATED
+/* MACs: published values, cut at every place, and the tags of a file, which is the argument. */
 #include "mac_calls.h"
-#include <openssl/cmac.h>
-#include <openssl/des.h>
-#include <openssl/evp.h>
+#include <inttypes.h>
 
 /* Under a context: a tag, each of its lengths, each bit of it turned, and lengths that no tag has. */
 static void verifies(const struct mac *mac, const union mac_context *context, const uint8_t wanted[8]) {
@@ -97,85 +93,49 @@ static void answers_cmac(void) {
   answers(&macs[CMAC_EDE2], two, 0, sentence, strlen(sentence), 0xd1983582ce4ca75d);
 }
 
-/* What OpenSSL says of a message, by a cipher of its own. */
-static void cmac_by_openssl(const EVP_CIPHER *cipher, const uint8_t *key, size_t key_length, const uint8_t *message,
-                            size_t length, uint8_t tag[8]) {
-  CMAC_CTX *context = CMAC_CTX_new();
-  size_t written = 0;
-  CHECK(context != NULL && CMAC_Init(context, key, key_length, cipher, NULL) == 1);
-  CHECK(CMAC_Update(context, message, length) == 1 && CMAC_Final(context, tag, &written) == 1 && written == 8);
-  CMAC_CTX_free(context);
-}
-
-/* The last block of CBC over DES, or over triple DES of two or three parts, from a block of zeros. */
-static void last_of_chain(const uint8_t *key, size_t key_size, const uint8_t *bytes, size_t length, uint8_t last[8]) {
-  static uint8_t out[8 * LONGEST + 16];
-  DES_key_schedule part[3];
-  DES_cblock zeros = {0};
-  for (size_t i = 0; i < 3; i++) DES_set_key_unchecked((const_DES_cblock *)(key + 8 * i % key_size), &part[i]);
-  if (key_size == 8) DES_ncbc_encrypt(bytes, out, (long)length, &part[0], &zeros, DES_ENCRYPT);
-  else DES_ede3_cbc_encrypt(bytes, out, (long)length, &part[0], &part[1], &part[2], &zeros, DES_ENCRYPT);
-  memcpy(last, out + length - 8, 8);
-}
-
-/* A tag by OpenSSL's ciphers: CBC over the padded message; of the retail MAC, its last block decrypted and encrypted once more. */
-static void tag_by_openssl(int n, const uint8_t *key, const uint8_t *message, size_t length, int method, uint8_t tag[8]) {
-  static uint8_t padded[8 * LONGEST + 16];
-  size_t end = method == CUKVASHE_MAC_PADDING_2 ? length / 8 * 8 + 8 : length ? (length + 7) / 8 * 8 : 8;
-  if (n == CMAC_EDE2) cmac_by_openssl(EVP_des_ede_cbc(), key, 16, message, length, tag);
-  if (n == CMAC_EDE3) cmac_by_openssl(EVP_des_ede3_cbc(), key, 24, message, length, tag);
-  if (n == CMAC_EDE2 || n == CMAC_EDE3) return;
-  memset(padded, 0, sizeof padded);
-  memcpy(padded, message, length);
-  if (method == CUKVASHE_MAC_PADDING_2) padded[length] = 0x80;
-  last_of_chain(key, n == RETAIL_MAC ? 8 : macs[n].key_size, padded, end, tag);
-  if (n != RETAIL_MAC) return;
-  DES_key_schedule first, second;
-  DES_set_key_unchecked((const_DES_cblock *)key, &first);
-  DES_set_key_unchecked((const_DES_cblock *)(key + 8), &second);
-  DES_ecb_encrypt((const_DES_cblock *)tag, (DES_cblock *)tag, &second, DES_DECRYPT);
-  DES_ecb_encrypt((const_DES_cblock *)tag, (DES_cblock *)tag, &first, DES_ENCRYPT);
-}
-
-/* Pieces of random length; a tag is taken on the way. */
-static void is_mac(const struct mac *mac, const uint8_t *key, int method, const uint8_t *message, size_t length,
-                   const uint8_t wanted[8]) {
-  union mac_context context;
-  uint8_t tag[8];
-  CHECK(mac->init(&context, key, mac->key_size, method) == CUKVASHE_OK);
-  for (size_t start = 0, end; start < length; start = end) {
-    end = start + 1 + random_word() % (length - start);
-    mac->update(&context, message + start, end - start);
-    mac->final(&context, tag);
-  }
-  mac->final(&context, tag);
-  CHECK(memcmp(tag, wanted, 8) == 0);
-  CHECK(mac->verify(&context, wanted, 8) == CUKVASHE_OK);
-}
-
-/* A message of this length at a random address, under a random key, by each MAC and padding. */
-static void random_message(size_t length) {
-  static uint8_t place[8 * LONGEST + 16];
+/* A line of the file (`bindings/known_macs.txt`, which says what its lines are), by a quick context and by a quiet one. */
+static void answers_line(const char *line) {
+  static uint8_t message[8 * LONGEST + 8];
+  char name[25], padding[2], digits[49];
   uint8_t key[24], wanted[8];
-  uint8_t *message = place + random_word() % 8;
-  random_bytes(key, sizeof key);
-  random_bytes(message, length);
-  for (int n = 0; n < MACS; n++)
-    for (int method = 1; method <= 2; method++) {
-      tag_by_openssl(n, key, message, length, method, wanted);
-      is_mac(&macs[n], key, method, message, length, wanted);
-    }
+  uint64_t word;
+  size_t length;
+  int n = 0;
+  CHECK(sscanf(line, "%24s %1s %48s %zu %16" SCNx64, name, padding, digits, &length, &word) == 5 && length <= sizeof message);
+  put_word(wanted, word);
+  while (strcmp(macs[n].name, name) != 0) CHECK(++n < MACS);
+  CHECK(strlen(digits) == 2 * macs[n].key_size && (padding[0] == '-') == !macs[n].is_padded);
+  for (size_t i = 0; i < macs[n].key_size; i += 8) {
+    CHECK(sscanf(digits + 2 * i, "%16" SCNx64, &word) == 1);
+    put_word(key + i, word);
+  }
+  for (size_t i = 0; i < length; i++) message[i] = (uint8_t)(i % 251);
+  const int method = macs[n].is_padded ? padding[0] - '0' : 0;
+  is_mac(&macs[n], macs[n].init, key, method, message, length, wanted);
+  is_mac(&macs[n], macs[n].init_quiet, key, method, message, length, wanted);
+}
+
+/* How many lines the file has. */
+static int answers_file(const char *path) {
+  char line[200];
+  int lines = 0;
+  FILE *file = fopen(path, "r");
+  CHECK(file != NULL);
+  while (fgets(line, sizeof line, file)) {
+    if (line[0] == '#' || line[0] == '\n') continue;
+    answers_line(line);
+    lines++;
+  }
+  fclose(file);
+  CHECK(lines > 100);
+  return lines;
 }
 
 int main(int count, char **words) {
-  int keys = count > 1 ? atoi(words[1]) : 10000;
+  CHECK(count == 2);
   answers_padded();
   answers_cmac();
-  for (int n = 0; n < keys; n++) random_message(random_word() % 600);
-  for (int i = 0; i < COUNTS; i++) {
-    random_message(8 * counts[i]);
-    random_message(8 * counts[i] + 1 + random_word() % 7);
-  }
-  printf("macs: published values at every cut, %d keys and messages of %d lengths beside OpenSSL\n", keys, 2 * (int)COUNTS);
+  int lines = answers_file(words[1]);
+  printf("macs: published values at every cut, and %d of the file, each by a quick context and a quiet one\n", lines);
   return 0;
 }

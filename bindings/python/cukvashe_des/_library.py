@@ -36,10 +36,12 @@ _FILE = "libcukvashe_des.so"
 
 
 def _place() -> str:
-    """The library in the package, else the one that is named, else the one that is built, else the system's."""
+    """The library in the package, else the one that is named, else the one that is built for this processor, else the system's."""
     package = os.path.dirname(os.path.abspath(__file__))
     packaged = os.path.join(package, _FILE)
-    built = os.path.join(package, os.pardir, os.pardir, "out", "lib", _FILE)
+    processor = os.uname().machine
+    target = "" if processor == "x86_64" else processor
+    built = os.path.join(package, os.pardir, os.pardir, "out", target, "lib", _FILE)
     named = os.environ.get("CUKVASHE_DES_LIBRARY")
     if os.path.exists(packaged):
         return packaged

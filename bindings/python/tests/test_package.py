@@ -125,6 +125,23 @@ class Package(unittest.TestCase):
                 expected = os.path.join(folder, "libcukvashe_des.so.2") if place == places[0] else place
                 self.assertEqual((done.stdout.strip(), done.stderr), (os.path.realpath(expected), ""))
 
+    def test_processors(self):
+        """The library that is built for another processor is not taken."""
+        places = {"x86_64": "lib", "aarch64": os.path.join("aarch64", "lib")}
+        for built, place in places.items():
+            with tempfile.TemporaryDirectory() as folder:
+                library = os.path.join(folder, "out", place, "libcukvashe_des.so")
+                module = os.path.join(folder, "python", "cukvashe_des", "_library.py")
+                for path in (library, module):
+                    os.makedirs(os.path.dirname(path))
+                    open(path, "xb").close()
+                for processor in places:
+                    with mock.patch.dict(os.environ), mock.patch.object(_library, "__file__", module), \
+                            mock.patch.object(os, "uname", return_value=mock.Mock(machine=processor)):
+                        os.environ.pop("CUKVASHE_DES_LIBRARY", None)
+                        found = os.path.normpath(_library._place())
+                    self.assertEqual(found, library if processor == built else "libcukvashe_des.so.2")
+
     def test_other_version(self):
         """A library whose contexts could be larger is refused."""
         first, second, third = map(int, cukvashe_des.__version__.split("."))
