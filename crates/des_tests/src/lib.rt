@@ -8,4 +8,6 @@ mod callers;
 #[cfg(test)]
 mod libraries;
 #[cfg(test)]
+mod passwords;
+#[cfg(test)]
 mod payment;

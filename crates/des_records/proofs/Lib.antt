@@ -1,0 +1,6 @@
+pub mod BlockKeys
+pub mod CountedDigests
+pub mod IteratedTags
+pub mod JoinedParts
+mod KnownAnswers
+pub mod XoredBytes
