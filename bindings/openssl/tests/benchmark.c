@@ -1,11 +1,12 @@
 /*
- * Nanoseconds of processor time beside OpenSSL's own, in turns, the least of many: an update of so many bytes in a message
- * that goes on, and a whole message from its key on.
+ * Nanoseconds of processor time beside OpenSSL's own, in turns, the least of many: an update of a length in bytes in a
+ * message that goes on, and a whole message from its key on.
  *
  *   benchmark FOLDER CONFIGURATION TURNS
  */
 #define _POSIX_C_SOURCE 200809L
 #include "common.h"
+#include <stdbool.h>
 #include <time.h>
 
 enum { MOST = 1 << 20 };
@@ -47,49 +48,83 @@ static double time_of(work *run, EVP_CIPHER_CTX *context, int length) {
   return (end - start) / (double)calls;
 }
 
-/* How many times as fast as OpenSSL's own the provider is. */
-static double compare(OSSL_LIB_CTX *const libraries[2], const char *name, int encrypts, const char *what, work *run, int length,
-                      long turns) {
-  double least[2] = {1e99, 1e99};
+/* What is timed: updates of a length, or messages, by a cipher in a direction. */
+struct row {
+  const char *name;
+  int encrypts, length;
+  work *run;
   EVP_CIPHER_CTX *context[2];
-  EACH(who) {
-    EVP_CIPHER *cipher = EVP_CIPHER_fetch(libraries[who], name, NULL);
-    context[who] = EVP_CIPHER_CTX_new();
-    CHECK(EVP_CipherInit_ex2(context[who], cipher, key, vector, encrypts, NULL) == 1);
-    CHECK(EVP_CIPHER_CTX_set_padding(context[who], 0) == 1);
-    EVP_CIPHER_free(cipher);
-  }
-  for (long turn = 0; turn < turns; turn++)
-    EACH(who) {
-      const double time = time_of(run, context[who], length);
-      if (time < least[who]) least[who] = time;
-    }
-  printf("%-13s %s %-8s %8d bytes: %11.1f ns, OpenSSL %11.1f ns, times %5.2f\n", name, encrypts ? "encrypt" : "decrypt", what,
-         length, least[OURS], least[THEIRS], least[THEIRS] / least[OURS]);
-  fflush(stdout);
-  EACH(who) EVP_CIPHER_CTX_free(context[who]);
-  return least[THEIRS] / least[OURS];
+  double least[2];
+};
+
+enum { ROWS = 1000 };
+
+static struct row rows[ROWS];
+static size_t count_of_rows;
+
+static EVP_CIPHER_CTX *context_of(OSSL_LIB_CTX *library, const char *name, int encrypts) {
+  EVP_CIPHER *cipher = EVP_CIPHER_fetch(library, name, NULL);
+  EVP_CIPHER_CTX *context = EVP_CIPHER_CTX_new();
+  CHECK(EVP_CipherInit_ex2(context, cipher, key, vector, encrypts, NULL) == 1);
+  CHECK(EVP_CIPHER_CTX_set_padding(context, 0) == 1);
+  EVP_CIPHER_free(cipher);
+  return context;
 }
 
-/* An update of a mebibyte takes so long that a few turns do. */
-static long turns_of(int length, long turns) { return length < MOST ? turns : (turns + 9) / 10; }
+static void add_row(OSSL_LIB_CTX *const libraries[2], const char *name, int encrypts, int length, work *run) {
+  CHECK(count_of_rows < ROWS);
+  struct row *row = &rows[count_of_rows++];
+  *row = (struct row){name, encrypts, length, run, {NULL, NULL}, {1e99, 1e99}};
+  EACH(who) row->context[who] = context_of(libraries[who], name, encrypts);
+}
+
+static void add_rows(OSSL_LIB_CTX *const libraries[2]) {
+  static const int lengths[] = {8, 16, 24, 32, 64, 120, 128, 136, 192, 256, 512, 1024, 1032, 2048, 2056, 8192, 65536, MOST};
+  for (size_t number = 0; number < CIPHERS; number++)
+    for (int encrypts = 0; encrypts < 2; encrypts++)
+      for (size_t i = 0; i < COUNT(lengths); i++) {
+        add_row(libraries, ciphers[number], encrypts, lengths[i], update);
+        if (lengths[i] <= 2048) add_row(libraries, ciphers[number], encrypts, lengths[i], message);
+      }
+}
+
+static void time_row(struct row *row) {
+  EACH(who) {
+    const double time = time_of(row->run, row->context[who], row->length);
+    if (time < row->least[who]) row->least[who] = time;
+  }
+}
+
+/* How many times as fast as OpenSSL's own the provider is. */
+static double times_of(const struct row *row) { return row->least[THEIRS] / row->least[OURS]; }
+
+static void print_row(const struct row *row) {
+  printf("%-13s %s %-8s %8d bytes: %11.1f ns, OpenSSL %11.1f ns, times %5.2f\n", row->name,
+         row->encrypts ? "encrypt" : "decrypt", row->run == update ? "update" : "message", row->length, row->least[OURS],
+         row->least[THEIRS], times_of(row));
+}
+
+static bool is_long_decryption(const struct row *row) {
+  return row->length == 8192 && !row->encrypts && strncmp(row->name, "DES-EDE3", 8) == 0;
+}
 
 int main(int count, char **words) {
-  static const int lengths[] = {8, 16, 24, 32, 64, 120, 128, 136, 192, 256, 512, 1024, 1032, 2048, 2056, 8192, 65536, MOST};
   CHECK(count == 4);
   OSSL_LIB_CTX *const libraries[2] = {ours_by(words[1], words[2]), theirs()};
   const long turns = strtol(words[3], NULL, 10);
   double slowest = 1e99, at_8_KiB = 1e99;
-  for (size_t number = 0; number < CIPHERS; number++)
-    for (int encrypts = 0; encrypts < 2; encrypts++)
-      for (size_t i = 0; i < COUNT(lengths); i++) {
-        const char *name = ciphers[number];
-        const long of_length = turns_of(lengths[i], turns);
-        const double times = compare(libraries, name, encrypts, "update", update, lengths[i], of_length);
-        if (times < slowest) slowest = times;
-        if (lengths[i] == 8192 && !encrypts && strncmp(name, "DES-EDE3", 8) == 0 && times < at_8_KiB) at_8_KiB = times;
-        if (lengths[i] <= 2048) (void)compare(libraries, name, encrypts, "message", message, lengths[i], of_length);
-      }
+  add_rows(libraries);
+  /* Turn by turn, so that a time in which the processor is slow for others' sake falls on all rows, and on none alone. An update
+     of a mebibyte takes so long that every tenth turn does. */
+  for (long turn = 0; turn < turns; turn++)
+    for (size_t i = 0; i < count_of_rows; i++)
+      if (rows[i].length < MOST || turn % 10 == 0) time_row(&rows[i]);
+  for (size_t i = 0; i < count_of_rows; i++) {
+    print_row(&rows[i]);
+    if (rows[i].run == update && times_of(&rows[i]) < slowest) slowest = times_of(&rows[i]);
+    if (is_long_decryption(&rows[i]) && times_of(&rows[i]) < at_8_KiB) at_8_KiB = times_of(&rows[i]);
+    EACH(who) EVP_CIPHER_CTX_free(rows[i].context[who]);
+  }
   printf("updates: at least %.2f times as fast; decryption of EDE3 at 8 KiB: at least %.1f times\n", slowest, at_8_KiB);
   drop_libraries(libraries[OURS], libraries[THEIRS]);
   return 0;
