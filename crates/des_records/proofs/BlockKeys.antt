@@ -1,8 +1,8 @@
 -- The key of HMAC as a block.
-use Rattle.std.proofs.Common.{◌≡◌, ◌∙◌, sym, ℕ, ◌<◌, ◌≤◌, ◌++◌, List, length, drop, replicate, cond, ap}
+use Rattle.std.proofs.Common.{◌≡◌, ◌∙◌, sym, ℕ, ◌<◌, ◌≤◌, ◌++◌, List, length, drop, replicate, ap}
 use Rattle.std.proofs.lemmas.Bool.{le-leb, lt-leb, cond-true, cond-false}
 use Rattle.std.proofs.lemmas.List.{drop-replicate}
-use Rattle.des_records.specs.Hmac.{short_key, with_zeros, block_key}
+use Rattle.des_records.specs.Hmac.{with_zeros, block_key}
 
 -- a key over the first of 64 zeros
 pub block_of_short : (digest : List ℕ → List ℕ) (key : List ℕ) → length key ≤ 64

@@ -1,5 +1,5 @@
 -- The definitions computed at published values, so that a wrong constant, order or count in them does not check.
-use Rattle.std.proofs.Common.{◌≡◌, List, [], ◌∷◌, codes, refl}
+use Rattle.std.proofs.Common.{◌≡◌, [], ◌∷◌, codes, refl}
 use Rattle.md5.specs.Md5.{block_words, rounds, compress, hash_after, digest_bytes, md5}
 use Rattle.sha1.specs.Sha1.{first_words, schedule, rounds as rounds_1, compress as compress_1, hash_after as hash_after_1, digest_bytes as digest_bytes_1, sha1}
 use Rattle.des_records.specs.BytesToKey.{bytes_to_key, d, ds, repeated}

@@ -1,5 +1,5 @@
 -- HMAC (RFC 2104, section 2), over a hash function whose blocks have 64 bytes.
-use Rattle.std.specs.Prelude.{◌≡◌, ℕ, ◌-◌, List, ◌++◌, length, replicate, bit_xor, cond, leb}
+use Rattle.std.specs.Prelude.{ℕ, ◌-◌, List, ◌++◌, length, replicate, bit_xor, cond, leb}
 use Rattle.std.specs.Simd.Lanes.{zip2}
 use Rattle.des_records.specs.declared.hmac.Hmac.{Hmac}
 

@@ -1,4 +1,4 @@
-use Rattle.std.proofs.Common.{◌≡◌, ◌∙◌, sym, ◌++◌, List, ℕ, drop, length, replicate, ap}
+use Rattle.std.proofs.Common.{◌∙◌, sym, ◌++◌, List, ℕ, drop, length, replicate, ap}
 use Rattle.des_records.proofs.BlockKeys.{block_of_short, block_of_long}
 use Rattle.des_records.proofs.hmac.block_key.Goals as goal
 

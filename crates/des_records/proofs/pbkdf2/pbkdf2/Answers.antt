@@ -1,4 +1,4 @@
-use Rattle.std.proofs.Common.{◌≡◌, ◌≤◌, ◌<◌, ◌∙◌, sym, ap, ℕ, ◌*◌, ◌+◌, ◌-◌, ◌/◌, List, ◌++◌, length, take, arith}
+use Rattle.std.proofs.Common.{◌≡◌, ◌≤◌, ◌<◌, ◌∙◌, sym, ap, ◌*◌, ◌+◌, ◌-◌, ◌/◌, ◌++◌, length, take, arith}
 use borrow.Rule.Slice.PartMut.{put_mid}
 use Rattle.des_records.specs.Hmac.{hmac}
 use Rattle.des_records.specs.Pbkdf2.{block, blocks}

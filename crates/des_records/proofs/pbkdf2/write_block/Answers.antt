@@ -2,7 +2,7 @@ use Rattle.std.proofs.Common.{◌≡◌, ◌∙◌, sym, ap, subst, ℕ, ◌-◌
 use Rattle.std.specs.Int.{w32, to_be_bytes}
 use Rattle.std.specs.Simd.Lanes.{zip2}
 use Rattle.des_records.specs.Hmac.{hmac, IsHmacOf}
-use Rattle.des_records.specs.Pbkdf2.{u, xor_of}
+use Rattle.des_records.specs.Pbkdf2.{xor_of}
 use Rattle.des_records.proofs.IteratedTags.{u-first, u-next, xor_of-first, xor_of-next}
 use Rattle.des_records.proofs.pbkdf2.write_block.Goals as goal
 
