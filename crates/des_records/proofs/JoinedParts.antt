@@ -54,3 +54,18 @@ pub part_more : (a k b : ℕ) (xs ys front : List ℕ) → a ≤ length xs → b
     → take b (put_mid a k xs ys) ≡ front ++ ys
 part_more a k b xs ys front within next written =
     take-put_mid a k xs ys b next within ∙ ap (λ l. l ++ ys) written
+
+-- all whole parts are written, by another name of their size
+pub all_written : (xs : List ℕ) (front : ℕ → List ℕ) (size named count i : ℕ) → size ≡ named → i ≡ count
+    → take (named * i) xs ≡ front i → take (size * count) xs ≡ front count
+all_written xs front size named count i is ended written =
+    ap (λ n. take (size * n) xs) (sym ended) ∙ ap (λ n. take (n * i) xs) is ∙ written ∙ ap front ended
+
+-- the first bytes of the whole parts and one more, by other names of the length and the size
+pub one_more : (xs front_and_last : List ℕ) (front : ℕ → List ℕ) (whole size named : ℕ) → length xs ≡ whole
+    → size ≡ named → front_and_last ≡ front (whole / size + 1)
+    → take (length xs) front_and_last ≡ take whole (front (whole / named + 1))
+one_more xs front_and_last front whole size named long is next =
+    ap (take (length xs)) next
+    ∙ ap (λ n. take n (front (whole / size + 1))) long
+    ∙ ap (λ n. take whole (front (whole / n + 1))) is

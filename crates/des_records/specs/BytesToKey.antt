@@ -1,5 +1,5 @@
--- How OpenSSL makes keys from passwords (manual page EVP_BytesToKey(3)), which is PBKDF1 (RFC 8018, section 5.1) where one digest has
--- as many bytes as key and vector.
+-- How OpenSSL makes keys from passwords (manual page EVP_BytesToKey(3)). Where one digest is long enough for key and
+-- vector, this is PBKDF1 (RFC 8018, section 5.1).
 use Rattle.std.specs.Prelude.{ℕ, zero, suc, ◌+◌, ◌/◌, List, [], ◌++◌, take}
 
 -- the hash function n times, one after the other: HASH ^ n
@@ -17,7 +17,7 @@ unfoldable pub ds : (List ℕ → List ℕ) → ℕ → List ℕ → List ℕ �
 ds digest count password salt zero = []
 ds digest count password salt (suc n) = ds digest count password salt n ++ d digest count password salt (suc n)
 
--- key and vector, together of `length` bytes: the first of as many digests as have more, each of `size` bytes
+-- key and vector, together of `length` bytes: the first bytes of the digests, of `size` bytes each
 abbrev pub bytes_to_key : (List ℕ → List ℕ) → ℕ → List ℕ → List ℕ → ℕ → ℕ → List ℕ
 bytes_to_key digest size password salt count length =
     take length (ds digest count password salt (length / size + 1))

@@ -3,7 +3,7 @@ use Rattle.std.proofs.lemmas.List.{take_all}
 use borrow.Rule.Slice.PartMut.{put_mid}
 use Rattle.des_records.specs.BytesToKey.{d, ds, repeated}
 use Rattle.des_records.proofs.CountedDigests.{d-none, d-next, ds-none, ds-next}
-use Rattle.des_records.proofs.JoinedParts.{part_fits, last_cut, none_cut, part_more}
+use Rattle.des_records.proofs.JoinedParts.{part_fits, last_cut, none_cut, part_more, all_written, one_more}
 use Rattle.des_records.proofs.bytes_to_key.bytes_to_key.Goals as goal
 
 pub digests-init : goal.digests-init
@@ -67,8 +67,7 @@ returns-then-rest-gt0-clause-ok g c =
     let ended : c.digests.i ≡ count = omega (arith, c.digests-test.false, c.digests.auto.i-end) in
     let front = ds digest c.args.iterations c.args.password.now c.args.salt.now in
     let written : take (size * count) xs ≡ front count =
-    ap (λ n. take (size * n) xs) (sym ended) ∙ ap (λ n. take (n * c.digests.i) xs) is
-    ∙ c.digests.invariant.written ∙ ap front ended in
+    all_written xs front size g.H.HashFunction.SIZE count c.digests.i is ended c.digests.invariant.written in
     let next : last ≡ d digest c.args.iterations c.args.password.now c.args.salt.now (count + 1) =
     c.write_next-then-rest-gt0.ensures.digest
     ∙ ap (λ (l : List ℕ). repeated digest c.args.iterations (l ++ c.args.password.now ++ c.args.salt.now))
@@ -81,9 +80,10 @@ returns-then-rest-gt0-clause-ok g c =
     ∙ last_cut (size * count) left xs (front count) last (omega (arith, some, c.digests.auto.bytes))
     (omega (arith, some, wide, c.digests.auto.bytes)) written
     ∙ ap (λ l. take (length xs) (front count ++ l)) next
-    ∙ ap (take (length xs)) (sym (ds-next digest c.args.iterations c.args.password.now c.args.salt.now count))
-    ∙ ap (λ n. take n (front (count + 1))) c.digests.auto.bytes
-    ∙ ap (λ n. take long (front (long / n + 1))) is
+    ∙ one_more xs
+    (front count ++ d digest c.args.iterations c.args.password.now c.args.salt.now (count + 1))
+    front long size g.H.HashFunction.SIZE c.digests.auto.bytes is
+    (sym (ds-next digest c.args.iterations c.args.password.now c.args.salt.now count))
 
 -- no byte is left
 pub returns-else-rest-gt0-clause-ok : goal.returns-else-rest-gt0-clause-ok
@@ -98,11 +98,11 @@ returns-else-rest-gt0-clause-ok g c =
     let ended : c.digests.i ≡ count = omega (arith, c.digests-test.false, c.digests.auto.i-end) in
     let front = ds digest c.args.iterations c.args.password.now c.args.salt.now in
     let written : take (size * count) xs ≡ front count =
-    ap (λ n. take (size * n) xs) (sym ended) ∙ ap (λ n. take (n * c.digests.i) xs) is
-    ∙ c.digests.invariant.written ∙ ap front ended in
+    all_written xs front size g.H.HashFunction.SIZE count c.digests.i is ended c.digests.invariant.written in
     let all : size * count ≡ length xs = omega (arith, some, c.digests.auto.bytes, c.if-rest-gt0.false) in
     none_cut (size * count) xs (front count)
     (d digest c.args.iterations c.args.password.now c.args.salt.now (count + 1)) all written
-    ∙ ap (take (length xs)) (sym (ds-next digest c.args.iterations c.args.password.now c.args.salt.now count))
-    ∙ ap (λ n. take n (front (count + 1))) c.digests.auto.bytes
-    ∙ ap (λ n. take long (front (long / n + 1))) is
+    ∙ one_more xs
+    (front count ++ d digest c.args.iterations c.args.password.now c.args.salt.now (count + 1))
+    front long size g.H.HashFunction.SIZE c.digests.auto.bytes is
+    (sym (ds-next digest c.args.iterations c.args.password.now c.args.salt.now count))

@@ -3,7 +3,7 @@ use borrow.Rule.Slice.PartMut.{put_mid}
 use Rattle.des_records.specs.Hmac.{hmac}
 use Rattle.des_records.specs.Pbkdf2.{block, blocks}
 use Rattle.des_records.proofs.IteratedTags.{blocks-none, blocks-next}
-use Rattle.des_records.proofs.JoinedParts.{part_fits, last_cut, none_cut, part_more}
+use Rattle.des_records.proofs.JoinedParts.{part_fits, last_cut, none_cut, part_more, all_written, one_more}
 use Rattle.des_records.proofs.pbkdf2.pbkdf2.Goals as goal
 use Rattle.des_records.proofs.pbkdf2.pbkdf2.Goals.{then-rest-gt0, else-rest-gt0}
 
@@ -50,13 +50,11 @@ returns-clause-ok g c =
     let front = blocks prf c.args.salt.now c.args.iterations in
     let last = block prf c.args.salt.now c.args.iterations (count + 1) in
     let so_far : take (size * count) xs ≡ front count =
-    ap (λ n. take (size * n) xs) (sym ended) ∙ ap (λ n. take (n * c.parts.i) xs) is
-    ∙ c.parts.invariant ∙ ap front ended in
+    all_written xs front size g.H.HashFunction.SIZE count c.parts.i is ended c.parts.invariant in
     let more : take (length xs) (front count ++ last)
     ≡ take whole (front (whole / g.H.HashFunction.SIZE + 1)) =
-    ap (take (length xs)) (sym (blocks-next prf c.args.salt.now c.args.iterations count))
-    ∙ ap (λ n. take n (front (count + 1))) c.parts.auto.key
-    ∙ ap (λ n. take whole (front (whole / n + 1))) is in
+    one_more xs (front count ++ last) front whole size g.H.HashFunction.SIZE c.parts.auto.key is
+    (sym (blocks-next prf c.args.salt.now c.args.iterations count)) in
     elim c.if-rest-gt0.branch [
       | then-rest-gt0 w ↦
           let left = length xs - size * count in
