@@ -56,7 +56,7 @@ module _ (number n : ℕ) where
       even q r (2 ^ n) is ∙ sym cleared-suc
 
 -- the counter has the lowest bits
-bit_at-counter : (last n : ℕ) → n < 21 → bit_at (last % 2 ^ 21) n ≡ bit_at last n
+pub bit_at-counter : (last n : ℕ) → n < 21 → bit_at (last % 2 ^ 21) n ≡ bit_at last n
 bit_at-counter last n low =
     sym (bit_at_cat_low (last / 2 ^ 21) 21 (last % 2 ^ 21) n low)
     ∙ ap (λ (x : ℕ). bit_at x n) (shr_split last 21)

@@ -8,7 +8,7 @@ use Rattle.des.proofs.XoredBlocks.{xor_blocks-undone, length-xor_blocks}
 use Rattle.des_payment.specs.declared.pin_error.PinError.{PinError}
 use Rattle.des_payment.specs.Digits.{digits_of}
 use Rattle.des_payment.specs.Texts.{IsPin, IsAccountNumber, text_of}
-use Rattle.des_payment.specs.PinBlocks.{pin_field, account_field, AreFill, IsFormat0, IsFormat1, IsFormat3, field_fault, pin_digits}
+use Rattle.des_payment.specs.PinBlocks.{pin_field, account_field, AreFill, IsFormat0, IsFormat1, IsFormat2, IsFormat3, field_fault, pin_digits}
 use Rattle.des_payment.proofs.DigitLists.{digits_of-injective, length-digits_of}
 use Rattle.des_payment.proofs.FieldDigits.{length-account_field}
 use Rattle.des_payment.proofs.PinFields.{IsMade, IsMade-read, all_fifteen, length-pin_field, text_of-made, field_fault-made}
@@ -56,6 +56,16 @@ pub IsFormat1-field : (block pin : List ℕ) → IsBlock block
 IsFormat1-field block pin is_block = (
   λ (fill, made). (fill, (made.0, made.1, (is_block, made.2))),
   λ (fill, is). (fill, (is.0, is.1, is.2.1)),
+)
+
+pub IsFormat2-field : (block pin : List ℕ) → IsBlock block
+    → IsFieldOf 2 15 (digits_of block) pin ↔ IsFormat2 pin block
+IsFormat2-field block pin is_block = (
+  λ (fill, made).
+      let fifteen : fill ≡ replicate 10 15 =
+      all_fifteen fill made.1.1 ∙ ap (λ (n : ℕ). replicate n 15) made.1.0 in
+      (made.0, (is_block, made.2 ∙ ap (pin_field 2 pin) fifteen)),
+  λ is. let filled : AreFill 15 (replicate 10 15) = (refl, refl) in (replicate 10 15, (is.0, filled, is.1.1)),
 )
 
 module _ (account block field : List ℕ) (is_account : IsAccountNumber account) (is_block : IsBlock block)

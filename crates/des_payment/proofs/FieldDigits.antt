@@ -1,16 +1,16 @@
 -- The fields of PIN blocks are of sixteen digits, and so is their xor.
-use Rattle.std.proofs.Common.{◌≡◌, ℕ, ◌-◌, ◌<◌, ◌≤◌, List, [], ◌∷◌, ◌++◌, nat_le, length, get_or, take, drop, replicate, bit_xor, IsTrue, sym, ◌∙◌, arith}
+use Rattle.std.proofs.Common.{◌≡◌, ℕ, ◌-◌, ◌<◌, List, [], ◌∷◌, ◌++◌, nat_le, length, get_or, take, replicate, bit_xor, IsTrue, sym, ◌∙◌, arith}
 use Rattle.std.specs.List.{All}
 use Rattle.std.proofs.lemmas.Bool.{leb-true}
 use Rattle.std.proofs.lemmas.Nat.{xor_lt}
 use Rattle.std.proofs.lemmas.Simd.{get_or-zip2}
-use Rattle.std.proofs.lemmas.List.{length-map, length-take-le, length-drop}
-use Rattle.std.proofs.lemmas.List.Elements.{All-from_get_or, All-append, All-take, All-replicate}
+use Rattle.std.proofs.lemmas.List.{length-append, length-drop}
+use Rattle.std.proofs.lemmas.List.Elements.{All-from_get_or, All-append, All-take, All-drop, All-replicate}
 use Rattle.std.proofs.lemmas.List.Sums.{AllPass-from_list_all}
 use Rattle.des.specs.Cbc.{xor_blocks}
 use Rattle.des.proofs.XoredBlocks.{length-xor_blocks}
-use Rattle.des_payment.specs.Texts.{IsPin, IsAccountNumber, are_digits, values}
-use Rattle.des_payment.specs.PinBlocks.{pin_field, account_field, is_fill, AreFill}
+use Rattle.des_payment.specs.Texts.{IsPin, IsAccountNumber, are_digits, unchecked, values}
+use Rattle.des_payment.specs.PinBlocks.{pin_field, account_field, last_digits, is_fill, AreFill}
 use Rattle.des_payment.proofs.TextDigits.{and_parts, below_at, decimal-values, are_digits-part}
 use Rattle.des_payment.proofs.PinFields.{length-pin_field}
 
@@ -49,16 +49,21 @@ module _ (account : List ℕ) (is_account : IsAccountNumber account) where
   pub AreDigits-account_field : AreDigits (account_field account)
   AreDigits-account_field =
       let IsDigit : ℕ → Type 0 = λ digit. digit < 16 in
-      All-append IsDigit (replicate 4 0) (values (take 12 (drop (length account - 13) account)))
-      (All-replicate IsDigit 4 0 (omega arith))
-      (AreDigits-values (take 12 (drop (length account - 13) account))
-      (are_digits-part account (length account - 13) 12 is_account.2))
+      let digits : List ℕ = values (unchecked account) in
+      All-append IsDigit (replicate 4 0) (last_digits 12 digits) (All-replicate IsDigit 4 0 (omega arith))
+      (All-drop IsDigit (length digits) (replicate 12 0 ++ digits)
+      (All-append IsDigit (replicate 12 0) digits (All-replicate IsDigit 12 0 (omega arith))
+      (AreDigits-values (unchecked account) (are_digits-part account 0 (length account - 1) is_account.2))))
 
   pub length-account_field : length (account_field account) ≡ 16
   length-account_field =
-      let rest : List ℕ = drop (length account - 13) account in
-      let long : 12 ≤ length rest = omega (arith, length-drop (length account - 13) account, is_account.0) in
-      omega (arith, length-map (take 12 rest) (λ (c : ℕ). c - 48), length-take-le 12 rest long)
+      let digits : List ℕ = values (unchecked account) in
+      omega (
+        arith,
+        length-append (replicate 4 0) (last_digits 12 digits),
+        length-drop (length digits) (replicate 12 0 ++ digits),
+        length-append (replicate 12 0) digits,
+      )
 
 -- the xor of two lists of digits
 pub AreDigits-xor_blocks : (digits others : List ℕ) → length digits ≡ length others → AreDigits digits

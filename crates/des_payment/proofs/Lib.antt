@@ -1,14 +1,19 @@
 mod KnownAnswers
+mod KnownCardKeys
 pub mod OddBytes
 pub mod TextDigits
 pub mod DigitLists
 pub mod PinFaults
 pub mod PinFields
+pub mod LastDigits
 pub mod FieldDigits
+pub mod PickedDigits
 pub mod Decoding
+pub mod TranslatedPins
 pub mod Derivations
 pub mod CardTexts
-pub mod FirstThree
+pub mod BoolBytes
+pub mod FirstDecimals
 pub mod ChosenBytes
 pub mod MappedParts
 pub mod Lanes
@@ -17,3 +22,12 @@ pub mod CardAnswers
 pub mod Answered
 pub mod ZippedGroups
 pub mod MadeBlocks
+pub mod PlaceNumbers
+pub mod FutureKeys
+pub mod FutureSteps
+pub mod FutureTaken
+pub mod LowestOne
+pub mod NextTransaction
+pub mod RightmostDigits
+pub mod ModuloTen
+pub mod PvvTexts

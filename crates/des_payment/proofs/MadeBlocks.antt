@@ -41,5 +41,5 @@ pub fault-format_0 : (pin account block : List ℕ) → IsFormat0 pin account bl
     → option_or (pin_fault pin) (account_fault account) ≡ None
 fault-format_0 pin account block is =
     let of_pin : pin_fault pin ≡ None = no-fault 4 12 PinLength PinDigit pin is.0 in
-    let of_account : account_fault account ≡ None = no-fault 13 19 AccountLength AccountDigit account is.1 in
+    let of_account : account_fault account ≡ None = no-fault 8 19 AccountLength AccountDigit account is.1 in
     ap₂ option_or of_pin of_account

@@ -1,9 +1,9 @@
--- The byte with odd parity is the one with the upper bits of a byte and an odd number of ones.
-use Rattle.std.proofs.Common.{◌≡◌, ℕ, ◌/◌, ◌%◌, ◌==◌, refl, sym, ◌∙◌, bit_xor, count_ones, arith}
+-- The byte with odd parity has the upper bits of a byte and an odd number of ones.
+use Rattle.std.proofs.Common.{◌≡◌, ℕ, ◌-◌, ◌/◌, ◌%◌, ◌==◌, refl, ap, ◌∙◌, bit_xor, count_ones, arith}
 use Rattle.std.specs.Int.Bits.{xor_zero_r}
 use Rattle.std.proofs.lemmas.Bool.{cond_both, eqb-true, eqb-false}
 use Rattle.std.proofs.lemmas.Nat.{xor_shr}
-use Rattle.des.proofs.ParityBits.{same_from_upper_bits, count_ones-xor_one}
+use Rattle.des.proofs.ParityBits.{count_ones-xor_one}
 use Rattle.des_payment.specs.Components.{odd}
 
 -- it is one
@@ -17,6 +17,12 @@ odd-parts byte =
       count_ones-xor_one byte (omega (arith, eqb-false (count_ones byte % 2) 1 is_not)),
     ))
 
-pub odd-from_upper_bits : (byte other : ℕ) → other / 2 ≡ byte / 2 → count_ones other % 2 ≡ 1 → other ≡ odd byte
-odd-from_upper_bits byte other upper is_odd =
-    same_from_upper_bits other (odd byte) (upper ∙ sym (odd-parts byte).0) is_odd (odd-parts byte).1
+-- the lowest bit is turned where the number is even
+pub odd-by_xor : (byte : ℕ) → bit_xor byte (1 - count_ones byte % 2) ≡ odd byte
+odd-by_xor byte =
+    cond_both (count_ones byte % 2 == 1) byte (bit_xor byte 1)
+    (λ other. bit_xor byte (1 - count_ones byte % 2) ≡ other)
+    (λ is. ap (λ (ones : ℕ). bit_xor byte (1 - ones)) (eqb-true (count_ones byte % 2) 1 is) ∙ xor_zero_r byte)
+    (λ is_not.
+    let none : count_ones byte % 2 ≡ 0 = omega (arith, eqb-false (count_ones byte % 2) 1 is_not) in
+    ap (λ (ones : ℕ). bit_xor byte (1 - ones)) none)

@@ -4,7 +4,7 @@ use Rattle.std.specs.List.{list_all}
 use Rattle.std.specs.Cmp.Derive.{both_true}
 use Rattle.std.proofs.Math.Seq.{take-append-add}
 use Rattle.std.proofs.lemmas.Bool.{eqb-true, leb-true, le-leb}
-use Rattle.std.proofs.lemmas.List.{take_at, drop_at, take-append-drop, length-map, length-append, length-take-le, length-drop, length-replicate}
+use Rattle.std.proofs.lemmas.List.{take_at, drop_at, take-append-drop, length-map, length-append, length-take-le, length-drop, length-replicate, append-nil}
 use Rattle.std.proofs.lemmas.List.Sums.{AllPass-from_list_all, list_all-from_AllPass}
 use Rattle.std.proofs.lemmas.List.Folds.{list_all-append}
 use Rattle.std.proofs.lemmas.List.Elements.{All-take}
@@ -16,29 +16,47 @@ use Rattle.des_payment.proofs.PinFaults.{field_fault-digits}
 
 -- ---- what is made is read
 
-module _ (format least : ℕ) (pin fill : List ℕ) (is_pin : IsPin pin) (filled : AreFill least fill) where
-  -- the digits after the first two are those of the PIN, and fill digits
+module _ (pin fill : List ℕ) (is_pin : IsPin pin) where
   long : length (values pin) ≡ length pin
   long = length-map pin _
 
-  digits : take 14 (values pin ++ fill) ≡ values pin ++ take (14 - length pin) fill
-  digits =
+  -- the digits after the first two are those of the PIN, and fill digits
+  pub taken : take 14 (values pin ++ fill) ≡ values pin ++ take (14 - length pin) fill
+  taken =
       let count : 14 ≡ length (values pin) + (14 - length pin) = omega (arith, long, is_pin.1) in
       ap (λ (n : ℕ). take n (values pin ++ fill)) count ∙ take-append-add (values pin) fill (14 - length pin)
 
+  -- also where the values stand before others
+  pub pin_field-made : (format count : ℕ) (before digits : List ℕ) → count ≡ length pin
+      → take (length pin) before ≡ values pin
+      → digits ≡ take count before ++ take (14 - count) fill
+      → format ∷ count ∷ (digits ++ []) ≡ pin_field format pin fill
+  pin_field-made format count before digits same front made =
+      ap (λ (xs : List ℕ). format ∷ count ∷ xs)
+      (append-nil digits
+      ∙ made
+      ∙ ap (λ (n : ℕ). take n before ++ take (14 - n) fill) same
+      ∙ ap (λ (xs : List ℕ). xs ++ take (14 - length pin) fill) front
+      ∙ sym taken)
+      ∙ ap (λ (n : ℕ). format ∷ n ∷ take 14 (values pin ++ fill)) same
+
+module _ (format least : ℕ) (pin fill : List ℕ) (is_pin : IsPin pin) (filled : AreFill least fill) where
   pin_digits-made : pin_digits (pin_field format pin fill) ≡ values pin
-  pin_digits-made = ap (take (length pin)) digits ∙ take_at (values pin) (take (14 - length pin) fill) (length pin) long
+  pin_digits-made =
+      ap (take (length pin)) (taken pin fill is_pin)
+      ∙ take_at (values pin) (take (14 - length pin) fill) (length pin) (long pin fill is_pin)
 
   fill_digits-made : fill_digits (pin_field format pin fill) ≡ take (14 - length pin) fill
   fill_digits-made =
-      ap (drop (length pin)) digits ∙ drop_at (values pin) (take (14 - length pin) fill) (length pin) long
+      ap (drop (length pin)) (taken pin fill is_pin)
+      ∙ drop_at (values pin) (take (14 - length pin) fill) (length pin) (long pin fill is_pin)
 
   pub length-pin_field : length (pin_field format pin fill) ≡ 16
   length-pin_field =
       omega (
         arith,
         length-take-le 14 (values pin ++ fill)
-            (omega (arith, length-append (values pin) fill, long, filled.0, is_pin.0)),
+            (omega (arith, length-append (values pin) fill, long pin fill is_pin, filled.0, is_pin.0)),
       )
 
   pub text_of-made : text_of (pin_digits (pin_field format pin fill)) ≡ pin

@@ -36,7 +36,7 @@ below_at bound digits i all within =
     ltb-true (get_or digits i 0) bound (AllPass-from_list_all (λ (digit : ℕ). nat_lt digit bound) digits all i 0 within)
 
 -- the text of digits is one of digits
-ascii_digit-value : (digit : ℕ) → digit < 10 → is_ascii_digit (digit + 48) ≡ true
+pub ascii_digit-value : (digit : ℕ) → digit < 10 → is_ascii_digit (digit + 48) ≡ true
 ascii_digit-value digit small = grind (arith, nat_tests)
 
 pub are_digits-text_of : (digits : List ℕ) → IsTrue (list_all (λ digit. nat_lt digit 10) digits)

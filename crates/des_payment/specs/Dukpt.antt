@@ -86,12 +86,16 @@ abbrev pub data_mask : Message → ℕ
 data_mask Request = 0xff0000
 data_mask Response = 0xff00000000
 
+-- the masked key as it is, which some terminals take for data
+abbrev pub data_variant : Message → List ℕ → List ℕ
+data_variant message key = masked (data_mask message) key
+
 -- each half of the masked key, encrypted under the masked key
 abbrev pub encrypted_under_itself : List ℕ → List ℕ
 encrypted_under_itself key = ede2_encryption key (part 1 key) ++ ede2_encryption key (part 2 key)
 
 abbrev pub data_key : Message → List ℕ → List ℕ
-data_key message key = encrypted_under_itself (masked (data_mask message) key)
+data_key message key = encrypted_under_itself (data_variant message key)
 
 -- ---- serial numbers in order
 

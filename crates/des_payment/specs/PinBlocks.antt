@@ -1,11 +1,11 @@
 -- PIN blocks (ISO 9564-1): eight bytes, sixteen digits of four bits. PINs and account numbers are
 -- texts.
-use Rattle.std.specs.Prelude.{◌≡◌, ℕ, ◌-◌, ◌==◌, ◌&&◌, not, nat_lt, nat_le, if◌then◌else◌, List, ◌∷◌, ◌++◌, Bool, length, take, drop, replicate, slice_index, codes, IsTrue, Option, Some, None}
+use Rattle.std.specs.Prelude.{◌≡◌, ℕ, ◌==◌, ◌&&◌, not, nat_lt, nat_le, if◌then◌else◌, List, ◌∷◌, ◌++◌, Bool, length, take, drop, replicate, slice_index, codes, IsTrue, Option, Some, None}
 use Rattle.std.specs.List.{list_all}
 use Rattle.des.specs.Blocks.{IsBlock}
 use Rattle.des.specs.Cbc.{xor_blocks}
 use Rattle.des_payment.specs.Digits.{digits_of}
-use Rattle.des_payment.specs.Texts.{IsPin, IsAccountNumber, values, number_fault}
+use Rattle.des_payment.specs.Texts.{IsPin, IsAccountNumber, unchecked, values, number_fault}
 use Rattle.des_payment.specs.declared.pin_error.PinError.{PinError}
 use Rattle.des_payment.specs.declared.pin_error.PinError.TheVariants.{PinLength, PinDigit, AccountLength, AccountDigit, Fill, Format}
 
@@ -14,11 +14,14 @@ use Rattle.des_payment.specs.declared.pin_error.PinError.TheVariants.{PinLength,
 abbrev pub pin_field : ℕ → List ℕ → List ℕ → List ℕ
 pin_field format pin fill = format ∷ length pin ∷ take 14 (values pin ++ fill)
 
+-- the last digits of a list, with zeros at the left where it has fewer
+abbrev pub last_digits : ℕ → List ℕ → List ℕ
+last_digits count digits = drop (length digits) (replicate count 0 ++ digits)
+
 -- the account field: four zeros, and the twelve rightmost digits of the account number without its
 -- check digit
 abbrev pub account_field : List ℕ → List ℕ
-account_field account =
-    replicate 4 0 ++ values (take 12 (drop (length account - 13) account))
+account_field account = replicate 4 0 ++ last_digits 12 (values (unchecked account))
 
 -- a fill digit of a format that has those from a least one to 15
 abbrev pub is_fill : ℕ → ℕ → Bool
@@ -43,6 +46,10 @@ abbrev pub IsFormat1 : List ℕ → List ℕ → List ℕ → Type 0
 IsFormat1 pin transaction block =
     IsPin pin × AreFill 0 transaction × IsBlockOf (pin_field 1 pin transaction) block
 
+-- format 2: the PIN field, filled with 15
+abbrev pub IsFormat2 : List ℕ → List ℕ → Type 0
+IsFormat2 pin block = IsPin pin × IsBlockOf (pin_field 2 pin (replicate 10 15)) block
+
 -- format 3: the PIN field, filled with digits from 10 to 15, xor the account field
 abbrev pub IsFormat3 : List ℕ → List ℕ → List ℕ → List ℕ → Type 0
 IsFormat3 pin account fill block =
@@ -54,7 +61,7 @@ abbrev pub pin_fault : List ℕ → Option PinError
 pin_fault pin = number_fault 4 12 PinLength PinDigit pin
 
 abbrev pub account_fault : List ℕ → Option PinError
-account_fault account = number_fault 13 19 AccountLength AccountDigit account
+account_fault account = number_fault 8 19 AccountLength AccountDigit account
 
 abbrev pub fill_fault : ℕ → List ℕ → Option PinError
 fill_fault least fill = if not (list_all (is_fill least) fill) then Some Fill else None

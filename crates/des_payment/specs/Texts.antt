@@ -1,5 +1,5 @@
 -- Numbers as texts: lists of ASCII digits, of which `0` is 48.
-use Rattle.std.specs.Prelude.{ℕ, ◌+◌, ◌-◌, ◌≤◌, ◌&&◌, Bool, not, nat_le, if◌then◌else◌, List, length, map, IsTrue, Option, Some, None}
+use Rattle.std.specs.Prelude.{ℕ, ◌+◌, ◌-◌, ◌≤◌, ◌&&◌, Bool, not, nat_le, if◌then◌else◌, List, length, map, take, IsTrue, Option, Some, None}
 use Rattle.std.specs.List.{list_all}
 use Rattle.std.specs.Char.{is_ascii_digit}
 
@@ -22,9 +22,13 @@ text_of digits = map (λ digit. digit + 48) digits
 abbrev pub IsPin : List ℕ → Type 0
 IsPin pin = IsNumber 4 12 pin
 
--- an account number with its check digit, the last: 13 to 19 digits
+-- an account number with its check digit, the last: 8 to 19 digits
 abbrev pub IsAccountNumber : List ℕ → Type 0
-IsAccountNumber account = IsNumber 13 19 account
+IsAccountNumber account = IsNumber 8 19 account
+
+-- the account number without its check digit
+abbrev pub unchecked : List ℕ → List ℕ
+unchecked account = take (length account - 1) account
 
 -- the fault of a text that is to have a number of digits, if it has one: one for its length, then one
 -- for its characters

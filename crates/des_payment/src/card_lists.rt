@@ -108,8 +108,8 @@ fn cvv_group<S: Slice>(key: &[u8; 16], cards: &[Card<'_>], values: &mut [Result<
 /// Writes for each card, at its place, what `cvv` gives for it under the key: the card verification
 /// value, three ASCII digits, or the card's first fault. The cards of a group of at most 256 are
 /// treated together, `S::BATCH` at a time, with no table at an index that depends on the key; then
-/// the digits of each value are picked by branches on the digits that the key makes. Where the two
-/// lists differ in length, the answer is `NotEqualError`, and the values stay as they were.
+/// the digits of each value are picked, with no branch on them. Where the two lists differ in length,
+/// the answer is `NotEqualError`, and the values stay as they were.
 pub fn cvvs_by<S: Slice>(
     key: &[u8; 16],
     cards: &[Card<'_>],

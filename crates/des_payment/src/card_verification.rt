@@ -1,40 +1,20 @@
 //! Card verification values (CVV): three digits of a card's data under a key.
 
-ghost use Rattle.std.specs.Prelude.{◌≡◌, ◌+◌, ◌<◌, ◌≤◌, ◌∷◌, [], ◌++◌, min, length, take, OnOk, IfOk, IsTrue};
-ghost use Rattle.std.specs.List.{All, list_all};
+ghost use Rattle.std.specs.Prelude.{◌≡◌, take, OnOk, IfOk, IsTrue};
 ghost use Rattle.std.specs.Result.{result_err};
 ghost use Rattle.des.specs.Blocks.{IsBlock};
 ghost use Rattle.des_payment.specs.Digits.{digits_of as digits_in};
-ghost use Rattle.des_payment.specs.Texts.{are_digits as are_digits_of, text_of, IsNumber, number_fault};
-ghost use Rattle.des_payment.specs.CardVerification.{card_text as card_text_of, card_block as card_block_of, is_decimal, decimals_first};
+ghost use Rattle.des_payment.specs.Texts.{are_digits as are_digits_of, text_of, IsNumber};
+ghost use Rattle.des_payment.specs.CardVerification.{card_text as card_text_of, card_block as card_block_of, decimals_first};
 ghost use Rattle.des_payment.specs.CardVerification.{first_block as first_block_of, second_block as second_block_of, verification_value, card_fault};
 
 use crate::cvv_error::CvvError;
+use crate::decimals::first_decimals;
 use crate::digits::{block_of, digits_of};
 use crate::passes::{encrypted_by_des, encrypted_by_ede2};
-use crate::texts::{are_digits, to_text, to_values};
+use crate::texts::{check_number, to_text, to_values};
 use crate::xor::xored;
 use des::tdes::key_part;
-
-// Whether a text is a number of `least` to `most` digits: its fault, if it has one.
-fn check_number(
-    text: &[u8],
-    least: usize,
-    most: usize,
-    length_fault: CvvError,
-    digit_fault: CvvError,
-) -> Result<(), CvvError>
-    ensures fault { result_err result ≡ number_fault least most length_fault digit_fault text.now }
-    ensures number { OnOk result (IsNumber least most text.now) }
-{
-    if text.len() < least || most < text.len() {
-        return Err(length_fault);
-    }
-    if !are_digits(text) {
-        return Err(digit_fault);
-    }
-    Ok(())
-}
 
 // The data of a card: the first fault, if they have one.
 pub(crate) fn check_card(account: &[u8], expiry: &[u8], service: &[u8]) -> Result<(), CvvError>
@@ -112,43 +92,8 @@ fn card_block(key: &[u8; 16], text: &[u8; 32]) -> [u8; 8]
 pub(crate) fn value_of(block: &[u8; 8]) -> [u8; 3]
     ensures { result ≡ text_of (take 3 (decimals_first (digits_in block.now))) }
 {
-    let mut value = first_three(&digits_of(block));
+    let mut value = first_decimals(&digits_of(block));
     to_text(&mut value);
-    value
-}
-
-// Writes a digit after the first `count` of three, where there is room, and gives how many there
-// are then.
-fn push(value: &mut [u8; 3], count: usize, digit: u8) -> usize
-    requires { count ≤ 3 }
-    ensures count { result ≡ min 3 (count + 1) }
-    ensures front { take result value.new ≡ take 3 (take count value.old ++ digit ∷ []) }
-{
-    if count == 3 {
-        return count;
-    }
-    value[count] = digit;
-    count + 1
-}
-
-// The first three digits, where those below ten come first, and then the others, less ten.
-fn first_three(digits: &[u8; 16]) -> [u8; 3]
-    requires { All (λ digit. digit < 16) digits.now }
-    ensures value { result ≡ take 3 (decimals_first digits.now) }
-    ensures decimal { IsTrue (list_all is_decimal result) }
-{
-    let mut value = [0; 3];
-    let mut count = 0;
-    for digit in digits {
-        if *digit < 10 {
-            count = push(&mut value, count, *digit);
-        }
-    }
-    for digit in digits {
-        if *digit >= 10 {
-            count = push(&mut value, count, *digit - 10);
-        }
-    }
     value
 }
 

@@ -6,7 +6,7 @@ ghost use Rattle.des.specs.WeakKeys.{IsRefused};
 ghost use Rattle.des_payment.specs.Components.{odd, xor_of, combined};
 
 use crate::xor::xored;
-use des::weak_key::{WeakKeyError, byte_with_odd_parity, weak_key_test};
+use des::weak_key::{WeakKeyError, weak_key_test};
 
 // The xor of components, of which there is at least one.
 fn sum_of<const N: usize>(first: &[u8; N], others: &[[u8; N]]) -> [u8; N]
@@ -19,13 +19,20 @@ fn sum_of<const N: usize>(first: &[u8; N], others: &[[u8; N]]) -> [u8; N]
     sum
 }
 
+// The byte with odd parity, with no branch on it.
+fn with_odd_parity(byte: u8) -> u8
+    ensures { result ≡ odd byte }
+{
+    byte ^ (1 - (byte.count_ones() % 2) as u8)
+}
+
 /// Sets in each byte of a key, of any length, the lowest bit, its parity bit, such that the number
 /// of ones is odd (FIPS 46-3, key schedule). The other bits stay.
 pub fn set_odd_parity(key: &mut [u8])
     ensures { key.new ≡ map odd key.old }
 {
     for byte in key.iter_mut() {
-        *byte = byte_with_odd_parity(*byte);
+        *byte = with_odd_parity(*byte);
     }
 }
 

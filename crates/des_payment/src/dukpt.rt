@@ -10,7 +10,7 @@ ghost use Rattle.des_payment.specs.Dukpt.{masked as masked_by, last_bytes as las
 ghost use Rattle.des_payment.specs.Dukpt.{initial_key as initial_key_of, next_half as next_half_of, next_key as next_key_of};
 ghost use Rattle.des_payment.specs.Dukpt.{transaction_key as transaction_key_of, pin_key as pin_key_of, mac_mask as mac_mask_of};
 ghost use Rattle.des_payment.specs.Dukpt.{mac_key as mac_key_of, data_mask as data_mask_of, encrypted_under_itself as under_itself};
-ghost use Rattle.des_payment.specs.Dukpt.{data_key as data_key_of, IsUsable, IsNextCounter, with_counter, IsOfTransaction};
+ghost use Rattle.des_payment.specs.Dukpt.{data_variant as data_variant_of, data_key as data_key_of, IsUsable, IsNextCounter, with_counter, IsOfTransaction};
 
 use crate::passes::{encrypted_by_des, encrypted_by_ede2};
 use crate::xor::xored;
@@ -34,7 +34,7 @@ pub(crate) const COUNTERS: u64 = 0x200000;
 pub(crate) const COUNTER_BITS: u32 = 21;
 
 // The most one bits that the counter of a transaction has.
-const MOST_ONES: u32 = 10;
+pub(crate) const MOST_ONES: u32 = 10;
 
 // The key of two halves.
 pub(crate) fn joined(left: &[u8; 8], right: &[u8; 8]) -> [u8; 16]
@@ -65,7 +65,7 @@ pub(crate) fn last_bytes(serial: &[u8; 10]) -> u64
 }
 
 // The key serial number with other last eight bytes.
-fn with_last_bytes(serial: &[u8; 10], last: u64) -> [u8; 10]
+pub(crate) fn with_last_bytes(serial: &[u8; 10], last: u64) -> [u8; 10]
     ensures { result ≡ take 2 serial.now ++ to_be_bytes w64 last }
 {
     let mut changed = *serial;
@@ -102,7 +102,7 @@ fn next_half(register: u64, key: &[u8; 16]) -> [u8; 8]
     xored(&encrypted_by_des(&key_part(key, 1), &block), &right)
 }
 
-fn next_key(register: u64, key: &[u8; 16]) -> [u8; 16]
+pub(crate) fn next_key(register: u64, key: &[u8; 16]) -> [u8; 16]
     ensures { result ≡ next_key_of register key.now }
 {
     let left = next_half(register, &masked(key, DERIVATION_MASK));
@@ -146,15 +146,24 @@ pub fn mac_key(transaction: &[u8; 16], message: Message) -> [u8; 16]
     masked(transaction, mask)
 }
 
-/// The key that encrypts the data of a message, from the transaction's key.
-pub fn data_key(transaction: &[u8; 16], message: Message) -> [u8; 16]
-    ensures { result ≡ data_key_of message transaction.now }
+/// The data variant of the transaction's key for a message: the key that `data_key` makes, without
+/// its last one-way step. Some terminals encrypt data under it; where it is lost, so are the
+/// transaction's other keys.
+pub fn data_variant(transaction: &[u8; 16], message: Message) -> [u8; 16]
+    ensures { result ≡ data_variant_of message transaction.now }
 {
     let mask = match message {
         Message::Request => 0xff0000,
         Message::Response => 0xff00000000,
     };
-    let key = masked(transaction, mask);
+    masked(transaction, mask)
+}
+
+/// The key that encrypts the data of a message, from the transaction's key.
+pub fn data_key(transaction: &[u8; 16], message: Message) -> [u8; 16]
+    ensures { result ≡ data_key_of message transaction.now }
+{
+    let key = data_variant(transaction, message);
     let left = encrypted_by_ede2(&key, &key_part(&key, 1));
     let right = encrypted_by_ede2(&key, &key_part(&key, 2));
     joined(&left, &right)

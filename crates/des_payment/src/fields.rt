@@ -1,84 +1,179 @@
 //! The fields of PIN blocks: sixteen digits of four bits each.
 
-ghost use Rattle.std.specs.Prelude.{◌≡◌, nat_lt, IfOk, OnOk};
+ghost use Rattle.std.specs.Prelude.{◌≡◌, ◌↔◌, ◌-◌, ◌≤◌, ◌==◌, ◌&&◌, ◌++◌, take, drop, slice_index, nat_lt, nat_le, None, IfOk, OnOk, IsTrue};
 ghost use Rattle.std.specs.List.{list_all};
 ghost use Rattle.std.specs.Result.{result_err};
 ghost use Rattle.des_payment.specs.Texts.{IsPin, IsAccountNumber, text_of};
 ghost use Rattle.des_payment.specs.PinBlocks.{pin_field as pin_field_of, account_field as account_field_of, account_fault, is_fill};
-ghost use Rattle.des_payment.specs.PinBlocks.{field_fault, pin_digits};
+ghost use Rattle.des_payment.specs.PinBlocks.{field_fault, pin_digits, fill_digits};
 
+use crate::masks::{chosen, write_if};
 use crate::pin::Pin;
 use crate::pin_error::PinError;
-use crate::texts::{are_digits, to_values};
+use crate::texts::{check_number, to_values};
 
-// The PIN field of a format.
+// The digits of a PIN of so many of them, and then fill digits to the fourteenth.
+fn filled(count: usize, values: &[u8; 12], fill: &[u8; 10]) -> [u8; 14]
+    requires at_least { 4 ≤ count }
+    requires at_most { count ≤ 12 }
+    ensures { result ≡ take count values.now ++ take (14 - count) fill.now }
+{
+    let mut digits = [0; 14];
+    digits[..count].copy_from_slice(&values[..count]);
+    digits[count..].copy_from_slice(&fill[..14 - count]);
+    digits
+}
+
+// The PIN field of a format. Those of all lengths are made, and one is picked.
 pub(crate) fn pin_field(format: u8, pin: &Pin, fill: &[u8; 10]) -> [u8; 16]
     ensures is_pin { IsPin pin.now }
     ensures field { result ≡ pin_field_of format pin.now fill.now }
 {
-    let text = pin.text();
+    let count = pin.count();
+    let values = pin.values();
+    let mut digits = [0; 14];
+    'counts: for other in 4..13 {
+        write_if(other == count, &filled(other, &values, fill), &mut digits);
+    }
     let mut field = [0; 16];
     field[0] = format;
-    field[1] = text.len() as u8;
-    let digits = &mut field[2..];
-    digits[..text.len()].copy_from_slice(text);
-    to_values(&mut digits[..text.len()]);
-    digits[text.len()..].copy_from_slice(&fill[..14 - text.len()]);
+    field[1] = count as u8;
+    field[2..].copy_from_slice(&digits);
     field
 }
 
-// The account field of an account number.
+// The account field of an account number: zeros stand at the left of its digits.
 pub(crate) fn account_field(account: &[u8]) -> Result<[u8; 16], PinError>
     ensures fault { result_err result ≡ account_fault account.now }
     ensures number { OnOk result (IsAccountNumber account.now) }
     ensures field { IfOk result (λ field. field ≡ account_field_of account.now) }
 {
-    if !(13..=19).contains(&account.len()) {
-        return Err(PinError::AccountLength);
-    }
-    if !are_digits(account) {
-        return Err(PinError::AccountDigit);
-    }
-    let check_digit = account.len() - 1;
+    check_number(
+        account,
+        8,
+        19,
+        PinError::AccountLength,
+        PinError::AccountDigit,
+    )?;
+    let digits = &account[..account.len() - 1];
+    let last = &digits[digits.len().saturating_sub(12)..];
     let mut field = [0; 16];
-    let digits = &mut field[4..];
-    digits.copy_from_slice(&account[check_digit - 12..check_digit]);
-    to_values(digits);
+    let (_, back) = field.split_at_mut(16 - last.len());
+    back.copy_from_slice(last);
+    to_values(back);
     Ok(field)
 }
 
-// Whether they are fill digits of a format that has those from a least one to 15.
+// Whether the first digits, as many as are counted, are digits of a PIN. Each digit is looked at.
+fn are_decimal(count: usize, digits: &[u8]) -> bool
+    ensures { result ≡ list_all (λ digit. nat_lt digit 10) (take count digits.now) }
+{
+    let mut all = true;
+    for (k, digit) in digits.iter().enumerate() {
+        all &= (count <= k) | (*digit < 10);
+    }
+    all
+}
+
+// Whether the digits after the first, as many as are counted, are fill digits of a format that has
+// those from a least one to 15. Each digit is looked at.
+fn are_fill_after(count: usize, least: u8, digits: &[u8]) -> bool
+    ensures { result ≡ list_all (is_fill least) (drop count digits.now) }
+{
+    let mut all = true;
+    for (k, digit) in digits.iter().enumerate() {
+        all &= (k < count) | ((least <= *digit) & (*digit <= 15));
+    }
+    all
+}
+
+// Whether they are all fill digits.
 pub(crate) fn are_fill(least: u8, digits: &[u8]) -> bool
     ensures { result ≡ list_all (is_fill least) digits.now }
 {
-    digits.iter().all(|digit| least <= *digit && *digit <= 15)
+    are_fill_after(0, least, digits)
 }
 
-// Whether they are digits of a PIN.
-fn are_decimal(digits: &[u8]) -> bool
-    ensures { result ≡ list_all (λ digit. nat_lt digit 10) digits.now }
+// Which tests sixteen digits pass that are to be a PIN field.
+#[derive(Clone, Copy)]
+struct Tests {
+    is_format: bool,
+    is_length: bool,
+    are_decimal: bool,
+    are_fill: bool,
+}
+
+// The tests of a format that has fill digits from a least one to 15.
+fn tests_of(format: u8, least: u8, field: &[u8; 16]) -> Tests
+    ensures format { result.is_format ≡ (slice_index field.now 0 == format) }
+    ensures length { result.is_length
+        ≡ (nat_le 4 (slice_index field.now 1) && nat_le (slice_index field.now 1) 12) }
+    ensures decimal { result.are_decimal
+        ≡ list_all (λ digit. nat_lt digit 10) (pin_digits field.now) }
+    ensures fill { result.are_fill ≡ list_all (is_fill least) (fill_digits field.now) }
 {
-    digits.iter().all(|digit| *digit < 10)
+    let count = field[1];
+    Tests {
+        is_format: field[0] == format,
+        is_length: (4 <= count) & (count <= 12),
+        are_decimal: are_decimal(count as usize, &field[2..]),
+        are_fill: are_fill_after(count as usize, least, &field[2..]),
+    }
 }
 
-// The PIN of a PIN field of a format that has fill digits from a least one to 15.
+// Whether all are passed.
+fn are_passed(tests: Tests) -> bool
+    ensures { result
+        ≡ (tests.is_format && tests.is_length && tests.are_decimal && tests.are_fill) }
+{
+    tests.is_format & tests.is_length & tests.are_decimal & tests.are_fill
+}
+
+// The PIN of a PIN field, or four zeros. Every digit is written.
+fn pin_or_zeros(is_right: bool, field: &[u8; 16]) -> Pin
+    requires at_least { IsTrue is_right → 4 ≤ slice_index field.now 1 }
+    requires at_most { IsTrue is_right → slice_index field.now 1 ≤ 12 }
+    requires digits { IsTrue is_right
+        → IsTrue (list_all (λ digit. nat_lt digit 10) (pin_digits field.now)) }
+    ensures { IsTrue is_right → result ≡ text_of (pin_digits field.now) }
+{
+    let count = chosen(is_right, field[1], 4) as usize;
+    let mut digits = [0; 12];
+    for (k, digit) in digits.iter_mut().enumerate() {
+        *digit = chosen(is_right & (k < count), field[k + 2], 0);
+    }
+    Pin::of_first(count, &digits)
+}
+
+// Whether the digits are a PIN field of a format that has fill digits from a least one to 15, and its
+// PIN, or four zeros.
+pub(crate) fn read_or_zeros(format: u8, least: u8, field: &[u8; 16]) -> (bool, Pin)
+    ensures right { IsTrue result.0 ↔ (field_fault format least field.now ≡ None) }
+    ensures pin { IsTrue result.0 → result.1 ≡ text_of (pin_digits field.now) }
+{
+    let is_right = are_passed(tests_of(format, least, field));
+    (is_right, pin_or_zeros(is_right, field))
+}
+
+// The PIN of a PIN field of a format that has fill digits from a least one to 15. Its fault is told
+// after each digit was looked at.
 pub(crate) fn read_pin(format: u8, least: u8, field: &[u8; 16]) -> Result<Pin, PinError>
     ensures fault { result_err result ≡ field_fault format least field.now }
     ensures pin { IfOk result (λ pin. pin ≡ text_of (pin_digits field.now)) }
 {
-    if field[0] != format {
+    let tests = tests_of(format, least, field);
+    let pin = pin_or_zeros(are_passed(tests), field);
+    if !tests.is_format {
         return Err(PinError::Format);
     }
-    let length = field[1] as usize;
-    if !(4..=12).contains(&length) {
+    if !tests.is_length {
         return Err(PinError::PinLength);
     }
-    let (pin, fill) = field[2..].split_at(length);
-    if !are_decimal(pin) {
+    if !tests.are_decimal {
         return Err(PinError::PinDigit);
     }
-    if !are_fill(least, fill) {
+    if !tests.are_fill {
         return Err(PinError::Fill);
     }
-    Ok(Pin::of_digits(pin))
+    Ok(pin)
 }

@@ -1,15 +1,16 @@
 //! One block under DES, and under triple DES with two parts of a key, with no table at an index that
 //! depends on either; and lists of as many keys as blocks.
 
-ghost use Rattle.std.specs.Prelude.{◌≡◌, ◌≤◌, map, length};
+ghost use Rattle.std.specs.Prelude.{◌≡◌, ◌≤◌, map, length, IsTrue};
 ghost use Rattle.std.specs.Simd.Lanes.{zip2};
 ghost use Rattle.des.specs.Blocks.{IsBlock};
 ghost use Rattle.des.specs.Des.{encryption};
 ghost use Rattle.des.specs.TripleCiphers.{ede2_encryption};
+ghost use Rattle.des_payment.specs.KeyLengths.{is_key as is_key_of, encryption_by, decryption_by};
 
-use des::cipher::{BlockCipherEncrypt, KeyBytes, KeyInit, KeyedCipher};
+use des::cipher::{BlockCipherDecrypt, BlockCipherEncrypt, KeyBytes, KeyInit, KeyedCipher};
 use des_fast::many::{KeyForEach, ManyBlocks, Slice};
-use des_fast::quiet::{Des, TdesEde2};
+use des_fast::quiet::{Des, TdesEde2, TdesEde3};
 
 // What DES makes of a block under a key.
 pub(crate) fn encrypted_by_des(key: &[u8; 8], block: &[u8; 8]) -> [u8; 8]
@@ -28,6 +29,56 @@ pub(crate) fn encrypted_by_ede2(key: &[u8; 16], block: &[u8; 8]) -> [u8; 8]
     let mut answer = *block;
     TdesEde2::new(key).encrypt_block(&mut answer);
     answer
+}
+
+// Whether a key has one part, two or three.
+pub(crate) fn is_key(key: &[u8]) -> bool
+    ensures { result ≡ is_key_of key.now }
+{
+    key.len() == 8 || key.len() == 16 || key.len() == 24
+}
+
+// What a cipher makes of a block under a key of its length, in each direction.
+fn encrypted_as<C: KeyedCipher + Drop>(key: &[u8], block: &[u8; 8]) -> [u8; 8]
+    requires { length key.now ≡ C.KEY_SIZE }
+    ensures { result ≡ C.encryption key.now block.now }
+{
+    let mut answer = *block;
+    C::new_from_slice(key).unwrap().encrypt_block(&mut answer);
+    answer
+}
+
+fn decrypted_as<C: KeyedCipher + Drop>(key: &[u8], block: &[u8; 8]) -> [u8; 8]
+    requires { length key.now ≡ C.KEY_SIZE }
+    ensures { result ≡ C.decryption key.now block.now }
+{
+    let mut answer = *block;
+    C::new_from_slice(key).unwrap().decrypt_block(&mut answer);
+    answer
+}
+
+// What DES, or triple DES in the EDE form, makes of a block under a key of one part, two or three,
+// in each direction.
+pub(crate) fn encrypted_by(key: &[u8], block: &[u8; 8]) -> [u8; 8]
+    requires { IsTrue (is_key_of key.now) }
+    ensures { result ≡ encryption_by key.now block.now }
+{
+    match key.len() {
+        8 => encrypted_as::<Des>(key, block),
+        16 => encrypted_as::<TdesEde2>(key, block),
+        _ => encrypted_as::<TdesEde3>(key, block),
+    }
+}
+
+pub(crate) fn decrypted_by(key: &[u8], block: &[u8; 8]) -> [u8; 8]
+    requires { IsTrue (is_key_of key.now) }
+    ensures { result ≡ decryption_by key.now block.now }
+{
+    match key.len() {
+        8 => decrypted_as::<Des>(key, block),
+        16 => decrypted_as::<TdesEde2>(key, block),
+        _ => decrypted_as::<TdesEde3>(key, block),
+    }
 }
 
 // Encrypts each block under the key at its place, where there are as many keys as blocks.

@@ -2,10 +2,10 @@
 
 ghost use Rattle.std.specs.Prelude.{◌≡◌, ◌≤◌, List, ℕ, length, take, nat_lt, IsTrue};
 ghost use Rattle.std.specs.List.{list_all};
-ghost use Rattle.des_payment.specs.Texts.{IsPin, text_of};
+ghost use Rattle.des_payment.specs.Texts.{IsPin, text_of, values};
 
 use crate::pin_error::PinError;
-use crate::texts::{are_digits, to_text};
+use crate::texts::{check_number, to_text};
 use std::alloc::AllocError;
 use std::fmt;
 use std::marker::Model;
@@ -39,12 +39,7 @@ impl Pin {
         ensures fault { result_err result ≡ pin_fault text.now }
         ensures pin { IfOk result (λ pin. pin ≡ text.now) }
     {
-        if !(4..=12).contains(&text.len()) {
-            return Err(PinError::PinLength);
-        }
-        if !are_digits(text) {
-            return Err(PinError::PinDigit);
-        }
+        check_number(text, 4, 12, PinError::PinLength, PinError::PinDigit)?;
         let mut pin = [0; 12];
         pin[..text.len()].copy_from_slice(text);
         Ok(Pin {
@@ -67,6 +62,40 @@ impl Pin {
             text,
             length: digits.len(),
         }
+    }
+
+    // The PIN of the first of these digits, as many as are counted.
+    pub(crate) fn of_first(count: usize, digits: &[u8; 12]) -> Pin
+        requires at_least { 4 ≤ count }
+        requires at_most { count ≤ 12 }
+        requires digits { IsTrue (list_all (λ digit. nat_lt digit 10) digits.now) }
+        ensures { result ≡ text_of (take count digits.now) }
+    {
+        let mut text = *digits;
+        to_text(&mut text);
+        Pin {
+            text,
+            length: count,
+        }
+    }
+
+    // How many digits it has.
+    pub(crate) fn count(&self) -> usize
+        ensures count { result ≡ length self.now }
+        ensures is_pin { IsPin self.now }
+    {
+        self.length
+    }
+
+    // The values of its digits, before others.
+    pub(crate) fn values(&self) -> [u8; 12]
+        ensures { take (length self.now) result ≡ values self.now }
+    {
+        let mut values = self.text;
+        for character in values.iter_mut() {
+            *character = character.saturating_sub(b'0');
+        }
+        values
     }
 
     /// Its ASCII digits.

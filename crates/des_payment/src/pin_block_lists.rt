@@ -37,7 +37,7 @@ pub trait PinData {
 pub struct Format0<'a> {
     /// The PIN, 4 to 12 digits.
     pub pin: &'a [u8],
-    /// The account number, 13 to 19 digits with the check digit.
+    /// The account number, 8 to 19 digits with the check digit.
     pub account: &'a [u8],
 }
 
@@ -82,7 +82,7 @@ impl PinData for Format1<'_> {
 pub struct Format3<'a> {
     /// The PIN, 4 to 12 ASCII digits.
     pub pin: &'a [u8],
-    /// The account number, 13 to 19 ASCII digits with the check digit.
+    /// The account number, 8 to 19 ASCII digits with the check digit.
     pub account: &'a [u8],
     /// The fill digits, from 10 to 15, of which the block takes as many of the first as make
     /// sixteen digits.

@@ -1,5 +1,4 @@
-//! PIN blocks (ISO 9564-1): a PIN in eight bytes, sixteen digits of four bits, in formats 0, 1 and
-//! 3.
+//! PIN blocks (ISO 9564-1): a PIN in eight bytes, sixteen digits of four bits, in formats 0 to 3.
 //!
 //! A block is not encrypted here: that is one call of a cipher.
 
@@ -9,7 +8,7 @@ ghost use Rattle.std.specs.Option.{option_or};
 ghost use Rattle.des.specs.Cbc.{xor_blocks};
 ghost use Rattle.des.specs.Relations.{IsTheOne};
 ghost use Rattle.des_payment.specs.Digits.{digits_of as digits_in};
-ghost use Rattle.des_payment.specs.PinBlocks.{account_field as account_field_of, IsFormat0, IsFormat1, IsFormat3, account_fault};
+ghost use Rattle.des_payment.specs.PinBlocks.{account_field as account_field_of, IsFormat0, IsFormat1, IsFormat2, IsFormat3, account_fault};
 ghost use Rattle.des_payment.specs.PinBlocks.{fill_fault, field_fault};
 
 use crate::digits::{block_of, digits_of};
@@ -18,7 +17,7 @@ use crate::pin::Pin;
 use crate::pin_error::PinError;
 use crate::xor::xored;
 
-/// The block of format 0 of a PIN and an account number, a text of 13 to 19 digits with the check
+/// The block of format 0 of a PIN and an account number, a text of 8 to 19 digits with the check
 /// digit: the PIN's digits are filled with 15, and xored with the twelve rightmost digits of the
 /// account number without its check digit. `AccountLength` and `AccountDigit` are its faults.
 pub fn encode_format_0(pin: &Pin, account: &[u8]) -> Result<[u8; 8], PinError>
@@ -61,7 +60,23 @@ pub fn decode_format_1(block: &[u8; 8]) -> Result<Pin, PinError>
     read_pin(1, 0, &digits_of(block))
 }
 
-/// The block of format 3 of a PIN, an account number, a text of 13 to 19 digits with the check
+/// The block of format 2 of a PIN, for a card: the PIN's digits are filled with 15. It goes to the card
+/// as it is, and a host does not encrypt it as a block.
+pub fn encode_format_2(pin: &Pin) -> [u8; 8]
+    ensures { IsTheOne (IsFormat2 pin.now) result }
+{
+    block_of(&pin_field(2, pin, &[15; 10]))
+}
+
+/// The PIN of a block of format 2. Its faults are `Format`, `PinLength`, `PinDigit` and `Fill`.
+pub fn decode_format_2(block: &[u8; 8]) -> Result<Pin, PinError>
+    ensures fault { result_err result ≡ field_fault 2 15 (digits_in block.now) }
+    ensures decoded { (pin : List ℕ) → (result ≡ Ok pin) ↔ IsFormat2 pin block.now }
+{
+    read_pin(2, 15, &digits_of(block))
+}
+
+/// The block of format 3 of a PIN, an account number, a text of 8 to 19 digits with the check
 /// digit, and fill digits from 10 to 15, of which it takes as many of the first as make sixteen
 /// digits: it is made as that of format 0. Its faults are `AccountLength` and `AccountDigit`, and
 /// `Fill` where one of the ten is none of 10 to 15.

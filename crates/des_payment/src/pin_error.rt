@@ -18,7 +18,7 @@ pub enum PinError {
     PinLength,
     /// A character of the PIN is not a digit, or a digit of the block's PIN is above 9.
     PinDigit,
-    /// The account number does not have 13 to 19 digits.
+    /// The account number does not have 8 to 19 digits.
     AccountLength,
     /// A character of the account number is not a digit.
     AccountDigit,

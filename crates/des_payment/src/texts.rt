@@ -1,13 +1,19 @@
 //! Numbers as texts: slices of ASCII digits.
 
-ghost use Rattle.std.specs.Prelude.{◌≡◌, IsTrue, nat_lt};
+ghost use Rattle.std.specs.Prelude.{◌≡◌, ◌↔◌, IsTrue, nat_lt, OnOk};
 ghost use Rattle.std.specs.List.{list_all};
-ghost use Rattle.des_payment.specs.Texts.{are_digits as are_digits_of, values, text_of};
+ghost use Rattle.std.specs.Result.{result_err};
+ghost use Rattle.des_payment.specs.Texts.{are_digits as are_digits_of, values, text_of, IsNumber, number_fault};
 
+// Whether each character is a digit. Each is looked at, wherever one is none.
 pub(crate) fn are_digits(text: &[u8]) -> bool
     ensures { result ≡ are_digits_of text.now }
 {
-    text.iter().all(|character| character.is_ascii_digit())
+    let mut all = true;
+    for character in text {
+        all &= character.is_ascii_digit();
+    }
+    all
 }
 
 // The digits become their values.
@@ -28,4 +34,39 @@ pub(crate) fn to_text(digits: &mut [u8])
     for digit in digits.iter_mut() {
         *digit += b'0';
     }
+}
+
+// Whether a text is a number of `least` to `most` digits: its fault, if it has one.
+pub(crate) fn check_number<E: Copy + Drop>(
+    text: &[u8],
+    least: usize,
+    most: usize,
+    length_fault: E,
+    digit_fault: E,
+) -> Result<(), E>
+    ensures fault { result_err result ≡ number_fault least most length_fault digit_fault text.now }
+    ensures number { OnOk result (IsNumber least most text.now) }
+{
+    if text.len() < least || most < text.len() {
+        return Err(length_fault);
+    }
+    if !are_digits(text) {
+        return Err(digit_fault);
+    }
+    Ok(())
+}
+
+// Whether two texts are one. Where they are equally long, each character is looked at, wherever they
+// differ.
+pub(crate) fn are_equal(text: &[u8], other: &[u8]) -> bool
+    ensures { IsTrue result ↔ (text.now ≡ other.now) }
+{
+    if text.len() != other.len() {
+        return false;
+    }
+    let mut same = true;
+    for (i, character) in text.iter().enumerate() {
+        same &= *character == other[i];
+    }
+    same
 }

@@ -203,11 +203,11 @@ fn pin_key_of(row: usize) -> [u8; 16] {
 const PINS: [(&[u8], &[u8], Option<PinError>); 9] = [
     (b"1234", b"4012345678909", None),
     (b"1234", b"4012345678909", None),
-    (b"123", b"401234567890", Some(PinError::PinLength)),
+    (b"123", b"4012345", Some(PinError::PinLength)),
     (b"1234", b"4012345678909", None),
     (b"1234", b"4012345678909", None),
-    (b"12:4", b"401234567890", Some(PinError::PinDigit)),
-    (b"1234", b"401234567890", Some(PinError::AccountLength)),
+    (b"12:4", b"4012345", Some(PinError::PinDigit)),
+    (b"1234", b"4012345", Some(PinError::AccountLength)),
     (b"1234", b"4012345678909", None),
     (b"1234", b"401234567890:", Some(PinError::AccountDigit)),
 ];
@@ -353,7 +353,7 @@ fn encrypts_pins_in_other_formats(rt: HostRuntime) {
         ..first
     };
     let third = Format3 {
-        account: b"401234567890",
+        account: b"4012345",
         ..second
     };
     assert!(rt;
