@@ -155,7 +155,7 @@ const char *cukvashe_strerror(int status) {
       [CUKVASHE_ERR_FORMAT] = "the block is not of this PIN block format",
       [CUKVASHE_ERR_PIN_LENGTH] = "the PIN does not have 4 to 12 digits",
       [CUKVASHE_ERR_PIN_DIGIT] = "a character of the PIN is not a digit",
-      [CUKVASHE_ERR_ACCOUNT_LENGTH] = "the account number does not have 13 to 19 digits",
+      [CUKVASHE_ERR_ACCOUNT_LENGTH] = "the account number has fewer digits than the call takes, or more than 19",
       [CUKVASHE_ERR_ACCOUNT_DIGIT] = "a character of the account number is not a digit",
       [CUKVASHE_ERR_FILL] = "a fill digit is not one that the format allows",
       [CUKVASHE_ERR_EXPIRY_LENGTH] = "the expiry date does not have four digits",
@@ -165,6 +165,16 @@ const char *cukvashe_strerror(int status) {
       [CUKVASHE_ERR_PADDING] = "the last block does not end with the padding",
       [CUKVASHE_ERR_CAPACITY] = "the buffer has no room for the padding",
       [CUKVASHE_ERR_COUNTS] = "the numbers of elements do not agree",
+      [CUKVASHE_ERR_KEY_INDEX] = "the index of the key pair is not 1 to 6",
+      [CUKVASHE_ERR_TABLE_LENGTH] = "the decimalization table does not have sixteen digits",
+      [CUKVASHE_ERR_TABLE_DIGIT] = "a character of the decimalization table is not a digit",
+      [CUKVASHE_ERR_TABLE_VARIETY] = "the decimalization table has fewer than eight different digits",
+      [CUKVASHE_ERR_WRONG_PIN] = "the PIN is not the one",
+      [CUKVASHE_ERR_FORMATS] = "there is no translation of PIN blocks from this format",
+      [CUKVASHE_ERR_PIN_BLOCK] = "decrypted, the PIN block is not one of its format and account number",
+      [CUKVASHE_ERR_SEQUENCE_LENGTH] = "the sequence number does not have two digits",
+      [CUKVASHE_ERR_SEQUENCE_DIGIT] = "a character of the sequence number is not a digit",
+      [CUKVASHE_ERR_DATA_LENGTH] = "the issuer's data have more than 8 bytes",
   };
   const size_t place = (size_t)status; /* of a negative number, beyond all */
   return place < sizeof texts / sizeof *texts ? texts[place] : "there is no status of this number";

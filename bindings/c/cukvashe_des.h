@@ -25,14 +25,14 @@
  *
  * Calls that can refuse their arguments return a status: CUKVASHE_OK or one of CUKVASHE_ERR_... A call that does not
  * return CUKVASHE_OK has changed nothing. GCC and Clang warn where you ignore a status. CUKVASHE_OK is 0: compare with
- * it, since `if (cukvashe_MAC_verify(..))` is true for a wrong tag.
+ * it, since `if (cukvashe_MAC_verify(..))` is true for a wrong tag, and `if (cukvashe_pvv_verify(..))` for a wrong PIN.
  *
  * WHAT YOU MUST UPHOLD
  *
  * The library can't check that a pointer is good for its length, that arguments do not overlap, and that a context was
  * written by its init or init_quiet; if not, behaviour is undefined. You may copy, move and overwrite the bytes of a
  * context. Weak keys are accepted: call cukvashe_weak_key_test if you care. No mode here authenticates. Use an
- * initialization vector that is fresh and that nobody can foresee. Wipe contexts, keys and PINs after use
+ * initialization vector that is fresh and that nobody can foresee. Wipe contexts, terminals, keys and PINs after use
  * (cukvashe_wipe).
  *
  * SECRETS AND TIME
@@ -53,10 +53,10 @@
  *
  * Each call is proved safe, and proved to answer as this header says, if you uphold the above: ciphers as FIPS 46-3
  * defines, CBC as FIPS 81, and others by the standards named beside them. No standard defines cukvashe_weak_key_test,
- * cukvashe_set_odd_parity, cukvashe_equal_but_parity, check values, components and card verification values: their
- * rules are the words below. Tested and not proved are the few lines of C in the library: they choose the width of the
- * vectors, hand the arguments of some calls to proved ones in another order, make of the length of a list its number of
- * blocks, and are cukvashe_wipe, cukvashe_strerror and cukvashe_version.
+ * cukvashe_set_odd_parity, cukvashe_equal_but_parity, check values, components, PIN verification and card verification
+ * values: their rules are the words below. Tested and not proved are the few lines of C in the library: they choose the
+ * width of the vectors, hand the arguments of some calls to proved ones in another order, make of the length of a list
+ * its number of blocks, and are cukvashe_wipe, cukvashe_strerror and cukvashe_version.
  */
 #ifndef CUKVASHE_DES_H
 #define CUKVASHE_DES_H
@@ -83,25 +83,35 @@ extern "C" {
 
 /* Statuses. */
 #define CUKVASHE_OK 0
-#define CUKVASHE_ERR_KEY_LENGTH 1      /* no key of the cipher has this length */
-#define CUKVASHE_ERR_BLOCKS 2          /* the length is not a multiple of 8 */
-#define CUKVASHE_ERR_WEAK_KEY 3        /* the weak key test refuses the key */
-#define CUKVASHE_ERR_PADDING_METHOD 4  /* no padding method has this number */
-#define CUKVASHE_ERR_TAG 5             /* the tag is not that of the message */
-#define CUKVASHE_ERR_NO_SERIAL 6       /* there is no next key serial number */
-#define CUKVASHE_ERR_FORMAT 7          /* the first digit of the PIN block is not that of the format */
-#define CUKVASHE_ERR_PIN_LENGTH 8      /* the PIN, or the PIN that the block says it has, does not have 4 to 12 digits */
-#define CUKVASHE_ERR_PIN_DIGIT 9       /* a character of the PIN, or a digit of the PIN in the block, is not 0 to 9 */
-#define CUKVASHE_ERR_ACCOUNT_LENGTH 10 /* the account number does not have 13 to 19 digits */
-#define CUKVASHE_ERR_ACCOUNT_DIGIT 11  /* a character of the account number is not a digit */
-#define CUKVASHE_ERR_FILL 12           /* a fill digit is not one that the format allows */
-#define CUKVASHE_ERR_EXPIRY_LENGTH 13  /* the expiry date does not have four digits */
-#define CUKVASHE_ERR_EXPIRY_DIGIT 14   /* a character of the expiry date is not a digit */
-#define CUKVASHE_ERR_SERVICE_LENGTH 15 /* the service code does not have three digits */
-#define CUKVASHE_ERR_SERVICE_DIGIT 16  /* a character of the service code is not a digit */
-#define CUKVASHE_ERR_PADDING 17        /* the last block does not end with the padding */
-#define CUKVASHE_ERR_CAPACITY 18       /* the buffer has no room for the padding */
-#define CUKVASHE_ERR_COUNTS 19         /* the numbers of elements do not agree: a count, or a sum of counts, and a length */
+#define CUKVASHE_ERR_KEY_LENGTH 1       /* no key of the cipher has this length */
+#define CUKVASHE_ERR_BLOCKS 2           /* the length is not a multiple of 8 */
+#define CUKVASHE_ERR_WEAK_KEY 3         /* the weak key test refuses the key */
+#define CUKVASHE_ERR_PADDING_METHOD 4   /* no padding method has this number */
+#define CUKVASHE_ERR_TAG 5              /* the tag is not that of the message */
+#define CUKVASHE_ERR_NO_SERIAL 6        /* there is no next key serial number */
+#define CUKVASHE_ERR_FORMAT 7           /* the first digit of the PIN block is not that of the format */
+#define CUKVASHE_ERR_PIN_LENGTH 8       /* the PIN, or the one that the block says it has, does not have 4 to 12 digits */
+#define CUKVASHE_ERR_PIN_DIGIT 9        /* a character of the PIN, or a digit of the PIN in the block, is not 0 to 9 */
+#define CUKVASHE_ERR_ACCOUNT_LENGTH 10  /* the account number has fewer digits than the call takes, or more than 19 */
+#define CUKVASHE_ERR_ACCOUNT_DIGIT 11   /* a character of the account number is not a digit */
+#define CUKVASHE_ERR_FILL 12            /* a fill digit is not one that the format allows */
+#define CUKVASHE_ERR_EXPIRY_LENGTH 13   /* the expiry date does not have four digits */
+#define CUKVASHE_ERR_EXPIRY_DIGIT 14    /* a character of the expiry date is not a digit */
+#define CUKVASHE_ERR_SERVICE_LENGTH 15  /* the service code does not have three digits */
+#define CUKVASHE_ERR_SERVICE_DIGIT 16   /* a character of the service code is not a digit */
+#define CUKVASHE_ERR_PADDING 17         /* the last block does not end with the padding */
+#define CUKVASHE_ERR_CAPACITY 18        /* the buffer has no room for the padding */
+#define CUKVASHE_ERR_COUNTS 19          /* numbers of elements do not agree: a count, or a sum of counts, and a length */
+#define CUKVASHE_ERR_KEY_INDEX 20       /* the index of the key pair is not 1 to 6 */
+#define CUKVASHE_ERR_TABLE_LENGTH 21    /* the decimalization table does not have sixteen digits */
+#define CUKVASHE_ERR_TABLE_DIGIT 22     /* a character of the decimalization table is not a digit */
+#define CUKVASHE_ERR_TABLE_VARIETY 23   /* the decimalization table has fewer than eight different digits */
+#define CUKVASHE_ERR_WRONG_PIN 24       /* the PIN is not the one */
+#define CUKVASHE_ERR_FORMATS 25         /* there is no translation of PIN blocks from this format */
+#define CUKVASHE_ERR_PIN_BLOCK 26       /* decrypted, the PIN block is not one of its format and account number */
+#define CUKVASHE_ERR_SEQUENCE_LENGTH 27 /* the sequence number does not have two digits */
+#define CUKVASHE_ERR_SEQUENCE_DIGIT 28  /* a character of the sequence number is not a digit */
+#define CUKVASHE_ERR_DATA_LENGTH 29     /* the issuer's data have more than 8 bytes */
 
 /* Sizes, in bytes. */
 #define CUKVASHE_BLOCK_SIZE 8
@@ -116,11 +126,13 @@ extern "C" {
 #define CUKVASHE_CMAC_TDES_EDE2_KEY_SIZE 16
 #define CUKVASHE_CMAC_TDES_EDE3_KEY_SIZE 24
 #define CUKVASHE_CHECK_VALUE_SIZE 3
+#define CUKVASHE_SHORT_CHECK_VALUE_SIZE 2
 #define CUKVASHE_DUKPT_KEY_SIZE 16
 #define CUKVASHE_DUKPT_SERIAL_SIZE 10
 #define CUKVASHE_FILL_SIZE 10 /* the fill digits of a PIN block, one in a byte */
 #define CUKVASHE_PIN_SIZE 13  /* a PIN of up to 12 digits, and a zero byte */
 #define CUKVASHE_CVV_SIZE 4   /* three digits, and a zero byte */
+#define CUKVASHE_PVV_SIZE 5   /* four digits, and a zero byte */
 
 /* The padding methods of cukvashe_pad: PKCS#7 (RFC 5652, 6.3), and ISO/IEC 7816-4. */
 #define CUKVASHE_PKCS7 11
@@ -338,7 +350,7 @@ CUKVASHE_CHECK int cukvashe_unpad(const uint8_t *buffer, size_t length, int meth
  * whether two keys of one length, a multiple of 8, agree in all bits but the lowest of each byte; false for any other
  * length.
  *
- * weak_key_test and set_odd_parity branch on the key, equal_but_parity on which parts of 8 bytes differ.
+ * weak_key_test branches on the key, equal_but_parity on which parts of 8 bytes differ.
  */
 CUKVASHE_CHECK int cukvashe_weak_key_test(const uint8_t *key, size_t key_length);
 void cukvashe_set_odd_parity(uint8_t *key, size_t key_length);
@@ -526,6 +538,13 @@ void cukvashe_compare_tags(const uint8_t *tags, const uint8_t *expected, bool *r
  * The check value of a key: the first three bytes of the block of zeros, encrypted under it. No tables are read at
  * addresses that depend on the key. CUKVASHE_ERR_KEY_LENGTH if the key does not have the cipher's key size.
  *
+ * int cukvashe_key_check_value(const uint8_t *key, size_t key_length, uint8_t value[3])
+ * int cukvashe_short_key_check_value(const uint8_t *key, size_t key_length, uint8_t value[2])
+ *
+ * The same of a key of 8, 16 or 24 bytes, by its length: under DES, or triple DES (EDE) with two parts or three. A
+ * component is such a key too. `short` gives the first two bytes, which some systems show. CUKVASHE_ERR_KEY_LENGTH for
+ * any other length.
+ *
  * void cukvashe_NAME_check_values(const uint8_t *keys, uint8_t *values, size_t count)
  *
  * The check values, of 3 bytes each, of `count` keys of the cipher, one after the other. 128 or 256 keys go together,
@@ -541,6 +560,8 @@ void cukvashe_compare_tags(const uint8_t *tags, const uint8_t *expected, bool *r
 CUKVASHE_CHECK int cukvashe_des_check_value(const uint8_t *key, size_t key_length, uint8_t value[3]);
 CUKVASHE_CHECK int cukvashe_tdes_ede2_check_value(const uint8_t *key, size_t key_length, uint8_t value[3]);
 CUKVASHE_CHECK int cukvashe_tdes_ede3_check_value(const uint8_t *key, size_t key_length, uint8_t value[3]);
+CUKVASHE_CHECK int cukvashe_key_check_value(const uint8_t *key, size_t key_length, uint8_t value[3]);
+CUKVASHE_CHECK int cukvashe_short_key_check_value(const uint8_t *key, size_t key_length, uint8_t value[2]);
 void cukvashe_des_check_values(const uint8_t *keys, uint8_t *values, size_t count);
 void cukvashe_tdes_ede2_check_values(const uint8_t *keys, uint8_t *values, size_t count);
 void cukvashe_tdes_ede3_check_values(const uint8_t *keys, uint8_t *values, size_t count);
@@ -560,7 +581,9 @@ CUKVASHE_CHECK int cukvashe_combine_24(const uint8_t first[24], const uint8_t se
  * initial_key makes a terminal's key from the base derivation key and any of the terminal's key serial numbers; the
  * counter plays no part. transaction_key makes the transaction's key from the initial key and the transaction's key
  * serial number. From that key pin_key makes the key that encrypts PIN blocks, mac_key and data_key those that
- * authenticate and encrypt the data of the request or, if `is_response`, of the response.
+ * authenticate and encrypt the data of the request or, if `is_response`, of the response. data_variant makes the key of
+ * data without the last step of data_key: some terminals encrypt under it, and whoever has it has the transaction's
+ * other keys.
  *
  * transaction_keys writes the keys of `count` transactions from the base derivation key: what transaction_key makes of
  * initial_key, for each of `count` key serial numbers, one after the other. The terminals may be different ones. 128 or
@@ -580,15 +603,42 @@ void cukvashe_dukpt_transaction_keys(const uint8_t base[16], const uint8_t *seri
 void cukvashe_dukpt_pin_key(const uint8_t transaction[16], uint8_t key[16]);
 void cukvashe_dukpt_mac_key(const uint8_t transaction[16], bool is_response, uint8_t key[16]);
 void cukvashe_dukpt_data_key(const uint8_t transaction[16], bool is_response, uint8_t key[16]);
+void cukvashe_dukpt_data_variant(const uint8_t transaction[16], bool is_response, uint8_t key[16]);
 CUKVASHE_CHECK bool cukvashe_dukpt_is_usable(const uint8_t serial[10]);
 CUKVASHE_CHECK int cukvashe_dukpt_next_serial(const uint8_t serial[10], uint8_t next[10]);
 
 /*
+ * KEYS OF A TRANSACTION IN THE TERMINAL (DUKPT)
+ *
+ * The terminal's side of DUKPT (ANSI X9.24-1:2009, A.2 and A.4). Its state is the key serial number of the last
+ * transaction and 21 future keys, from which the keys of all transactions to come are made: keep it secret. It has no
+ * pointers, so you may store its bytes and go on from them later. A copy gives the same keys again: store the state
+ * before you use the key, or a key is used twice.
+ *
+ * init makes the state from the initial key and any of the terminal's key serial numbers, whose counter plays no part:
+ * the first transaction has counter 1.
+ *
+ * next_key writes the next transaction's key serial number, and its key, that of cukvashe_dukpt_transaction_key; and it
+ * clears that key in the state. CUKVASHE_ERR_NO_SERIAL after the last transaction, the 1,048,575th.
+ *
+ * Neither reads tables at addresses that depend on keys, or branches on keys.
+ */
+typedef struct {
+  uint8_t serial[10];
+  uint8_t keys[21][16];
+} cukvashe_dukpt_terminal;
+
+void cukvashe_dukpt_terminal_init(cukvashe_dukpt_terminal *terminal, const uint8_t initial[16],
+                                  const uint8_t serial[10]);
+CUKVASHE_CHECK int cukvashe_dukpt_terminal_next_key(cukvashe_dukpt_terminal *terminal, uint8_t serial[10],
+                                                    uint8_t key[16]);
+
+/*
  * PIN BLOCKS
  *
- * PIN blocks (ISO 9564-1, formats 0, 1 and 3), which are not encrypted here: that is one call of a cipher. A PIN is a
- * text of 4 to 12 ASCII digits, an account number one of 13 to 19, the last the check digit. Lengths count digits; no
- * zero byte is needed after them.
+ * PIN blocks (ISO 9564-1, formats 0 to 3), which are not encrypted here: that is one call of a cipher, and none for
+ * format 2, which goes to a card in clear. A PIN is a text of 4 to 12 ASCII digits, an account number one of 8 to 19,
+ * the last the check digit. Lengths count digits; no zero byte is needed after them.
  *
  * `transaction` and `fill` are ten digits of four bits, one in a byte: 0 to 15 in `transaction`, 10 to 15 in `fill`. All
  * ten are checked; the block uses as many as fill it to sixteen digits.
@@ -600,19 +650,108 @@ CUKVASHE_CHECK int cukvashe_dukpt_next_serial(const uint8_t serial[10], uint8_t 
  * this block of it. The status is that of the first fault of CUKVASHE_ERR_ACCOUNT_LENGTH, _ACCOUNT_DIGIT, _FORMAT,
  * _PIN_LENGTH, _PIN_DIGIT, _FILL. It says something of the PIN: show it to nobody.
  *
- * All branch on the PIN.
+ * Calls branch on the lengths of texts and on whether each character, and each of the ten digits, is one that may be
+ * there; decode on which fault a block has, when all its digits were looked at, and on the length of the PIN that it
+ * writes. Nothing else of a PIN or a block decides a branch or an address.
  */
 CUKVASHE_CHECK int cukvashe_pin_encode_0(const char *pin, size_t pin_length, const char *account, size_t account_length,
                                          uint8_t block[8]);
 CUKVASHE_CHECK int cukvashe_pin_encode_1(const char *pin, size_t pin_length, const uint8_t transaction[10],
                                          uint8_t block[8]);
+CUKVASHE_CHECK int cukvashe_pin_encode_2(const char *pin, size_t pin_length, uint8_t block[8]);
 CUKVASHE_CHECK int cukvashe_pin_encode_3(const char *pin, size_t pin_length, const char *account, size_t account_length,
                                          const uint8_t fill[10], uint8_t block[8]);
 CUKVASHE_CHECK int cukvashe_pin_decode_0(const uint8_t block[8], const char *account, size_t account_length,
                                          char pin[13]);
 CUKVASHE_CHECK int cukvashe_pin_decode_1(const uint8_t block[8], char pin[13]);
+CUKVASHE_CHECK int cukvashe_pin_decode_2(const uint8_t block[8], char pin[13]);
 CUKVASHE_CHECK int cukvashe_pin_decode_3(const uint8_t block[8], const char *account, size_t account_length,
                                          char pin[13]);
+
+/*
+ * TRANSLATION OF PIN BLOCKS
+ *
+ * Decrypts a PIN block under the incoming key, takes the PIN out of it, and encrypts under the outgoing key the block
+ * of format 0, or 3, of the same PIN, which does not come out. Keys have 8, 16 or 24 bytes: DES, or triple DES (EDE).
+ * `incoming_format` is 0, 1 or 3: the standard (ISO 9564-1) has translations from these formats, and to 0 and 3. The
+ * account number, as of PIN blocks, is that of both blocks, where the format has one. `fill` are ten fill digits, 10 to
+ * 15.
+ *
+ * The status is that of the first fault of CUKVASHE_ERR_KEY_LENGTH, _FORMATS, _ACCOUNT_LENGTH, _ACCOUNT_DIGIT, _FILL;
+ * and then CUKVASHE_ERR_PIN_BLOCK, whatever is wrong with the block: whoever could tell its faults apart would learn
+ * PINs.
+ *
+ * Both branch on the lengths of keys and of the account number, on whether each of its characters, and of the fill
+ * digits, is one that may be there, on whether the block is right, and on how many digits its PIN has. Nothing else of
+ * a key, a block or a PIN decides a branch or an address; a block is encrypted even if the incoming one is not right.
+ */
+CUKVASHE_CHECK int cukvashe_pin_translate_to_0(const uint8_t *incoming_key, size_t incoming_key_length,
+                                               int incoming_format, const uint8_t *outgoing_key,
+                                               size_t outgoing_key_length, const char *account, size_t account_length,
+                                               const uint8_t block[8], uint8_t translated[8]);
+CUKVASHE_CHECK int cukvashe_pin_translate_to_3(const uint8_t *incoming_key, size_t incoming_key_length,
+                                               int incoming_format, const uint8_t *outgoing_key,
+                                               size_t outgoing_key_length, const char *account, size_t account_length,
+                                               const uint8_t fill[10], const uint8_t block[8], uint8_t translated[8]);
+
+/*
+ * PIN VERIFICATION
+ *
+ * Accepts a PIN that the host does not keep. Count wrong PINs: whoever may ask often enough finds the right one.
+ *
+ * cukvashe_pvv writes the PIN verification value (PVV), four ASCII digits and a zero byte, of an account number of 12
+ * to 19 digits and the first four digits of a PIN, under a pair of keys with an index from 1 to 6. The block of the
+ * eleven rightmost digits of the account number without its check digit, the index and the digits of the PIN is
+ * encrypted by triple DES (EDE); of the sixteen digits of the answer those from 0 to 9 are taken in order, then the
+ * others in order, less ten: the first four are the value. The status is that of the first fault of
+ * CUKVASHE_ERR_PIN_LENGTH, _PIN_DIGIT, _ACCOUNT_LENGTH, _ACCOUNT_DIGIT, _KEY_INDEX.
+ *
+ * cukvashe_pvv_verify gives the same statuses; then CUKVASHE_OK if `value` is the PIN's, and CUKVASHE_ERR_WRONG_PIN if
+ * it is another, or has another length than 4.
+ *
+ * The other calls are by the method of the IBM 3624. Validation data, sixteen digits in 8 bytes that the issuer
+ * chooses, are encrypted under a key of 8, 16 or 24 bytes: DES, or triple DES (EDE). Each of the sixteen digits of the
+ * answer becomes the digit at its place in the decimalization table, and the first ones, as many as the PIN has, are
+ * the natural PIN. The offset, which the host keeps, is digit by digit, modulo ten, the PIN less the natural PIN.
+ *
+ * cukvashe_decimal_table_init takes the table as a text of sixteen ASCII digits, those that stand for 0 to 15 in this
+ * order. The status is that of the first fault of CUKVASHE_ERR_TABLE_LENGTH, _TABLE_DIGIT, _TABLE_VARIETY: with fewer
+ * than eight different digits many PINs are right, and who chooses the table finds a PIN out. init_any takes such a
+ * table too, for old systems that have one.
+ *
+ * cukvashe_natural_pin writes `pin_length` digits, 4 to 12, of the natural PIN, cukvashe_pin_offset the offset of a PIN, as
+ * many digits as that has; zero bytes follow, 13 bytes in all. The status is that of the first fault: of the natural PIN
+ * of CUKVASHE_ERR_KEY_LENGTH, _PIN_LENGTH; of the offset of _PIN_LENGTH, _PIN_DIGIT, _KEY_LENGTH. Before _KEY_LENGTH
+ * stands _TABLE_DIGIT, for a table that no init wrote, unless it has digits alone.
+ *
+ * cukvashe_pin_offset_verify gives the status of the first fault of the PIN and then of the offset, of
+ * CUKVASHE_ERR_PIN_LENGTH, _PIN_DIGIT, then of the table and the key, as above; then CUKVASHE_OK if the PIN is the sum
+ * of natural PIN and offset, and CUKVASHE_ERR_WRONG_PIN if it is another, or has another length.
+ *
+ * Calls branch on the lengths of texts and keys, on whether each character is a digit, and on the digits of the
+ * decimalization table, which is no secret here; verify at last on whether the PIN is right. Nothing else of a PIN, an
+ * offset, a key or what it makes decides a branch or an address. Of two texts of one length all digits are compared,
+ * wherever they differ.
+ */
+typedef struct {
+  char digits[16];
+} cukvashe_decimal_table;
+
+CUKVASHE_CHECK int cukvashe_pvv(const uint8_t key[16], const char *account, size_t account_length, int index,
+                                const char *pin, size_t pin_length, char value[5]);
+CUKVASHE_CHECK int cukvashe_pvv_verify(const uint8_t key[16], const char *account, size_t account_length, int index,
+                                       const char *pin, size_t pin_length, const char *value, size_t value_length);
+CUKVASHE_CHECK int cukvashe_decimal_table_init(cukvashe_decimal_table *table, const char *digits, size_t length);
+CUKVASHE_CHECK int cukvashe_decimal_table_init_any(cukvashe_decimal_table *table, const char *digits, size_t length);
+CUKVASHE_CHECK int cukvashe_natural_pin(const uint8_t *key, size_t key_length, const cukvashe_decimal_table *table,
+                                        const uint8_t validation[8], size_t pin_length, char pin[13]);
+CUKVASHE_CHECK int cukvashe_pin_offset(const uint8_t *key, size_t key_length, const cukvashe_decimal_table *table,
+                                       const uint8_t validation[8], const char *pin, size_t pin_length,
+                                       char offset[13]);
+CUKVASHE_CHECK int cukvashe_pin_offset_verify(const uint8_t *key, size_t key_length,
+                                              const cukvashe_decimal_table *table, const uint8_t validation[8],
+                                              const char *pin, size_t pin_length, const char *offset,
+                                              size_t offset_length);
 
 /*
  * CARD VERIFICATION VALUES
@@ -620,11 +759,48 @@ CUKVASHE_CHECK int cukvashe_pin_decode_3(const uint8_t block[8], const char *acc
  * Writes the card verification value, three ASCII digits and a zero byte, under a key pair, of an account number of 13
  * to 19 digits, an expiry date of four, in the order that the issuer takes, and a service code of three: texts as those
  * of PIN blocks. The status is that of the first fault of CUKVASHE_ERR_ACCOUNT_LENGTH, _ACCOUNT_DIGIT, _EXPIRY_LENGTH,
- * _EXPIRY_DIGIT, _SERVICE_LENGTH, _SERVICE_DIGIT. Branches on what the key makes of the texts, and reads no tables at
- * addresses that depend on the key.
+ * _EXPIRY_DIGIT, _SERVICE_LENGTH, _SERVICE_DIGIT. The call branches on the lengths of the texts and on whether each
+ * character is a digit, not on the key or on what it makes of them, and reads no tables at addresses that depend on
+ * either.
  */
 CUKVASHE_CHECK int cukvashe_cvv(const uint8_t key[16], const char *account, size_t account_length, const char *expiry,
                                 size_t expiry_length, const char *service, size_t service_length, char value[4]);
+
+/*
+ * CARD CRYPTOGRAMS (EMV)
+ *
+ * The issuer's side of EMV 4.3, Book 2, with triple DES. Keys have 16 bytes.
+ *
+ * card_key makes a card's key (A1.4.1, option A), with odd parity, from the issuer's key, an account number of 8 to 19
+ * digits and a sequence number of two: texts as those of PIN blocks, `00` where the card has no sequence number. The
+ * status is that of the first fault of CUKVASHE_ERR_ACCOUNT_LENGTH, _ACCOUNT_DIGIT, _SEQUENCE_LENGTH, _SEQUENCE_DIGIT.
+ *
+ * application_key makes the session key for application cryptograms from the card's key and the application transaction
+ * counter; session_key that for other uses (A1.3), from eight bytes that are different for each session: for secure
+ * messaging the application cryptogram. The third of them plays no part.
+ *
+ * application_cryptogram writes the cryptogram of `length` bytes (8.1.2), of the data that the card scheme names: the
+ * retail MAC with padding method 2 under the session key. Compare one that a card sent by
+ * cukvashe_retail_mac_des_verify, with that key and CUKVASHE_MAC_PADDING_2, or by cukvashe_compare_tags, not by memcmp.
+ *
+ * response_1 writes the issuer's response by method 1 (8.2.1) to a cryptogram, with a response code of two ASCII
+ * characters; response_2 that by method 2 (8.2.2), with a card status update of four bytes and `length` bytes of the
+ * issuer's, at most 8: CUKVASHE_ERR_DATA_LENGTH if there are more.
+ *
+ * Calls branch on lengths, card_key on whether each character of its texts is a digit. None branches else on keys or
+ * data, or reads tables at addresses that depend on them.
+ */
+CUKVASHE_CHECK int cukvashe_emv_card_key(const uint8_t issuer[16], const char *account, size_t account_length,
+                                         const char *sequence, size_t sequence_length, uint8_t key[16]);
+void cukvashe_emv_application_key(const uint8_t card[16], const uint8_t counter[2], uint8_t key[16]);
+void cukvashe_emv_session_key(const uint8_t card[16], const uint8_t block[8], uint8_t key[16]);
+void cukvashe_emv_application_cryptogram(const uint8_t session[16], const uint8_t *data, size_t length,
+                                         uint8_t cryptogram[8]);
+void cukvashe_emv_response_1(const uint8_t session[16], const uint8_t cryptogram[8], const uint8_t code[2],
+                             uint8_t response[8]);
+CUKVASHE_CHECK int cukvashe_emv_response_2(const uint8_t session[16], const uint8_t cryptogram[8],
+                                           const uint8_t status[4], const uint8_t *data, size_t length,
+                                           uint8_t response[4]);
 
 #ifdef __cplusplus
 }

@@ -33,6 +33,8 @@ int main(void) {
   static const uint8_t pin_key[16] = {0x04, 0x26, 0x66, 0xb4, 0x91, 0x84, 0xcf, 0x5c, 0x68, 0xde, 0x96, 0x28, 0xd0, 0x39, 0x7b, 0x36};
   static const uint8_t sent[8] = {0x1b, 0x9c, 0x18, 0x45, 0xeb, 0x99, 0x3a, 0x7a};
   uint8_t block[8];
+  /* By OpenSSL's `des-ede` of the account number's digits, the index 1 and the PIN, under the key of the tag. */
+  static const char *const number = "4123456789012345";
   int failed = 0;
   failed += holds("the status of a record", decrypt_record(key, iv, data, sizeof data, &length) == CUKVASHE_OK);
   failed += holds("the record", length == 24 && memcmp(data, "The qufck brown fox jump", 24) == 0);
@@ -47,5 +49,7 @@ int main(void) {
   failed += holds("the status of a PIN", encrypt_pin(pin_key, "1234", 4, "4012345678909", 13, block) == CUKVASHE_OK);
   failed += holds("a PIN block", memcmp(block, sent, 8) == 0);
   failed += holds("a PIN that is none", encrypt_pin(pin_key, "123", 3, "4012345678909", 13, block) == CUKVASHE_ERR_PIN_LENGTH);
+  failed += holds("the PIN of a value", is_right(mac_key, number, 16, "1234", 4, "1894"));
+  failed += holds("another PIN", !is_right(mac_key, number, 16, "1235", 4, "1894"));
   return failed;
 }

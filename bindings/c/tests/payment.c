@@ -1,18 +1,5 @@
 /* Check values, keys of components, the keys of a transaction, PIN blocks and card verification values, at published values. */
-#include "check.h"
-
-/* The bytes of digits. */
-static void put(uint8_t *bytes, const char *digits) {
-  for (unsigned value; sscanf(digits, "%2x", &value) == 1; digits += 2) *bytes++ = (uint8_t)value;
-}
-
-static int are(const uint8_t *bytes, size_t count, const char *digits) {
-  uint8_t wanted[24];
-  put(wanted, digits);
-  return strlen(digits) == 2 * count && memcmp(bytes, wanted, count) == 0;
-}
-
-static const char base_key[] = "0123456789abcdeffedcba9876543210";
+#include "digits.h"
 
 /* The first and the last are what OpenSSL's `des-ede3` makes of the zero block, under three times the first key, and under the
  * parts of the last. */
@@ -25,6 +12,31 @@ static void answers_known_check_values(void) {
   CHECK(cukvashe_des_check_value(key, 8, value) == CUKVASHE_OK && are(value, 3, "d5d44f"));
   put(key, "0123456789abcdef23456789abcdef01456789abcdef0123");
   CHECK(cukvashe_tdes_ede3_check_value(key, 24, value) == CUKVASHE_OK && are(value, 3, "4eba73"));
+}
+
+/* OpenSSL's `des-ecb`, `des-ede` and `des-ede3` answer the zero block so, under keys of which each is the first part of the next; and
+ * so they do under a component with another parity bit. */
+static void answers_check_values_by_length(void) {
+  static const char *const wanted[] = {"d5d44f", "08d7b4", "caec3f"}, *const shown[] = {"d5d4", "08d7", "caec"};
+  uint8_t key[25] = {0}, component[25], value[3];
+  put(key, "0123456789abcdeffedcba98765432108899aabbccddeeff");
+  memcpy(component, key, sizeof component);
+  component[7] ^= 1;
+  for (size_t length = 0; length <= sizeof key; length++) {
+    const int is_key = length == 8 || length == 16 || length == 24;
+    const int status = is_key ? CUKVASHE_OK : CUKVASHE_ERR_KEY_LENGTH;
+    for (int other = 0; other < 2; other++) {
+      memset(value, PAINTED, sizeof value);
+      CHECK(cukvashe_key_check_value(other ? component : key, length, value) == status);
+      CHECK(is_key ? are(value, 3, wanted[length / 8 - 1]) : is_kept(value, 3));
+      memset(value, PAINTED, sizeof value);
+      CHECK(cukvashe_short_key_check_value(other ? component : key, length, value) == status);
+      CHECK(is_kept(value + (is_key ? 2 : 0), is_key ? 1 : 3));
+      if (is_key) CHECK(are(value, 2, shown[length / 8 - 1]));
+    }
+  }
+  CHECK(cukvashe_key_check_value(NULL, 0, value) == CUKVASHE_ERR_KEY_LENGTH);
+  CHECK(cukvashe_short_key_check_value(NULL, 0, value) == CUKVASHE_ERR_KEY_LENGTH);
 }
 
 /* Components of random bytes and the one that makes the base key of them; and such as make a weak key. */
@@ -93,6 +105,10 @@ static void answers_transactions(void) {
     /* The variants differ from each other in one byte of each half. */
     cukvashe_dukpt_mac_key(transaction, true, key);
     for (int byte = 0; byte < 16; byte++) CHECK(key[byte] == (transaction[byte] ^ (byte % 8 == 4 ? 0xff : 0)));
+    cukvashe_dukpt_data_variant(transaction, false, key);
+    for (int byte = 0; byte < 16; byte++) CHECK(key[byte] == (transaction[byte] ^ (byte % 8 == 5 ? 0xff : 0)));
+    cukvashe_dukpt_data_variant(transaction, true, key);
+    for (int byte = 0; byte < 16; byte++) CHECK(key[byte] == (transaction[byte] ^ (byte % 8 == 3 ? 0xff : 0)));
   }
   put(serial, transactions[0][0]);
   cukvashe_dukpt_transaction_key(initial, serial, transaction);
@@ -149,18 +165,6 @@ static void begins_with_the_initial_key(void) {
   CHECK(memcmp(key, initial, sizeof key) == 0);
 }
 
-static const char account[] = "4012345678909"; /* its twelve digits before the last: 401234567890 */
-
-/* A text and its length, the two arguments of a call. */
-#define TEXT(text) (text), strlen(text)
-
-/* What decode gave: the digits, and zeros after them. */
-static int is_pin(const char pin[CUKVASHE_PIN_SIZE], const char *digits) {
-  char wanted[CUKVASHE_PIN_SIZE] = {0};
-  memcpy(wanted, digits, strlen(digits));
-  return memcmp(pin, wanted, sizeof wanted) == 0;
-}
-
 /* The published block of format 0, and blocks by hand: the digits 1 and 4, the PIN and ten transaction digits; and the xor of
  * 341234abcdefabcd and 0000401234567890. */
 static void answers_pin_blocks(void) {
@@ -192,24 +196,43 @@ static void answers_pin_blocks(void) {
   CHECK(cukvashe_pin_decode_3(block, TEXT(account), pin) == CUKVASHE_OK && is_pin(pin, "1234"));
 }
 
+/* By hand: the digits 2 and 4 or c, the PIN, and digits 15; for account numbers of 8 to 12 digits zeros stand at the left of those that
+ * 041234ffffffffff is xored with. */
+static void answers_blocks_of_cards_and_short_numbers(void) {
+  static const char *const cards[][2] = {{"1234", "241234ffffffffff"}, {"123456789012", "2c123456789012ff"}};
+  static const char *const numbers[][2] = {
+      {"12345678", "041234fffedcba98"}, {"123456789012", "041235dcba9876fe"}, {account, "041274edcba9876f"}};
+  uint8_t block[8];
+  char pin[CUKVASHE_PIN_SIZE];
+  for (int i = 0; i < 2; i++) {
+    CHECK(cukvashe_pin_encode_2(TEXT(cards[i][0]), block) == CUKVASHE_OK && are(block, 8, cards[i][1]));
+    memset(pin, PAINTED, sizeof pin);
+    CHECK(cukvashe_pin_decode_2(block, pin) == CUKVASHE_OK && is_pin(pin, cards[i][0]));
+  }
+  for (int i = 0; i < 3; i++) {
+    CHECK(cukvashe_pin_encode_0(TEXT("1234"), TEXT(numbers[i][0]), block) == CUKVASHE_OK && are(block, 8, numbers[i][1]));
+    CHECK(cukvashe_pin_decode_0(block, TEXT(numbers[i][0]), pin) == CUKVASHE_OK && is_pin(pin, "1234"));
+  }
+}
+
 /* A PIN, an account number, and the last of ten fill digits, whose others are 10; and the fault in formats 0, 1 and 3. */
 static const struct {
   const char *pin, *account;
   uint8_t fill;
   int status[3];
 } made_of[] = {
-    {"123", "401234567890", 16, {CUKVASHE_ERR_PIN_LENGTH, CUKVASHE_ERR_PIN_LENGTH, CUKVASHE_ERR_PIN_LENGTH}},
+    {"123", "4012345", 16, {CUKVASHE_ERR_PIN_LENGTH, CUKVASHE_ERR_PIN_LENGTH, CUKVASHE_ERR_PIN_LENGTH}},
     {"1234567890123", account, 10, {CUKVASHE_ERR_PIN_LENGTH, CUKVASHE_ERR_PIN_LENGTH, CUKVASHE_ERR_PIN_LENGTH}},
-    {"123:", "401234567890", 16, {CUKVASHE_ERR_PIN_DIGIT, CUKVASHE_ERR_PIN_DIGIT, CUKVASHE_ERR_PIN_DIGIT}},
+    {"123:", "4012345", 16, {CUKVASHE_ERR_PIN_DIGIT, CUKVASHE_ERR_PIN_DIGIT, CUKVASHE_ERR_PIN_DIGIT}},
     {"/23456789012", account, 10, {CUKVASHE_ERR_PIN_DIGIT, CUKVASHE_ERR_PIN_DIGIT, CUKVASHE_ERR_PIN_DIGIT}},
     {"/23", account, 10, {CUKVASHE_ERR_PIN_LENGTH, CUKVASHE_ERR_PIN_LENGTH, CUKVASHE_ERR_PIN_LENGTH}},
     {"/234", account, 10, {CUKVASHE_ERR_PIN_DIGIT, CUKVASHE_ERR_PIN_DIGIT, CUKVASHE_ERR_PIN_DIGIT}},
-    {"1234", "401234567890", 16, {CUKVASHE_ERR_ACCOUNT_LENGTH, CUKVASHE_ERR_FILL, CUKVASHE_ERR_ACCOUNT_LENGTH}},
+    {"1234", "4012345", 16, {CUKVASHE_ERR_ACCOUNT_LENGTH, CUKVASHE_ERR_FILL, CUKVASHE_ERR_ACCOUNT_LENGTH}},
     {"1234", "99999994012345678900", 10, {CUKVASHE_ERR_ACCOUNT_LENGTH, CUKVASHE_OK, CUKVASHE_ERR_ACCOUNT_LENGTH}},
     {"1234", "401234567890:", 16, {CUKVASHE_ERR_ACCOUNT_DIGIT, CUKVASHE_ERR_FILL, CUKVASHE_ERR_ACCOUNT_DIGIT}},
     {"1234", "/999994012345678900", 10, {CUKVASHE_ERR_ACCOUNT_DIGIT, CUKVASHE_OK, CUKVASHE_ERR_ACCOUNT_DIGIT}},
     {"1234", "/012345678909", 9, {CUKVASHE_ERR_ACCOUNT_DIGIT, CUKVASHE_OK, CUKVASHE_ERR_ACCOUNT_DIGIT}},
-    {"1234", "/01234567890", 9, {CUKVASHE_ERR_ACCOUNT_LENGTH, CUKVASHE_OK, CUKVASHE_ERR_ACCOUNT_LENGTH}},
+    {"1234", "/012345", 9, {CUKVASHE_ERR_ACCOUNT_LENGTH, CUKVASHE_OK, CUKVASHE_ERR_ACCOUNT_LENGTH}},
     {"1234", "40123456789012345678", 9, {CUKVASHE_ERR_ACCOUNT_LENGTH, CUKVASHE_OK, CUKVASHE_ERR_ACCOUNT_LENGTH}},
     {"1234", "4012345678901234567", 10, {CUKVASHE_OK, CUKVASHE_OK, CUKVASHE_OK}},
     {"1234", "4012345678901234567", 9, {CUKVASHE_OK, CUKVASHE_OK, CUKVASHE_ERR_FILL}},
@@ -234,6 +257,9 @@ static void refuses_to_encode(void) {
     check_block(cukvashe_pin_encode_1(TEXT(made_of[i].pin), fill, blocks[1]), made_of[i].status[1], blocks[1]);
     check_block(cukvashe_pin_encode_3(TEXT(made_of[i].pin), TEXT(made_of[i].account), fill, blocks[2]), made_of[i].status[2],
                 blocks[2]);
+    memset(blocks[0], 0x77, sizeof blocks[0]);
+    const int of_pin = made_of[i].status[1] == CUKVASHE_ERR_FILL ? CUKVASHE_OK : made_of[i].status[1];
+    check_block(cukvashe_pin_encode_2(TEXT(made_of[i].pin), blocks[0]), of_pin, blocks[0]);
   }
 }
 
@@ -260,7 +286,7 @@ static const struct {
   const char *block, *account;
   int status;
 } read_of[] = {
-    {0, "141274edcba9876f", "401234567890", CUKVASHE_ERR_ACCOUNT_LENGTH},
+    {0, "141274edcba9876f", "4012345", CUKVASHE_ERR_ACCOUNT_LENGTH},
     {0, "141274edcba9876f", "99999994012345678900", CUKVASHE_ERR_ACCOUNT_LENGTH},
     {0, "141274edcba9876f", "401234567890:", CUKVASHE_ERR_ACCOUNT_DIGIT},
     {0, "13a274edcba9876e", account, CUKVASHE_ERR_FORMAT},
@@ -268,7 +294,7 @@ static const struct {
     {0, "0da274edcba9876e", account, CUKVASHE_ERR_PIN_LENGTH},
     {0, "04a274edcba9876e", account, CUKVASHE_ERR_PIN_DIGIT},
     {0, "041274edcba9876e", account, CUKVASHE_ERR_FILL},
-    {0, "1010101010101010", "/01234567890", CUKVASHE_ERR_ACCOUNT_LENGTH},
+    {0, "1010101010101010", "/012345", CUKVASHE_ERR_ACCOUNT_LENGTH},
     {0, "1010101010101010", "/012345678909", CUKVASHE_ERR_ACCOUNT_DIGIT},
     {0, "1010101010101010", "4012345678901234567", CUKVASHE_ERR_FORMAT},
     {0, "141234ffffffffff", zeros, CUKVASHE_ERR_FORMAT},
@@ -281,7 +307,12 @@ static const struct {
     {1, "041234fe09a51234", account, CUKVASHE_ERR_FORMAT},
     {1, "131234fe09a51234", account, CUKVASHE_ERR_PIN_LENGTH},
     {1, "14123afe09a51234", account, CUKVASHE_ERR_PIN_DIGIT},
-    {3, "041274b9f9b9d35d", "401234567890", CUKVASHE_ERR_ACCOUNT_LENGTH},
+    {2, "141234ffffffffff", account, CUKVASHE_ERR_FORMAT},
+    {2, "231234ffffffffff", account, CUKVASHE_ERR_PIN_LENGTH},
+    {2, "2d1234567890123f", account, CUKVASHE_ERR_PIN_LENGTH},
+    {2, "24123affffffffff", account, CUKVASHE_ERR_PIN_DIGIT},
+    {2, "241234fffffffffe", account, CUKVASHE_ERR_FILL},
+    {3, "041274b9f9b9d35d", "4012345", CUKVASHE_ERR_ACCOUNT_LENGTH},
     {3, "041274b9f9b9d35d", "/012345678909", CUKVASHE_ERR_ACCOUNT_DIGIT},
     {3, "041274b9f9b9d35d", account, CUKVASHE_ERR_FORMAT},
     {3, "331274b9f9b9d35d", account, CUKVASHE_ERR_PIN_LENGTH},
@@ -292,6 +323,7 @@ static const struct {
 
 static int decoded(int format, const uint8_t block[8], const char *of, char *pin) {
   if (format == 1) return cukvashe_pin_decode_1(block, pin);
+  if (format == 2) return cukvashe_pin_decode_2(block, pin);
   return (format == 0 ? cukvashe_pin_decode_0 : cukvashe_pin_decode_3)(block, TEXT(of), pin);
 }
 
@@ -339,13 +371,13 @@ static int fault_of(unsigned first, unsigned format) {
 }
 
 static void reads_first_bytes_of_each_format(void) {
-  static const int formats[] = {0, 1, 3};
+  static const int formats[] = {0, 1, 2, 3};
   uint8_t block[8];
   char pin[CUKVASHE_PIN_SIZE];
   put(block, "00123456789012ff");
   for (unsigned first = 0; first < 256; first++) {
     block[0] = (uint8_t)first;
-    for (int i = 0; i < 3; i++)
+    for (int i = 0; i < 4; i++)
       CHECK(decoded(formats[i], block, zeros, pin) == fault_of(first, (unsigned)formats[i]));
   }
 }
@@ -397,13 +429,15 @@ static void takes_lengths(void) {
     memset(digits, '7', sizeof digits);
     memset(digits + n, 'x', sizeof digits - n);
     const int of_pin = 4 <= n && n <= 12 ? CUKVASHE_OK : CUKVASHE_ERR_PIN_LENGTH;
-    const int of_account = 13 <= n && n <= 19 ? CUKVASHE_OK : CUKVASHE_ERR_ACCOUNT_LENGTH;
+    const int of_account = 8 <= n && n <= 19 ? CUKVASHE_OK : CUKVASHE_ERR_ACCOUNT_LENGTH;
+    const int of_card = 13 <= n && n <= 19 ? CUKVASHE_OK : CUKVASHE_ERR_ACCOUNT_LENGTH;
     CHECK(cukvashe_pin_encode_0(digits, n, TEXT(account), block) == of_pin);
     CHECK(cukvashe_pin_encode_1(digits, n, fill, block) == of_pin);
+    CHECK(cukvashe_pin_encode_2(digits, n, block) == of_pin);
     CHECK(cukvashe_pin_encode_3(digits, n, TEXT(account), fill, block) == of_pin);
     CHECK(cukvashe_pin_encode_0(TEXT("1234"), digits, n, block) == of_account);
     CHECK(cukvashe_pin_encode_3(TEXT("1234"), digits, n, fill, block) == of_account);
-    CHECK(cukvashe_cvv(key, digits, n, TEXT("8701"), TEXT("101"), value) == of_account);
+    CHECK(cukvashe_cvv(key, digits, n, TEXT("8701"), TEXT("101"), value) == of_card);
     CHECK(cukvashe_cvv(key, TEXT(account), digits, n, TEXT("101"), value) ==
           (n == 4 ? CUKVASHE_OK : CUKVASHE_ERR_EXPIRY_LENGTH));
     CHECK(cukvashe_cvv(key, TEXT(account), TEXT("8701"), digits, n, value) ==
@@ -424,6 +458,7 @@ static void takes_null_pointers(void) {
   CHECK(cukvashe_combine_24(key, other, NULL, 0, made) == CUKVASHE_OK);
   CHECK(cukvashe_pin_encode_0(NULL, 0, NULL, 0, block) == CUKVASHE_ERR_PIN_LENGTH);
   CHECK(cukvashe_pin_encode_1(NULL, 0, fill, block) == CUKVASHE_ERR_PIN_LENGTH);
+  CHECK(cukvashe_pin_encode_2(NULL, 0, block) == CUKVASHE_ERR_PIN_LENGTH);
   CHECK(cukvashe_pin_encode_3(NULL, 0, NULL, 0, fill, block) == CUKVASHE_ERR_PIN_LENGTH);
   CHECK(cukvashe_pin_encode_0(TEXT("1234"), NULL, 0, block) == CUKVASHE_ERR_ACCOUNT_LENGTH);
   CHECK(cukvashe_pin_encode_3(TEXT("1234"), NULL, 0, fill, block) == CUKVASHE_ERR_ACCOUNT_LENGTH);
@@ -436,12 +471,14 @@ static void takes_null_pointers(void) {
 
 int main(void) {
   answers_known_check_values();
+  answers_check_values_by_length();
   combines();
   sets_parity();
   answers_transactions();
   counts_transactions();
   begins_with_the_initial_key();
   answers_pin_blocks();
+  answers_blocks_of_cards_and_short_numbers();
   refuses_to_encode();
   refuses_fill();
   refuses_to_decode();

@@ -6,10 +6,12 @@
 enum { MOST = 33, PAINT = 0x77 };
 
 /* The statuses that a call returned. */
-static int was_returned[CUKVASHE_ERR_COUNTS + 1];
+enum { LAST = CUKVASHE_ERR_DATA_LENGTH };
+
+static int was_returned[LAST + 1];
 
 static int seen(int status) {
-  CHECK(0 <= status && status <= CUKVASHE_ERR_COUNTS);
+  CHECK(0 <= status && status <= LAST);
   was_returned[status] = 1;
   return status;
 }
@@ -138,7 +140,7 @@ static void returns_statuses(void) {
   CHECK(seen(cukvashe_pin_decode_0(block, account, 13, text)) == CUKVASHE_ERR_FORMAT);
   CHECK(seen(cukvashe_pin_encode_0("123", 3, account, 13, block)) == CUKVASHE_ERR_PIN_LENGTH);
   CHECK(seen(cukvashe_pin_encode_0("123a", 4, account, 13, block)) == CUKVASHE_ERR_PIN_DIGIT);
-  CHECK(seen(cukvashe_pin_encode_0("1234", 4, account, 12, block)) == CUKVASHE_ERR_ACCOUNT_LENGTH);
+  CHECK(seen(cukvashe_pin_encode_0("1234", 4, account, 7, block)) == CUKVASHE_ERR_ACCOUNT_LENGTH);
   CHECK(seen(cukvashe_pin_encode_0("1234", 4, "401234567890a", 13, block)) == CUKVASHE_ERR_ACCOUNT_DIGIT);
   CHECK(seen(cukvashe_pin_encode_3("1234", 4, account, 13, fill, block)) == CUKVASHE_ERR_FILL);
   CHECK(seen(cukvashe_cvv(key, account, 13, "870", 3, "101", 3, text)) == CUKVASHE_ERR_EXPIRY_LENGTH);
@@ -152,22 +154,43 @@ static void returns_statuses(void) {
   CHECK(seen(cukvashe_des_encrypt_each(key, 1, block, 1)) == CUKVASHE_ERR_BLOCKS);
 }
 
+/* Those of PIN verification, translation and card cryptograms. */
+static void returns_statuses_of_pins_and_cards(void) {
+  static const uint8_t key[16] = {0}, bytes[9] = {0};
+  static const char *const account = "4012345678909";
+  uint8_t made[16], block[8] = {0};
+  char text[13];
+  cukvashe_decimal_table table;
+  CHECK(seen(cukvashe_pvv(key, account, 13, 0, "1234", 4, text)) == CUKVASHE_ERR_KEY_INDEX);
+  CHECK(seen(cukvashe_pvv_verify(key, account, 13, 1, "1234", 4, "", 0)) == CUKVASHE_ERR_WRONG_PIN);
+  CHECK(seen(cukvashe_decimal_table_init(&table, "0", 1)) == CUKVASHE_ERR_TABLE_LENGTH);
+  CHECK(seen(cukvashe_decimal_table_init(&table, "012345678901234a", 16)) == CUKVASHE_ERR_TABLE_DIGIT);
+  CHECK(seen(cukvashe_decimal_table_init(&table, "0101010101010101", 16)) == CUKVASHE_ERR_TABLE_VARIETY);
+  CHECK(seen(cukvashe_pin_translate_to_0(key, 16, 2, key, 16, account, 13, block, made)) == CUKVASHE_ERR_FORMATS);
+  CHECK(seen(cukvashe_pin_translate_to_0(key, 16, 0, key, 16, account, 13, block, made)) == CUKVASHE_ERR_PIN_BLOCK);
+  CHECK(seen(cukvashe_emv_card_key(key, account, 13, "0", 1, made)) == CUKVASHE_ERR_SEQUENCE_LENGTH);
+  CHECK(seen(cukvashe_emv_card_key(key, account, 13, "0a", 2, made)) == CUKVASHE_ERR_SEQUENCE_DIGIT);
+  CHECK(seen(cukvashe_emv_response_2(key, block, bytes, bytes, 9, made)) == CUKVASHE_ERR_DATA_LENGTH);
+}
+
 /* Words that the sentence of each status has. */
 static const char *const words[] = {
     "success", "key does not have a length", "multiple of 8", "key is weak", "no padding method", "tag is not that",
     "no next key serial number", "PIN block format", "PIN does not have 4 to 12 digits", "character of the PIN",
-    "account number does not have 13 to 19 digits", "character of the account number", "fill digit",
+    "account number has fewer digits than the call takes", "character of the account number", "fill digit",
     "expiry date does not have four digits", "character of the expiry date", "service code does not have three digits",
     "character of the service code", "does not end with the padding", "no room for the padding",
-    "numbers of elements do not agree",
+    "numbers of elements do not agree", "index of the key pair", "table does not have sixteen digits", "character of the decimalization",
+    "fewer than eight different digits", "PIN is not the one", "no translation of PIN blocks", "PIN block is not one of its format",
+    "sequence number does not have two digits", "character of the sequence number", "more than 8 bytes",
 };
 
 /* Every status was returned by some call, and has a sentence of its own; other numbers have one sentence. */
 static void has_sentences(void) {
-  static const int others[] = {CUKVASHE_ERR_COUNTS + 1, -1, INT_MIN, INT_MAX, 256, 65536};
-  const char *unknown = cukvashe_strerror(CUKVASHE_ERR_COUNTS + 1);
+  static const int others[] = {LAST + 1, -1, INT_MIN, INT_MAX, 256, 65536};
+  const char *unknown = cukvashe_strerror(LAST + 1);
   CHECK(strstr(unknown, "no status") != NULL);
-  for (int status = 0; status <= CUKVASHE_ERR_COUNTS; status++) {
+  for (int status = 0; status <= LAST; status++) {
     const char *sentence = cukvashe_strerror(status);
     CHECK(was_returned[status]);
     CHECK(strstr(sentence, words[status]) != NULL && strcmp(sentence, unknown) != 0);
@@ -206,14 +229,17 @@ static void has_numbers(void) {
       CUKVASHE_ERR_TAG, CUKVASHE_ERR_NO_SERIAL, CUKVASHE_ERR_FORMAT, CUKVASHE_ERR_PIN_LENGTH, CUKVASHE_ERR_PIN_DIGIT,
       CUKVASHE_ERR_ACCOUNT_LENGTH, CUKVASHE_ERR_ACCOUNT_DIGIT, CUKVASHE_ERR_FILL, CUKVASHE_ERR_EXPIRY_LENGTH,
       CUKVASHE_ERR_EXPIRY_DIGIT, CUKVASHE_ERR_SERVICE_LENGTH, CUKVASHE_ERR_SERVICE_DIGIT, CUKVASHE_ERR_PADDING,
-      CUKVASHE_ERR_CAPACITY, CUKVASHE_ERR_COUNTS};
-  for (int i = 0; i < 20; i++) CHECK(statuses[i] == i);
-  CHECK(sizeof statuses / sizeof *statuses == 20);
+      CUKVASHE_ERR_CAPACITY, CUKVASHE_ERR_COUNTS, CUKVASHE_ERR_KEY_INDEX, CUKVASHE_ERR_TABLE_LENGTH, CUKVASHE_ERR_TABLE_DIGIT,
+      CUKVASHE_ERR_TABLE_VARIETY, CUKVASHE_ERR_WRONG_PIN, CUKVASHE_ERR_FORMATS, CUKVASHE_ERR_PIN_BLOCK, CUKVASHE_ERR_SEQUENCE_LENGTH,
+      CUKVASHE_ERR_SEQUENCE_DIGIT, CUKVASHE_ERR_DATA_LENGTH};
+  for (int i = 0; i < 30; i++) CHECK(statuses[i] == i);
+  CHECK(sizeof statuses / sizeof *statuses == 30);
   CHECK(CUKVASHE_BLOCK_SIZE == 8 && CUKVASHE_TAG_SIZE == 8);
   CHECK(CUKVASHE_DES_KEY_SIZE == 8 && CUKVASHE_TDES_EDE2_KEY_SIZE == 16 && CUKVASHE_TDES_EDE3_KEY_SIZE == 24);
   CHECK(CUKVASHE_CBC_MAC_DES_KEY_SIZE == 8 && CUKVASHE_CBC_MAC_TDES_EDE2_KEY_SIZE == 16);
   CHECK(CUKVASHE_CBC_MAC_TDES_EDE3_KEY_SIZE == 24 && CUKVASHE_RETAIL_MAC_DES_KEY_SIZE == 16);
   CHECK(CUKVASHE_CMAC_TDES_EDE2_KEY_SIZE == 16 && CUKVASHE_CMAC_TDES_EDE3_KEY_SIZE == 24);
+  CHECK(CUKVASHE_SHORT_CHECK_VALUE_SIZE == 2 && CUKVASHE_PVV_SIZE == 5);
   CHECK(CUKVASHE_CHECK_VALUE_SIZE == 3 && CUKVASHE_DUKPT_KEY_SIZE == 16 && CUKVASHE_DUKPT_SERIAL_SIZE == 10);
   CHECK(CUKVASHE_FILL_SIZE == 10 && CUKVASHE_PIN_SIZE == 13 && CUKVASHE_CVV_SIZE == 4);
   CHECK(CUKVASHE_PKCS7 == 11 && CUKVASHE_ISO7816 == 12);
@@ -222,6 +248,7 @@ static void has_numbers(void) {
   CHECK(sizeof(cukvashe_cbc_mac_des) == 168 && sizeof(cukvashe_cbc_mac_tdes_ede2) == 296);
   CHECK(sizeof(cukvashe_cbc_mac_tdes_ede3) == 424 && sizeof(cukvashe_retail_mac_des) == 304);
   CHECK(sizeof(cukvashe_cmac_tdes_ede2) == 296 && sizeof(cukvashe_cmac_tdes_ede3) == 424);
+  CHECK(sizeof(cukvashe_dukpt_terminal) == 346 && sizeof(cukvashe_decimal_table) == 16);
   CHECK(strcmp(cukvashe_version(), CUKVASHE_VERSION) == 0);
 }
 
@@ -247,6 +274,7 @@ int main(void) {
   }
   for (int n = 0; n < MACS; n++) refuses_macs(&macs[n]);
   returns_statuses();
+  returns_statuses_of_pins_and_cards();
   has_sentences();
   has_numbers();
   has_words();

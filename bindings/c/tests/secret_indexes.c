@@ -1,8 +1,8 @@
 /*
  * Under valgrind, with keys, vectors and data marked undefined: memcheck reports where an index or a branch depends on them.
  * `secret_indexes calls` runs the calls that must give no report; each other word runs one that must give one: `short`, a list that
- * goes by tables, and `rest`, a list whose rest does, `chain` and `message`, of quick contexts, which all read them so; `cvv`, which
- * branches on the digits that the key makes; and `planted`, a lookup here.
+ * goes by tables, and `rest`, a list whose rest does, `chain` and `message`, of quick contexts, which all read them so; `pin`, which
+ * branches on whether the characters of the PIN are digits; and `planted`, a lookup here.
  */
 #include "mac_calls.h"
 #include <valgrind/memcheck.h>
@@ -112,9 +112,12 @@ static void others(void) {
   CHECK(cukvashe_pad(data, 21, sizeof data, CUKVASHE_ISO7816, &padded) == CUKVASHE_OK);
   cukvashe_wipe(data, sizeof data);
   hide(key, 16);
+  cukvashe_set_odd_parity(key, 16);
   cukvashe_dukpt_pin_key(key, other);
   cukvashe_dukpt_mac_key(key, false, other);
   cukvashe_dukpt_mac_key(key, true, other);
+  cukvashe_dukpt_data_variant(key, false, other);
+  cukvashe_dukpt_data_variant(key, true, other);
 }
 
 /* Records, both ways, under a context that INIT makes. */
@@ -196,12 +199,57 @@ static void calls_of_one_key(void) {
   cukvashe_dukpt_transaction_key(data, serial, other);
   cukvashe_dukpt_data_key(other, false, data);
   cukvashe_dukpt_data_key(other, true, data);
+  for (size_t length = 8; length <= 24; length += 8) {
+    CHECK(cukvashe_key_check_value(key, length, data) == CUKVASHE_OK);
+    CHECK(cukvashe_short_key_check_value(key, length, data) == CUKVASHE_OK);
+  }
 }
 
-static void value_of_card(void) {
-  char value[4];
+/* The first transactions of a terminal, whose key serial number is no secret. */
+static void transactions_of_a_terminal(void) {
+  static const uint8_t before[10] = {0xff, 0xff, 0x98, 0x76, 0x54, 0x32, 0x10, 0xe0, 0x00, 0x00};
+  cukvashe_dukpt_terminal terminal;
+  uint8_t serial[10];
   hide(key, sizeof key);
-  CHECK(is_status(cukvashe_cvv(key, "4123456789012345", 16, "8701", 4, "101", 3, value), CUKVASHE_OK));
+  cukvashe_dukpt_terminal_init(&terminal, key, before);
+  for (int i = 0; i < 40; i++) CHECK(cukvashe_dukpt_terminal_next_key(&terminal, serial, other) == CUKVASHE_OK);
+}
+
+/* Values that depend on the key, of a card, and of a PIN that is no secret here. Verifications are left out: they make the same values,
+   and at last branch on whether the PIN is right, which they tell. */
+static void values_of_cards(void) {
+  static const char *const account = "4123456789012345";
+  cukvashe_decimal_table table;
+  char value[CUKVASHE_PVV_SIZE], pin[CUKVASHE_PIN_SIZE];
+  hide(key, sizeof key);
+  hide(data, 8);
+  CHECK(cukvashe_cvv(key, account, 16, "8701", 4, "101", 3, value) == CUKVASHE_OK);
+  CHECK(cukvashe_pvv(key, account, 16, 1, "1234", 4, value) == CUKVASHE_OK);
+  CHECK(cukvashe_decimal_table_init(&table, "8351296477461538", 16) == CUKVASHE_OK);
+  for (size_t length = 8; length <= 24; length += 8) {
+    CHECK(cukvashe_natural_pin(key, length, &table, data, 12, pin) == CUKVASHE_OK);
+    CHECK(cukvashe_pin_offset(key, length, &table, data, "123456", 6, pin) == CUKVASHE_OK);
+  }
+}
+
+/* Keys of a card, cryptograms of hidden data, and responses. */
+static void cryptograms_of_a_card(void) {
+  static const uint8_t code[4] = {'0', '0'};
+  uint8_t card[16], session[16];
+  hide(key, sizeof key);
+  hide(data, 100);
+  CHECK(cukvashe_emv_card_key(key, "4123456789012345", 16, "01", 2, card) == CUKVASHE_OK);
+  cukvashe_emv_application_key(card, data, session);
+  cukvashe_emv_session_key(card, data, session);
+  for (size_t length = 0; length < 20; length++) cukvashe_emv_application_cryptogram(session, data, length, other);
+  cukvashe_emv_response_1(session, other, code, data);
+  CHECK(cukvashe_emv_response_2(session, other, code, data, 8, iv) == CUKVASHE_OK);
+}
+
+static void pin_of_a_card(void) {
+  char digits[4] = {'1', '2', '3', '4'};
+  (void)VALGRIND_MAKE_MEM_UNDEFINED(digits, sizeof digits);
+  CHECK(is_status(cukvashe_pin_encode_2(digits, sizeof digits, data), CUKVASHE_OK));
 }
 
 static void list_of(size_t count) {
@@ -242,6 +290,9 @@ int main(int count, char **words) {
     for (int n = 0; n < 2 * MACS; n++) quiet_message(&macs[n / 2], n % 2 + 1);
     others();
     calls_of_one_key();
+    transactions_of_a_terminal();
+    values_of_cards();
+    cryptograms_of_a_card();
     lists_of_keys();
   } else if (strcmp(words[1], "short") == 0) {
     list_of(18);
@@ -251,8 +302,8 @@ int main(int count, char **words) {
     chain_of_one();
   } else if (strcmp(words[1], "message") == 0) {
     message_of_two();
-  } else if (strcmp(words[1], "cvv") == 0) {
-    value_of_card();
+  } else if (strcmp(words[1], "pin") == 0) {
+    pin_of_a_card();
   } else {
     CHECK(strcmp(words[1], "planted") == 0);
     planted();

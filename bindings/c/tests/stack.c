@@ -17,7 +17,9 @@ struct work {
 };
 
 static uint8_t key[24], iv[8], blocks[8 * LIST], others[8 * LIST];
-static char pin[CUKVASHE_PIN_SIZE], value[CUKVASHE_CVV_SIZE];
+static char pin[CUKVASHE_PIN_SIZE], value[CUKVASHE_PVV_SIZE];
+static uint8_t sent[8]; /* a PIN block that is encrypted under the key, so that it is translated */
+static cukvashe_dukpt_terminal terminal;
 static union context context;
 static union mac_context mac;
 static uint8_t *stack;
@@ -61,7 +63,7 @@ static void of_mac(const struct work *work) {
   }
 }
 
-enum { OF_KEY = 15 };
+enum { OF_KEY = 26 };
 
 static void of_key(const struct work *work) {
   static const uint8_t serial[10] = {0xff, 0xff, 0x98, 0x76, 0x54, 0x32, 0x10, 0xef, 0xf8};
@@ -80,6 +82,17 @@ static void of_key(const struct work *work) {
     case 11: returned = cukvashe_dukpt_is_usable(serial); break;
     case 12: returned = cukvashe_dukpt_next_serial(serial, others); break;
     case 13: cukvashe_wipe(others, sizeof others); break;
+    case 14: returned = cukvashe_key_check_value(key, 24, others); break;
+    case 15: returned = cukvashe_short_key_check_value(key, 24, others); break;
+    case 16: cukvashe_dukpt_data_variant(key, true, others); break;
+    case 17: cukvashe_dukpt_terminal_init(&terminal, key, serial); break;
+    case 18: returned = cukvashe_dukpt_terminal_next_key(&terminal, blocks, others); break;
+    case 19: returned = cukvashe_emv_card_key(key, "4012345678909", 13, "00", 2, others); break;
+    case 20: cukvashe_emv_application_key(key, iv, others); break;
+    case 21: cukvashe_emv_session_key(key, iv, others); break;
+    case 22: cukvashe_emv_application_cryptogram(key, blocks, sizeof blocks, others); break;
+    case 23: cukvashe_emv_response_1(key, iv, key, others); break;
+    case 24: returned = cukvashe_emv_response_2(key, iv, key, blocks, 8, others); break;
     default: returned = cukvashe_strerror(3)[0] + cukvashe_version()[0]; break;
   }
 }
@@ -139,11 +152,12 @@ static void of_record(const struct work *work) {
   }
 }
 
-enum { OF_TEXT = 9 };
+enum { OF_TEXT = 20 };
 
 static void of_text(const struct work *work) {
   static const char *const account = "4012345678909", *const digits = "123456789012";
   static const uint8_t fill[10] = {10, 11, 12, 13, 14, 15, 10, 11, 12, 13};
+  static cukvashe_decimal_table table;
   size_t length;
   switch (work->call) {
     case 0: returned = cukvashe_pin_encode_0(digits, 12, account, 13, blocks); break;
@@ -153,7 +167,18 @@ static void of_text(const struct work *work) {
     case 4: returned = cukvashe_pin_encode_3(digits, 12, account, 13, fill, blocks); break;
     case 5: returned = cukvashe_pin_decode_3(blocks, account, 13, pin); break;
     case 6: returned = cukvashe_cvv(key, account, 13, "8701", 4, "101", 3, value); break;
-    case 7: returned = cukvashe_pad(blocks, 77, sizeof blocks, CUKVASHE_PKCS7, &length); break;
+    case 7: returned = cukvashe_pin_encode_2(digits, 12, blocks); break;
+    case 8: returned = cukvashe_pin_decode_2(blocks, pin); break;
+    case 9: returned = cukvashe_decimal_table_init_any(&table, "0000000000000000", 16); break;
+    case 10: returned = cukvashe_decimal_table_init(&table, "0123456789012345", 16); break;
+    case 11: returned = cukvashe_natural_pin(key, 24, &table, blocks, 12, pin); break;
+    case 12: returned = cukvashe_pin_offset(key, 24, &table, blocks, digits, 12, pin); break;
+    case 13: returned = cukvashe_pin_offset_verify(key, 24, &table, blocks, digits, 12, digits, 12); break;
+    case 14: returned = cukvashe_pvv(key, account, 13, 1, digits, 12, value); break;
+    case 15: returned = cukvashe_pvv_verify(key, account, 13, 1, digits, 12, digits, 4); break;
+    case 16: returned = cukvashe_pin_translate_to_0(key, 24, 0, key, 24, account, 13, sent, others); break;
+    case 17: returned = cukvashe_pin_translate_to_3(key, 24, 0, key, 24, account, 13, fill, sent, others); break;
+    case 18: returned = cukvashe_pad(blocks, 77, sizeof blocks, CUKVASHE_PKCS7, &length); break;
     default: returned = cukvashe_unpad(blocks, 80, CUKVASHE_PKCS7, &length); break;
   }
 }
@@ -222,6 +247,9 @@ int main(void) {
   stack = (uint8_t *)aligned;
   random_bytes(key, sizeof key);
   random_bytes(others, sizeof others);
+  CHECK(cukvashe_pin_encode_0("1234", 4, "4012345678909", 13, sent) == CUKVASHE_OK);
+  CHECK(ciphers[EDE3].init(&context, key, sizeof key) == CUKVASHE_OK);
+  CHECK(cukvashe_tdes_ede3_encrypt_ecb(&context.tdes_ede3, sent, sizeof sent) == CUKVASHE_OK);
   (void)used_by(&nothing); /* the first thread takes more, since names are bound in it */
   none = used_by(&nothing);
   for (int cipher = 0; cipher < CIPHERS; cipher++)

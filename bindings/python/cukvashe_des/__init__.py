@@ -21,8 +21,12 @@ Messages are authenticated by objects as those of `hmac`, with `update`, `digest
 other programs on the processor could learn; single blocks, CBC encryption and MACs then take about three times as long. That is
 tested on x86-64; on aarch64 nothing is claimed of addresses.
 
-`check_value` and `combine` make check values and keys of components, the calls named `dukpt_` the keys of a transaction,
-those named `pin_` PIN blocks, which are not encrypted, and `cvv` card verification values.
+`check_value` and `combine` make check values and keys of components, the calls named `dukpt_` the keys of a transaction, and
+`DukptTerminal` those of a terminal's transactions. The calls named `pin_` make PIN blocks, which are not encrypted,
+`pin_translate_to_0` and `pin_translate_to_3` translate encrypted ones, `cvv` makes card verification values, those named `emv_`
+keys of cards and cryptograms. A PIN is verified by its value or its offset; a call that verifies returns nothing for the right PIN:
+
+    cukvashe_des.pvv_verify(key, account, 1, pin, value)    # WrongPin, a ValueError, if it is not the one
 
 Lists go in one call: `encrypt_each` and `decrypt_each` with a key for each block, `check_values` of many keys and
 `dukpt_transaction_keys` of many key serial numbers. They take arrays of `uint8` or of words `>u8`, as of shape (n, 8) or
@@ -55,27 +59,48 @@ from ._faults import (
     BlockLength,
     Closed,
     CountMismatch,
+    DataLength,
     ExpiryDigit,
     ExpiryLength,
     Fill,
     FillLength,
     Format,
+    Formats,
+    KeyIndex,
     KeyLength,
+    NoSerial,
     PaddingMethod,
     PaddingMismatch,
+    PinBlock,
     PinDigit,
     PinLength,
+    SequenceDigit,
+    SequenceLength,
     SerialLength,
     ServiceDigit,
     ServiceLength,
+    StateLength,
+    TableDigit,
+    TableLength,
+    TableVariety,
     TagMismatch,
     VectorLength,
     WeakKey,
+    WrongPin,
+)
+from ._emv import (
+    emv_application_cryptogram,
+    emv_application_key,
+    emv_card_key,
+    emv_response_1,
+    emv_response_2,
+    emv_session_key,
 )
 from ._keys import (
     check_value,
     combine,
     dukpt_data_key,
+    dukpt_data_variant,
     dukpt_initial_key,
     dukpt_is_usable,
     dukpt_mac_key,
@@ -84,6 +109,8 @@ from ._keys import (
     dukpt_transaction_key,
     equal_but_parity,
     is_weak_key,
+    key_check_value,
+    short_key_check_value,
     with_odd_parity,
 )
 from ._lists import (
@@ -101,19 +128,38 @@ from ._lists import (
 )
 from ._macs import TAG_SIZE, CbcMacDes, CbcMacTdesEde2, CbcMacTdesEde3, CmacTdesEde2, CmacTdesEde3, RetailMacDes
 from ._padding import pad, unpad
-from ._payment import cvv, pin_decode_0, pin_decode_1, pin_decode_3, pin_encode_0, pin_encode_1, pin_encode_3
+from ._payment import (
+    cvv,
+    pin_decode_0,
+    pin_decode_1,
+    pin_decode_2,
+    pin_decode_3,
+    pin_encode_0,
+    pin_encode_1,
+    pin_encode_2,
+    pin_encode_3,
+    pin_translate_to_0,
+    pin_translate_to_3,
+)
+from ._terminal import DukptTerminal
+from ._verification import DecimalTable, natural_pin, pin_offset, pin_offset_verify, pvv, pvv_verify
 from ._version import __version__
 
 __all__ = [
     "AccountDigit", "AccountLength", "BLOCK_SIZE", "BlockLength", "CbcMacDes", "CbcMacTdesEde2", "CbcMacTdesEde3", "Closed",
-    "CmacTdesEde2", "CmacTdesEde3", "CountMismatch", "Des", "ExpiryDigit", "ExpiryLength", "Fill", "FillLength", "Format",
-    "KeyLength", "PaddingMethod", "PaddingMismatch", "PinDigit", "PinLength", "RetailMacDes", "SerialLength", "ServiceDigit",
-    "ServiceLength", "TAG_SIZE", "TagMismatch", "TdesEde2", "TdesEde3", "VectorLength", "WeakKey", "__version__", "check_value",
-    "check_values", "combine", "cvv", "decrypt_cbc_records", "decrypt_each", "decrypt_each_into", "dukpt_data_key",
+    "CmacTdesEde2", "CmacTdesEde3", "CountMismatch", "DataLength", "DecimalTable", "Des", "DukptTerminal", "ExpiryDigit",
+    "ExpiryLength", "Fill", "FillLength", "Format", "Formats", "KeyIndex", "KeyLength", "NoSerial", "PaddingMethod",
+    "PaddingMismatch", "PinBlock", "PinDigit", "PinLength", "RetailMacDes", "SequenceDigit", "SequenceLength", "SerialLength",
+    "ServiceDigit", "ServiceLength", "StateLength", "TAG_SIZE", "TableDigit", "TableLength", "TableVariety", "TagMismatch",
+    "TdesEde2", "TdesEde3", "VectorLength", "WeakKey", "WrongPin", "__version__", "check_value", "check_values", "combine",
+    "cvv", "decrypt_cbc_records", "decrypt_each", "decrypt_each_into", "dukpt_data_key", "dukpt_data_variant",
     "dukpt_initial_key", "dukpt_is_usable", "dukpt_mac_key", "dukpt_next_serial", "dukpt_pin_key", "dukpt_transaction_key",
-    "dukpt_transaction_keys", "encrypt_cbc_records", "encrypt_each", "encrypt_each_into", "equal_but_parity", "is_weak_key",
-    "macs", "macs_each", "pad", "pin_decode_0", "pin_decode_1", "pin_decode_3", "pin_encode_0", "pin_encode_1", "pin_encode_3",
-    "unpad", "with_odd_parity", "wrong_tags",
+    "dukpt_transaction_keys", "emv_application_cryptogram", "emv_application_key", "emv_card_key", "emv_response_1",
+    "emv_response_2", "emv_session_key", "encrypt_cbc_records", "encrypt_each", "encrypt_each_into", "equal_but_parity",
+    "is_weak_key", "key_check_value", "macs", "macs_each", "natural_pin", "pad", "pin_decode_0", "pin_decode_1", "pin_decode_2",
+    "pin_decode_3", "pin_encode_0", "pin_encode_1", "pin_encode_2", "pin_encode_3", "pin_offset", "pin_offset_verify",
+    "pin_translate_to_0", "pin_translate_to_3", "pvv", "pvv_verify", "short_key_check_value", "unpad", "with_odd_parity",
+    "wrong_tags",
 ]
 
 # Texts of errors and of `help` name the package, and not the file that defines a class.

@@ -5,7 +5,7 @@ from __future__ import annotations
 import contextlib
 import ctypes
 import re
-from typing import TYPE_CHECKING, Any, Iterator, NoReturn, Optional, Tuple, TypeVar, Union
+from typing import TYPE_CHECKING, Any, Iterator, NoReturn, Optional, Tuple, Type, TypeVar, Union
 
 from ._faults import BlockLength, Closed, KeyLength, VectorLength
 from ._library import wipe
@@ -66,6 +66,21 @@ def block_of(block: ReadableBuffer) -> Iterator[Any]:
         if len(held) != BLOCK_SIZE:
             raise BlockLength(f"a PIN block has {BLOCK_SIZE} bytes, not {len(held)}")
         yield held
+
+
+def data_of(data: ReadableBuffer, size: int, what: str, fault: Type[ValueError]) -> bytes:
+    """The bytes of data that have one length, and no other."""
+    taken = bytes_of(data)
+    if len(taken) != size:
+        raise fault(f"{what} {size} bytes, not {len(taken)}")
+    return taken
+
+
+def number_of(number: int, least: int, most: int) -> int:
+    """A number that a call takes, or 2 ** 31 - 1, which it refuses: C would cut off the bits that it has no room for."""
+    if not isinstance(number, int) or isinstance(number, bool):
+        raise TypeError("a format, an index and a length of a PIN are numbers")
+    return int(number) if least <= number <= most else 2**31 - 1
 
 
 @contextlib.contextmanager
@@ -174,10 +189,10 @@ def _wipe_context(context: Any) -> None:
     wipe(context, ctypes.sizeof(context))
 
 
-def context_type(words: int) -> Any:
-    """A type of contexts. A context is wiped when the last that uses it lets it go, be it an object or a call that still
-    runs in another thread."""
-    return type("Context", (ctypes.c_uint64 * words,), {"__del__": _wipe_context})
+def context_type(count: int, element: Any = ctypes.c_uint64) -> Any:
+    """A type of contexts, of words or else of bytes. A context is wiped when the last that uses it lets it go, be it an object
+    or a call that still runs in another thread."""
+    return type("Context", (element * count,), {"__del__": _wipe_context})
 
 
 _Self = TypeVar("_Self", bound="Keyed")

@@ -31,6 +31,14 @@ class SerialLength(ValueError):
     """A key serial number does not have ten bytes."""
 
 
+class NoSerial(ValueError):
+    """A terminal has had its last transaction."""
+
+
+class StateLength(ValueError):
+    """The state of a terminal does not have 346 bytes."""
+
+
 class CountMismatch(ValueError):
     """Numbers of elements do not agree: lists differ in length, or counts or lengths do not add up to what is given."""
 
@@ -60,7 +68,7 @@ class PinDigit(ValueError):
 
 
 class AccountLength(ValueError):
-    """An account number does not have 13 to 19 digits."""
+    """An account number has fewer digits than the call takes, or more than 19."""
 
 
 class AccountDigit(ValueError):
@@ -91,17 +99,67 @@ class ServiceDigit(ValueError):
     """A character of a service code is not a digit."""
 
 
+class KeyIndex(ValueError):
+    """The index of a key pair is none of 1 to 6."""
+
+
+class TableLength(ValueError):
+    """A decimalization table does not have sixteen digits."""
+
+
+class TableDigit(ValueError):
+    """A character of a decimalization table is not a digit."""
+
+
+class TableVariety(ValueError):
+    """A decimalization table has fewer than eight different digits."""
+
+
+class WrongPin(ValueError):
+    """A PIN is not the one."""
+
+
+class Formats(ValueError):
+    """There is no translation of PIN blocks from this format."""
+
+
+class PinBlock(ValueError):
+    """Decrypted, a PIN block is not one of its format and account number."""
+
+
+class SequenceLength(ValueError):
+    """The sequence number of a card does not have two digits."""
+
+
+class SequenceDigit(ValueError):
+    """A character of the sequence number of a card is not a digit."""
+
+
+class DataLength(ValueError):
+    """Data of a card cryptogram do not have the number of bytes that the call takes."""
+
+
 _FAULTS: Dict[int, Tuple[Type[ValueError], str]] = {
     _library.FORMAT: (Format, "the PIN block is of another format"),
     _library.PIN_LENGTH: (PinLength, "a PIN has 4 to 12 digits"),
     _library.PIN_DIGIT: (PinDigit, "a PIN has digits alone"),
-    _library.ACCOUNT_LENGTH: (AccountLength, "an account number has 13 to 19 digits"),
+    _library.ACCOUNT_LENGTH: (AccountLength, "an account number has 8 to 19 digits, for a PVV 12 to 19, for a CVV 13 to 19"),
     _library.ACCOUNT_DIGIT: (AccountDigit, "an account number has digits alone"),
     _library.FILL: (Fill, "a fill digit is none of those of the format"),
     _library.EXPIRY_LENGTH: (ExpiryLength, "an expiry date has four digits"),
     _library.EXPIRY_DIGIT: (ExpiryDigit, "an expiry date has digits alone"),
     _library.SERVICE_LENGTH: (ServiceLength, "a service code has three digits"),
     _library.SERVICE_DIGIT: (ServiceDigit, "a service code has digits alone"),
+    _library.KEY_INDEX: (KeyIndex, "the index of a key pair is 1 to 6"),
+    _library.TABLE_LENGTH: (TableLength, "a decimalization table has sixteen digits"),
+    _library.TABLE_DIGIT: (TableDigit, "a decimalization table has digits alone"),
+    _library.TABLE_VARIETY: (TableVariety, "a decimalization table has at least eight different digits"),
+    _library.WRONG_PIN: (WrongPin, "the PIN is not the one"),
+    _library.FORMATS: (Formats, "PIN blocks are translated from formats 0, 1 and 3"),
+    _library.PIN_BLOCK: (PinBlock, "the PIN block is not one of its format and account number"),
+    _library.SEQUENCE_LENGTH: (SequenceLength, "a sequence number has two digits"),
+    _library.SEQUENCE_DIGIT: (SequenceDigit, "a sequence number has digits alone"),
+    _library.DATA_LENGTH: (DataLength, "the data of an issuer have at most 8 bytes"),
 }
 
 

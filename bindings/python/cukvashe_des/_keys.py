@@ -13,37 +13,40 @@ from ._library import BOOL, INT, OK, POINTER, SIZE, WEAK_KEY, function
 if TYPE_CHECKING:
     from _typeshed import ReadableBuffer
 
-_SIZES = (8, 16, 24)
+KEY_SIZES = (8, 16, 24)
 
 _weak_key_test = function("weak_key_test", INT, POINTER, SIZE)
 _set_odd_parity = function("set_odd_parity", None, POINTER, SIZE)
 _equal_but_parity = function("equal_but_parity", BOOL, POINTER, POINTER, SIZE)
-_combine = {size: function(f"combine_{size}", INT, POINTER, POINTER, POINTER, SIZE, POINTER) for size in _SIZES}
+_combine = {size: function(f"combine_{size}", INT, POINTER, POINTER, POINTER, SIZE, POINTER) for size in KEY_SIZES}
 _initial_key = function("dukpt_initial_key", None, POINTER, POINTER, POINTER)
 _transaction_key = function("dukpt_transaction_key", None, POINTER, POINTER, POINTER)
 _pin_key = function("dukpt_pin_key", None, POINTER, POINTER)
 _mac_key = function("dukpt_mac_key", None, POINTER, BOOL, POINTER)
 _data_key = function("dukpt_data_key", None, POINTER, BOOL, POINTER)
+_data_variant = function("dukpt_data_variant", None, POINTER, BOOL, POINTER)
+_key_check_value = function("key_check_value", INT, POINTER, SIZE, POINTER)
+_short_key_check_value = function("short_key_check_value", INT, POINTER, SIZE, POINTER)
 _next_serial = function("dukpt_next_serial", INT, POINTER, POINTER)
 _is_usable = function("dukpt_is_usable", BOOL, POINTER)
 
 
 def is_weak_key(key: ReadableBuffer) -> bool:
     """Whether a key of 8, 16 or 24 bytes is weak: a part of it has few different round keys, or two parts are one key."""
-    with key_of(key, *_SIZES) as held:
+    with key_of(key, *KEY_SIZES) as held:
         return bool(_weak_key_test(held, len(held)) == WEAK_KEY)
 
 
 def with_odd_parity(key: ReadableBuffer) -> bytes:
     """The key of 8, 16 or 24 bytes with its parity bits, the lowest of each byte, set to odd parity."""
-    with key_of(key, *_SIZES) as held:
+    with key_of(key, *KEY_SIZES) as held:
         _set_odd_parity(held, len(held))
         return bytes(held)
 
 
 def equal_but_parity(first: ReadableBuffer, second: ReadableBuffer) -> bool:
     """Whether two keys of one length, 8, 16 or 24 bytes, agree in all but their parity bits, and so are one key."""
-    with key_of(first, *_SIZES) as one, key_of(second, len(one)) as other:
+    with key_of(first, *KEY_SIZES) as one, key_of(second, len(one)) as other:
         return bool(_equal_but_parity(one, other, len(one)))
 
 
@@ -55,9 +58,27 @@ def check_value(cipher: Type[Cipher], key: ReadableBuffer) -> bytes:
     return bytes(value)
 
 
+def _value_by_length(call: Callable[..., Any], size: int, key: ReadableBuffer) -> bytes:
+    """The check value that a call makes of a key of any of the lengths."""
+    value = room(size)
+    with key_of(key, *KEY_SIZES) as held:
+        call(held, len(held), value)
+    return bytes(value)
+
+
+def key_check_value(key: ReadableBuffer) -> bytes:
+    """The check value of a key of 8, 16 or 24 bytes, or of a component of one, by its length: by DES, or by triple DES (EDE)."""
+    return _value_by_length(_key_check_value, 3, key)
+
+
+def short_key_check_value(key: ReadableBuffer) -> bytes:
+    """The first two bytes of key_check_value, which some systems show in its place."""
+    return _value_by_length(_short_key_check_value, 2, key)
+
+
 def combine(first: ReadableBuffer, second: ReadableBuffer, *others: ReadableBuffer) -> bytes:
     """The key that two or more components of 8, 16 or 24 bytes make: their xor, with odd parity. A weak one is WeakKey."""
-    with key_of(first, *_SIZES) as one, key_of(second, len(one)) as other:
+    with key_of(first, *KEY_SIZES) as one, key_of(second, len(one)) as other:
         size = len(one)
         key = room(size)
         with wiped_room(size * len(others)) as more:
@@ -70,7 +91,7 @@ def combine(first: ReadableBuffer, second: ReadableBuffer, *others: ReadableBuff
     return bytes_from(key)
 
 
-def _serial_of(serial: ReadableBuffer) -> bytes:
+def serial_of(serial: ReadableBuffer) -> bytes:
     """The bytes of a key serial number."""
     taken = bytes_of(serial)
     if len(taken) != 10:
@@ -78,7 +99,7 @@ def _serial_of(serial: ReadableBuffer) -> bytes:
     return taken
 
 
-def _made(call: Callable[..., Any], key: ReadableBuffer, *others: Any) -> bytes:
+def made_of_key(call: Callable[..., Any], key: ReadableBuffer, *others: Any) -> bytes:
     """A key of 16 bytes that a call makes of another."""
     answer = room(16)
     with key_of(key, 16) as held:
@@ -95,36 +116,42 @@ def _response(is_response: bool) -> bool:
 
 def dukpt_initial_key(base: ReadableBuffer, serial: ReadableBuffer) -> bytes:
     """The initial key of a terminal, from the base derivation key and a key serial number (ANSI X9.24-1:2009)."""
-    return _made(_initial_key, base, _serial_of(serial))
+    return made_of_key(_initial_key, base, serial_of(serial))
 
 
 def dukpt_transaction_key(initial: ReadableBuffer, serial: ReadableBuffer) -> bytes:
     """The key of a transaction, from the terminal's initial key and the transaction's key serial number. Every counter is
     taken; that of 0 gives the initial key itself: ask dukpt_is_usable first."""
-    return _made(_transaction_key, initial, _serial_of(serial))
+    return made_of_key(_transaction_key, initial, serial_of(serial))
 
 
 def dukpt_pin_key(transaction: ReadableBuffer) -> bytes:
     """The key that encrypts PIN blocks, from the transaction's key."""
-    return _made(_pin_key, transaction)
+    return made_of_key(_pin_key, transaction)
 
 
 def dukpt_mac_key(transaction: ReadableBuffer, is_response: bool = False) -> bytes:
     """The key that authenticates the request, or the response, from the transaction's key."""
-    return _made(_mac_key, transaction, _response(is_response))
+    return made_of_key(_mac_key, transaction, _response(is_response))
 
 
 def dukpt_data_key(transaction: ReadableBuffer, is_response: bool = False) -> bytes:
     """The key that encrypts the data of the request, or of the response, from the transaction's key."""
-    return _made(_data_key, transaction, _response(is_response))
+    return made_of_key(_data_key, transaction, _response(is_response))
+
+
+def dukpt_data_variant(transaction: ReadableBuffer, is_response: bool = False) -> bytes:
+    """The key that dukpt_data_key makes, without its last step: some terminals encrypt data under it. Whoever has it has the
+    transaction's other keys."""
+    return made_of_key(_data_variant, transaction, _response(is_response))
 
 
 def dukpt_next_serial(serial: ReadableBuffer) -> Optional[bytes]:
     """The next key serial number with at most ten one bits in its counter, or None where there is none."""
     following = room(10)
-    return bytes(following) if _next_serial(_serial_of(serial), following) == OK else None
+    return bytes(following) if _next_serial(serial_of(serial), following) == OK else None
 
 
 def dukpt_is_usable(serial: ReadableBuffer) -> bool:
     """Whether a transaction has this key serial number: its counter is not 0 and has at most ten one bits."""
-    return bool(_is_usable(_serial_of(serial)))
+    return bool(_is_usable(serial_of(serial)))

@@ -1,11 +1,12 @@
-"""PIN blocks (ISO 9564-1) and card verification values."""
+"""PIN blocks (ISO 9564-1), their translation, and card verification values."""
 
 from __future__ import annotations
 
 from typing import TYPE_CHECKING, Any, Callable, Union
 
-from ._data import BLOCK_SIZE, block_of, bytes_from, bytes_of, key_of, room, text_of
+from ._data import BLOCK_SIZE, block_of, bytes_from, bytes_of, key_of, number_of, room, text_of
 from ._faults import FillLength, check
+from ._keys import KEY_SIZES
 from ._library import INT, POINTER, SIZE, function
 
 if TYPE_CHECKING:
@@ -18,10 +19,14 @@ _CVV_SIZE = 4
 
 _encode_0 = function("pin_encode_0", INT, POINTER, SIZE, POINTER, SIZE, POINTER)
 _encode_1 = function("pin_encode_1", INT, POINTER, SIZE, POINTER, POINTER)
+_encode_2 = function("pin_encode_2", INT, POINTER, SIZE, POINTER)
 _encode_3 = function("pin_encode_3", INT, POINTER, SIZE, POINTER, SIZE, POINTER, POINTER)
 _decode_0 = function("pin_decode_0", INT, POINTER, POINTER, SIZE, POINTER)
 _decode_1 = function("pin_decode_1", INT, POINTER, POINTER)
+_decode_2 = function("pin_decode_2", INT, POINTER, POINTER)
 _decode_3 = function("pin_decode_3", INT, POINTER, POINTER, SIZE, POINTER)
+_to_0 = function("pin_translate_to_0", INT, POINTER, SIZE, INT, POINTER, SIZE, POINTER, SIZE, POINTER, POINTER)
+_to_3 = function("pin_translate_to_3", INT, POINTER, SIZE, INT, POINTER, SIZE, POINTER, SIZE, POINTER, POINTER, POINTER)
 _cvv = function("cvv", INT, POINTER, POINTER, SIZE, POINTER, SIZE, POINTER, SIZE, POINTER)
 
 
@@ -40,7 +45,7 @@ def _encoded(call: Callable[..., Any], *arguments: Any) -> bytes:
     return bytes_from(block)
 
 
-def _text(made: Any) -> str:
+def text_from(made: Any) -> str:
     """The text that a call wrote, up to its zero byte."""
     return bytes_from(made).partition(b"\0")[0].decode("ascii")
 
@@ -50,11 +55,11 @@ def _decoded(call: Callable[..., Any], block: ReadableBuffer, *account: Any) -> 
     pin = room(_PIN_SIZE)
     with block_of(block) as held:
         check(call(held, *account, pin))
-    return _text(pin)
+    return text_from(pin)
 
 
 def pin_encode_0(pin: _Text, account: _Text) -> bytes:
-    """The PIN block of format 0, 8 bytes, of a PIN of 4 to 12 digits and an account number of 13 to 19 with the check digit,
+    """The PIN block of format 0, 8 bytes, of a PIN of 4 to 12 digits and an account number of 8 to 19 with the check digit,
     as str or bytes of digits. It is not encrypted."""
     with text_of(pin) as digits, text_of(account) as number:
         return _encoded(_encode_0, *digits, *number)
@@ -65,6 +70,12 @@ def pin_encode_1(pin: _Text, transaction: ReadableBuffer) -> bytes:
     that there is room for."""
     with text_of(pin) as digits:
         return _encoded(_encode_1, *digits, _fill_of(transaction))
+
+
+def pin_encode_2(pin: _Text) -> bytes:
+    """The PIN block of format 2 of a PIN, which goes to a card as it is."""
+    with text_of(pin) as digits:
+        return _encoded(_encode_2, *digits)
 
 
 def pin_encode_3(pin: _Text, account: _Text, fill: ReadableBuffer) -> bytes:
@@ -85,10 +96,42 @@ def pin_decode_1(block: ReadableBuffer) -> str:
     return _decoded(_decode_1, block)
 
 
+def pin_decode_2(block: ReadableBuffer) -> str:
+    """The PIN of a block of format 2."""
+    return _decoded(_decode_2, block)
+
+
 def pin_decode_3(block: ReadableBuffer, account: _Text) -> str:
     """The PIN of a block of format 3 and an account number."""
     with text_of(account) as number:
         return _decoded(_decode_3, block, *number)
+
+
+def pin_translate_to_0(
+    incoming_key: ReadableBuffer, incoming_format: int, outgoing_key: ReadableBuffer, account: _Text, block: ReadableBuffer
+) -> bytes:
+    """The PIN block of format 0 under the outgoing key of the PIN of a block of format 0, 1 or 3 under the incoming key. Keys have
+    8, 16 or 24 bytes, and the account number, of 8 to 19 digits, is that of both blocks. Whatever is wrong with the block is
+    PinBlock. The PIN does not come out."""
+    number = number_of(incoming_format, 0, 3)
+    with key_of(incoming_key, *KEY_SIZES) as held, key_of(outgoing_key, *KEY_SIZES) as other:
+        with text_of(account) as of, block_of(block) as given:
+            return _encoded(_to_0, held, len(held), number, other, len(other), *of, given)
+
+
+def pin_translate_to_3(
+    incoming_key: ReadableBuffer,
+    incoming_format: int,
+    outgoing_key: ReadableBuffer,
+    account: _Text,
+    fill: ReadableBuffer,
+    block: ReadableBuffer,
+) -> bytes:
+    """The same to a block of format 3, with ten fill digits as of pin_encode_3."""
+    number, digits = number_of(incoming_format, 0, 3), _fill_of(fill)
+    with key_of(incoming_key, *KEY_SIZES) as held, key_of(outgoing_key, *KEY_SIZES) as other:
+        with text_of(account) as of, block_of(block) as given:
+            return _encoded(_to_3, held, len(held), number, other, len(other), *of, digits, given)
 
 
 def cvv(key: ReadableBuffer, account: _Text, expiry: _Text, service: _Text) -> str:
@@ -97,4 +140,4 @@ def cvv(key: ReadableBuffer, account: _Text, expiry: _Text, service: _Text) -> s
     value = room(_CVV_SIZE)
     with key_of(key, 16) as held, text_of(account) as number, text_of(expiry) as date, text_of(service) as code:
         check(_cvv(held, *number, *date, *code, value))
-    return _text(value)
+    return text_from(value)

@@ -410,6 +410,13 @@ class Wiped(WatchesWiping):
             # a PIN of four digits, an account number of thirteen, a block, and room for the PIN
             sizes.update({"pin_encode_0": [4, 8, 13], "pin_encode_1": [4, 8], "pin_encode_3": [4, 8, 13]})
             sizes.update({"pin_decode_0": [8, 13, 13], "pin_decode_1": [8, 13], "pin_decode_3": [8, 13, 13]})
+            sizes.update({"pin_encode_2": [4, 8], "pin_decode_2": [8, 13], "key_check_value": [24], "short_key_check_value": [24]})
+            # both keys, an account number, a block, and room for the other
+            sizes.update({"pin_translate_to_0": [8, 8, 13, 16, 16], "pin_translate_to_3": [8, 8, 13, 16, 16]})
+            sizes.update({"pvv": [4, 5, 16, 16], "pvv_verify": [4, 4, 16, 16]})
+            sizes.update({"natural_pin": [13, 16], "pin_offset": [4, 13, 16], "pin_offset_verify": [4, 4, 16]})
+            sizes.update({"emv_card_key": [2, 16, 16, 17], "emv_session_key": [16, 16], "emv_application_key": [16, 16]})
+            sizes.update({"emv_application_cryptogram": [16], "emv_response_1": [16], "emv_response_2": [16]})
             if name == "combine":  # the two components, a copy of the third, all others, and the key
                 sizes[name] = [24] * 5
             elif name.startswith("dukpt_"):

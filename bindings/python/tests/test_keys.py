@@ -127,7 +127,9 @@ class Transactions(unittest.TestCase):
                 data = masked(key, 5)
                 self.assertEqual(cukvashe_des.dukpt_data_key(key, *request), TdesEde2(data).encrypt_ecb(data))
             self.assertEqual(cukvashe_des.dukpt_mac_key(key, True), masked(key, 4))
+            self.assertEqual(cukvashe_des.dukpt_data_variant(key), masked(key, 5))
             data = masked(key, 3)
+            self.assertEqual(cukvashe_des.dukpt_data_variant(key, is_response=True), data)
             self.assertEqual(cukvashe_des.dukpt_data_key(key, is_response=True), TdesEde2(data).encrypt_ecb(data))
         data = cukvashe_des.dukpt_data_key(bytes.fromhex(TRANSACTIONS[0][1]))
         self.assertEqual(data.hex(), "448d3f076d8304036a55a3d7e0055a78")
@@ -158,7 +160,7 @@ class Transactions(unittest.TestCase):
                     self.assertRaises(KeyLength, call, bytes(length))
 
     def test_which_message(self):
-        for call in (cukvashe_des.dukpt_mac_key, cukvashe_des.dukpt_data_key):
+        for call in (cukvashe_des.dukpt_mac_key, cukvashe_des.dukpt_data_key, cukvashe_des.dukpt_data_variant):
             for other in ("request", "", 0, 1, None, b"\1"):
                 self.assertRaises(TypeError, call, PAIR, other)
 

@@ -22,6 +22,18 @@ class PinBlocks(unittest.TestCase):
             self.assertEqual(cukvashe_des.pin_encode_1(pin, DIGITS).hex(), block)
             self.assertEqual(cukvashe_des.pin_decode_1(bytes.fromhex(block)), pin)
 
+    def test_format_2(self):
+        """By hand: the digits 2 and 4 or c, the PIN, and digits 15."""
+        for pin, block in (("1234", "241234ffffffffff"), ("123456789012", "2c123456789012ff")):
+            self.assertEqual(cukvashe_des.pin_encode_2(pin).hex(), block)
+            self.assertEqual(cukvashe_des.pin_decode_2(bytes.fromhex(block)), pin)
+
+    def test_short_account_numbers(self):
+        """By hand: 041234ffffffffff, xored with the digits before the last, and zeros at their left."""
+        for account, block in (("12345678", "041234fffedcba98"), ("123456789012", "041235dcba9876fe")):
+            self.assertEqual(cukvashe_des.pin_encode_0("1234", account).hex(), block)
+            self.assertEqual(cukvashe_des.pin_decode_0(bytes.fromhex(block), account), "1234")
+
     def test_format_3(self):
         """By hand: 341234abcdefabcd, xored with 0000401234567890."""
         self.assertEqual(cukvashe_des.pin_encode_3("1234", ACCOUNT, FILL).hex(), "341274b9f9b9d35d")
@@ -34,6 +46,7 @@ class PinBlocks(unittest.TestCase):
                 pin = digits[:length]
                 self.assertEqual(cukvashe_des.pin_decode_0(cukvashe_des.pin_encode_0(pin, ACCOUNT), ACCOUNT), pin)
                 self.assertEqual(cukvashe_des.pin_decode_1(cukvashe_des.pin_encode_1(pin, DIGITS)), pin)
+                self.assertEqual(cukvashe_des.pin_decode_2(cukvashe_des.pin_encode_2(pin)), pin)
                 self.assertEqual(cukvashe_des.pin_decode_3(cukvashe_des.pin_encode_3(pin, ACCOUNT, FILL), ACCOUNT), pin)
 
     def test_first_bytes(self):
@@ -55,9 +68,10 @@ class PinBlocks(unittest.TestCase):
             fault = getattr(cukvashe_des, fault)
             self.assertRaises(fault, cukvashe_des.pin_encode_0, pin, "")
             self.assertRaises(fault, cukvashe_des.pin_encode_1, pin, DIGITS)
+            self.assertRaises(fault, cukvashe_des.pin_encode_2, pin)
             self.assertRaises(fault, cukvashe_des.pin_encode_3, pin, "", FILL)
         for account, fault in ((ACCOUNT[1:] + ":", "AccountDigit"), ("\uff14" + ACCOUNT[1:], "AccountDigit"),
-                               *(("4" * length, "AccountLength") for length in LENGTHS if not 13 <= length <= 19)):
+                               *(("4" * length, "AccountLength") for length in LENGTHS if not 8 <= length <= 19)):
             fault = getattr(cukvashe_des, fault)
             self.assertRaises(fault, cukvashe_des.pin_encode_0, "1234", account)
             self.assertRaises(fault, cukvashe_des.pin_encode_3, "1234", account, bytes(10))
@@ -75,6 +89,9 @@ class PinBlocks(unittest.TestCase):
             self.assertRaises(getattr(cukvashe_des, fault), cukvashe_des.pin_decode_0, bytes.fromhex(block), ACCOUNT)
         for block, fault in (("041234fe09a51234", "Format"), ("131234fe09a51234", "PinLength"), ("14123afe09a51234", "PinDigit")):
             self.assertRaises(getattr(cukvashe_des, fault), cukvashe_des.pin_decode_1, bytes.fromhex(block))
+        for block, fault in (("141234ffffffffff", "Format"), ("231234ffffffffff", "PinLength"), ("24123affffffffff", "PinDigit"),
+                             ("241234fffffffffe", "Fill")):
+            self.assertRaises(getattr(cukvashe_des, fault), cukvashe_des.pin_decode_2, bytes.fromhex(block))
         for block, fault in (("041274b9f9b9d35d", "Format"), ("341274b9f9b9d359", "Fill")):
             self.assertRaises(getattr(cukvashe_des, fault), cukvashe_des.pin_decode_3, bytes.fromhex(block), ACCOUNT)
 
@@ -83,6 +100,7 @@ class PinBlocks(unittest.TestCase):
             if length != 8:
                 self.assertRaisesRegex(BlockLength, f"not {length}$", cukvashe_des.pin_decode_0, bytes(length), ACCOUNT)
                 self.assertRaisesRegex(BlockLength, f"not {length}$", cukvashe_des.pin_decode_1, bytes(length))
+                self.assertRaisesRegex(BlockLength, f"not {length}$", cukvashe_des.pin_decode_2, bytes(length))
                 self.assertRaisesRegex(BlockLength, f"not {length}$", cukvashe_des.pin_decode_3, bytes(length), ACCOUNT)
             if length != 10:
                 self.assertRaisesRegex(FillLength, f"not {length}$", cukvashe_des.pin_encode_1, "1234", bytes(length))

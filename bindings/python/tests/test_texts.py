@@ -13,19 +13,28 @@ from .values import ACCOUNT, CALLS, IV, KEY, LISTS, MESSAGE, OBJECTS, PADDED_MAC
 # Each error and its text, which tells a length, here #, and nothing else that is not the same at every call.
 SENTENCES = {
     ("AccountDigit", "an account number has digits alone"),
-    ("AccountLength", "an account number has 13 to 19 digits"),
+    ("AccountLength", "an account number has 8 to 19 digits, for a PVV 12 to 19, for a CVV 13 to 19"),
     ("BlockLength", "# bytes are not whole blocks of 8"),
     ("BlockLength", "a PIN block has 8 bytes, not #"),
+    ("BlockLength", "an application cryptogram has 8 bytes, not #"),
+    ("BlockLength", "the block of a session has 8 bytes, not #"),
+    ("BlockLength", "validation data have 8 bytes, not #"),
     ("Closed", "the object was closed"),
     ("CountMismatch", "# bytes are not whole tags of 8"),
     ("CountMismatch", "the lengths do not add up to the messages"),
     ("CountMismatch", "the numbers of keys and blocks differ"),
     ("CountMismatch", "the numbers of vectors and counts differ"),
+    ("DataLength", "a card status update has 4 bytes, not #"),
+    ("DataLength", "a response code has 2 bytes, not #"),
+    ("DataLength", "a transaction counter has 2 bytes, not #"),
+    ("DataLength", "the data of an issuer have at most 8 bytes"),
     ("ExpiryDigit", "an expiry date has digits alone"),
     ("ExpiryLength", "an expiry date has four digits"),
     ("Fill", "a fill digit is none of those of the format"),
     ("FillLength", "there are ten fill digits, not #"),
     ("Format", "the PIN block is of another format"),
+    ("Formats", "PIN blocks are translated from formats 0, 1 and 3"),
+    ("KeyIndex", "the index of a key pair is 1 to 6"),
     ("KeyLength", "a key has 8 bytes, not #"),
     ("KeyLength", "a key has 16 bytes, not #"),
     ("KeyLength", "a key has 24 bytes, not #"),
@@ -33,19 +42,28 @@ SENTENCES = {
     ("KeyLength", "# bytes are not whole keys of 8"),
     ("KeyLength", "# bytes are not whole keys of 16"),
     ("KeyLength", "# bytes are not whole keys of 24"),
+    ("NoSerial", "the terminal has had its last transaction"),
     ("PaddingMethod", "padding is by method 1 or 2"),
     ("PaddingMethod", 'padding is by "pkcs7" or "iso7816"'),
     ("PaddingMismatch", "the data do not end with the padding"),
+    ("PinBlock", "the PIN block is not one of its format and account number"),
     ("PinDigit", "a PIN has digits alone"),
     ("PinLength", "a PIN has 4 to 12 digits"),
+    ("SequenceDigit", "a sequence number has digits alone"),
+    ("SequenceLength", "a sequence number has two digits"),
     ("SerialLength", "a key serial number has 10 bytes, not #"),
     ("SerialLength", "# bytes are not whole key serial numbers of 10"),
     ("ServiceDigit", "a service code has digits alone"),
     ("ServiceLength", "a service code has three digits"),
+    ("StateLength", "the state of a terminal has 346 bytes, not #"),
+    ("TableDigit", "a decimalization table has digits alone"),
+    ("TableLength", "a decimalization table has sixteen digits"),
+    ("TableVariety", "a decimalization table has at least eight different digits"),
     ("TagMismatch", "the tag is not that of the message"),
     ("VectorLength", "# bytes are not whole vectors of 8"),
     ("VectorLength", "an initialization vector has 8 bytes, not #"),
     ("WeakKey", "the weak key test refuses the key that the components make"),
+    ("WrongPin", "the PIN is not the one"),
 }
 
 
@@ -82,7 +100,9 @@ class Texts(unittest.TestCase):
                 length = re.search("(?<=not )[0-9]+$|^[0-9]+(?= bytes)", str(error))
                 if length:
                     self.assertIn(int(length[0]), [len(value) for value in arguments if isinstance(value, (bytes, bytearray))])
-                self.sentences.add((type(error).__name__, str(error).replace(length[0] if length else "#", "#")))
+                text = str(error)
+                shown = text[: length.start()] + "#" + text[length.end() :] if length else text
+                self.sentences.add((type(error).__name__, shown))
                 self.assertEqual((error.args, error.__cause__, error.__context__), ((str(error),), None, None))
             return {type(error).__name__}
         return set()
@@ -131,6 +151,14 @@ class Texts(unittest.TestCase):
         for call in (cukvashe_des.pin_decode_0, cukvashe_des.pin_decode_3):
             for first in range(256):
                 names |= self.faults(call, bytes([first]) + bytes.fromhex("a274edcba9876e"), ACCOUNT)
+        for digits in (b"01234567", b"012345678901234a", b"3131313131313131"):
+            names |= self.faults(cukvashe_des.DecimalTable, digits) | self.faults(cukvashe_des.DecimalTable.of_any_variety, digits)
+        last = bytes.fromhex("ffff9876543210fff800") + MESSAGE * 14
+        terminal = cukvashe_des.DukptTerminal.from_state(last)
+        self.tells_nothing(terminal, (last,))
+        names |= self.faults(terminal.next_key) | self.faults(cukvashe_des.DukptTerminal.from_state, last[:-1])
+        names |= self.faults(cukvashe_des.pvv, KEY[:16], ACCOUNT, 7, "8765")
+        names |= self.faults(cukvashe_des.pin_translate_to_0, KEY[:16], 2, KEY[:16], ACCOUNT, MESSAGE[:8])
         names |= self.faults(cukvashe_des.combine, KEY, KEY)
         names |= self.faults(PADDED_MACS[0], KEY[:8], 3)
         names |= self.faults(cukvashe_des.cvv, KEY[:16], ACCOUNT, "87:1", "101") | self.faults(

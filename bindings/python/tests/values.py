@@ -30,6 +30,12 @@ DIGITS = bytes([15, 14, 0, 9, 10, 5, 1, 2, 3, 4])
 FILL = bytes([10, 11, 12, 13, 14, 15, 10, 11, 12, 13])
 CARD = ("4123456789012345", "8701", "101")
 
+# Another key; the PIN 1234 of ACCOUNT in format 0, encrypted under PAIR by OpenSSL; validation data, and the plain table.
+OTHER = bytes.fromhex("89e88cf7931444f334bd7547fc3f380c")
+SENT = bytes.fromhex("c03d21cdbcb0c58b")
+VALIDATION = bytes.fromhex("4123456789012345")
+TABLE = cukvashe_des.DecimalTable("0123456789012345")
+
 # Lists shorter than a batch of either width, whole ones, and longer ones, in blocks.
 COUNTS = (0, 1, 2, 127, 128, 129, 300, 600)
 
@@ -99,16 +105,34 @@ FUNCTIONS = [
     (cukvashe_des.dukpt_pin_key, (PAIR,)),
     (cukvashe_des.dukpt_mac_key, (PAIR, True)),
     (cukvashe_des.dukpt_data_key, (PAIR, True)),
+    (cukvashe_des.dukpt_data_variant, (PAIR, True)),
+    (cukvashe_des.key_check_value, (KEY,)),
+    (cukvashe_des.short_key_check_value, (KEY,)),
     (cukvashe_des.dukpt_next_serial, (SERIAL,)),
     (cukvashe_des.dukpt_is_usable, (SERIAL,)),
     (cukvashe_des.pad, (MESSAGE[:21], "pkcs7")),
     (cukvashe_des.unpad, (MESSAGE[:22] + b"\x02\x02", "pkcs7")),
     (cukvashe_des.pin_encode_0, (b"8765", b"4012345678909")),
     (cukvashe_des.pin_encode_1, (b"8765", DIGITS)),
+    (cukvashe_des.pin_encode_2, (b"8765",)),
     (cukvashe_des.pin_encode_3, (b"8765", b"4012345678909", FILL)),
     (cukvashe_des.pin_decode_0, (bytes.fromhex("041274edcba9876f"), b"4012345678909")),
     (cukvashe_des.pin_decode_1, (bytes.fromhex("141234fe09a51234"),)),
+    (cukvashe_des.pin_decode_2, (bytes.fromhex("241234ffffffffff"),)),
     (cukvashe_des.pin_decode_3, (bytes.fromhex("341274b9f9b9d35d"), b"4012345678909")),
+    (cukvashe_des.pin_translate_to_0, (PAIR, 0, OTHER, b"4012345678909", SENT)),
+    (cukvashe_des.pin_translate_to_3, (PAIR, 0, OTHER, b"4012345678909", FILL, SENT)),
+    (cukvashe_des.pvv, (PAIR, b"4123456789012345", 1, b"1234")),
+    (cukvashe_des.pvv_verify, (PAIR, b"4123456789012345", 1, b"1234", b"1894")),
+    (cukvashe_des.natural_pin, (PAIR, TABLE, VALIDATION, 6)),
+    (cukvashe_des.pin_offset, (PAIR, TABLE, VALIDATION, b"9519")),
+    (cukvashe_des.pin_offset_verify, (PAIR, TABLE, VALIDATION, b"9519", b"9999")),
+    (cukvashe_des.emv_card_key, (PAIR, b"99012345678901234", b"45")),
+    (cukvashe_des.emv_session_key, (PAIR, IV)),
+    (cukvashe_des.emv_application_key, (PAIR, b"\x35\x1c")),
+    (cukvashe_des.emv_application_cryptogram, (PAIR, MESSAGE)),
+    (cukvashe_des.emv_response_1, (PAIR, IV, b"\xd1\xe2")),
+    (cukvashe_des.emv_response_2, (PAIR, IV, MESSAGE[:4], MESSAGE[8:12])),
     (cukvashe_des.cvv, (PAIR, b"4123456789012345", b"8701", b"101")),
 ]
 

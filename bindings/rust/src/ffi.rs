@@ -14,6 +14,14 @@ pub const ACCOUNT_DIGIT: c_int = 11;
 pub const EXPIRY_LENGTH: c_int = 13;
 pub const EXPIRY_DIGIT: c_int = 14;
 pub const SERVICE_LENGTH: c_int = 15;
+pub const KEY_INDEX: c_int = 20;
+pub const TABLE_LENGTH: c_int = 21;
+pub const TABLE_DIGIT: c_int = 22;
+pub const TABLE_VARIETY: c_int = 23;
+pub const FORMATS: c_int = 25;
+pub const PIN_BLOCK: c_int = 26;
+pub const SEQUENCE_LENGTH: c_int = 27;
+pub const SEQUENCE_DIGIT: c_int = 28;
 
 pub const PKCS7: c_int = 11;
 pub const ISO7816: c_int = 12;
@@ -26,6 +34,27 @@ pub const MAC_PADDING_2: c_int = 2;
 pub struct Message {
     pub bytes: *const u8,
     pub length: usize,
+}
+
+/// The state of a terminal, which is wiped when it is dropped.
+#[repr(C)]
+pub struct DukptTerminal {
+    pub serial: [u8; 10],
+    pub keys: [[u8; 16]; 21],
+}
+
+impl Drop for DukptTerminal {
+    fn drop(&mut self) {
+        wipe(&mut self.serial);
+        wipe(self.keys.as_flattened_mut());
+    }
+}
+
+/// A decimalization table, as ASCII digits.
+#[repr(C)]
+#[derive(Clone, Copy)]
+pub struct DecimalTable {
+    pub digits: [u8; 16],
 }
 
 /// A context, which is wiped when it is dropped.
@@ -402,6 +431,9 @@ extern "C" {
     pub fn cukvashe_set_odd_parity(key: *mut u8, key_length: usize);
     pub fn cukvashe_equal_but_parity(first: *const u8, second: *const u8, key_length: usize) -> bool;
 
+    pub fn cukvashe_key_check_value(key: *const u8, key_length: usize, value: *mut [u8; 3]) -> c_int;
+    pub fn cukvashe_short_key_check_value(key: *const u8, key_length: usize, value: *mut [u8; 2]) -> c_int;
+
     pub fn cukvashe_combine_8(
         first: *const [u8; 8],
         second: *const [u8; 8],
@@ -430,8 +462,20 @@ extern "C" {
     pub fn cukvashe_dukpt_pin_key(transaction: *const [u8; 16], key: *mut [u8; 16]);
     pub fn cukvashe_dukpt_mac_key(transaction: *const [u8; 16], is_response: bool, key: *mut [u8; 16]);
     pub fn cukvashe_dukpt_data_key(transaction: *const [u8; 16], is_response: bool, key: *mut [u8; 16]);
+    pub fn cukvashe_dukpt_data_variant(transaction: *const [u8; 16], is_response: bool, key: *mut [u8; 16]);
     pub fn cukvashe_dukpt_is_usable(serial: *const [u8; 10]) -> bool;
     pub fn cukvashe_dukpt_next_serial(serial: *const [u8; 10], next: *mut [u8; 10]) -> c_int;
+
+    pub fn cukvashe_dukpt_terminal_init(
+        terminal: *mut DukptTerminal,
+        initial: *const [u8; 16],
+        serial: *const [u8; 10],
+    );
+    pub fn cukvashe_dukpt_terminal_next_key(
+        terminal: *mut DukptTerminal,
+        serial: *mut [u8; 10],
+        key: *mut [u8; 16],
+    ) -> c_int;
 
     pub fn cukvashe_pin_encode_0(
         pin: *const c_char,
@@ -446,6 +490,7 @@ extern "C" {
         transaction: *const [u8; 10],
         block: *mut [u8; 8],
     ) -> c_int;
+    pub fn cukvashe_pin_encode_2(pin: *const c_char, pin_length: usize, block: *mut [u8; 8]) -> c_int;
     pub fn cukvashe_pin_encode_3(
         pin: *const c_char,
         pin_length: usize,
@@ -461,11 +506,85 @@ extern "C" {
         pin: *mut [u8; 13],
     ) -> c_int;
     pub fn cukvashe_pin_decode_1(block: *const [u8; 8], pin: *mut [u8; 13]) -> c_int;
+    pub fn cukvashe_pin_decode_2(block: *const [u8; 8], pin: *mut [u8; 13]) -> c_int;
     pub fn cukvashe_pin_decode_3(
         block: *const [u8; 8],
         account: *const c_char,
         account_length: usize,
         pin: *mut [u8; 13],
+    ) -> c_int;
+
+    pub fn cukvashe_pin_translate_to_0(
+        incoming_key: *const u8,
+        incoming_key_length: usize,
+        incoming_format: c_int,
+        outgoing_key: *const u8,
+        outgoing_key_length: usize,
+        account: *const c_char,
+        account_length: usize,
+        block: *const [u8; 8],
+        translated: *mut [u8; 8],
+    ) -> c_int;
+    pub fn cukvashe_pin_translate_to_3(
+        incoming_key: *const u8,
+        incoming_key_length: usize,
+        incoming_format: c_int,
+        outgoing_key: *const u8,
+        outgoing_key_length: usize,
+        account: *const c_char,
+        account_length: usize,
+        fill: *const [u8; 10],
+        block: *const [u8; 8],
+        translated: *mut [u8; 8],
+    ) -> c_int;
+
+    pub fn cukvashe_pvv(
+        key: *const [u8; 16],
+        account: *const c_char,
+        account_length: usize,
+        index: c_int,
+        pin: *const c_char,
+        pin_length: usize,
+        value: *mut [u8; 5],
+    ) -> c_int;
+    pub fn cukvashe_pvv_verify(
+        key: *const [u8; 16],
+        account: *const c_char,
+        account_length: usize,
+        index: c_int,
+        pin: *const c_char,
+        pin_length: usize,
+        value: *const c_char,
+        value_length: usize,
+    ) -> c_int;
+    pub fn cukvashe_decimal_table_init(table: *mut DecimalTable, digits: *const c_char, length: usize) -> c_int;
+    pub fn cukvashe_decimal_table_init_any(table: *mut DecimalTable, digits: *const c_char, length: usize) -> c_int;
+    pub fn cukvashe_natural_pin(
+        key: *const u8,
+        key_length: usize,
+        table: *const DecimalTable,
+        validation: *const [u8; 8],
+        pin_length: usize,
+        pin: *mut [u8; 13],
+    ) -> c_int;
+    pub fn cukvashe_pin_offset(
+        key: *const u8,
+        key_length: usize,
+        table: *const DecimalTable,
+        validation: *const [u8; 8],
+        pin: *const c_char,
+        pin_length: usize,
+        offset: *mut [u8; 13],
+    ) -> c_int;
+    pub fn cukvashe_pin_offset_verify(
+        key: *const u8,
+        key_length: usize,
+        table: *const DecimalTable,
+        validation: *const [u8; 8],
+        pin: *const c_char,
+        pin_length: usize,
+        offset: *const c_char,
+        offset_length: usize,
     ) -> c_int;
 
     pub fn cukvashe_cvv(
@@ -477,5 +596,36 @@ extern "C" {
         service: *const c_char,
         service_length: usize,
         value: *mut [u8; 4],
+    ) -> c_int;
+
+    pub fn cukvashe_emv_card_key(
+        issuer: *const [u8; 16],
+        account: *const c_char,
+        account_length: usize,
+        sequence: *const c_char,
+        sequence_length: usize,
+        key: *mut [u8; 16],
+    ) -> c_int;
+    pub fn cukvashe_emv_application_key(card: *const [u8; 16], counter: *const [u8; 2], key: *mut [u8; 16]);
+    pub fn cukvashe_emv_session_key(card: *const [u8; 16], block: *const [u8; 8], key: *mut [u8; 16]);
+    pub fn cukvashe_emv_application_cryptogram(
+        session: *const [u8; 16],
+        data: *const u8,
+        length: usize,
+        cryptogram: *mut [u8; 8],
+    );
+    pub fn cukvashe_emv_response_1(
+        session: *const [u8; 16],
+        cryptogram: *const [u8; 8],
+        code: *const [u8; 2],
+        response: *mut [u8; 8],
+    );
+    pub fn cukvashe_emv_response_2(
+        session: *const [u8; 16],
+        cryptogram: *const [u8; 8],
+        status: *const [u8; 4],
+        data: *const u8,
+        length: usize,
+        response: *mut [u8; 4],
     ) -> c_int;
 }

@@ -1,10 +1,11 @@
-//! Check values, keys of components, PIN blocks, card verification values, and the keys of a transaction (DUKPT with triple
-//! DES, ANSI X9.24-1:2009) as the host makes them.
+//! Check values, keys of components, PIN blocks, PIN verification, card verification values, card cryptograms, and the keys of
+//! a transaction (DUKPT with triple DES, ANSI X9.24-1:2009) at the host and in the terminal.
 //!
 //! A key of a transaction has 16 bytes, two halves of 8, and a key serial number ten, of which the last 21 bits are the
 //! transaction counter. PINs, account numbers, dates and codes are texts, slices of ASCII digits. No call reads a table at an
-//! index that depends on a key or a PIN; `cvv` branches on what the key makes, the calls that make a key of components branch on
-//! it, and those of PIN blocks on the PIN.
+//! index that depends on a key or a PIN. The calls that make a key of components branch on it, those that take a PIN on whether its
+//! characters are digits, those that take a PIN block on its fault and on its PIN's length, and verifications on whether the PIN is
+//! right.
 //!
 //! ```
 //! use cukvashe_des::payment::pin_blocks::{decode_format_0, encode_format_0, Pin};
@@ -26,10 +27,18 @@
 //! ```
 
 mod card_verification;
+pub mod emv;
 pub mod pin_blocks;
+pub mod pin_verification;
+mod terminal;
+pub mod translation;
 
 pub use card_verification::{cvv, CvvError};
+pub use emv::EmvError;
 pub use pin_blocks::{Pin, PinError};
+pub use pin_verification::{DecimalTable, VerificationError};
+pub use terminal::Terminal;
+pub use translation::TranslationError;
 
 use crate::each_key::{count_of_both, KeyForEach};
 use crate::ffi::{self, OK};
@@ -81,6 +90,27 @@ check_value!(
     TdesEde2: cukvashe_tdes_ede2_check_value, cukvashe_tdes_ede2_check_values;
     TdesEde3: cukvashe_tdes_ede3_check_value, cukvashe_tdes_ede3_check_values;
 );
+
+/// The check value of a key of 8, 16 or 24 bytes, or of a component of one, by its length: by DES, or by triple DES in the EDE
+/// form.
+pub fn key_check_value(key: &[u8]) -> Result<[u8; 3], InvalidLength> {
+    let mut value = [0; 3];
+    // SAFETY: the pointers are of references, good for their lengths, and don't overlap.
+    match unsafe { ffi::cukvashe_key_check_value(key.as_ptr(), key.len(), &mut value) } {
+        OK => Ok(value),
+        _ => Err(InvalidLength),
+    }
+}
+
+/// The first two bytes of that check value, which some systems show in its place.
+pub fn short_key_check_value(key: &[u8]) -> Result<[u8; 2], InvalidLength> {
+    let mut value = [0; 2];
+    // SAFETY: as of `key_check_value`.
+    match unsafe { ffi::cukvashe_short_key_check_value(key.as_ptr(), key.len(), &mut value) } {
+        OK => Ok(value),
+        _ => Err(InvalidLength),
+    }
+}
 
 macro_rules! combine {
     ($($name:ident: $size:literal, $call:ident);*) => {
@@ -152,6 +182,14 @@ pub fn mac_key(transaction: &[u8; 16], message: Message) -> [u8; 16] {
 pub fn data_key(transaction: &[u8; 16], message: Message) -> [u8; 16] {
     let mut key = [0; 16];
     unsafe { ffi::cukvashe_dukpt_data_key(transaction, message == Message::Response, &mut key) };
+    key
+}
+
+/// The data variant of the transaction's key for a message: the key that [`data_key`] makes, without its last step. Some terminals
+/// encrypt data under it; whoever has it has the transaction's other keys.
+pub fn data_variant(transaction: &[u8; 16], message: Message) -> [u8; 16] {
+    let mut key = [0; 16];
+    unsafe { ffi::cukvashe_dukpt_data_variant(transaction, message == Message::Response, &mut key) };
     key
 }
 

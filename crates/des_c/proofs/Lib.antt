@@ -1,3 +1,4 @@
 mod PaddedCounts
 mod AgreeingParts
 mod OddKeys
+mod KeyIndexes

@@ -2,6 +2,10 @@ pub mod MacContexts
 pub mod Messages
 pub mod PinStatuses
 pub mod CvvStatuses
+pub mod VerificationStatuses
+pub mod TranslationStatuses
+pub mod EmvStatuses
+pub mod Formats
 pub mod Statuses
 pub mod Texts
 pub mod Paddings

@@ -1,8 +1,13 @@
-//! The exports of payment formats: check values, keys of components, PIN blocks, the keys of a
-//! transaction as the host makes them, and card verification values.
+//! The exports of payment formats: check values, keys of components, PIN blocks and their translation,
+//! PIN verification, the keys of a transaction at the host and in the terminal, card verification
+//! values, and card cryptograms.
 
 mod card_verification;
 mod check_values;
 mod components;
 mod dukpt;
+mod emv;
 mod pin_blocks;
+mod pin_verification;
+mod terminal;
+mod translation;

@@ -31,7 +31,7 @@ pub const ERR_PIN_LENGTH: i32 = 8;
 /// A character of a PIN is no digit.
 pub const ERR_PIN_DIGIT: i32 = 9;
 
-/// An account number has fewer than 13 digits or more than 19.
+/// An account number has fewer digits than the call takes, or more than 19.
 pub const ERR_ACCOUNT_LENGTH: i32 = 10;
 
 /// A character of an account number is no digit.
@@ -60,3 +60,33 @@ pub const ERR_CAPACITY: i32 = 18;
 
 /// Lists that belong together differ in length, or sizes do not add up to what is there.
 pub const ERR_COUNTS: i32 = 19;
+
+/// The index of a pair of PIN verification keys is none of 1 to 6.
+pub const ERR_KEY_INDEX: i32 = 20;
+
+/// A decimalization table has not sixteen digits.
+pub const ERR_TABLE_LENGTH: i32 = 21;
+
+/// A character of a decimalization table is no digit.
+pub const ERR_TABLE_DIGIT: i32 = 22;
+
+/// A decimalization table has fewer than eight different digits.
+pub const ERR_TABLE_VARIETY: i32 = 23;
+
+/// The PIN is not the one.
+pub const ERR_WRONG_PIN: i32 = 24;
+
+/// The standard has no translation from a PIN block of this format to the other.
+pub const ERR_FORMATS: i32 = 25;
+
+/// Decrypted, the PIN block is none of a PIN in its format.
+pub const ERR_PIN_BLOCK: i32 = 26;
+
+/// A sequence number has not two digits.
+pub const ERR_SEQUENCE_LENGTH: i32 = 27;
+
+/// A character of a sequence number is no digit.
+pub const ERR_SEQUENCE_DIGIT: i32 = 28;
+
+/// The issuer's data have more than eight bytes.
+pub const ERR_DATA_LENGTH: i32 = 29;

@@ -1,5 +1,5 @@
-//! PIN blocks (ISO 9564-1): a PIN in eight bytes, in formats 0, 1 and 3. A block is not encrypted here: that is one call of
-//! a cipher.
+//! PIN blocks (ISO 9564-1): a PIN in eight bytes, in formats 0 to 3. A block is not encrypted here: that is one call of a
+//! cipher.
 
 use crate::error::sentences;
 use crate::ffi::{self, ACCOUNT_DIGIT, ACCOUNT_LENGTH, FORMAT, OK, PIN_DIGIT, PIN_LENGTH};
@@ -17,7 +17,7 @@ pub enum PinError {
     PinLength,
     /// A character of the PIN is not a digit, or a digit of the block's PIN is above 9.
     PinDigit,
-    /// The account number does not have 13 to 19 digits.
+    /// The account number does not have 8 to 19 digits.
     AccountLength,
     /// A character of the account number is not a digit.
     AccountDigit,
@@ -29,7 +29,7 @@ sentences!(PinError:
     PinError::Format => "the PIN block is of another format",
     PinError::PinLength => "the PIN does not have 4 to 12 digits",
     PinError::PinDigit => "a character of the PIN is not a digit",
-    PinError::AccountLength => "the account number does not have 13 to 19 digits",
+    PinError::AccountLength => "the account number does not have 8 to 19 digits",
     PinError::AccountDigit => "a character of the account number is not a digit",
     PinError::Fill => "a fill digit is not one that the format allows",
 );
@@ -62,7 +62,7 @@ fn checked<T>(status: i32, made: T) -> Result<T, PinError> {
 #[derive(Clone)]
 pub struct Pin {
     /// The digits, and zeros after them.
-    text: [u8; 13],
+    pub(super) text: [u8; 13],
 }
 
 impl Pin {
@@ -77,7 +77,7 @@ impl Pin {
     }
 
     /// Room for a PIN.
-    fn empty() -> Pin {
+    pub(super) fn empty() -> Pin {
         Pin { text: [0; 13] }
     }
 
@@ -109,7 +109,7 @@ fn encode_1(pin: &[u8], transaction: &[u8; 10]) -> Result<Block, PinError> {
     checked(status, block)
 }
 
-/// The block of format 0 of a PIN and an account number, a text of 13 to 19 digits with the check digit.
+/// The block of format 0 of a PIN and an account number, a text of 8 to 19 digits with the check digit.
 pub fn encode_format_0(pin: &Pin, account: &[u8]) -> Result<Block, PinError> {
     let (pin, mut block) = (pin.text(), [0; 8]);
     let status = unsafe {
@@ -122,6 +122,14 @@ pub fn encode_format_0(pin: &Pin, account: &[u8]) -> Result<Block, PinError> {
 /// sixteen digits; `Fill` where one of the ten is above 15.
 pub fn encode_format_1(pin: &Pin, transaction: &[u8; 10]) -> Result<Block, PinError> {
     encode_1(pin.text(), transaction)
+}
+
+/// The block of format 2 of a PIN, for a card, to which it goes as it is.
+pub fn encode_format_2(pin: &Pin) -> Block {
+    let (pin, mut block) = (pin.text(), [0; 8]);
+    // There is no fault, since the text is that of a PIN.
+    unsafe { ffi::cukvashe_pin_encode_2(pin.as_ptr().cast(), pin.len(), &mut block) };
+    block
 }
 
 /// The block of format 3 of a PIN, an account number as in format 0, and ten fill digits from 10 to 15, of which it uses the
@@ -152,6 +160,13 @@ pub fn decode_format_0(block: &Block, account: &[u8]) -> Result<Pin, PinError> {
 pub fn decode_format_1(block: &Block) -> Result<Pin, PinError> {
     let mut pin = Pin::empty();
     let status = unsafe { ffi::cukvashe_pin_decode_1(block, &mut pin.text) };
+    checked(status, pin)
+}
+
+/// The PIN of a block of format 2.
+pub fn decode_format_2(block: &Block) -> Result<Pin, PinError> {
+    let mut pin = Pin::empty();
+    let status = unsafe { ffi::cukvashe_pin_decode_2(block, &mut pin.text) };
     checked(status, pin)
 }
 

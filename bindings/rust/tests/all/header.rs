@@ -95,7 +95,7 @@ fn calls_of_the_crate() -> Calls {
 #[test]
 fn calls_are_those_of_the_header() {
     let (header, ours) = (calls_of_the_header(), calls_of_the_crate());
-    assert!(header.len() > 70);
+    assert!(header.len() > 95);
     for (name, call) in &header {
         assert_eq!(ours.get(name), Some(call), "{name}");
     }
@@ -112,6 +112,28 @@ fn contexts_are_those_of_the_header() {
         let (words, rest) = context.split_once(']').unwrap();
         let name = rest.split_once("} cukvashe_").unwrap().1.split_once(';').unwrap().0;
         assert!(ours.contains(&format!("\npub type {} = Context<{words}>;\n", camel(name))), "{name}");
+    }
+}
+
+/// The other types have the fields that the header gives them.
+#[test]
+fn structs_are_those_of_the_header() {
+    let (header, ours) = (header(), read("src/ffi.rs"));
+    let header: Vec<&str> = header.split_whitespace().collect();
+    let header = header.join(" ");
+    for (fields, declared) in [
+        (
+            "uint8_t serial[10]; uint8_t keys[21][16]; } cukvashe_dukpt_terminal;",
+            "pub struct DukptTerminal {\n    pub serial: [u8; 10],\n    pub keys: [[u8; 16]; 21],\n}",
+        ),
+        ("char digits[16]; } cukvashe_decimal_table;", "pub struct DecimalTable {\n    pub digits: [u8; 16],\n}"),
+    ] {
+        assert!(header.contains(&format!("typedef struct {{ {fields}")), "{fields}");
+        assert!(
+            ours.contains(&format!("#[repr(C)]\n{declared}"))
+                || ours.contains(&format!("#[repr(C)]\n#[derive(Clone, Copy)]\n{declared}")),
+            "{declared}"
+        );
     }
 }
 

@@ -34,6 +34,24 @@ fn check_values_answer() {
     check_value_answers::<TdesEde3>(&[&key[..], &key[..8]].concat(), 0x08d7b4);
 }
 
+/// By OpenSSL's `des-ecb`, `des-ede` and `des-ede3`, under keys of which each is the first part of the next; a component with another
+/// parity bit has the same.
+#[test]
+fn check_values_answer_by_length() {
+    let mut key = [&BASE.to_be_bytes()[..], &0x8899aabbccddeeff_u64.to_be_bytes()].concat();
+    for _ in 0..2 {
+        for (length, value) in [(8, [0xd5, 0xd4, 0x4f]), (16, [0x08, 0xd7, 0xb4]), (24, [0xca, 0xec, 0x3f])] {
+            assert_eq!(key_check_value(&key[..length]), Ok(value));
+            assert_eq!(short_key_check_value(&key[..length]), Ok([value[0], value[1]]));
+        }
+        key[7] ^= 1;
+    }
+    for length in LENGTHS.filter(|length| ![8, 16, 24].contains(length)) {
+        assert_eq!(key_check_value(&vec![1; length]), Err(InvalidLength));
+        assert_eq!(short_key_check_value(&vec![1; length]), Err(InvalidLength));
+    }
+}
+
 /// A call that makes a key of components.
 type Combine<const SIZE: usize> = fn(&[u8; SIZE], &[u8; SIZE], &[[u8; SIZE]]) -> Result<[u8; SIZE], KeyTestError>;
 
@@ -140,6 +158,8 @@ fn keys_of_messages_answer() {
         assert_eq!(pin_key(&key), turned(7));
         assert_eq!(mac_key(&key, Message::Request), turned(6));
         assert_eq!(mac_key(&key, Message::Response), turned(4));
+        assert_eq!(data_variant(&key, Message::Request), turned(5));
+        assert_eq!(data_variant(&key, Message::Response), turned(3));
         assert_eq!(data_key(&key, Message::Request), encrypted(turned(5)));
         assert_eq!(data_key(&key, Message::Response), encrypted(turned(3)));
     }
@@ -190,6 +210,33 @@ fn pin_blocks_of_format_1() {
     assert_eq!(decode_format_1(&block).unwrap().text(), b"123456789012");
 }
 
+/// By hand: the digits 2 and 4 or c, the PIN, and digits 15.
+#[test]
+fn pin_blocks_of_format_2() {
+    for (digits, block) in [(&b"1234"[..], 0x241234ffffffffff_u64), (b"123456789012", 0x2c123456789012ff)] {
+        let block = block.to_be_bytes();
+        assert_eq!(encode_format_2(&Pin::new(digits).unwrap()), block);
+        assert_eq!(decode_format_2(&block).unwrap().text(), digits);
+    }
+    for (block, fault) in [
+        (0x141234ffffffffff_u64, PinError::Format),
+        (0x231234ffffffffff, PinError::PinLength),
+        (0x24123affffffffff, PinError::PinDigit),
+        (0x241234fffffffffe, PinError::Fill),
+    ] {
+        assert_eq!(decode_format_2(&block.to_be_bytes()).err(), Some(fault));
+    }
+}
+
+/// By hand: 041234ffffffffff, xored with the digits before the last, and zeros at their left.
+#[test]
+fn short_account_numbers_are_taken() {
+    for (account, block) in [(&b"12345678"[..], 0x041234fffedcba98_u64), (b"123456789012", 0x041235dcba9876fe)] {
+        assert_eq!(encode_format_0(&pin(), account), Ok(block.to_be_bytes()));
+        assert_eq!(decode_format_0(&block.to_be_bytes(), account).unwrap().text(), b"1234");
+    }
+}
+
 /// PINs of 4 to 12 digits, zeros too, come back from each format.
 #[test]
 fn pins_of_every_length_come_back() {
@@ -229,12 +276,12 @@ fn pin_blocks_are_refused() {
     for length in LENGTHS {
         let fault = (!(4..=12).contains(&length)).then_some(PinError::PinLength);
         assert_eq!(Pin::new(&vec![b'1'; length]).err(), fault);
-        let fault = (!(13..=19).contains(&length)).then_some(PinError::AccountLength);
+        let fault = (!(8..=19).contains(&length)).then_some(PinError::AccountLength);
         assert_eq!(encode_format_0(&pin(), &vec![b'4'; length]).err(), fault);
         assert_eq!(encode_format_3(&pin(), &vec![b'4'; length], &[10; 10]).err(), fault);
     }
     for (account, fault) in [
-        (&ACCOUNT[1..], PinError::AccountLength),
+        (&ACCOUNT[6..], PinError::AccountLength),
         (b"99999994012345678900", PinError::AccountLength),
         (b"401234567890:", PinError::AccountDigit),
     ] {

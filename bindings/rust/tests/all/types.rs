@@ -98,6 +98,17 @@ fn secrets_are_wiped() {
         };
     }
     each_secret!(wiped);
+    is_wiped(Terminal::new(&[7; 16], &[9; 10]));
+}
+
+/// A terminal has no clone, which would give its keys again; the rest is as of the others.
+#[test]
+fn terminals_are_no_different() {
+    fn shared<T: Send + Sync>(_: &T) {}
+    let terminal = Terminal::new(&[7; 16], &[9; 10]);
+    shared(&terminal);
+    is_shown_as(&terminal, "Terminal");
+    is_shown_as(&DecimalTable::new(b"0123456789012345").unwrap(), "DecimalTable");
 }
 
 /// Without an equality or a hash no one compares secrets byte by byte, without `Display` no one prints them, and no conversion
@@ -128,6 +139,7 @@ fn secrets_have_no_equality() {
     <CmacTdesEde2 as Without<_>>::answer();
     <CmacTdesEde3 as Without<_>>::answer();
     <Pin as Without<_>>::answer();
+    <Terminal as Without<_>>::answer();
 }
 
 #[test]
@@ -146,7 +158,7 @@ fn errors_are_sentences() {
         (Box::new(PinError::Format), "the PIN block is of another format"),
         (Box::new(PinError::PinLength), "the PIN does not have 4 to 12 digits"),
         (Box::new(PinError::PinDigit), "a character of the PIN is not a digit"),
-        (Box::new(PinError::AccountLength), "the account number does not have 13 to 19 digits"),
+        (Box::new(PinError::AccountLength), "the account number does not have 8 to 19 digits"),
         (Box::new(PinError::AccountDigit), "a character of the account number is not a digit"),
         (Box::new(PinError::Fill), "a fill digit is not one that the format allows"),
         (Box::new(CvvError::AccountLength), "the account number does not have 13 to 19 digits"),
@@ -155,6 +167,26 @@ fn errors_are_sentences() {
         (Box::new(CvvError::ExpiryDigit), "a character of the expiry date is not a digit"),
         (Box::new(CvvError::ServiceLength), "the service code does not have three digits"),
         (Box::new(CvvError::ServiceDigit), "a character of the service code is not a digit"),
+        (Box::new(VerificationError::AccountLength), "the account number does not have 12 to 19 digits"),
+        (Box::new(VerificationError::AccountDigit), "a character of the account number is not a digit"),
+        (Box::new(VerificationError::KeyIndex), "the index of the key pair is not 1 to 6"),
+        (Box::new(VerificationError::KeyLength), "the key does not have 8, 16 or 24 bytes"),
+        (Box::new(VerificationError::PinLength), "the PIN does not have 4 to 12 digits"),
+        (Box::new(VerificationError::TableLength), "the decimalization table does not have sixteen digits"),
+        (Box::new(VerificationError::TableDigit), "a character of the decimalization table is not a digit"),
+        (Box::new(VerificationError::TableVariety), "the decimalization table has fewer than eight different digits"),
+        (Box::new(VerificationError::WrongPin), "the PIN is not the one"),
+        (Box::new(TranslationError::KeyLength), "a key does not have 8, 16 or 24 bytes"),
+        (Box::new(TranslationError::Formats), "there is no translation from the one format to the other"),
+        (Box::new(TranslationError::AccountLength), "the account number does not have 8 to 19 digits"),
+        (Box::new(TranslationError::AccountDigit), "a character of the account number is not a digit"),
+        (Box::new(TranslationError::Fill), "a fill digit is not one that the format allows"),
+        (Box::new(TranslationError::Block), "the PIN block is not one of its format and account number"),
+        (Box::new(EmvError::AccountLength), "the account number does not have 8 to 19 digits"),
+        (Box::new(EmvError::AccountDigit), "a character of the account number is not a digit"),
+        (Box::new(EmvError::SequenceLength), "the sequence number does not have two digits"),
+        (Box::new(EmvError::SequenceDigit), "a character of the sequence number is not a digit"),
+        (Box::new(EmvError::DataLength), "the issuer's data have more than 8 bytes"),
     ];
     for (error, sentence) in errors {
         assert_eq!(error.to_string(), sentence);

@@ -1,13 +1,15 @@
 //! The exports of key check values. No table is read at an index that depends on a key.
 
-ghost use Rattle.std.specs.Prelude.{◌≡◌, ◌≢◌, ◌↔◌, length, map, take, replicate};
+ghost use Rattle.std.specs.Prelude.{◌≡◌, ◌≢◌, ◌↔◌, length, map, take, replicate, IsTrue};
 ghost use Rattle.des.specs.Des.{encryption};
 ghost use Rattle.des.specs.TripleCiphers.{ede3_encryption, ede2_encryption};
+ghost use Rattle.des_payment.specs.KeyLengths.{is_key, encryption_by};
 
 use des::cipher::KeyedCipher;
 use des_context::payment_lists::check_values;
 use des_context::status::{ERR_COUNTS, ERR_KEY_LENGTH, OK};
 use des_fast::{Des, TdesEde2, TdesEde3, quiet};
+use des_payment::{key_check_value, short_key_check_value};
 use std::simd::prelude::*;
 
 // The check value of a key of any cipher.
@@ -64,6 +66,45 @@ pub extern "C" fn cukvashe_tdes_ede2_check_value(key: &[u8], value: &mut [u8; 3]
     ensures kept { length key.now ≢ 16 → value.new ≡ value.old }
 {
     check_value::<quiet::TdesEde2>(key, value)
+}
+
+/// The check value of a key of 8, 16 or 24 bytes, or of a component of one, by its length: under
+/// `Des`, `TdesEde2` or `TdesEde3`. The status of a key of another length is `ERR_KEY_LENGTH`, and
+/// then `value` stays.
+#[unsafe(no_mangle)]
+pub extern "C" fn cukvashe_key_check_value(key: &[u8], value: &mut [u8; 3]) -> i32
+    ensures accepted { (result ≡ OK) ↔ IsTrue (is_key key.now) }
+    ensures refused { (result ≡ ERR_KEY_LENGTH) ↔ ¬ (IsTrue (is_key key.now)) }
+    ensures value { result ≡ OK
+        → value.new ≡ take 3 (encryption_by key.now (replicate 8 0)) }
+    ensures kept { result ≢ OK → value.new ≡ value.old }
+{
+    match key_check_value(key) {
+        Ok(made) => {
+            *value = made;
+            OK
+        }
+        Err(_) => ERR_KEY_LENGTH,
+    }
+}
+
+/// The first two bytes of the check value of a key, which `cukvashe_key_check_value` gives. The
+/// status is as of that call.
+#[unsafe(no_mangle)]
+pub extern "C" fn cukvashe_short_key_check_value(key: &[u8], value: &mut [u8; 2]) -> i32
+    ensures accepted { (result ≡ OK) ↔ IsTrue (is_key key.now) }
+    ensures refused { (result ≡ ERR_KEY_LENGTH) ↔ ¬ (IsTrue (is_key key.now)) }
+    ensures value { result ≡ OK
+        → value.new ≡ take 2 (encryption_by key.now (replicate 8 0)) }
+    ensures kept { result ≢ OK → value.new ≡ value.old }
+{
+    match short_key_check_value(key) {
+        Ok(made) => {
+            *value = made;
+            OK
+        }
+        Err(_) => ERR_KEY_LENGTH,
+    }
 }
 
 /// The check value of each key at its place, under `Des`. The status is `ERR_COUNTS` where the

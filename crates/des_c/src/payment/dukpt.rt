@@ -1,7 +1,7 @@
 //! The exports of the keys of a transaction (DUKPT, ANSI X9.24-1:2009).
 
 ghost use Rattle.std.specs.Prelude.{◌≡◌, ◌≢◌, ◌↔◌, ◌<◌, ℕ, IsTrue, length, map};
-ghost use Rattle.des_payment.specs.Dukpt.{initial_key, transaction_key, pin_key, mac_key, data_key};
+ghost use Rattle.des_payment.specs.Dukpt.{initial_key, transaction_key, pin_key, mac_key, data_variant, data_key};
 ghost use Rattle.des_payment.specs.Dukpt.{counter_of, IsUsable, IsNextCounter, IsOfTransaction, with_counter};
 ghost use Rattle.des_c.specs.Messages.{message_of as message_by};
 
@@ -77,6 +77,19 @@ pub extern "C" fn cukvashe_dukpt_mac_key(
     ensures { key.new ≡ mac_key (message_by is_response) transaction.now }
 {
     *key = dukpt::mac_key(transaction, message_of(is_response));
+}
+
+/// The data variant of the transaction's key for the request, or for the response: the key that
+/// `cukvashe_dukpt_data_key` makes, without its last step.
+#[unsafe(no_mangle)]
+pub extern "C" fn cukvashe_dukpt_data_variant(
+    transaction: &[u8; 16],
+    is_response: bool,
+    key: &mut [u8; 16],
+)
+    ensures { key.new ≡ data_variant (message_by is_response) transaction.now }
+{
+    *key = dukpt::data_variant(transaction, message_of(is_response));
 }
 
 /// The key that encrypts the data of the request, or of the response, from the transaction's key.

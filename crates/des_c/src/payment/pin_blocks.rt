@@ -6,7 +6,7 @@ ghost use Rattle.std.specs.Result.{result_err};
 ghost use Rattle.des.specs.Cbc.{xor_blocks};
 ghost use Rattle.des.specs.Relations.{IsTheOne};
 ghost use Rattle.des_payment.specs.Digits.{digits_of as digits_in};
-ghost use Rattle.des_payment.specs.PinBlocks.{account_field, IsFormat0, IsFormat1, IsFormat3};
+ghost use Rattle.des_payment.specs.PinBlocks.{account_field, IsFormat0, IsFormat1, IsFormat2, IsFormat3};
 ghost use Rattle.des_payment.specs.PinBlocks.{pin_fault, account_fault, fill_fault, field_fault};
 ghost use Rattle.des_c.specs.PinStatuses.{status_of as status_of_fault};
 ghost use Rattle.des_c.specs.Statuses.{status_after};
@@ -16,12 +16,12 @@ use des_context::status::{
     ERR_ACCOUNT_DIGIT, ERR_ACCOUNT_LENGTH, ERR_FILL, ERR_FORMAT, ERR_PIN_DIGIT, ERR_PIN_LENGTH, OK,
 };
 use des_payment::pin_blocks::{
-    decode_format_0, decode_format_1, decode_format_3, encode_format_0, encode_format_1,
-    encode_format_3,
+    decode_format_0, decode_format_1, decode_format_2, decode_format_3, encode_format_0,
+    encode_format_1, encode_format_2, encode_format_3,
 };
 use des_payment::{Pin, PinError};
 
-fn status_of(fault: PinError) -> i32
+pub(crate) fn status_of(fault: PinError) -> i32
     ensures status { result ≡ status_of_fault fault }
     ensures fault { result ≢ OK }
 {
@@ -50,7 +50,16 @@ fn write_block(made: Result<[u8; 8], PinError>, block: &mut [u8; 8]) -> i32
     }
 }
 
-// Writes the PIN that was read, if one was: its digits, and then zero bytes.
+// Writes a PIN: its digits, and then zero bytes.
+pub(crate) fn put_pin(digits: &Pin, pin: &mut [u8; 13])
+    ensures { pin.new ≡ with_zeros 13 digits.now }
+{
+    let text = digits.text();
+    *pin = [0; 13];
+    pin[..text.len()].copy_from_slice(text);
+}
+
+// Writes the PIN that was read, if one was.
 fn write_pin(read: Result<Pin, PinError>, pin: &mut [u8; 13]) -> i32
     ensures status { result ≡ status_after status_of_fault (result_err read) }
     ensures pin { result ≡ OK
@@ -61,16 +70,14 @@ fn write_pin(read: Result<Pin, PinError>, pin: &mut [u8; 13]) -> i32
 {
     match read {
         Ok(read) => {
-            let text = read.text();
-            *pin = [0; 13];
-            pin[..text.len()].copy_from_slice(text);
+            put_pin(&read, pin);
             OK
         }
         Err(fault) => status_of(fault),
     }
 }
 
-/// The block of format 0 of a PIN of 4 to 12 digits and an account number of 13 to 19, both texts
+/// The block of format 0 of a PIN of 4 to 12 digits and an account number of 8 to 19, both texts
 /// of ASCII digits. The status is that of the first fault, of the PIN (`ERR_PIN_LENGTH`,
 /// `ERR_PIN_DIGIT`) and then of the account number (`ERR_ACCOUNT_LENGTH`, `ERR_ACCOUNT_DIGIT`), and
 /// then `block` stays.
@@ -104,6 +111,23 @@ pub extern "C" fn cukvashe_pin_encode_1(
 {
     match Pin::new(pin) {
         Ok(pin) => write_block(encode_format_1(&pin, transaction), block),
+        Err(fault) => status_of(fault),
+    }
+}
+
+/// The block of format 2 of a PIN of 4 to 12 ASCII digits, for a card. The status is that of the
+/// PIN's fault, and then `block` stays.
+#[unsafe(no_mangle)]
+pub extern "C" fn cukvashe_pin_encode_2(pin: &[u8], block: &mut [u8; 8]) -> i32
+    ensures status { result ≡ status_after status_of_fault (pin_fault pin.now) }
+    ensures block { result ≡ OK → IsTheOne (IsFormat2 pin.now) block.new }
+    ensures kept { result ≢ OK → block.new ≡ block.old }
+{
+    match Pin::new(pin) {
+        Ok(pin) => {
+            *block = encode_format_2(&pin);
+            OK
+        }
         Err(fault) => status_of(fault),
     }
 }
@@ -161,6 +185,21 @@ pub extern "C" fn cukvashe_pin_decode_1(block: &[u8; 8], pin: &mut [u8; 13]) -> 
     ensures kept { result ≢ OK → pin.new ≡ pin.old }
 {
     write_pin(decode_format_1(block), pin)
+}
+
+/// The PIN of a block of format 2, as of one of format 0. The status of the first fault is
+/// `ERR_FORMAT`, `ERR_PIN_LENGTH`, `ERR_PIN_DIGIT` or `ERR_FILL`.
+#[unsafe(no_mangle)]
+pub extern "C" fn cukvashe_pin_decode_2(block: &[u8; 8], pin: &mut [u8; 13]) -> i32
+    ensures status { result ≡ status_after status_of_fault
+        (field_fault 2 15 (digits_in block.now)) }
+    ensures decoded { result ≡ OK → (text : List ℕ)
+        × IsFormat2 text block.now × (pin.new ≡ with_zeros 13 text) }
+    ensures complete { (text : List ℕ) → IsFormat2 text block.now
+        → (result ≡ OK) × (pin.new ≡ with_zeros 13 text) }
+    ensures kept { result ≢ OK → pin.new ≡ pin.old }
+{
+    write_pin(decode_format_2(block), pin)
 }
 
 /// The PIN of a block of format 3 and an account number, as of one of format 0; the status is

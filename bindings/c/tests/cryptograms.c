@@ -1,0 +1,96 @@
+/* The keys of a card, and cryptograms: a published key, and values that OpenSSL's ciphers make. */
+#include "digits.h"
+
+/* The key of account number 99012345678901234 and sequence number 45, as published; the session key of counter 001c, and the
+ * cryptogram of 43 bytes under it. */
+static const char card_key[] = "67f8292358083e5ea7ab7fda58d53b6b", session_key[] = "38324e73f063efdd5ca88c322476a45b";
+static const char cryptogram_of_data[] = "ac06a6df7a7d00e8";
+
+static const uint8_t data[43] = {
+    0x00, 0x00, 0x00, 0x00, 0x50, 0x00, 0x00, 0x00, 0x00, 0x00, 0x00, 0x00, 0x00, 0x00, 0x08, 0x40, 0x00, 0x00, 0x00, 0x00, 0x00, 0x08,
+    0x40, 0x15, 0x02, 0x20, 0x00, 0x63, 0xa5, 0xb1, 0xf2, 0x58, 0x00, 0x00, 0x00, 0x1c, 0x06, 0x01, 0x0a, 0x03, 0xa4, 0xa0, 0x00,
+};
+
+/* An account number, a sequence number, and the status. */
+static const struct {
+  const char *account, *sequence;
+  int status;
+} cards[] = {
+    {"99012345678901234", "45", CUKVASHE_OK},
+    {"1234567", "0", CUKVASHE_ERR_ACCOUNT_LENGTH},
+    {"12345678901234567890", "0:", CUKVASHE_ERR_ACCOUNT_LENGTH},
+    {"1234567a", "0", CUKVASHE_ERR_ACCOUNT_DIGIT},
+    {"12345678", "", CUKVASHE_ERR_SEQUENCE_LENGTH},
+    {"12345678", "0", CUKVASHE_ERR_SEQUENCE_LENGTH},
+    {"12345678", "000", CUKVASHE_ERR_SEQUENCE_LENGTH},
+    {"12345678", "0:", CUKVASHE_ERR_SEQUENCE_DIGIT},
+    {"1234567890123456789", "/0", CUKVASHE_ERR_SEQUENCE_DIGIT},
+};
+
+static void answers_keys_of_cards(void) {
+  uint8_t issuer[16], key[16];
+  put(issuer, base_key);
+  for (size_t i = 0; i < sizeof cards / sizeof *cards; i++) {
+    memset(key, PAINTED, sizeof key);
+    CHECK(cukvashe_emv_card_key(issuer, TEXT(cards[i].account), TEXT(cards[i].sequence), key) == cards[i].status);
+    CHECK(cards[i].status == CUKVASHE_OK ? are(key, 16, card_key) : is_kept(key, sizeof key));
+  }
+  CHECK(cukvashe_emv_card_key(issuer, NULL, 0, NULL, 0, key) == CUKVASHE_ERR_ACCOUNT_LENGTH);
+  CHECK(cukvashe_emv_card_key(issuer, TEXT("12345678"), NULL, 0, key) == CUKVASHE_ERR_SEQUENCE_LENGTH);
+}
+
+/* The third byte of what a session key is made from plays no part. */
+static void answers_session_keys(void) {
+  static const uint8_t counter[2] = {0x00, 0x1c};
+  uint8_t card[16], key[16], block[8];
+  put(card, card_key);
+  cukvashe_emv_application_key(card, counter, key);
+  CHECK(are(key, 16, session_key));
+  put(block, "123456789abcdef0");
+  for (int third = 0; third < 256; third++) {
+    block[2] = (uint8_t)third;
+    cukvashe_emv_session_key(card, block, key);
+    CHECK(are(key, 16, "cff2da9ebf0a165c4117216e8a84e800"));
+  }
+}
+
+/* What a card sends is verified as a retail MAC. */
+static void answers_cryptograms(void) {
+  cukvashe_retail_mac_des mac;
+  uint8_t session[16], cryptogram[8];
+  bool right;
+  put(session, session_key);
+  cukvashe_emv_application_cryptogram(session, data, sizeof data, cryptogram);
+  CHECK(are(cryptogram, 8, cryptogram_of_data));
+  CHECK(cukvashe_retail_mac_des_init_quiet(&mac, session, sizeof session, CUKVASHE_MAC_PADDING_2) == CUKVASHE_OK);
+  cukvashe_retail_mac_des_update(&mac, data, sizeof data);
+  CHECK(cukvashe_retail_mac_des_verify(&mac, cryptogram, 8) == CUKVASHE_OK);
+  cukvashe_compare_tags(cryptogram, cryptogram, &right, 1);
+  CHECK(right);
+  cukvashe_emv_application_cryptogram(session, NULL, 0, cryptogram);
+  CHECK(are(cryptogram, 8, "94c5b7e3c27950aa"));
+}
+
+static void answers_responses(void) {
+  static const uint8_t code[2] = {'0', '0'}, status[4] = {0x00, 0x82, 0x00, 0x00}, issuer_data[9] = {1, 2, 3, 4, 5, 6, 7, 8, 9};
+  uint8_t session[16], cryptogram[8], response[8];
+  put(session, session_key);
+  put(cryptogram, cryptogram_of_data);
+  cukvashe_emv_response_1(session, cryptogram, code, response);
+  CHECK(are(response, 8, "f94a6571647b89f7"));
+  CHECK(cukvashe_emv_response_2(session, cryptogram, status, NULL, 0, response) == CUKVASHE_OK && are(response, 4, "e952019f"));
+  CHECK(cukvashe_emv_response_2(session, cryptogram, status, issuer_data, 8, response) == CUKVASHE_OK);
+  CHECK(are(response, 4, "264eaa20"));
+  memset(response, PAINTED, sizeof response);
+  CHECK(cukvashe_emv_response_2(session, cryptogram, status, issuer_data, 9, response) == CUKVASHE_ERR_DATA_LENGTH);
+  CHECK(is_kept(response, sizeof response));
+}
+
+int main(void) {
+  answers_keys_of_cards();
+  answers_session_keys();
+  answers_cryptograms();
+  answers_responses();
+  printf("cryptograms: keys of cards and of sessions, application cryptograms, responses by both methods\n");
+  return 0;
+}

@@ -1,0 +1,69 @@
+"""The terminal's side of DUKPT (ANSI X9.24-1:2009)."""
+
+from __future__ import annotations
+
+import ctypes
+import threading
+from typing import TYPE_CHECKING, Any, Tuple, Type, TypeVar
+
+from ._data import Keyed, bytes_from, context_type, data_of, key_of, room
+from ._faults import NoSerial, StateLength
+from ._keys import serial_of
+from ._library import INT, OK, POINTER, function
+
+if TYPE_CHECKING:
+    from _typeshed import ReadableBuffer
+
+_SERIAL_SIZE = 10
+_STATE_SIZE = 346
+
+_State = context_type(_STATE_SIZE, ctypes.c_uint8)
+
+_init = function("dukpt_terminal_init", None, POINTER, POINTER, POINTER)
+_next_key = function("dukpt_terminal_next_key", INT, POINTER, POINTER, POINTER)
+
+_Self = TypeVar("_Self", bound="DukptTerminal")
+
+
+class DukptTerminal(Keyed):
+    """The keys of a terminal's transactions to come, made of the initial key, 16 bytes, and any of the terminal's key serial
+    numbers, whose counter plays no part. Threads may share one: its calls take turns."""
+
+    __slots__ = ("_lock",)
+
+    def __init__(self, initial: ReadableBuffer, serial: ReadableBuffer) -> None:
+        state = _State()
+        with key_of(initial, 16) as held:
+            _init(state, held, serial_of(serial))
+        self._begin(state)
+
+    def _begin(self, state: Any) -> None:
+        self._context, self._lock = state, threading.Lock()
+
+    def next_key(self) -> Tuple[bytes, bytes]:
+        """The key serial number and the key of the next transaction, that of dukpt_transaction_key; the terminal no longer has the
+        key then. NoSerial after the last transaction, the 1,048,575th. Store `state()` before you use the key, or a key is used
+        twice."""
+        serial, key = room(_SERIAL_SIZE), room(16)
+        with self._lock:
+            status = _next_key(self._open(), serial, key)
+        if status != OK:
+            raise NoSerial("the terminal has had its last transaction")
+        return bytes(serial), bytes_from(key)
+
+    def state(self) -> bytes:
+        """The state, 346 bytes, from which `from_state` goes on. Whoever has it has the keys of all transactions to come."""
+        with self._lock:
+            return bytes(self._open())
+
+    @classmethod
+    def from_state(cls: Type[_Self], state: ReadableBuffer) -> _Self:
+        """The terminal of a state."""
+        made = cls.__new__(cls)
+        made._begin(_State.from_buffer_copy(data_of(state, _STATE_SIZE, "the state of a terminal has", StateLength)))
+        return made
+
+    def close(self) -> None:
+        """Forgets the keys: the state is wiped. Every later call raises Closed."""
+        with self._lock:
+            super().close()

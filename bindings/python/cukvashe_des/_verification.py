@@ -1,0 +1,108 @@
+"""PIN verification: the PIN verification value (PVV), and natural PINs and offsets by the method of the IBM 3624."""
+
+from __future__ import annotations
+
+from typing import TYPE_CHECKING, Any, Union
+
+from ._data import BLOCK_SIZE, data_of, key_of, number_of, room, text_of
+from ._faults import BlockLength, check
+from ._keys import KEY_SIZES
+from ._library import INT, POINTER, SIZE, function
+from ._payment import text_from
+
+if TYPE_CHECKING:
+    from _typeshed import ReadableBuffer
+
+    _Text = Union[str, ReadableBuffer]
+
+_PIN_SIZE = 13
+_PVV_SIZE = 5
+_TABLE_SIZE = 16
+
+_pvv = function("pvv", INT, POINTER, POINTER, SIZE, INT, POINTER, SIZE, POINTER)
+_pvv_verify = function("pvv_verify", INT, POINTER, POINTER, SIZE, INT, POINTER, SIZE, POINTER, SIZE)
+_init = function("decimal_table_init", INT, POINTER, POINTER, SIZE)
+_init_any = function("decimal_table_init_any", INT, POINTER, POINTER, SIZE)
+_natural_pin = function("natural_pin", INT, POINTER, SIZE, POINTER, POINTER, SIZE, POINTER)
+_pin_offset = function("pin_offset", INT, POINTER, SIZE, POINTER, POINTER, POINTER, SIZE, POINTER)
+_verify = function("pin_offset_verify", INT, POINTER, SIZE, POINTER, POINTER, POINTER, SIZE, POINTER, SIZE)
+
+
+def pvv(key: ReadableBuffer, account: _Text, index: int, pin: _Text) -> str:
+    """The PIN verification value, four digits, under a key pair of 16 bytes with an index from 1 to 6, of an account number of
+    12 to 19 digits and the first four digits of a PIN, as str or bytes of digits."""
+    value, place = room(_PVV_SIZE), number_of(index, 1, 6)
+    with key_of(key, 16) as held, text_of(account) as number, text_of(pin) as digits:
+        check(_pvv(held, *number, place, *digits, value))
+    return text_from(value)
+
+
+def pvv_verify(key: ReadableBuffer, account: _Text, index: int, pin: _Text, value: _Text) -> None:
+    """Accepts the PIN whose PIN verification value, four digits, this is; WrongPin is raised for any other. Count these: whoever
+    may ask often enough finds the PIN."""
+    place = number_of(index, 1, 6)
+    with key_of(key, 16) as held, text_of(account) as number, text_of(pin) as digits, text_of(value) as kept:
+        check(_pvv_verify(held, *number, place, *digits, *kept))
+
+
+class DecimalTable:
+    """A decimalization table of sixteen decimal digits, as str or bytes, those that stand for 0 to 15 in this order. With fewer
+    than eight different ones it is TableVariety: then many PINs are right, and who chooses the table finds a PIN out."""
+
+    __slots__ = ("_table",)
+
+    def __init__(self, digits: _Text) -> None:
+        table = room(_TABLE_SIZE)
+        with text_of(digits) as text:
+            check(_init(table, *text))
+        self._table = table
+
+    @classmethod
+    def of_any_variety(cls, digits: _Text) -> DecimalTable:
+        """The same with any number of different digits, for old systems that have such a table."""
+        made, table = cls.__new__(cls), room(_TABLE_SIZE)
+        with text_of(digits) as text:
+            check(_init_any(table, *text))
+        made._table = table
+        return made
+
+    def __repr__(self) -> str:
+        return f"{type(self).__name__} {{ ... }}"
+
+
+def _table_of(table: DecimalTable) -> Any:
+    """The table, as a call takes it."""
+    if not isinstance(table, DecimalTable):
+        raise TypeError("a decimalization table is a DecimalTable")
+    return table._table
+
+
+def _validation_of(validation: ReadableBuffer) -> bytes:
+    """Validation data, sixteen digits in 8 bytes."""
+    return data_of(validation, BLOCK_SIZE, "validation data have", BlockLength)
+
+
+def natural_pin(key: ReadableBuffer, table: DecimalTable, validation: ReadableBuffer, length: int) -> str:
+    """The natural PIN of 4 to 12 digits: the first digits of the validation data, 8 bytes, encrypted under a key of 8, 16 or 24
+    bytes, each by the decimalization table."""
+    pin, data, count = room(_PIN_SIZE), _validation_of(validation), number_of(length, 4, 12)
+    with key_of(key, *KEY_SIZES) as held:
+        check(_natural_pin(held, len(held), _table_of(table), data, count, pin))
+    return text_from(pin)
+
+
+def pin_offset(key: ReadableBuffer, table: DecimalTable, validation: ReadableBuffer, pin: _Text) -> str:
+    """The offset of a PIN: digit by digit, modulo ten, the PIN less the natural PIN."""
+    offset, data = room(_PIN_SIZE), _validation_of(validation)
+    with key_of(key, *KEY_SIZES) as held, text_of(pin) as digits:
+        check(_pin_offset(held, len(held), _table_of(table), data, *digits, offset))
+    return text_from(offset)
+
+
+def pin_offset_verify(
+    key: ReadableBuffer, table: DecimalTable, validation: ReadableBuffer, pin: _Text, offset: _Text
+) -> None:
+    """Accepts the PIN whose offset this is; WrongPin is raised for any other. Count these."""
+    data = _validation_of(validation)
+    with key_of(key, *KEY_SIZES) as held, text_of(pin) as digits, text_of(offset) as kept:
+        check(_verify(held, len(held), _table_of(table), data, *digits, *kept))

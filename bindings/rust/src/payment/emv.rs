@@ -1,0 +1,113 @@
+//! Card cryptograms (EMV 4.3, Book 2), the issuer's side, with triple DES: the key of a card, the keys of its sessions, the
+//! application cryptogram and the responses. A key has 16 bytes.
+//!
+//! ```
+//! use cukvashe_des::mac::{Mac, Method2, RetailMacDes};
+//! use cukvashe_des::payment::emv::{application_cryptogram, application_key, card_key};
+//!
+//! let issuer = 0x0123456789abcdeffedcba9876543210u128.to_be_bytes();
+//! let card = card_key(&issuer, b"99012345678901234", b"45")?;
+//! assert_eq!(card, 0x67f8292358083e5ea7ab7fda58d53b6bu128.to_be_bytes());
+//! let session = application_key(&card, &[0x00, 0x1c]);
+//! assert_eq!(application_cryptogram(&session, b""), 0x94c5b7e3c27950aau64.to_be_bytes());
+//!
+//! // Of a cryptogram that a card sent:
+//! let sent = 0x94c5b7e3c27950aau64.to_be_bytes();
+//! assert!(RetailMacDes::<Method2>::new_quiet(&session).verify(&sent).is_ok());
+//! # Ok::<(), cukvashe_des::payment::EmvError>(())
+//! ```
+
+use crate::error::sentences;
+use crate::ffi::{self, ACCOUNT_DIGIT, ACCOUNT_LENGTH, OK, SEQUENCE_DIGIT, SEQUENCE_LENGTH};
+
+/// Why there is no key of a card, or no response to it. The first of them is reported, in this order.
+#[derive(Clone, Copy, Debug, PartialEq, Eq)]
+pub enum EmvError {
+    /// The account number does not have 8 to 19 digits.
+    AccountLength,
+    /// A character of the account number is not a digit.
+    AccountDigit,
+    /// The sequence number does not have two digits.
+    SequenceLength,
+    /// A character of the sequence number is not a digit.
+    SequenceDigit,
+    /// The issuer's data have more than eight bytes.
+    DataLength,
+}
+
+sentences!(EmvError:
+    EmvError::AccountLength => "the account number does not have 8 to 19 digits",
+    EmvError::AccountDigit => "a character of the account number is not a digit",
+    EmvError::SequenceLength => "the sequence number does not have two digits",
+    EmvError::SequenceDigit => "a character of the sequence number is not a digit",
+    EmvError::DataLength => "the issuer's data have more than 8 bytes",
+);
+
+/// What a call made, or the fault that its status says.
+fn checked<T>(status: i32, made: T) -> Result<T, EmvError> {
+    match status {
+        OK => Ok(made),
+        ACCOUNT_LENGTH => Err(EmvError::AccountLength),
+        ACCOUNT_DIGIT => Err(EmvError::AccountDigit),
+        SEQUENCE_LENGTH => Err(EmvError::SequenceLength),
+        SEQUENCE_DIGIT => Err(EmvError::SequenceDigit),
+        _ => Err(EmvError::DataLength),
+    }
+}
+
+// SAFETY of each call below: the pointers are of references, those of texts and data good for their lengths, and don't overlap what
+// is written.
+
+/// The key of a card (A1.4.1, option A), from the issuer's key, the account number, a text of 8 to 19 digits with the check digit,
+/// and the sequence number of the card, a text of two digits: `00` where the card has none. Each byte has odd parity.
+pub fn card_key(issuer: &[u8; 16], account: &[u8], sequence: &[u8]) -> Result<[u8; 16], EmvError> {
+    let mut key = [0; 16];
+    let (account, length) = (account.as_ptr().cast(), account.len());
+    let (sequence, digits) = (sequence.as_ptr().cast(), sequence.len());
+    let status = unsafe { ffi::cukvashe_emv_card_key(issuer, account, length, sequence, digits, &mut key) };
+    checked(status, key)
+}
+
+/// The session key of a card's key by the common derivation (A1.3), from eight bytes that are different for each session: for secure
+/// messaging the application cryptogram. Their third byte plays no part.
+pub fn session_key(card: &[u8; 16], block: &[u8; 8]) -> [u8; 16] {
+    let mut key = [0; 16];
+    unsafe { ffi::cukvashe_emv_session_key(card, block, &mut key) };
+    key
+}
+
+/// The session key for application cryptograms, by the application transaction counter, two bytes.
+pub fn application_key(card: &[u8; 16], counter: &[u8; 2]) -> [u8; 16] {
+    let mut key = [0; 16];
+    unsafe { ffi::cukvashe_emv_application_key(card, counter, &mut key) };
+    key
+}
+
+/// The application cryptogram of bytes under a session key (8.1.2): the retail MAC with padding method 2. To check one that a card
+/// sent, call `verify` of [`RetailMacDes`](crate::mac::RetailMacDes), and do not compare by `==`.
+pub fn application_cryptogram(session: &[u8; 16], bytes: &[u8]) -> [u8; 8] {
+    let mut cryptogram = [0; 8];
+    unsafe { ffi::cukvashe_emv_application_cryptogram(session, bytes.as_ptr(), bytes.len(), &mut cryptogram) };
+    cryptogram
+}
+
+/// The response by method 1 (8.2.1) to an application cryptogram, with a response code of two bytes, ASCII characters.
+pub fn response_1(session: &[u8; 16], cryptogram: &[u8; 8], code: &[u8; 2]) -> [u8; 8] {
+    let mut response = [0; 8];
+    unsafe { ffi::cukvashe_emv_response_1(session, cryptogram, code, &mut response) };
+    response
+}
+
+/// The response by method 2 (8.2.2) to an application cryptogram, with a card status update of four bytes and at most eight bytes of
+/// the issuer's; `DataLength` where there are more.
+pub fn response_2(
+    session: &[u8; 16],
+    cryptogram: &[u8; 8],
+    status: &[u8; 4],
+    bytes: &[u8],
+) -> Result<[u8; 4], EmvError> {
+    let mut response = [0; 4];
+    let (data, length) = (bytes.as_ptr(), bytes.len());
+    let answer = unsafe { ffi::cukvashe_emv_response_2(session, cryptogram, status, data, length, &mut response) };
+    checked(answer, response)
+}

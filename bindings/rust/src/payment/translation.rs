@@ -1,0 +1,119 @@
+//! Translation of PIN blocks (ISO 9564-1): from one key to another, and from one format to another. The PIN does not come out.
+//!
+//! ```
+//! use cukvashe_des::payment::translation::{translate, Format::Format0, Format::Format3};
+//!
+//! let incoming = 0x0123456789abcdeffedcba9876543210u128.to_be_bytes();
+//! let outgoing = 0x89e88cf7931444f334bd7547fc3f380cu128.to_be_bytes();
+//! let fill = [10, 11, 12, 13, 14, 15, 10, 11, 12, 13];
+//! let block = 0xc03d21cdbcb0c58bu64.to_be_bytes();
+//! let translated = translate(&incoming, Format0, &outgoing, Format3, b"4012345678909", &fill, &block)?;
+//! assert_eq!(translated, 0xba041cb9b3034d36u64.to_be_bytes());
+//! # Ok::<(), cukvashe_des::payment::TranslationError>(())
+//! ```
+
+use crate::error::sentences;
+use crate::ffi::{self, ACCOUNT_DIGIT, ACCOUNT_LENGTH, FORMATS, KEY_LENGTH, OK, PIN_BLOCK};
+use crate::Block;
+use core::ffi::c_int;
+
+/// A format of PIN blocks.
+#[derive(Clone, Copy, Debug, PartialEq, Eq)]
+pub enum Format {
+    /// With an account number.
+    Format0 = 0,
+    /// With transaction digits.
+    Format1 = 1,
+    /// For a card, in clear.
+    Format2 = 2,
+    /// With an account number and fill digits.
+    Format3 = 3,
+}
+
+/// Why a PIN block is not translated. The first of them is reported, in this order. All that can be wrong with the block itself is
+/// one error: whoever could tell its faults apart would learn PINs.
+#[derive(Clone, Copy, Debug, PartialEq, Eq)]
+pub enum TranslationError {
+    /// One of the keys does not have 8, 16 or 24 bytes.
+    KeyLength,
+    /// The standard has no translation from the one format to the other.
+    Formats,
+    /// The account number does not have 8 to 19 digits.
+    AccountLength,
+    /// A character of the account number is not a digit.
+    AccountDigit,
+    /// A fill digit is none of 10 to 15.
+    Fill,
+    /// Decrypted, the block is none of a PIN in its format.
+    Block,
+}
+
+sentences!(TranslationError:
+    TranslationError::KeyLength => "a key does not have 8, 16 or 24 bytes",
+    TranslationError::Formats => "there is no translation from the one format to the other",
+    TranslationError::AccountLength => "the account number does not have 8 to 19 digits",
+    TranslationError::AccountDigit => "a character of the account number is not a digit",
+    TranslationError::Fill => "a fill digit is not one that the format allows",
+    TranslationError::Block => "the PIN block is not one of its format and account number",
+);
+
+/// Translates a PIN block that is encrypted under one key, of 8, 16 or 24 bytes, into the block of the same PIN that is encrypted
+/// under another: by DES, or by triple DES in the EDE form.
+///
+/// The standard translates from the formats 0, 1 and 3 to the formats 0 and 3. The account number, a text of 8 to 19 digits with
+/// the check digit, is that of both blocks, and the fill digits, from 10 to 15, are those of an outgoing block of format 3.
+pub fn translate(
+    incoming: &[u8],
+    from: Format,
+    outgoing: &[u8],
+    to: Format,
+    account: &[u8],
+    fill: &[u8; 10],
+    block: &Block,
+) -> Result<Block, TranslationError> {
+    // There is no translation to formats 1 and 2, as there is none from format 2, which the library refuses.
+    let number = match to {
+        Format::Format0 | Format::Format3 => from as c_int,
+        Format::Format1 | Format::Format2 => Format::Format2 as c_int,
+    };
+    let mut translated = [0; 8];
+    let (key, key_length, other, other_length) = (incoming.as_ptr(), incoming.len(), outgoing.as_ptr(), outgoing.len());
+    let (text, length, made) = (account.as_ptr().cast(), account.len(), &mut translated);
+    // SAFETY: the pointers are of references, those of keys and the text good for their lengths, and don't overlap what is written.
+    let status = unsafe {
+        match to {
+            Format::Format3 => ffi::cukvashe_pin_translate_to_3(
+                key,
+                key_length,
+                number,
+                other,
+                other_length,
+                text,
+                length,
+                fill,
+                block,
+                made,
+            ),
+            _ => ffi::cukvashe_pin_translate_to_0(
+                key,
+                key_length,
+                number,
+                other,
+                other_length,
+                text,
+                length,
+                block,
+                made,
+            ),
+        }
+    };
+    match status {
+        OK => Ok(translated),
+        KEY_LENGTH => Err(TranslationError::KeyLength),
+        FORMATS => Err(TranslationError::Formats),
+        ACCOUNT_LENGTH => Err(TranslationError::AccountLength),
+        ACCOUNT_DIGIT => Err(TranslationError::AccountDigit),
+        PIN_BLOCK => Err(TranslationError::Block),
+        _ => Err(TranslationError::Fill),
+    }
+}
