@@ -4,7 +4,7 @@ use Rattle.std.specs.Option.{option_or}
 use Rattle.std.specs.Result.{result_err}
 use Rattle.cukvashe.specs.declared.fault.Kind.{Kind}
 use Rattle.cukvashe.specs.declared.fault.Kind.TheVariants.{WeakKey}
-use Rattle.cukvashe.specs.Faults.{FailsOnlyBy, FailsOrRefuses}
+use Rattle.cukvashe.specs.Faults.{FailsBy, FailsOnlyBy, FailsOrRefuses}
 
 -- which fault there is, by what a call gave
 pub some_from : {A : Type 0} (o : Option Kind) (r : Result A Kind) (e : Kind) → FailsOnlyBy o r → r ≡ Err e
@@ -25,6 +25,24 @@ fails_before A o p e found = rw found refl
 pub fails_second : (A : Type 0) (o p : Option Kind) (e : Kind) → o ≡ None → p ≡ Some e
     → FailsOnlyBy {A = A} (option_or o p) (Err e)
 fails_second A o p e none found = rw (none, found) refl
+
+-- tests one after another: the first that finds a fault, and those after one that finds none
+pub first_of : (o p : Option Kind) (e : Kind) → o ≡ Some e → option_or o p ≡ Some e
+first_of o p e found = rw found refl
+
+pub passed : (o p : Option Kind) → o ≡ None → option_or o p ≡ p
+passed o p none = rw none refl
+
+-- a call that gave the fault which is found, and one that gave a value where none is
+pub fails_by : (A : Type 0) (o : Option Kind) (r : Result A Kind) (e : Kind) → o ≡ Some e → r ≡ Err e
+    → FailsOnlyBy o r
+fails_by A o r e found was = rw found was
+
+pub fails_as : (A : Type 0) (o : Option Kind) (r : Result A Kind) (e : Kind) → o ≡ Some e → r ≡ Err e → FailsBy o r
+fails_as A o r e found was = rw found was
+
+pub passes_by : (A : Type 0) (o : Option Kind) (x : A) → o ≡ None → FailsOnlyBy {A = A} o (Ok x)
+passes_by A o x none = rw none refl
 
 -- a test before it was passed
 pub fails_after : (A : Type 0) (test : Bool) (f : Kind) (o : Option Kind) (e : Kind) → test ≡ true → o ≡ Some e

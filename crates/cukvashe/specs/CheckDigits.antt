@@ -24,9 +24,9 @@ luhn_sum (digit ∷ rest) = weighed (length rest) (value_of digit) + luhn_sum re
 abbrev pub has_check_digit : List ℕ → Bool
 has_check_digit digits = luhn_sum digits % 10 == 0
 
--- a text is an account number: 13 to 19 digits
+-- a text is an account number: 8 to 19 digits
 abbrev pub is_account : List ℕ → Bool
-is_account text = nat_le 13 (length text) && (nat_le (length text) 19 && are_digits text)
+is_account text = nat_le 8 (length text) && (nat_le (length text) 19 && are_digits text)
 
 -- it is one, and its last digit is not its check digit
 abbrev pub lacks_check_digit : List ℕ → Bool

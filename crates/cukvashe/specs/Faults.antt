@@ -9,12 +9,21 @@ use Rattle.des_payment.specs.declared.pin_error.PinError.{PinError}
 use Rattle.des_payment.specs.declared.pin_error.PinError.TheVariants.{Format, PinLength, PinDigit, AccountLength, AccountDigit, Fill}
 use Rattle.des_payment.specs.declared.cvv_error.CvvError.{CvvError}
 use Rattle.des_payment.specs.declared.cvv_error.CvvError.TheVariants.{AccountLength as CardAccountLength, AccountDigit as CardAccountDigit, ExpiryLength, ExpiryDigit, ServiceLength, ServiceDigit}
+use Rattle.des_payment.specs.Translation.{name_of as name_of_translation_error}
+use Rattle.des_payment.specs.PinVerification.{name_of as name_of_verification_error}
+use Rattle.des_payment.specs.CardCryptograms.{name_of as name_of_emv_error}
+use Rattle.des_payment.specs.declared.translation_error.TranslationError.{TranslationError}
+use Rattle.des_payment.specs.declared.translation_error.TranslationError.TheVariants.{KeyLength as TranslatedKeyLength, Formats, AccountLength as TranslatedAccountLength, AccountDigit as TranslatedAccountDigit, Fill as TranslatedFill, Block}
+use Rattle.des_payment.specs.declared.verification_error.VerificationError.{VerificationError}
+use Rattle.des_payment.specs.declared.verification_error.VerificationError.TheVariants.{AccountLength as PairAccountLength, AccountDigit as PairAccountDigit, KeyIndex, KeyLength as PinKeyLength, PinLength as NaturalLength, TableLength, TableDigit, TableVariety, WrongPin}
+use Rattle.des_payment.specs.declared.emv_error.EmvError.{EmvError}
+use Rattle.des_payment.specs.declared.emv_error.EmvError.TheVariants.{AccountLength as EmvAccountLength, AccountDigit as EmvAccountDigit, SequenceLength, SequenceDigit, DataLength}
 use Rattle.cukvashe.specs.declared.fault.Reason.{Reason}
 use Rattle.cukvashe.specs.declared.fault.Reason.TheVariants.{NotFound, Permission, IsFolder, NotFolder, Loop, Name, Exists, Full, TooLarge, ReadOnly, Closed, Other}
 use Rattle.cukvashe.specs.declared.fault.Misuse.{Misuse}
-use Rattle.cukvashe.specs.declared.fault.Misuse.TheVariants.{KeySource, StandardInputTwice, VectorNeeded, VectorOfEcb, RandomToDecrypt, FirstBlockToEncrypt, PartToEncrypt, Terminal, PaddingOfCmac, PaddingNeeded, Account, Arguments, Components as PartsOrCount, Fill as FillOptions, NoText}
+use Rattle.cukvashe.specs.declared.fault.Misuse.TheVariants.{KeySource, ToKeySource, StandardInputTwice, VectorNeeded, VectorOfEcb, RandomToDecrypt, FirstBlockToEncrypt, PartToEncrypt, Terminal, PaddingOfCmac, PaddingNeeded, Account, Arguments, Components as PartsOrCount, Fill as FillOptions, Session, NoText}
 use Rattle.cukvashe.specs.declared.fault.Kind.{Kind}
-use Rattle.cukvashe.specs.declared.fault.Kind.TheVariants.{Usage, Source, Variable, InputLength, KeyLength, KeyText, WeakKey, Components, Vector, Tag, BlockLength, BlockText, SerialLength, SerialText, FillLength, FillText, CheckDigit, Pin, Card, Memory, Read, Write, Length, Start, Padding}
+use Rattle.cukvashe.specs.declared.fault.Kind.TheVariants.{Usage, Source, Variable, InputLength, KeyLength, KeyText, ToKeyLength, ToKeyText, WeakKey, Components, Vector, Tag, Value, Offset, Validation, Counter, Cryptogram, Code, Status, Data, DataText, BlockLength, BlockText, SerialLength, SerialText, SerialCounter, FillLength, FillText, CheckDigit, Pin, Card, Translation, Verification, Emv, Memory, Read, Write, Length, Start, Padding}
 
 -- what is said of a file, a pipe or a descriptor
 abbrev pub reason_words : Reason → List ℕ
@@ -34,6 +43,7 @@ reason_words Other = codes "the system refused it"
 -- what is said of options that don't go together
 abbrev pub misuse_words : Misuse → List ℕ
 misuse_words KeySource = codes "give one of --key-file, --key-fd and --key-env"
+misuse_words ToKeySource = codes "give one of --to-key-file, --to-key-fd and --to-key-env"
 misuse_words StandardInputTwice = codes "only one of the files can be standard input"
 misuse_words VectorNeeded = codes "CBC needs --iv"
 misuse_words VectorOfEcb = codes "ECB takes no --iv"
@@ -47,6 +57,7 @@ misuse_words Account = codes "give one of --account and --account-file"
 misuse_words Arguments = codes "the command doesn't take these words (see --help)"
 misuse_words PartsOrCount = codes "give --part-file twice or more, or --count and one source of all"
 misuse_words FillOptions = codes "the format takes other options (see --help)"
+misuse_words Session = codes "give one of --counter and --cryptogram"
 misuse_words NoText = codes "an argument is no text"
 
 -- what is said of a key whose bytes are of a number, or of one of three
@@ -62,18 +73,47 @@ abbrev pub pin_words : PinError → List ℕ
 pin_words Format = codes "the block is of another format"
 pin_words PinLength = codes "a PIN has 4 to 12 digits"
 pin_words PinDigit = codes "the PIN has a character that is no digit"
-pin_words AccountLength = codes "an account number has 13 to 19 digits"
+pin_words AccountLength = codes "an account number of 8 to 19 digits is needed"
 pin_words AccountDigit = codes "the account number has a character that is no digit"
 pin_words Fill = codes "a fill digit is none of the format"
 
 -- what is said of a card's data
 abbrev pub card_words : CvvError → List ℕ
-card_words CardAccountLength = codes "an account number has 13 to 19 digits"
+card_words CardAccountLength = codes "an account number of 13 to 19 digits is needed"
 card_words CardAccountDigit = codes "the account number has a character that is no digit"
 card_words ExpiryLength = codes "an expiry date has 4 digits"
 card_words ExpiryDigit = codes "the expiry date has a character that is no digit"
 card_words ServiceLength = codes "a service code has 3 digits"
 card_words ServiceDigit = codes "the service code has a character that is no digit"
+
+-- what is said of a PIN block that is not translated
+abbrev pub translation_words : TranslationError → List ℕ
+translation_words TranslatedKeyLength = key_words 0
+translation_words Formats = codes "there is no such translation"
+translation_words TranslatedAccountLength = codes "an account number of 8 to 19 digits is needed"
+translation_words TranslatedAccountDigit = codes "the account number has a character that is no digit"
+translation_words TranslatedFill = codes "a fill digit is none of the format"
+translation_words Block = codes "decrypted, the block is none of a PIN in its format"
+
+-- what is said of the verification of a PIN
+abbrev pub verification_words : VerificationError → List ℕ
+verification_words PairAccountLength = codes "an account number of 12 to 19 digits is needed"
+verification_words PairAccountDigit = codes "the account number has a character that is no digit"
+verification_words KeyIndex = codes "an index from 1 to 6 is needed"
+verification_words PinKeyLength = key_words 0
+verification_words NaturalLength = codes "a PIN has 4 to 12 digits"
+verification_words TableLength = codes "a decimalization table has 16 digits"
+verification_words TableDigit = codes "the decimalization table has a character that is no digit"
+verification_words TableVariety = codes "the decimalization table has fewer than eight different digits"
+verification_words WrongPin = codes "the PIN is wrong"
+
+-- what is said of a card's keys and cryptograms
+abbrev pub emv_words : EmvError → List ℕ
+emv_words EmvAccountLength = codes "an account number of 8 to 19 digits is needed"
+emv_words EmvAccountDigit = codes "the account number has a character that is no digit"
+emv_words SequenceLength = codes "a sequence number has 2 digits"
+emv_words SequenceDigit = codes "the sequence number has a character that is no digit"
+emv_words DataLength = codes "at most 16 hexadecimal digits are needed, two for each byte"
 
 -- the name of a fault
 abbrev pub name_of : Kind → List ℕ
@@ -83,19 +123,34 @@ name_of Variable = codes "Variable"
 name_of InputLength = codes "InputLength"
 name_of (KeyLength _) = codes "KeyLength"
 name_of KeyText = codes "KeyText"
+name_of ToKeyLength = codes "KeyLength"
+name_of ToKeyText = codes "KeyText"
 name_of WeakKey = codes "WeakKey"
 name_of Components = codes "Components"
 name_of Vector = codes "Vector"
 name_of Tag = codes "Tag"
+name_of Value = codes "Value"
+name_of Offset = codes "Offset"
+name_of Validation = codes "Validation"
+name_of Counter = codes "Counter"
+name_of Cryptogram = codes "Cryptogram"
+name_of Code = codes "Code"
+name_of Status = codes "Status"
+name_of Data = codes "Data"
+name_of DataText = codes "DataText"
 name_of BlockLength = codes "BlockLength"
 name_of BlockText = codes "BlockText"
 name_of SerialLength = codes "SerialLength"
 name_of SerialText = codes "SerialText"
+name_of SerialCounter = codes "SerialCounter"
 name_of FillLength = codes "FillLength"
 name_of FillText = codes "FillText"
 name_of CheckDigit = codes "CheckDigit"
 name_of (Pin error) = name_of_pin_error error
 name_of (Card error) = name_of_card_error error
+name_of (Translation error) = name_of_translation_error error
+name_of (Verification error) = name_of_verification_error error
+name_of (Emv error) = name_of_emv_error error
 name_of Memory = codes "Memory"
 name_of (Read _) = codes "Read"
 name_of (Write _) = codes "Write"
@@ -113,19 +168,34 @@ words_of Variable = codes "the environment has no such variable of text"
 words_of InputLength = codes "the input is too long"
 words_of (KeyLength size) = key_words size
 words_of KeyText = codes "the key has a character that is no hexadecimal digit"
+words_of ToKeyLength = key_words 0
+words_of ToKeyText = codes "the key has a character that is no hexadecimal digit"
 words_of WeakKey = codes "the key is weak"
 words_of Components = codes "a key has two components at least"
 words_of Vector = codes "16 hexadecimal digits are needed"
 words_of Tag = codes "8, 10, 12, 14 or 16 hexadecimal digits are needed"
+words_of Value = codes "4 digits are needed"
+words_of Offset = codes "4 to 12 digits are needed"
+words_of Validation = codes "16 hexadecimal digits are needed"
+words_of Counter = codes "4 hexadecimal digits are needed"
+words_of Cryptogram = codes "16 hexadecimal digits are needed"
+words_of Code = codes "4 hexadecimal digits are needed"
+words_of Status = codes "8 hexadecimal digits are needed"
+words_of Data = codes "at most 16 hexadecimal digits are needed, two for each byte"
+words_of DataText = codes "hexadecimal digits are needed, two for each byte"
 words_of BlockLength = codes "a block of 16 hexadecimal digits is needed"
 words_of BlockText = codes "the block has a character that is no hexadecimal digit"
 words_of SerialLength = codes "a key serial number has 20 hexadecimal digits"
 words_of SerialText = codes "the key serial number has a character that is no hexadecimal digit"
+words_of SerialCounter = codes "the key serial number's counter is 0, or has more than ten one bits"
 words_of FillLength = codes "ten digits are needed"
 words_of FillText = codes "a character is no hexadecimal digit"
 words_of CheckDigit = codes "the account number's last digit is not its check digit"
 words_of (Pin error) = pin_words error
 words_of (Card error) = card_words error
+words_of (Translation error) = translation_words error
+words_of (Verification error) = verification_words error
+words_of (Emv error) = emv_words error
 words_of Memory = codes "a request for memory was refused"
 words_of Length = codes "the input ends within a block of 8 bytes"
 words_of Start = codes "the input ends before the part begins"

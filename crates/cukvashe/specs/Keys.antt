@@ -24,6 +24,12 @@ key_fault size digits =
     if not (is_key_length (length digits) size) then Some (KeyLength size)
     else text_fault KeyText digits
 
+-- the fault of the digits of a key of 8, 16 or 24 bytes, by the fault of its length and that of its text
+abbrev pub any_key_fault : Kind → Kind → List ℕ → Option Kind
+any_key_fault length_fault fault digits =
+    if not (is_key_length (length digits) 0) then Some length_fault
+    else text_fault fault digits
+
 -- the third part of a key is the first, parity aside, and the key of the first two is not refused
 abbrev pub IsDoubleLength : List ℕ → Type 0
 IsDoubleLength key =

@@ -1,6 +1,8 @@
 pub mod Texts
 pub mod Faults
 pub mod Written
+pub mod PinLines
+pub mod CardLines
 pub mod Lines
 pub mod Macs
 pub mod Sources

@@ -1,5 +1,5 @@
 -- What answers a command, by the text that is written in its input.
-use Rattle.std.specs.Prelude.{◌≡◌, ℕ, ◌*◌, ◌/◌, ◌==◌, nat_lt, if◌then◌else◌, List, ◌++◌, length, replicate, take, codes, Option, Some, Result}
+use Rattle.std.specs.Prelude.{◌≡◌, ℕ, ◌*◌, ◌/◌, ◌==◌, ◌||◌, nat_lt, count_ones, if◌then◌else◌, List, ◌++◌, length, replicate, take, codes, Option, Some, None, Result}
 use Rattle.std.specs.Option.{option_map, option_or}
 use Rattle.std.specs.Simd.{first_chunks}
 use Rattle.std.specs.declared.vec.Vec.{Vec}
@@ -12,22 +12,24 @@ use Rattle.des.specs.WeakKeys.{IsRefused}
 use Rattle.des_payment.specs.CardVerification.{verification_value, card_fault}
 use Rattle.des_payment.specs.Components.{combined}
 use Rattle.des_payment.specs.Digits.{digits_of}
-use Rattle.des_payment.specs.Dukpt.{initial_key, transaction_key, pin_key, mac_key, data_key}
-use Rattle.des_payment.specs.PinBlocks.{IsFormat0, IsFormat1, IsFormat3, account_field, pin_fault, account_fault, fill_fault, field_fault}
+use Rattle.des_payment.specs.Dukpt.{counter_of, initial_key, transaction_key, pin_key, mac_key, data_key, data_variant}
+use Rattle.des_payment.specs.PinBlocks.{IsFormat0, IsFormat1, IsFormat2, IsFormat3, account_field, pin_fault, account_fault, fill_fault, field_fault}
 use Rattle.cukvashe.specs.declared.command.Command.{Command}
-use Rattle.cukvashe.specs.declared.command.Command.TheVariants.{Check, Parity, Combine, Encode, Decode, Transaction, Cvv}
+use Rattle.cukvashe.specs.declared.command.Command.TheVariants.{Check, Parity, Combine, Encode, Decode, Transaction, Cvv, Pin as PinCommand, Card as CardCommand}
 use Rattle.cukvashe.specs.declared.command.Encoding.{Encoding}
-use Rattle.cukvashe.specs.declared.command.Encoding.TheVariants.{Format0, Format1, Format3}
+use Rattle.cukvashe.specs.declared.command.Encoding.TheVariants.{Format0, Format1, Format2, Format3}
 use Rattle.cukvashe.specs.declared.command.Decoding.{Decoding}
-use Rattle.cukvashe.specs.declared.command.Decoding.TheVariants.{Format0 as Decode0, Format1 as Decode1, Format3 as Decode3}
+use Rattle.cukvashe.specs.declared.command.Decoding.TheVariants.{Format0 as Decode0, Format1 as Decode1, Format2 as Decode2, Format3 as Decode3}
 use Rattle.cukvashe.specs.declared.command.Purpose.{Purpose}
-use Rattle.cukvashe.specs.declared.command.Purpose.TheVariants.{Pin, Mac, Data}
+use Rattle.cukvashe.specs.declared.command.Purpose.TheVariants.{Pin, Mac, Data, DataVariant}
 use Rattle.cukvashe.specs.declared.fault.Kind.{Kind}
-use Rattle.cukvashe.specs.declared.fault.Kind.TheVariants.{KeyLength, KeyText, Components, BlockLength, BlockText, SerialLength, SerialText, FillLength, FillText, Pin as PinFault, Card}
+use Rattle.cukvashe.specs.declared.fault.Kind.TheVariants.{KeyLength, KeyText, Components, BlockLength, BlockText, SerialLength, SerialText, SerialCounter, FillLength, FillText, Pin as PinFault, Card}
 use Rattle.cukvashe.specs.Faults.{FailsBy, FailsOrRefuses}
 use Rattle.cukvashe.specs.Keys.{key_fault}
 use Rattle.cukvashe.specs.Parities.{parity_line}
-use Rattle.cukvashe.specs.Texts.{bytes_of, text_fault, digits_fault, hex_line}
+use Rattle.cukvashe.specs.PinLines.{IsPinLine, pin_command_fault}
+use Rattle.cukvashe.specs.CardLines.{card_line, card_command_fault}
+use Rattle.cukvashe.specs.Texts.{bytes_of, text_fault, digits_fault, fill_of, hex_line}
 
 -- ---- check values
 
@@ -38,8 +40,9 @@ encryption_by_size digits =
     else if length digits == 32 then ede2_encryption (bytes_of digits)
     else ede3_encryption (bytes_of digits)
 
-abbrev pub check_value_of : List ℕ → List ℕ
-check_value_of digits = take 3 (encryption_by_size digits (replicate 8 0))
+-- its first bytes, of three
+abbrev pub check_value_of : ℕ → List ℕ → List ℕ
+check_value_of count digits = take count (take 3 (encryption_by_size digits (replicate 8 0)))
 
 -- ---- components
 
@@ -65,13 +68,10 @@ components_fault count digits =
 
 -- ---- PIN blocks
 
--- the values of transaction or fill digits
-abbrev pub fill_of : List ℕ → List ℕ
-fill_of text = digits_of (bytes_of text)
-
 abbrev pub IsEncoded : Encoding → List ℕ → List ℕ → Type 0
 IsEncoded (Format0 account) pin block = IsTheOne (IsFormat0 pin account.now) block
 IsEncoded (Format1 transaction) pin block = IsTheOne (IsFormat1 pin (fill_of transaction.now)) block
+IsEncoded Format2 pin block = IsTheOne (IsFormat2 pin) block
 IsEncoded (Format3 account fill) pin block =
     IsTheOne (IsFormat3 pin account.now (fill_of fill.now)) block
 
@@ -80,6 +80,7 @@ encoding_fault (Format0 account) = option_map PinFault (account_fault account.no
 encoding_fault (Format1 transaction) =
     option_or (digits_fault 5 FillLength FillText transaction.now)
     (option_map PinFault (fill_fault 0 (fill_of transaction.now)))
+encoding_fault Format2 = None
 encoding_fault (Format3 account fill) =
     option_or (digits_fault 5 FillLength FillText fill.now)
     (option_map PinFault (option_or (account_fault account.now) (fill_fault 10 (fill_of fill.now))))
@@ -87,6 +88,7 @@ encoding_fault (Format3 account fill) =
 abbrev pub IsDecoded : Decoding → List ℕ → List ℕ → Type 0
 IsDecoded (Decode0 account) pin block = IsFormat0 pin account.now block
 IsDecoded Decode1 pin block = (transaction : List ℕ) × IsFormat1 pin transaction block
+IsDecoded Decode2 pin block = IsFormat2 pin block
 IsDecoded (Decode3 account) pin block = (fill : List ℕ) × IsFormat3 pin account.now fill block
 
 abbrev pub decoding_fault : Decoding → List ℕ → Option Kind
@@ -94,6 +96,7 @@ decoding_fault (Decode0 account) block =
     option_map PinFault (option_or (account_fault account.now)
     (field_fault 0 15 (xor_blocks (digits_of block) (account_field account.now))))
 decoding_fault Decode1 block = option_map PinFault (field_fault 1 0 (digits_of block))
+decoding_fault Decode2 block = option_map PinFault (field_fault 2 15 (digits_of block))
 decoding_fault (Decode3 account) block =
     option_map PinFault (option_or (account_fault account.now)
     (field_fault 3 10 (xor_blocks (digits_of block) (account_field account.now))))
@@ -104,16 +107,22 @@ abbrev pub key_for : Purpose → List ℕ → List ℕ
 key_for Pin transaction = pin_key transaction
 key_for (Mac message) transaction = mac_key message transaction
 key_for (Data message) transaction = data_key message transaction
+key_for (DataVariant message) transaction = data_variant message transaction
 
 -- the key of the transaction of a serial number, from the base derivation key
 abbrev pub transaction_key_of : List ℕ → List ℕ → List ℕ
 transaction_key_of serial digits =
     transaction_key (initial_key (bytes_of digits) (bytes_of serial)) (bytes_of serial)
 
+-- no transaction has a counter of 0, nor one of more than ten one bits
+abbrev pub counter_fault : List ℕ → Option Kind
+counter_fault serial =
+    if counter_of serial == 0 || nat_lt 10 (count_ones (counter_of serial)) then Some SerialCounter else None
+
 abbrev pub transaction_fault : List ℕ → List ℕ → Option Kind
 transaction_fault serial digits =
     option_or (digits_fault 16 (KeyLength 16) KeyText digits)
-    (digits_fault 10 SerialLength SerialText serial)
+    (option_or (digits_fault 10 SerialLength SerialText serial) (counter_fault (bytes_of serial)))
 
 -- ---- card verification values
 
@@ -130,7 +139,7 @@ cvv_fault account expiry service digits =
 
 -- the line answers the command: the library's answer to the bytes of the text, in digits
 abbrev pub IsLine : Command → List ℕ → List ℕ → Type 0
-IsLine Check text line = line ≡ hex_line (check_value_of text)
+IsLine (Check count) text line = line ≡ hex_line (check_value_of count text)
 IsLine Parity text line = line ≡ parity_line text
 IsLine (Combine count) text line =
     line ≡ hex_line (key_of_components (component_size count text) text)
@@ -142,10 +151,12 @@ IsLine (Transaction serial purpose) text line =
     line ≡ hex_line (key_for purpose (transaction_key_of serial.now text))
 IsLine (Cvv account expiry service) text line =
     line ≡ cvv_line account.now expiry.now service.now text
+IsLine (PinCommand command beside) text line = IsPinLine command beside text line
+IsLine (CardCommand command beside) text line = line ≡ card_line command beside text
 
 -- how a command fails: by its first fault, where it has one
 abbrev pub FailsAs : Command → List ℕ → Result (Vec ℕ Global) Kind → Type 0
-FailsAs Check text result = FailsBy (key_fault 0 text) result
+FailsAs (Check count) text result = FailsBy (key_fault 0 text) result
 FailsAs Parity text result = FailsBy (key_fault 0 text) result
 FailsAs (Combine count) text result =
     FailsOrRefuses (components_fault count text)
@@ -158,3 +169,5 @@ FailsAs (Decode format) text result =
 FailsAs (Transaction serial purpose) text result = FailsBy (transaction_fault serial.now text) result
 FailsAs (Cvv account expiry service) text result =
     FailsBy (cvv_fault account.now expiry.now service.now text) result
+FailsAs (PinCommand command beside) text result = FailsBy (pin_command_fault command beside text) result
+FailsAs (CardCommand command beside) text result = FailsBy (card_command_fault command beside text) result

@@ -2,6 +2,8 @@
 
 mod forms;
 mod grammar;
+mod payment;
+mod payment_forms;
 mod stream_forms;
 pub mod streams;
 mod typed;
@@ -14,11 +16,12 @@ ghost use Rattle.cukvashe.specs.StreamArguments.{IsInput, IsReadTwice};
 use crate::command::Purpose;
 use crate::fault::{Fault, Kind, Misuse};
 use crate::mac::{Method, PaddingMethod};
-use crate::request::{Account, Form, Format, Question, Request, Task};
+use crate::request::{Account, Form, Question, Request, Task};
 use crate::source::Source;
 use clap::ArgMatches;
 use des_payment::dukpt::Message;
 pub use grammar::{names_of, parse};
+use payment::{emv_request, offset_request, pin_request, pvv_request};
 use streams::{input_of, stream_request};
 use typed::{count_of, is_given, is_set, number_of, place_of, text_of, texts_of};
 
@@ -49,18 +52,30 @@ pub(crate) fn file_of<'a>(path: &'a str) -> Source<'a>
     }
 }
 
-// Where the key is: one place.
-fn key_of<'a>(matches: &ArgMatches<'a>) -> Result<Source<'a>, Fault<'a>> {
-    let file = text_of(matches, "key-file");
-    let descriptor = number_of(matches, "key-fd");
-    let variable = text_of(matches, "key-env");
+// The one of three places that an option names.
+fn one_of<'a>(
+    file: Option<&'a str>,
+    descriptor: Option<u64>,
+    variable: Option<&'a str>,
+    fault: Misuse,
+) -> Result<Source<'a>, Fault<'a>> {
     match (file, descriptor, variable) {
         (Some(path), None, None) => Ok(file_of(path)),
         (None, Some(0), None) => Ok(Source::StandardInput),
         (None, Some(number), None) => Ok(Source::Descriptor(number)),
         (None, None, Some(name)) => Ok(Source::Variable(name)),
-        _ => Err(misuse(Misuse::KeySource, "")),
+        _ => Err(misuse(fault, "")),
     }
+}
+
+// Where the key is: one place.
+fn key_of<'a>(matches: &ArgMatches<'a>) -> Result<Source<'a>, Fault<'a>> {
+    one_of(
+        text_of(matches, "key-file"),
+        number_of(matches, "key-fd"),
+        text_of(matches, "key-env"),
+        Misuse::KeySource,
+    )
 }
 
 // Where the account number is: one place.
@@ -102,6 +117,8 @@ fn with_account<'a>(
     Ok(Request {
         task: Task::Line(form),
         input,
+        key: None,
+        to_key: None,
         account,
         refuses: text_of(matches, "check-digit") == Some("refuse"),
     })
@@ -112,6 +129,8 @@ fn without_account<'a>(task: Task<'a>, input: Source<'a>) -> Request<'a> {
     Request {
         task,
         input,
+        key: None,
+        to_key: None,
         account: Account::Absent,
         refuses: false,
     }
@@ -210,6 +229,7 @@ fn purpose_of<'a>(name: &str, responds: bool) -> Result<Purpose, Fault<'a>> {
     match name {
         "mac" => Ok(Purpose::Mac(message)),
         "data" => Ok(Purpose::Data(message)),
+        "data-variant" => Ok(Purpose::DataVariant(message)),
         _ if responds => Err(misuse(Misuse::Arguments, "--response")),
         _ => Ok(Purpose::Pin),
     }
@@ -222,75 +242,17 @@ fn dukpt_request<'a>(matches: &ArgMatches<'a>) -> Result<Request<'a>, Fault<'a>>
     key_request(Task::Line(Form::Transaction(serial, purpose)), matches)
 }
 
+fn check_request<'a>(matches: &ArgMatches<'a>) -> Result<Request<'a>, Fault<'a>> {
+    let bytes = count_of(matches, "bytes").unwrap_or(3);
+    key_request(Task::Line(Form::CheckValue(bytes)), matches)
+}
+
 fn cvv_request<'a>(matches: &ArgMatches<'a>) -> Result<Request<'a>, Fault<'a>> {
     let form = Form::Cvv {
         expiry: place_of(matches, "expiry"),
         service: place_of(matches, "service"),
     };
     with_account(form, key_of(matches)?, matches)
-}
-
-// ---- PIN blocks
-
-fn format_of(matches: &ArgMatches) -> Format {
-    match text_of(matches, "format") {
-        Some("0") => Format::Zero,
-        Some("1") => Format::One,
-        _ => Format::Three,
-    }
-}
-
-// Format 1 takes no account number.
-fn refuse_account<'a>(matches: &ArgMatches) -> Result<(), Fault<'a>> {
-    if is_given(matches, "account") {
-        Err(misuse(Misuse::Fill, "--account"))
-    } else if is_given(matches, "account-file") {
-        Err(misuse(Misuse::Fill, "--account-file"))
-    } else if is_given(matches, "check-digit") {
-        Err(misuse(Misuse::Fill, "--check-digit"))
-    } else {
-        Ok(())
-    }
-}
-
-fn pin_request<'a>(
-    format: Format,
-    form: Form<'a>,
-    input: Source<'a>,
-    matches: &ArgMatches<'a>,
-) -> Result<Request<'a>, Fault<'a>> {
-    match format {
-        Format::One => {
-            refuse_account(matches)?;
-            Ok(without_account(Task::Line(form), input))
-        }
-        _ => with_account(form, input, matches),
-    }
-}
-
-fn encode_request<'a>(matches: &ArgMatches<'a>) -> Result<Request<'a>, Fault<'a>> {
-    let format = format_of(matches);
-    let fill = match (format, text_of(matches, "fill")) {
-        (Format::Zero, None) => "",
-        (Format::One | Format::Three, Some(digits)) => digits,
-        _ => return Err(misuse(Misuse::Fill, "--fill")),
-    };
-    let input = input_of(text_of(matches, "pin-file"));
-    pin_request(format, Form::Encode(format, fill), input, matches)
-}
-
-fn decode_request<'a>(matches: &ArgMatches<'a>) -> Result<Request<'a>, Fault<'a>> {
-    let format = format_of(matches);
-    let input = input_of(text_of(matches, "block-file"));
-    pin_request(format, Form::Decode(format), input, matches)
-}
-
-fn block_request<'a>(matches: &ArgMatches<'a>) -> Result<Request<'a>, Fault<'a>> {
-    match matches.subcommand() {
-        Some(("encode", matches)) => encode_request(matches),
-        Some((_, matches)) => decode_request(matches),
-        None => Err(misuse(Misuse::Arguments, "")),
-    }
 }
 
 // ---- streams
@@ -306,13 +268,16 @@ pub fn request_of<'a>(matches: &ArgMatches<'a>) -> Result<Request<'a>, Fault<'a>
         Some(("encrypt", matches)) => streams_task(true, matches),
         Some(("decrypt", matches)) => streams_task(false, matches),
         Some(("mac", matches)) => mac_request(matches),
-        Some(("check-value", matches)) => key_request(Task::Line(Form::CheckValue), matches),
+        Some(("check-value", matches)) => check_request(matches),
         Some(("parity", matches)) => key_request(Task::Line(Form::Parity), matches),
         Some(("weak", matches)) => key_request(Task::Weak, matches),
         Some(("combine", matches)) => combine_request(matches),
         Some(("dukpt", matches)) => dukpt_request(matches),
         Some(("cvv", matches)) => cvv_request(matches),
-        Some((_, matches)) => block_request(matches),
+        Some(("pvv", matches)) => pvv_request(matches),
+        Some(("offset", matches)) => offset_request(matches),
+        Some(("emv", matches)) => emv_request(matches),
+        Some((_, matches)) => pin_request(matches),
         None => Err(misuse(Misuse::Arguments, "")),
     }
 }

@@ -37,15 +37,16 @@ pub fn has_check_digit(digits: &[u8]) -> bool
     sum % 10 == 0
 }
 
-fn are_digits(text: &[u8]) -> bool
+/// Whether each character is a digit.
+pub fn are_digits(text: &[u8]) -> bool
     ensures { result ≡ are_digits_of text.now }
 {
     text.iter().all(|character| character.is_ascii_digit())
 }
 
-/// Whether a text is an account number: 13 to 19 digits.
+/// Whether a text is an account number: 8 to 19 digits.
 pub fn is_account(text: &[u8]) -> bool
     ensures { result ≡ is_account_of text.now }
 {
-    text.len() >= 13 && text.len() <= 19 && are_digits(text)
+    text.len() >= 8 && text.len() <= 19 && are_digits(text)
 }

@@ -1,12 +1,27 @@
-//! What is asked of the program, but for what it reads: no key and no PIN.
+//! What is asked of the program.
 
 use des_payment::dukpt::Message;
+use des_payment::translation::Format;
 
-/// A command. What it is done with, a key, components, a PIN or a block, is in the input.
+/// What is read beside the input: texts of digits, of which one that a command does not take is
+/// empty.
+#[derive(Clone, Copy)]
+pub struct Beside<'a> {
+    /// The account number.
+    pub account: &'a [u8],
+    /// The key, where the input is something else.
+    pub key: &'a [u8],
+    /// The key of an outgoing block.
+    pub to_key: &'a [u8],
+}
+
+/// A command. What it is done with, a key, components, a PIN, a block or data, is in the input.
 #[derive(Clone, Copy)]
 pub enum Command<'a> {
-    /// The check value of a key.
-    Check,
+    /// The first `bytes` bytes of a key's check value.
+    Check {
+        bytes: u8,
+    },
     /// The key with odd parity.
     Parity,
     /// The key of `count` components.
@@ -28,6 +43,10 @@ pub enum Command<'a> {
         expiry: &'a str,
         service: &'a str,
     },
+    /// A command on a PIN and a key.
+    Pin(PinCommand<'a>, Beside<'a>),
+    /// A command on a card's keys and cryptograms.
+    Card(CardCommand<'a>, Beside<'a>),
 }
 
 /// The format of a PIN block that is made, with what it takes beside the PIN.
@@ -35,6 +54,7 @@ pub enum Command<'a> {
 pub enum Encoding<'a> {
     Format0 { account: &'a [u8] },
     Format1 { transaction: &'a str },
+    Format2,
     Format3 { account: &'a [u8], fill: &'a str },
 }
 
@@ -43,6 +63,7 @@ pub enum Encoding<'a> {
 pub enum Decoding<'a> {
     Format0 { account: &'a [u8] },
     Format1,
+    Format2,
     Format3 { account: &'a [u8] },
 }
 
@@ -55,4 +76,80 @@ pub enum Purpose {
     Mac(Message),
     /// The data of a message.
     Data(Message),
+    /// The data of a message, where terminals leave out the last one-way step.
+    DataVariant(Message),
+}
+
+/// What natural PINs are made of beside a key: validation data and a decimalization table, in
+/// digits.
+#[derive(Clone, Copy)]
+pub struct NaturalPins<'a> {
+    pub validation: &'a str,
+    pub table: &'a str,
+    /// A table with few different digits is taken.
+    pub takes_any_table: bool,
+}
+
+/// A command on a PIN and a key. The input is the PIN, but for `Translate` and `Natural`.
+#[derive(Clone, Copy)]
+pub enum PinCommand<'a> {
+    /// The encrypted block of the same PIN under the outgoing key. The input is the block.
+    Translate {
+        from: Format,
+        to: Format,
+        fill: &'a str,
+    },
+    /// The PIN verification value.
+    MakePvv {
+        index: u8,
+    },
+    /// Whether the PIN has this verification value.
+    VerifyPvv {
+        index: u8,
+        value: &'a str,
+    },
+    /// The natural PIN of `count` digits. The input is the key.
+    Natural {
+        by: NaturalPins<'a>,
+        count: u8,
+    },
+    /// The offset.
+    MakeOffset {
+        by: NaturalPins<'a>,
+    },
+    /// Whether the PIN has this offset.
+    VerifyOffset {
+        by: NaturalPins<'a>,
+        offset: &'a str,
+    },
+}
+
+/// A command on a card's keys and cryptograms. The input is the key, but for `Cryptogram`.
+#[derive(Clone, Copy)]
+pub enum CardCommand<'a> {
+    /// The key of a card, from the issuer's.
+    CardKey {
+        sequence: &'a str,
+    },
+    /// The session's key for application cryptograms, by the transaction counter.
+    ApplicationKey {
+        counter: &'a str,
+    },
+    /// The session's key by a cryptogram.
+    SessionKey {
+        cryptogram: &'a str,
+    },
+    /// The application cryptogram. The input is its data.
+    Cryptogram,
+    /// The response by method 1.
+    Response1 {
+        cryptogram: &'a str,
+        code: &'a str,
+    },
+    /// The response by method 2.
+    Response2 {
+        cryptogram: &'a str,
+        status: &'a str,
+        issued: &'a str,
+    },
 }

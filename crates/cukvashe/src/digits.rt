@@ -9,6 +9,9 @@ ghost use Rattle.cukvashe.specs.Faults.{FailsOnlyBy};
 use crate::fault::Kind;
 use std::alloc::{AllocError, Global};
 
+/// The longest text that an input has.
+pub const LONGEST_TEXT: usize = 4096;
+
 // Whether a byte is white space.
 pub(crate) fn is_space(byte: u8) -> bool
     ensures { result ≡ is_space_of byte }

@@ -2,10 +2,15 @@
 
 ghost use Rattle.std.specs.Prelude.{◌≡◌};
 ghost use Rattle.cukvashe.specs.Faults.{name_of, status_of, words_of, reason_words, misuse_words, key_words, pin_words, card_words};
+ghost use Rattle.cukvashe.specs.Faults.{translation_words, verification_words, emv_words};
 
 use des::WeakKeyError;
 use des_io::StreamError;
-use des_payment::{CvvError, PinError, cvv_error, pin_error};
+use des_payment::emv_error::{self, EmvError};
+use des_payment::{
+    CvvError, PinError, TranslationError, VerificationError, cvv_error, pin_error,
+    translation_error, verification_error,
+};
 use std::alloc::{AllocError, AllocFailed};
 use std::io::{self, ErrorKind};
 
@@ -30,6 +35,7 @@ pub enum Reason {
 #[derive(Clone, Copy)]
 pub enum Misuse {
     KeySource,
+    ToKeySource,
     StandardInputTwice,
     VectorNeeded,
     VectorOfEcb,
@@ -43,6 +49,7 @@ pub enum Misuse {
     Arguments,
     Components,
     Fill,
+    Session,
     NoText,
 }
 
@@ -61,6 +68,10 @@ pub enum Kind {
     KeyLength(u8),
     /// A key has a character that is no hexadecimal digit.
     KeyText,
+    /// The key of an outgoing block does not have the digits of 8, 16 or 24 bytes.
+    ToKeyLength,
+    /// It has a character that is no hexadecimal digit.
+    ToKeyText,
     /// The weak key test refuses the key.
     WeakKey,
     /// Fewer than two components.
@@ -69,6 +80,24 @@ pub enum Kind {
     Vector,
     /// A tag does not have 8 to 16 hexadecimal digits, two for each byte.
     Tag,
+    /// A PIN verification value is not four digits.
+    Value,
+    /// An offset is not 4 to 12 digits.
+    Offset,
+    /// Validation data are not 16 hexadecimal digits.
+    Validation,
+    /// A transaction counter is not four hexadecimal digits.
+    Counter,
+    /// A cryptogram is not 16 hexadecimal digits.
+    Cryptogram,
+    /// A response code is not four hexadecimal digits.
+    Code,
+    /// A card status update is not eight hexadecimal digits.
+    Status,
+    /// The issuer's data are not hexadecimal digits, two for each of at most eight bytes.
+    Data,
+    /// The data of a cryptogram are not hexadecimal digits, two for each byte, or there are none.
+    DataText,
     /// A PIN block does not have 16 digits.
     BlockLength,
     /// A PIN block has a character that is no hexadecimal digit.
@@ -77,6 +106,8 @@ pub enum Kind {
     SerialLength,
     /// A key serial number has a character that is no hexadecimal digit.
     SerialText,
+    /// No transaction has a key serial number with this counter.
+    SerialCounter,
     /// There are not ten transaction or fill digits.
     FillLength,
     /// A transaction or fill digit is no hexadecimal digit.
@@ -87,6 +118,12 @@ pub enum Kind {
     Pin(PinError),
     /// A fault of a card's data.
     Card(CvvError),
+    /// A fault of the translation of a PIN block.
+    Translation(TranslationError),
+    /// A fault of the verification of a PIN.
+    Verification(VerificationError),
+    /// A fault of a card's keys and cryptograms.
+    Emv(EmvError),
     /// A request for memory was refused.
     Memory,
     /// The input can't be read.
@@ -163,6 +200,7 @@ impl Misuse {
     {
         match self {
             Misuse::KeySource => "give one of --key-file, --key-fd and --key-env",
+            Misuse::ToKeySource => "give one of --to-key-file, --to-key-fd and --to-key-env",
             Misuse::StandardInputTwice => "only one of the files can be standard input",
             Misuse::VectorNeeded => "CBC needs --iv",
             Misuse::VectorOfEcb => "ECB takes no --iv",
@@ -178,6 +216,7 @@ impl Misuse {
             Misuse::Components =>
                 "give --part-file twice or more, or --count and one source of all",
             Misuse::Fill => "the format takes other options (see --help)",
+            Misuse::Session => "give one of --counter and --cryptogram",
             Misuse::NoText => "an argument is no text",
         }
     }
@@ -208,19 +247,34 @@ impl Kind {
             Kind::InputLength => "InputLength",
             Kind::KeyLength(_) => "KeyLength",
             Kind::KeyText => "KeyText",
+            Kind::ToKeyLength => "KeyLength",
+            Kind::ToKeyText => "KeyText",
             Kind::WeakKey => "WeakKey",
             Kind::Components => "Components",
             Kind::Vector => "Vector",
             Kind::Tag => "Tag",
+            Kind::Value => "Value",
+            Kind::Offset => "Offset",
+            Kind::Validation => "Validation",
+            Kind::Counter => "Counter",
+            Kind::Cryptogram => "Cryptogram",
+            Kind::Code => "Code",
+            Kind::Status => "Status",
+            Kind::Data => "Data",
+            Kind::DataText => "DataText",
             Kind::BlockLength => "BlockLength",
             Kind::BlockText => "BlockText",
             Kind::SerialLength => "SerialLength",
             Kind::SerialText => "SerialText",
+            Kind::SerialCounter => "SerialCounter",
             Kind::FillLength => "FillLength",
             Kind::FillText => "FillText",
             Kind::CheckDigit => "CheckDigit",
             Kind::Pin(error) => pin_error::name(error),
             Kind::Card(error) => cvv_error::name(error),
+            Kind::Translation(error) => translation_error::name(error),
+            Kind::Verification(error) => verification_error::name(error),
+            Kind::Emv(error) => emv_error::name(error),
             Kind::Memory => "Memory",
             Kind::Read(_) => "Read",
             Kind::Write(_) => "Write",
@@ -240,21 +294,37 @@ impl Kind {
             Kind::Variable => "the environment has no such variable of text",
             Kind::InputLength => "the input is too long",
             Kind::KeyLength(size) => key_words(size),
-            Kind::KeyText => "the key has a character that is no hexadecimal digit",
+            Kind::ToKeyLength => key_words(0),
+            Kind::KeyText | Kind::ToKeyText => {
+                "the key has a character that is no hexadecimal digit"
+            }
             Kind::WeakKey => "the key is weak",
             Kind::Components => "a key has two components at least",
-            Kind::Vector => "16 hexadecimal digits are needed",
+            Kind::Vector | Kind::Validation | Kind::Cryptogram => {
+                "16 hexadecimal digits are needed"
+            }
             Kind::Tag => "8, 10, 12, 14 or 16 hexadecimal digits are needed",
+            Kind::Value => "4 digits are needed",
+            Kind::Offset => "4 to 12 digits are needed",
+            Kind::Counter | Kind::Code => "4 hexadecimal digits are needed",
+            Kind::Status => "8 hexadecimal digits are needed",
+            Kind::Data => "at most 16 hexadecimal digits are needed, two for each byte",
+            Kind::DataText => "hexadecimal digits are needed, two for each byte",
             Kind::BlockLength => "a block of 16 hexadecimal digits is needed",
             Kind::BlockText => "the block has a character that is no hexadecimal digit",
             Kind::SerialLength => "a key serial number has 20 hexadecimal digits",
             Kind::SerialText =>
                 "the key serial number has a character that is no hexadecimal digit",
+            Kind::SerialCounter =>
+                "the key serial number's counter is 0, or has more than ten one bits",
             Kind::FillLength => "ten digits are needed",
             Kind::FillText => "a character is no hexadecimal digit",
             Kind::CheckDigit => "the account number's last digit is not its check digit",
             Kind::Pin(error) => pin_words(error),
             Kind::Card(error) => card_words(error),
+            Kind::Translation(error) => translation_words(error),
+            Kind::Verification(error) => verification_words(error),
+            Kind::Emv(error) => emv_words(error),
             Kind::Memory => "a request for memory was refused",
             Kind::Length => "the input ends within a block of 8 bytes",
             Kind::Start => "the input ends before the part begins",
@@ -283,7 +353,7 @@ fn pin_words(error: PinError) -> &'static str
         PinError::Format => "the block is of another format",
         PinError::PinLength => "a PIN has 4 to 12 digits",
         PinError::PinDigit => "the PIN has a character that is no digit",
-        PinError::AccountLength => "an account number has 13 to 19 digits",
+        PinError::AccountLength => "an account number of 8 to 19 digits is needed",
         PinError::AccountDigit => "the account number has a character that is no digit",
         PinError::Fill => "a fill digit is none of the format",
     }
@@ -294,12 +364,59 @@ fn card_words(error: CvvError) -> &'static str
     ensures { result.now ≡ card_words error }
 {
     match error {
-        CvvError::AccountLength => "an account number has 13 to 19 digits",
+        CvvError::AccountLength => "an account number of 13 to 19 digits is needed",
         CvvError::AccountDigit => "the account number has a character that is no digit",
         CvvError::ExpiryLength => "an expiry date has 4 digits",
         CvvError::ExpiryDigit => "the expiry date has a character that is no digit",
         CvvError::ServiceLength => "a service code has 3 digits",
         CvvError::ServiceDigit => "the service code has a character that is no digit",
+    }
+}
+
+// What is said of a PIN block that is not translated. All that is wrong with the block has the same
+// words.
+fn translation_words(error: TranslationError) -> &'static str
+    ensures { result.now ≡ translation_words error }
+{
+    match error {
+        TranslationError::KeyLength => key_words(0),
+        TranslationError::Formats => "there is no such translation",
+        TranslationError::AccountLength => "an account number of 8 to 19 digits is needed",
+        TranslationError::AccountDigit => "the account number has a character that is no digit",
+        TranslationError::Fill => "a fill digit is none of the format",
+        TranslationError::Block => "decrypted, the block is none of a PIN in its format",
+    }
+}
+
+// What is said of the verification of a PIN.
+fn verification_words(error: VerificationError) -> &'static str
+    ensures { result.now ≡ verification_words error }
+{
+    match error {
+        VerificationError::AccountLength => "an account number of 12 to 19 digits is needed",
+        VerificationError::AccountDigit => "the account number has a character that is no digit",
+        VerificationError::KeyIndex => "an index from 1 to 6 is needed",
+        VerificationError::KeyLength => key_words(0),
+        VerificationError::PinLength => "a PIN has 4 to 12 digits",
+        VerificationError::TableLength => "a decimalization table has 16 digits",
+        VerificationError::TableDigit =>
+            "the decimalization table has a character that is no digit",
+        VerificationError::TableVariety =>
+            "the decimalization table has fewer than eight different digits",
+        VerificationError::WrongPin => "the PIN is wrong",
+    }
+}
+
+// What is said of a card's keys and cryptograms.
+fn emv_words(error: EmvError) -> &'static str
+    ensures { result.now ≡ emv_words error }
+{
+    match error {
+        EmvError::AccountLength => "an account number of 8 to 19 digits is needed",
+        EmvError::AccountDigit => "the account number has a character that is no digit",
+        EmvError::SequenceLength => "a sequence number has 2 digits",
+        EmvError::SequenceDigit => "the sequence number has a character that is no digit",
+        EmvError::DataLength => "at most 16 hexadecimal digits are needed, two for each byte",
     }
 }
 
@@ -339,6 +456,39 @@ impl From<CvvError> for Kind {
 
     fn from(error: CvvError) -> Kind {
         Kind::Card(error)
+    }
+}
+
+impl From<TranslationError> for Kind {
+    ghost use Rattle.std.specs.Prelude.{◌≡◌};
+    ghost use Rattle.cukvashe.specs.declared.fault.Kind.TheVariants.{Translation};
+
+    ghost from_gives = { λ error kind. kind ≡ Translation error };
+
+    fn from(error: TranslationError) -> Kind {
+        Kind::Translation(error)
+    }
+}
+
+impl From<VerificationError> for Kind {
+    ghost use Rattle.std.specs.Prelude.{◌≡◌};
+    ghost use Rattle.cukvashe.specs.declared.fault.Kind.TheVariants.{Verification};
+
+    ghost from_gives = { λ error kind. kind ≡ Verification error };
+
+    fn from(error: VerificationError) -> Kind {
+        Kind::Verification(error)
+    }
+}
+
+impl From<EmvError> for Kind {
+    ghost use Rattle.std.specs.Prelude.{◌≡◌};
+    ghost use Rattle.cukvashe.specs.declared.fault.Kind.TheVariants.{Emv};
+
+    ghost from_gives = { λ error kind. kind ≡ Emv error };
+
+    fn from(error: EmvError) -> Kind {
+        Kind::Emv(error)
     }
 }
 

@@ -4,8 +4,8 @@ ghost use Rattle.std.specs.Prelude.{◌≡◌, ◌↔◌, ◌⊎◌, List, ℕ, 
 ghost use Rattle.des.specs.Parity.{AgreeOutsideParity};
 ghost use Rattle.des.specs.WeakKeys.{IsRefused};
 ghost use Rattle.cukvashe.specs.Texts.{bytes_of as bytes_of_text};
-ghost use Rattle.cukvashe.specs.Faults.{FailsBy};
-ghost use Rattle.cukvashe.specs.Keys.{key_fault, is_key_length, IsKeySize, IsDoubleLength, IsVerdict};
+ghost use Rattle.cukvashe.specs.Faults.{FailsBy, FailsOnlyBy};
+ghost use Rattle.cukvashe.specs.Keys.{key_fault, any_key_fault, is_key_length, IsKeySize, IsDoubleLength, IsVerdict};
 ghost use Rattle.cukvashe.specs.declared.keys.Verdict.TheVariants.{Good, DoubleLength, Weak};
 
 use crate::digits::decode;
@@ -53,6 +53,26 @@ pub fn key_of_digits(alloc: Global, digits: &[u8], size: u8) -> Result<Vec<u8>, 
     let bytes = &mut buffer[..digits.len() / 2];
     decode(digits, bytes, Kind::KeyText)?;
     Ok(Vec::from_slice(alloc, bytes)?)
+}
+
+/// Reads a key of 8, 16 or 24 bytes that hexadecimal digits write into the first bytes of a buffer,
+/// and gives their number. The faults are that of the length and that of the text.
+pub fn read_key(
+    digits: &[u8],
+    key: &mut [u8; 24],
+    length_fault: Kind,
+    text_fault: Kind,
+) -> Result<usize, Kind>
+    ensures fault { FailsOnlyBy (any_key_fault length_fault text_fault digits.now) result }
+    ensures size { IfOk result IsKeySize }
+    ensures key { IfOk result (λ size. take size key.new ≡ bytes_of_text digits.now) }
+{
+    if !is_key_length(digits.len(), 0) {
+        return Err(length_fault);
+    }
+    let size = digits.len() / 2;
+    decode(digits, &mut key[..size], text_fault)?;
+    Ok(size)
 }
 
 /// Whether the weak key test refuses a key of 8, 16 or 24 bytes.

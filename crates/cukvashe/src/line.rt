@@ -1,16 +1,21 @@
 //! The line of a command, or its fault: what is written of it, and the status that the program ends
 //! with.
 
-ghost use Rattle.std.specs.Prelude.{◌≡◌, ◌≤◌, length};
+ghost use Rattle.std.specs.Prelude.{◌≡◌, ◌↔◌, ◌≤◌, length, IsTrue};
 ghost use Rattle.cukvashe.specs.CheckDigits.{lacks_check_digit as lacks_check_digit_of};
 ghost use Rattle.cukvashe.specs.Requests.{command_of as command_by};
-ghost use Rattle.cukvashe.specs.Runs.{fill_name as fill_name_of, needs_notice as needs_notice_of, IsFaultOf, IsLineOf, FailsAsAsked, IsOutcome, IsNoticed, IsLineRun};
+ghost use Rattle.cukvashe.specs.Runs.{fill_name as fill_name_of, needs_notice as needs_notice_of, IsFaultOf, IsLineOf, FailsAsAsked, IsOutcome, IsNoticed, IsNo, IsLineRun};
+ghost use Rattle.cukvashe.specs.PinLines.{is_question as is_question_of};
 
+use crate::answer::status_of;
 use crate::check_digit::{has_check_digit, is_account};
+use crate::command::{Beside, PinCommand};
+use crate::digits::LONGEST_TEXT;
 use crate::fault::{Fault, Kind};
-use crate::lines::{LONGEST_TEXT, line_of_command};
+use crate::lines::line_of_command;
+use crate::pin_lines::WRONG;
 use crate::report::{report, show};
-use crate::request::{Form, about_of, command_of};
+use crate::request::{Form, Names, about_of, command_of};
 use std::alloc::Global;
 use std::io::Write;
 
@@ -19,10 +24,8 @@ use std::io::Write;
 pub struct LineRequest<'a> {
     /// What gives the line.
     pub form: Form<'a>,
-    /// What a fault of the input is about.
-    pub input: &'a str,
-    /// What a fault of the account number is about.
-    pub account: &'a str,
+    /// What faults are about.
+    pub names: Names<'a>,
     /// An account number whose last digit is not its check digit is refused.
     pub refuses: bool,
 }
@@ -39,7 +42,7 @@ fn fill_name<'a>(form: Form, input: &'a str) -> &'a str
     ensures { result.now ≡ fill_name_of form.entry input.now }
 {
     match form {
-        Form::Encode(_, _) => "--fill",
+        Form::Encode(_, _) | Form::Pin(_) => "--fill",
         _ => input,
     }
 }
@@ -48,10 +51,10 @@ fn fill_name<'a>(form: Form, input: &'a str) -> &'a str
 fn fault_of<'a>(request: LineRequest<'a>, kind: Kind) -> Fault<'a>
     ensures { IsFaultOf request.entry kind result }
 {
-    let fill = fill_name(request.form, request.input);
+    let fill = fill_name(request.form, request.names.input);
     Fault {
         kind,
-        about: about_of(kind, request.input, request.account, fill),
+        about: about_of(kind, request.names, fill),
     }
 }
 
@@ -59,30 +62,30 @@ fn fault_of<'a>(request: LineRequest<'a>, kind: Kind) -> Fault<'a>
 fn line_by<'a>(
     alloc: Global,
     request: LineRequest<'a>,
-    account: &'a [u8],
+    beside: Beside<'a>,
     text: &[u8],
 ) -> Result<Vec<u8>, Kind>
     requires { length text.now ≤ LONGEST_TEXT }
-    ensures fault { FailsAsAsked request.entry account.entry text.now result }
-    ensures line { IsLineOf request.entry account.entry text.now result }
+    ensures fault { FailsAsAsked request.entry beside.entry text.now result }
+    ensures line { IsLineOf request.entry beside.entry text.now result }
 {
-    if request.refuses && lacks_check_digit(account) {
+    if request.refuses && lacks_check_digit(beside.account) {
         return Err(Kind::CheckDigit);
     }
-    line_of_command(alloc, command_of(request.form, account), text)
+    line_of_command(alloc, command_of(request.form, beside), text)
 }
 
 // The line, or its fault with what that is about.
 fn outcome_of<'a>(
     alloc: Global,
     request: LineRequest<'a>,
-    account: &'a [u8],
+    beside: Beside<'a>,
     text: &[u8],
 ) -> Result<Vec<u8>, Fault<'a>>
     requires { length text.now ≤ LONGEST_TEXT }
-    ensures { IsOutcome request.entry account.entry text.now result }
+    ensures { IsOutcome request.entry beside.entry text.now result }
 {
-    match line_by(alloc, request, account, text) {
+    match line_by(alloc, request, beside, text) {
         Ok(line) => Ok(line),
         Err(kind) => Err(fault_of(request, kind)),
     }
@@ -104,29 +107,54 @@ fn tell_check_digit<E: Write>(request: LineRequest, account: &[u8], err: &mut E)
         let _ = report(
             Fault {
                 kind: Kind::CheckDigit,
-                about: request.account,
+                about: request.names.account,
             },
             err,
         );
     }
 }
 
-/// Writes the line of a command to `out`, or the line of its fault to `err`. `text` is its input,
-/// `account` the digits of its account number, empty where it takes none. A notice on a wrong check
-/// digit is written to `err` first, unless that is a fault. Gives the status that the program ends
-/// with: 0 where the whole line was written, 4 where it was not, or that of the fault.
+// Whether a command asks if a PIN is right.
+fn is_question(command: PinCommand) -> bool
+    ensures { result ≡ is_question_of command.entry }
+{
+    match command {
+        PinCommand::VerifyPvv { .. } => true,
+        PinCommand::VerifyOffset { .. } => true,
+        _ => false,
+    }
+}
+
+// Whether the answer is no: the line says that a PIN is wrong.
+fn is_no(form: Form, outcome: &Result<Vec<u8>, Fault>) -> bool
+    ensures { IsTrue result ↔ IsNo form.entry outcome.now }
+{
+    match (form, outcome) {
+        (Form::Pin(command), Ok(line)) => {
+            is_question(command) && line.as_slice() == WRONG.as_bytes()
+        }
+        _ => false,
+    }
+}
+
+/// Writes the line of a command to `out`, or the line of its fault to `err`. `text` is its input, and
+/// `beside` what is read beside that. A notice on a wrong check digit is written to `err` first,
+/// unless that is a fault. Gives the status that the program ends with: 0 where the whole line was
+/// written, and 1 where that says that a PIN is wrong; 4 where it was not, or that of the fault.
 pub fn run_line<W: Write, E: Write>(
     alloc: Global,
     request: LineRequest,
-    account: &[u8],
+    beside: Beside,
     text: &[u8],
     out: &mut W,
     err: &mut E,
 ) -> u8
     requires { length text.now ≤ LONGEST_TEXT }
-    ensures { IsLineRun W.contents E.contents request.entry account.entry text.now result
+    ensures { IsLineRun W.contents E.contents request.entry beside.entry text.now result
         out.old out.new err.old err.new }
 {
-    tell_check_digit(request, account, err);
-    show(&outcome_of(alloc, request, account, text), out, err)
+    tell_check_digit(request, beside.account, err);
+    let outcome = outcome_of(alloc, request, beside, text);
+    let no = is_no(request.form, &outcome);
+    status_of(show(&outcome, out, err), no)
 }

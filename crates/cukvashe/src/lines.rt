@@ -7,25 +7,26 @@ ghost use Rattle.cukvashe.specs.Texts.{bytes_of as bytes_of_text, digits_fault, 
 ghost use Rattle.cukvashe.specs.Faults.{FailsBy, FailsOnlyBy, FailsOrRefuses};
 ghost use Rattle.cukvashe.specs.Keys.{key_fault};
 ghost use Rattle.cukvashe.specs.Lines.{check_value_of, key_of_components, encoding_fault, IsEncoded, decoding_fault, IsDecoded};
-ghost use Rattle.cukvashe.specs.Lines.{FailsAs, IsLine, key_for, transaction_key_of, transaction_fault, cvv_fault, cvv_line as cvv_line_of};
+ghost use Rattle.cukvashe.specs.Lines.{FailsAs, IsLine, key_for, transaction_key_of, counter_fault, transaction_fault, cvv_fault, cvv_line as cvv_line_of};
 
+use crate::card_lines::card_line;
 use crate::command::{Command, Decoding, Encoding, Purpose};
-use crate::digits::{bytes_of, decode, fill_of, hex_line, line_of};
+use crate::digits::{LONGEST_TEXT, bytes_of, decode, fill_of, hex_line, line_of};
 use crate::fault::Kind;
 use crate::parity::parity_line;
+use crate::pin_lines::pin_line;
 use des::WeakKeyError;
 use des::cipher::KeyedCipher;
 use des_fast::quiet::{Des, TdesEde2, TdesEde3};
-use des_payment::dukpt::{data_key, initial_key, mac_key, pin_key, transaction_key};
+use des_payment::dukpt::{
+    data_key, data_variant, initial_key, is_usable, mac_key, pin_key, transaction_key,
+};
 use des_payment::pin_blocks::{
-    decode_format_0, decode_format_1, decode_format_3, encode_format_0, encode_format_1,
-    encode_format_3,
+    decode_format_0, decode_format_1, decode_format_2, decode_format_3, encode_format_0,
+    encode_format_1, encode_format_2, encode_format_3,
 };
 use des_payment::{Pin, check_value, combine, cvv};
 use std::alloc::Global;
-
-/// The longest text that an input has.
-pub const LONGEST_TEXT: usize = 4096;
 
 /// The line of a command, by the text of its input.
 ///
@@ -36,7 +37,7 @@ pub fn line_of_command(alloc: Global, command: Command, text: &[u8]) -> Result<V
     ensures line { IfOk result (λ line. IsLine command.entry text.now line.items) }
 {
     match command {
-        Command::Check => check_line(alloc, text),
+        Command::Check { bytes } => check_line(alloc, bytes, text),
         Command::Parity => parity_line(alloc, text),
         Command::Combine { count } => combine_line(alloc, count, text),
         Command::Encode(format) => encode_line(alloc, format, text),
@@ -49,34 +50,39 @@ pub fn line_of_command(alloc: Global, command: Command, text: &[u8]) -> Result<V
             expiry,
             service,
         } => cvv_line(alloc, account, expiry, service, text),
+        Command::Pin(command, beside) => pin_line(alloc, command, beside, text),
+        Command::Card(command, beside) => card_line(alloc, command, beside, text),
     }
 }
 
-// The line of the check value of the key that the digits write, under the cipher.
+// The line of the first bytes of the check value of the key that the digits write, under the cipher.
 fn check_by<C: KeyedCipher + Drop, const N: usize>(
     alloc: Global,
+    bytes: u8,
     digits: &[u8],
 ) -> Result<Vec<u8>, Kind>
     requires size { C.KEY_SIZE ≡ N }
     requires small { N ≤ 24 }
     ensures fault { FailsBy (digits_fault N (Kind.KeyLength 0) Kind.KeyText digits.now) result }
-    ensures line { IfOk result (λ line. line.items
-        ≡ hex_line_of (take 3 (C.encryption (bytes_of_text digits.now) (replicate 8 0)))) }
+    ensures line { IfOk result (λ line. line.items ≡ hex_line_of
+        (take bytes (take 3 (C.encryption (bytes_of_text digits.now) (replicate 8 0))))) }
 {
     let key = bytes_of::<N>(digits, Kind::KeyLength(0), Kind::KeyText)?;
-    Ok(hex_line(alloc, &check_value::<C>(&key).unwrap())?)
+    let value = check_value::<C>(&key).unwrap();
+    let count = std::cmp::min(bytes as usize, 3);
+    Ok(hex_line(alloc, &value[..count])?)
 }
 
-// The check value of a key, of one, two or three parts.
-fn check_line(alloc: Global, digits: &[u8]) -> Result<Vec<u8>, Kind>
+// The first bytes of the check value of a key, of one, two or three parts.
+fn check_line(alloc: Global, bytes: u8, digits: &[u8]) -> Result<Vec<u8>, Kind>
     ensures fault { FailsBy (key_fault 0 digits.now) result }
     ensures line { IfOk result (λ line.
-        line.items ≡ hex_line_of (check_value_of digits.now)) }
+        line.items ≡ hex_line_of (check_value_of bytes digits.now)) }
 {
     match digits.len() {
-        16 => check_by::<Des, 8>(alloc, digits),
-        32 => check_by::<TdesEde2, 16>(alloc, digits),
-        _ => check_by::<TdesEde3, 24>(alloc, digits),
+        16 => check_by::<Des, 8>(alloc, bytes, digits),
+        32 => check_by::<TdesEde2, 16>(alloc, bytes, digits),
+        _ => check_by::<TdesEde3, 24>(alloc, bytes, digits),
     }
 }
 
@@ -155,6 +161,7 @@ fn block_of(format: Encoding, pin: &Pin) -> Result<[u8; 8], Kind>
     let block = match format {
         Encoding::Format0 { account } => encode_format_0(pin, account)?,
         Encoding::Format1 { transaction } => encode_format_1(pin, &fill_of(transaction)?)?,
+        Encoding::Format2 => encode_format_2(pin),
         Encoding::Format3 { account, fill } => { encode_format_3(pin, account, &fill_of(fill)?)? }
     };
     Ok(block)
@@ -176,6 +183,7 @@ fn pin_of(format: Decoding, block: &[u8; 8]) -> Result<Pin, Kind>
     let pin = match format {
         Decoding::Format0 { account } => decode_format_0(block, account)?,
         Decoding::Format1 => decode_format_1(block)?,
+        Decoding::Format2 => decode_format_2(block)?,
         Decoding::Format3 { account } => decode_format_3(block, account)?,
     };
     Ok(pin)
@@ -198,6 +206,18 @@ fn key_of_purpose(purpose: Purpose, transaction: &[u8; 16]) -> [u8; 16]
         Purpose::Pin => pin_key(transaction),
         Purpose::Mac(message) => mac_key(transaction, message),
         Purpose::Data(message) => data_key(transaction, message),
+        Purpose::DataVariant(message) => data_variant(transaction, message),
+    }
+}
+
+// The fault of a key serial number that no transaction has.
+fn check_counter(serial: &[u8; 10]) -> Result<(), Kind>
+    ensures { FailsOnlyBy (counter_fault serial.now) result }
+{
+    if is_usable(serial) {
+        Ok(())
+    } else {
+        Err(Kind::SerialCounter)
     }
 }
 
@@ -208,6 +228,7 @@ fn key_of_transaction(serial: &str, digits: &[u8]) -> Result<[u8; 16], Kind>
 {
     let base = bytes_of::<16>(digits, Kind::KeyLength(16), Kind::KeyText)?;
     let serial = bytes_of::<10>(serial.as_bytes(), Kind::SerialLength, Kind::SerialText)?;
+    check_counter(&serial)?;
     Ok(transaction_key(&initial_key(&base, &serial), &serial))
 }
 

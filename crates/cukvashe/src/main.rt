@@ -3,6 +3,7 @@
 
 mod answer;
 mod arguments;
+mod card_lines;
 mod check_digit;
 mod command;
 mod descriptors;
@@ -16,6 +17,7 @@ mod mac;
 mod notices;
 mod output;
 mod parity;
+mod pin_lines;
 mod program;
 mod progress;
 mod report;

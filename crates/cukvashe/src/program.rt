@@ -7,20 +7,20 @@ ghost use Rattle.cukvashe.specs.Macs.{tag_by};
 
 use crate::answer::{Answer, status_of, tag_answer, tag_of_digits, verified, weak_answer};
 use crate::arguments::{file_of, parse, parts_of, request_of};
+use crate::command::Beside;
+use crate::digits::LONGEST_TEXT;
 use crate::fault::{Fault, Kind, Misuse};
 use crate::inputs::{self, read_fault};
 use crate::keys::{is_weak, key_of_digits};
 use crate::line::{LineRequest, run_line};
-use crate::lines::LONGEST_TEXT;
 use crate::mac::{Method, tag_of};
 use crate::report::show;
-use crate::request::{Account, Form, Question, Request, Task};
+use crate::request::{Account, Form, Names, Question, Request, Task};
 use crate::source::{Source, text_of};
 use crate::stream_request::StreamRequest;
 use crate::streams_program::{refuse_terminal, run_stream};
 use crate::usage::show_usage;
 use clap::ArgMatches;
-use des_payment::{CvvError, PinError};
 use std::env;
 use std::io::{self, Read};
 use std::process::ExitCode;
@@ -63,6 +63,44 @@ fn account_name<'a>(account: Account<'a>) -> &'a str {
     }
 }
 
+// What a fault of the key of an outgoing block is about: a file, or its option.
+fn to_key_name<'a>(source: Source<'a>) -> &'a str {
+    match source {
+        Source::Descriptor(_) => "--to-key-fd",
+        Source::Variable(_) => "--to-key-env",
+        _ => source.name(),
+    }
+}
+
+// What faults are about.
+fn names_of<'a>(request: &Request<'a>) -> Names<'a> {
+    let input = request.input.name();
+    Names {
+        input,
+        account: account_name(request.account),
+        key: match request.key {
+            Some(source) => source.name(),
+            None => input,
+        },
+        to_key: match request.to_key {
+            Some(source) => to_key_name(source),
+            None => "",
+        },
+    }
+}
+
+// The digits of a key, where there is one beside the input.
+fn key_text_in<'a>(
+    rt: &HostRuntime,
+    source: Option<Source<'a>>,
+    name: &'a str,
+) -> Result<Vec<u8>, Fault<'a>> {
+    match source {
+        Some(source) => text_of(rt, source).map_err(|kind| about(kind, name)),
+        None => Ok(Vec::new(rt.alloc())),
+    }
+}
+
 // The digits of an account number.
 fn account_in<'a>(rt: &HostRuntime, account: Account<'a>) -> Result<Vec<u8>, Fault<'a>> {
     match account {
@@ -75,13 +113,13 @@ fn account_in<'a>(rt: &HostRuntime, account: Account<'a>) -> Result<Vec<u8>, Fau
     }
 }
 
-fn write_line(rt: &HostRuntime, line: LineRequest, account: &[u8], text: &[u8]) -> u8
+fn write_line(rt: &HostRuntime, line: LineRequest, beside: Beside, text: &[u8]) -> u8
     requires { length text.now ≤ LONGEST_TEXT }
 {
     run_line(
         rt.alloc(),
         line,
-        account,
+        beside,
         text,
         &mut rt.stdout(),
         &mut rt.stderr(),
@@ -94,15 +132,22 @@ fn line_status<'a>(
     request: &Request<'a>,
     form: Form<'a>,
 ) -> Result<u8, Fault<'a>> {
+    let names = names_of(request);
     let account = account_in(rt, request.account)?;
+    let key = key_text_in(rt, request.key, names.key)?;
+    let to_key = key_text_in(rt, request.to_key, names.to_key)?;
     let text = text_in(rt, request.input)?;
     let line = LineRequest {
         form,
-        input: request.input.name(),
-        account: account_name(request.account),
+        names,
         refuses: request.refuses,
     };
-    Ok(write_line(rt, line, account.as_slice(), text.as_slice()))
+    let beside = Beside {
+        account: account.as_slice(),
+        key: key.as_slice(),
+        to_key: to_key.as_slice(),
+    };
+    Ok(write_line(rt, line, beside, text.as_slice()))
 }
 
 // ---- components in files
@@ -148,11 +193,20 @@ fn parts_status<'a>(rt: &HostRuntime, paths: &[&'a str]) -> Result<u8, Fault<'a>
     }
     let line = LineRequest {
         form: Form::Combine(paths.len() as u8),
-        input: "--part-file",
-        account: "",
+        names: Names {
+            input: "--part-file",
+            account: "",
+            key: "--part-file",
+            to_key: "",
+        },
         refuses: false,
     };
-    Ok(write_line(rt, line, &[], digits.as_slice()))
+    let beside = Beside {
+        account: &[],
+        key: &[],
+        to_key: &[],
+    };
+    Ok(write_line(rt, line, beside, digits.as_slice()))
 }
 
 // ---- keys

@@ -17,6 +17,8 @@ pub enum Takes<'a> {
     Text(&'a str),
     /// A text. The option is required.
     Needed(&'a str),
+    /// One of some words. The option is required.
+    NeededWord(&'a str, &'a [&'a str]),
     /// Texts, one at each use.
     Texts(&'a str),
     /// A number that the help does not show.
@@ -29,13 +31,35 @@ pub enum Takes<'a> {
 #[derive(Clone, Copy)]
 pub struct Line<'a>(pub &'a str, pub Takes<'a>, pub &'a str);
 
-/// A command: its name, what the help says of it, an example, and the arguments that it alone takes.
+/// The arguments that a command shares with others.
+#[derive(Clone, Copy)]
+pub enum Shared {
+    /// Where a key is.
+    Key,
+    /// Where an account number is.
+    Account,
+    /// Both.
+    KeyAndAccount,
+    /// Both, and where another key is.
+    TwoKeysAndAccount,
+}
+
+/// A command: its name, what the help says of it, an example, the arguments that it alone takes, and
+/// those that it shares with others.
 #[derive(Clone, Copy)]
 pub struct Form<'a> {
     pub name: &'a str,
     pub about: &'a str,
     pub example: &'a str,
     pub lines: &'a [Line<'a>],
+    pub shared: Shared,
+}
+
+/// A command that has commands of its own: its name, and what the help says of it.
+#[derive(Clone, Copy)]
+pub struct Group<'a> {
+    pub name: &'a str,
+    pub about: &'a str,
 }
 
 /// Where a key is.
@@ -57,12 +81,31 @@ pub static KEY_LINES: [Line<'static>; 3] = [
     ),
 ];
 
+/// Where the key of an outgoing block is.
+pub static TO_KEY_LINES: [Line<'static>; 3] = [
+    Line(
+        "to-key-file",
+        Takes::Text("FILE"),
+        "Read the outgoing key's digits from a file, or - for standard input; one of these is needed",
+    ),
+    Line(
+        "to-key-fd",
+        Takes::Number("N"),
+        "Read them from an open descriptor, from its current position",
+    ),
+    Line(
+        "to-key-env",
+        Takes::Text("NAME"),
+        "Take them from an environment variable",
+    ),
+];
+
 /// Where an account number is.
 pub static ACCOUNT_LINES: [Line<'static>; 3] = [
     Line(
         "account",
         Takes::Text("DIGITS"),
-        "The account number, 13 to 19 digits, the last its check digit",
+        "The account number, 8 to 19 digits, the last its check digit; of pvv 12, of cvv 13 at least",
     ),
     Line(
         "account-file",
@@ -76,10 +119,8 @@ pub static ACCOUNT_LINES: [Line<'static>; 3] = [
     ),
 ];
 
-const FORMAT: Takes<'static> = Takes::Place("FORMAT", &["0", "1", "3"]);
-
-/// The commands with a key, in the help's order.
-pub static KEY_FORMS: [Form<'static>; 6] = [
+/// The commands with a key and no commands of their own, in the help's order.
+pub static KEY_FORMS: [Form<'static>; 7] = [
     Form {
         name: "mac",
         about: "Print or verify the message authentication code of a file or a pipe",
@@ -112,13 +153,19 @@ pub static KEY_FORMS: [Form<'static>; 6] = [
                 "Print nothing, and end with 0 where these are the tag's first 4 to 8 bytes, else with 1",
             ),
         ],
+        shared: Shared::Key,
     },
     Form {
         name: "check-value",
-        about: "Print the check value of a key, six digits",
+        about: "Print the check value of a key, six digits or four",
         example: "Example:
   KEY=0123456789abcdeffedcba9876543210 cukvashe check-value --key-env KEY",
-        lines: &[],
+        lines: &[Line(
+            "bytes",
+            Takes::Word("BYTES", &["2", "3"]),
+            "Print this number of its first bytes [default: 3]",
+        )],
+        shared: Shared::Key,
     },
     Form {
         name: "parity",
@@ -126,6 +173,7 @@ pub static KEY_FORMS: [Form<'static>; 6] = [
         example: "Example:
   KEY=0022446688aaccee cukvashe parity --key-env KEY",
         lines: &[],
+        shared: Shared::Key,
     },
     Form {
         name: "weak",
@@ -133,6 +181,7 @@ pub static KEY_FORMS: [Form<'static>; 6] = [
         example: "Example:
   KEY=0101010101010101 cukvashe weak --key-env KEY",
         lines: &[],
+        shared: Shared::Key,
     },
     Form {
         name: "combine",
@@ -151,6 +200,7 @@ pub static KEY_FORMS: [Form<'static>; 6] = [
                 "Take this number of components, one after another, from one source",
             ),
         ],
+        shared: Shared::Key,
     },
     Form {
         name: "dukpt",
@@ -165,75 +215,38 @@ pub static KEY_FORMS: [Form<'static>; 6] = [
             ),
             Line(
                 "purpose",
-                Takes::Place("PURPOSE", &["pin", "mac", "data"]),
-                "What the key is for",
+                Takes::Place("PURPOSE", &["pin", "mac", "data", "data-variant"]),
+                "What the key is for; data-variant: data, without the last one-way step",
             ),
             Line(
                 "response",
                 Takes::Nothing,
-                "The response's key, not the request's; of mac and data only",
+                "The response's key, not the request's; not of pin",
             ),
         ],
+        shared: Shared::Key,
     },
-];
-
-/// `cvv`, which takes both.
-pub static CVV_FORM: Form<'static> = Form {
-    name: "cvv",
-    about: "Print the card verification value of a card's data under a key pair",
-    example: "Example:
+    Form {
+        name: "cvv",
+        about: "Print the card verification value of a card's data under a key pair",
+        example: "Example:
   KEY=0123456789abcdeffedcba9876543210 cukvashe cvv --account 4111111111111111 \\
     --expiry 8701 --service 101 --key-env KEY",
-    lines: &[
-        Line(
-            "expiry",
-            Takes::Needed("DIGITS"),
-            "The expiry date, 4 digits in the issuer's order (YYMM or MMYY)",
-        ),
-        Line(
-            "service",
-            Takes::Needed("DIGITS"),
-            "The service code, 3 digits",
-        ),
-    ],
-};
-
-/// `pin encode`.
-pub static ENCODE_FORM: Form<'static> = Form {
-    name: "encode",
-    about: "Print the block of a PIN",
-    example: "Example:
-  printf 1234 | cukvashe pin encode 0 --account 4012345678909",
-    lines: &[
-        Line("format", FORMAT, "The format (ISO 9564-1)"),
-        Line(
-            "pin-file",
-            Takes::Text("FILE"),
-            "Read the PIN from a file [default: standard input]",
-        ),
-        Line(
-            "fill",
-            Takes::Text("DIGITS"),
-            "Needed by formats 1 and 3: ten hexadecimal digits, for 3 from a to f",
-        ),
-    ],
-};
-
-/// `pin decode`.
-pub static DECODE_FORM: Form<'static> = Form {
-    name: "decode",
-    about: "Print the PIN of a block",
-    example: "Example:
-  printf 041274edcba9876f | cukvashe pin decode 0 --account 4012345678909",
-    lines: &[
-        Line("format", FORMAT, "The format (ISO 9564-1)"),
-        Line(
-            "block-file",
-            Takes::Text("FILE"),
-            "Read the block's 16 hexadecimal digits from a file [default: standard input]",
-        ),
-    ],
-};
+        lines: &[
+            Line(
+                "expiry",
+                Takes::Needed("DIGITS"),
+                "The expiry date, 4 digits in the issuer's order (YYMM or MMYY)",
+            ),
+            Line(
+                "service",
+                Takes::Needed("DIGITS"),
+                "The service code, 3 digits",
+            ),
+        ],
+        shared: Shared::KeyAndAccount,
+    },
+];
 
 /// What the program's own help ends with.
 pub static STATUSES: &str = "\

@@ -1,9 +1,9 @@
 //! The words of a command line, parsed by what the commands take.
 
 use super::forms::{
-    ACCOUNT_LINES, CVV_FORM, DECODE_FORM, ENCODE_FORM, Form, KEY_FORMS, KEY_LINES, Line, STATUSES,
-    Takes,
+    ACCOUNT_LINES, Form, Group, KEY_FORMS, KEY_LINES, Line, STATUSES, Shared, TO_KEY_LINES, Takes,
 };
+use super::payment_forms::{EMV_FORMS, GROUPS, OFFSET_FORMS, PIN_FORMS, PVV_FORMS};
 use super::stream_forms::STREAM_FORMS;
 use clap::{Arg, ArgAction, ArgMatches, Command, Error, value_parser};
 use std::alloc::{AllocError, Global};
@@ -57,6 +57,7 @@ fn argument<'a>(alloc: Global, line: Line<'a>) -> Arg<'a> {
         Takes::Count(value) => count(option(arg, name, value)),
         Takes::Text(value) => option(arg, name, value),
         Takes::Needed(value) => needed(option(arg, name, value)),
+        Takes::NeededWord(value, words) => needed(one_of(option(arg, name, value), words)),
         Takes::Texts(value) => many(option(arg, name, value)),
         Takes::Hidden => hidden(number(option(arg, name, name))),
         Takes::Nothing => flag(arg, name),
@@ -83,15 +84,40 @@ fn named<'a>(alloc: Global, name: &'a str, about: &'a str, after: &'a str) -> Co
     Command::new(alloc, name).about(about).after_help(after)
 }
 
-// The command of a form, with arguments that it shares with others.
-fn command_of<'a>(
+fn with_key<'a>(alloc: Global, command: Command<'a>) -> Result<Command<'a>, AllocError> {
+    with_lines(alloc, command, KEY_LINES.as_slice())
+}
+
+fn with_account<'a>(alloc: Global, command: Command<'a>) -> Result<Command<'a>, AllocError> {
+    with_lines(alloc, command, ACCOUNT_LINES.as_slice())
+}
+
+fn with_both<'a>(alloc: Global, command: Command<'a>) -> Result<Command<'a>, AllocError> {
+    let command = with_account(alloc, command)?;
+    with_key(alloc, command)
+}
+
+// The command with the arguments that it shares with others.
+fn with_shared<'a>(
     alloc: Global,
-    form: &'a Form<'a>,
-    shared: &'a [Line<'a>],
+    command: Command<'a>,
+    shared: Shared,
 ) -> Result<Command<'a>, AllocError> {
+    match shared {
+        Shared::Key => with_key(alloc, command),
+        Shared::Account => with_account(alloc, command),
+        Shared::KeyAndAccount => with_both(alloc, command),
+        Shared::TwoKeysAndAccount => {
+            let command = with_both(alloc, command)?;
+            with_lines(alloc, command, TO_KEY_LINES.as_slice())
+        }
+    }
+}
+
+fn command_of<'a>(alloc: Global, form: &'a Form<'a>) -> Result<Command<'a>, AllocError> {
     let command = named(alloc, form.name, form.about, form.example);
     let command = with_lines(alloc, command, form.lines)?;
-    with_lines(alloc, command, shared)
+    with_shared(alloc, command, form.shared)
 }
 
 fn with_command<'a>(
@@ -107,22 +133,34 @@ fn parent<'a>(command: Command<'a>) -> Command<'a> {
         .arg_required_else_help(true)
 }
 
-fn pin_command<'a>(alloc: Global) -> Result<Command<'a>, AllocError> {
-    let about = "Print the block of a PIN, or the PIN of a block";
-    let command = parent(named(
-        alloc,
-        "pin",
-        about,
-        "Each command's own help has an example.",
-    ));
-    let command = with_command(
-        command,
-        command_of(alloc, &ENCODE_FORM, ACCOUNT_LINES.as_slice())?,
-    )?;
-    with_command(
-        command,
-        command_of(alloc, &DECODE_FORM, ACCOUNT_LINES.as_slice())?,
-    )
+// The command with the commands of these forms.
+fn with_forms<'a>(
+    alloc: Global,
+    command: Command<'a>,
+    forms: &'a [Form<'a>],
+) -> Result<Command<'a>, AllocError> {
+    let mut command = command;
+    for form in forms {
+        command = with_command(command, command_of(alloc, form)?)?;
+    }
+    Ok(command)
+}
+
+// The commands of the command of a name; none of another.
+fn forms_in<'a>(name: &str) -> &'a [Form<'a>] {
+    match name {
+        "pin" => PIN_FORMS.as_slice(),
+        "pvv" => PVV_FORMS.as_slice(),
+        "offset" => OFFSET_FORMS.as_slice(),
+        "emv" => EMV_FORMS.as_slice(),
+        _ => &[],
+    }
+}
+
+fn group_of<'a>(alloc: Global, group: &'a Group<'a>) -> Result<Command<'a>, AllocError> {
+    let after = "Each command's own help has an example.";
+    let command = parent(named(alloc, group.name, group.about, after));
+    with_forms(alloc, command, forms_in(group.name))
 }
 
 fn program<'a>(alloc: Global) -> Command<'a> {
@@ -133,16 +171,12 @@ fn program<'a>(alloc: Global) -> Command<'a> {
 
 // The program's command.
 fn command<'a>(alloc: Global) -> Result<Command<'a>, AllocError> {
-    let mut command = program(alloc);
-    for form in STREAM_FORMS.as_slice() {
-        command = with_command(command, command_of(alloc, form, KEY_LINES.as_slice())?)?;
+    let command = with_forms(alloc, program(alloc), STREAM_FORMS.as_slice())?;
+    let mut command = with_forms(alloc, command, KEY_FORMS.as_slice())?;
+    for group in GROUPS.as_slice() {
+        command = with_command(command, group_of(alloc, group)?)?;
     }
-    for form in KEY_FORMS.as_slice() {
-        command = with_command(command, command_of(alloc, form, KEY_LINES.as_slice())?)?;
-    }
-    let cvv = command_of(alloc, &CVV_FORM, ACCOUNT_LINES.as_slice())?;
-    let command = with_command(command, with_lines(alloc, cvv, KEY_LINES.as_slice())?)?;
-    with_command(command, pin_command(alloc)?)
+    Ok(command)
 }
 
 /// Parses the words of a command line, the program's name first.
@@ -153,23 +187,28 @@ pub fn parse<'a>(alloc: Global, words: &'a [&'a str]) -> Result<ArgMatches<'a>, 
 /// The words that name the command, as they are known here: none that was typed.
 pub fn names_of(words: &[&str]) -> (&'static str, &'static str) {
     match *words {
-        [_, "pin", "encode", ..] => ("pin", "encode"),
-        [_, "pin", "decode", ..] => ("pin", "decode"),
-        [_, "pin", ..] => ("pin", ""),
-        [_, "cvv", ..] => ("cvv", ""),
-        [_, word, ..] => (name_of(word), ""),
+        [_, word, second, ..] => names_by(word, second),
+        [_, word] => names_by(word, ""),
         _ => ("", ""),
     }
 }
 
-// The name of a command with a key that a word is; nothing of another word.
-fn name_of(word: &str) -> &'static str {
-    for form in STREAM_FORMS.as_slice() {
-        if form.name == word {
-            return form.name;
+// The names of a command, and of the command of its own, that two words are; nothing of others.
+fn names_by(word: &str, second: &str) -> (&'static str, &'static str) {
+    for group in GROUPS.as_slice() {
+        if group.name == word {
+            return (group.name, name_in(forms_in(group.name), second));
         }
     }
-    for form in KEY_FORMS.as_slice() {
+    match name_in(STREAM_FORMS.as_slice(), word) {
+        "" => (name_in(KEY_FORMS.as_slice(), word), ""),
+        name => (name, ""),
+    }
+}
+
+// The name of a command of these that a word is; nothing of another word.
+fn name_in(forms: &'static [Form<'static>], word: &str) -> &'static str {
+    for form in forms {
         if form.name == word {
             return form.name;
         }

@@ -1,6 +1,6 @@
 //! The commands `encrypt` and `decrypt`: what they take, and what the help says of it.
 
-use super::forms::{Form, Line, Takes};
+use super::forms::{Form, Line, Shared, Takes};
 
 const CIPHER: Line<'static> = Line(
     "cipher",
@@ -77,6 +77,7 @@ Example:
             OUTPUT,
             PROGRESS,
         ],
+        shared: Shared::Key,
     },
     Form {
         name: "decrypt",
@@ -119,5 +120,6 @@ Example:
             OUTPUT,
             PROGRESS,
         ],
+        shared: Shared::Key,
     },
 ];

@@ -3,8 +3,7 @@ use Rattle.std.specs.Option.{option_map}
 use Rattle.std.specs.Result.{result_err}
 use Rattle.std.proofs.lemmas.Result.{err_from_is_err_and}
 use Rattle.cukvashe.specs.declared.fault.Kind.TheVariants.{FillLength, FillText, Pin as PinFault}
-use Rattle.cukvashe.specs.Texts.{digits_fault}
-use Rattle.cukvashe.specs.Lines.{fill_of}
+use Rattle.cukvashe.specs.Texts.{digits_fault, fill_of}
 use Rattle.cukvashe.proofs.Faults.{some_from, none_from, fails_before, fails_second}
 use Rattle.cukvashe.proofs.lines.block_of.Goals as goal
 
