@@ -1,0 +1,619 @@
+// The table of calculations. The page has what stands here, in this order, and nothing that depends on which they are.
+import * as library from "../cukvashe_des.mjs";
+import { FieldFault, anyBytes, bytes, decimal, digitsOf, lines, tenDigits, utf8, wholeBlocks } from "./fields.mjs";
+
+const CIPHERS = { 8: library.Des, 16: library.TdesEde2, 24: library.TdesEde3 };
+const CIPHER_NAMES = { 8: "DES", 16: "triple DES (EDE) with two keys", 24: "triple DES (EDE) with three keys" };
+
+const cipherOf = (key) => new CIPHERS[key.length](key);
+const checkValueOf = (key) => digitsOf(library.keyCheckValue(key));
+
+// Answers: a value to copy, digits of bytes or a text; a key with its check value; and a remark in words.
+const value = (label, given) => ({ label, value: typeof given === "string" ? given : digitsOf(given) });
+const keyed = (label, key) => ({ label, value: digitsOf(key), checkValue: checkValueOf(key) });
+const remark = (label, words) => ({ label, words });
+
+// ---- Fields that several calculations have
+
+const SIZES = [8, 16, 24];
+const KEY_HINT = "16, 32 or 48 hexadecimal digits.";
+const PAIR_HINT = "32 hexadecimal digits.";
+
+const baseKey = { name: "base", label: "Base derivation key", short: "BDK", hint: PAIR_HINT, read: bytes(16) };
+const serial = {
+  name: "serial",
+  label: "Key serial number",
+  short: "KSN",
+  hint: "20 hexadecimal digits, as the terminal sends it. Put F before one that has fewer.",
+  read: bytes(10),
+};
+const account = {
+  name: "account",
+  label: "Account number",
+  short: "PAN",
+  hint: "The whole number, with its check digit.",
+  read: decimal,
+};
+
+const format = {
+  name: "format",
+  label: "Format",
+  options: [
+    ["0", "Format 0 (ISO-0, ANSI X9.8)"],
+    ["1", "Format 1 (ISO-1)"],
+    ["2", "Format 2 (ISO-2, for a card)"],
+    ["3", "Format 3 (ISO-3)"],
+  ],
+};
+const hasAccount = (texts) => texts.format === "0" || texts.format === "3";
+const hasFill = (texts) => texts.format === "1" || texts.format === "3";
+
+/** What a PIN block is encrypted under. */
+const pinKeyFields = [
+  {
+    name: "under",
+    label: "Encrypted under",
+    options: [
+      ["dukpt", "the PIN key of a transaction (DUKPT)"],
+      ["key", "a PIN key"],
+      ["nothing", "nothing: the block in clear"],
+    ],
+  },
+  { ...baseKey, shown: ({ under }) => under === "dukpt" },
+  { ...serial, shown: ({ under }) => under === "dukpt" },
+  {
+    name: "key",
+    label: "PIN key",
+    short: "TPK, ZPK",
+    hint: KEY_HINT,
+    read: bytes(...SIZES),
+    shown: ({ under }) => under === "key",
+  },
+];
+
+/** The PIN key that these fields give, or null. */
+function pinKeyOf({ under, base, serial: number, key }) {
+  if (under === "nothing") return null;
+  if (under === "key") return key;
+  return library.dukptPinKey(library.dukptTransactionKey(library.dukptInitialKey(base, number), number));
+}
+
+/** Of each MAC the sizes of its keys, and the class for each. */
+const MACS = {
+  retail: { sizes: [16], 16: library.RetailMacDes },
+  cbc: { sizes: SIZES, 8: library.CbcMacDes, 16: library.CbcMacTdesEde2, 24: library.CbcMacTdesEde3 },
+  cmac: { sizes: [16, 24], 16: library.CmacTdesEde2, 24: library.CmacTdesEde3 },
+};
+
+// ---- What examples have
+
+const BASE = "0123456789ABCDEFFEDCBA9876543210";
+const SERIAL = "FFFF9876543210E00001";
+const ACCOUNT = "4012345678909";
+
+/**
+ * Of each calculation: `id`, which is the page's #id; `title`; `note`; `fields`, of which `read` makes a value of the
+ * text; `compute`, which makes answers of the values; `example`, the texts of all fields; `published`, answers to it by
+ * their labels, which are computed before the page offers anything; and `faults`, where an error of the library is about
+ * another field than its name says, or wants other words. One more calculation is one more entry: the page needs nothing
+ * else.
+ */
+export const calculations = [
+  {
+    id: "dukpt",
+    title: "Transaction keys (DUKPT)",
+    note: "The keys of one transaction, as the host derives them: DUKPT with triple DES, ANSI X9.24-1:2009.",
+    fields: [
+      {
+        name: "from",
+        label: "You have",
+        options: [["base", "the base derivation key (BDK)"], ["initial", "the terminal’s initial key (IPEK, IK)"]],
+      },
+      { ...baseKey, shown: ({ from }) => from === "base" },
+      {
+        name: "initial",
+        label: "Initial key",
+        short: "IPEK, IK",
+        hint: PAIR_HINT,
+        read: bytes(16),
+        shown: ({ from }) => from === "initial",
+      },
+      serial,
+    ],
+    example: { from: "base", base: BASE, initial: "", serial: SERIAL },
+    // ANSI X9.24-1:2009, A.4.
+    published: {
+      "PIN key": "042666B49184CF5C68DE9628D0397B36",
+      "MAC key, request": "042666B4918430A368DE9628D03984C9",
+      "Data key, request": "448D3F076D8304036A55A3D7E0055A78",
+      "Transaction key": "042666B49184CFA368DE9628D0397BC9",
+      "Initial key (IPEK)": "6AC292FAA1315B4D858AB3A3D7D5933A",
+    },
+    compute({ from, base, initial: given, serial: number }) {
+      const initial = from === "base" ? library.dukptInitialKey(base, number) : given;
+      const transaction = library.dukptTransactionKey(initial, number);
+      const next = library.dukptNextSerial(number);
+      const counter = String(((number[7] & 31) << 16) | (number[8] << 8) | number[9]);
+      const unused = ", which no terminal uses: it is 0 or has more than ten one bits";
+      return [
+        keyed("PIN key", library.dukptPinKey(transaction)),
+        keyed("MAC key, request", library.dukptMacKey(transaction)),
+        keyed("MAC key, response", library.dukptMacKey(transaction, true)),
+        keyed("Data key, request", library.dukptDataKey(transaction)),
+        keyed("Data key, response", library.dukptDataKey(transaction, true)),
+        keyed("Data variant, request", library.dukptDataVariant(transaction)),
+        keyed("Data variant, response", library.dukptDataVariant(transaction, true)),
+        keyed("Transaction key", transaction),
+        keyed("Initial key (IPEK)", initial),
+        remark("Counter", library.dukptIsUsable(number) ? counter : counter + unused),
+        next === null ? remark("Next KSN", "none: the counter is used up") : value("Next KSN", next),
+      ];
+    },
+  },
+  {
+    id: "pin",
+    title: "PIN block: make",
+    note: "The block of a PIN (ISO 9564-1), and the same encrypted.",
+    fields: [
+      format,
+      { name: "pin", label: "PIN", hint: "4 to 12 digits.", read: decimal },
+      { ...account, shown: hasAccount },
+      {
+        name: "fill",
+        label: "Digits to fill with",
+        hint: "Ten hexadecimal digits, in format 3 each from A to F. The block takes as many as it has room for.",
+        read: tenDigits,
+        shown: hasFill,
+        random: (texts) => (texts.format === "3" ? "ABCDEF" : "0123456789ABCDEF"),
+      },
+      ...pinKeyFields,
+    ],
+    example: {
+      format: "0",
+      pin: "1234",
+      account: ACCOUNT,
+      fill: "ABCDEFABCD",
+      under: "dukpt",
+      base: BASE,
+      serial: SERIAL,
+      key: "",
+    },
+    // ANSI X9.24-1:2009, A.4.
+    published: { "Encrypted block": "1B9C1845EB993A7A", "Block in clear": "041274EDCBA9876F" },
+    compute(values) {
+      const { pin, account: number, fill } = values;
+      const encoders = {
+        0: () => library.pinEncode0(pin, number),
+        1: () => library.pinEncode1(pin, fill),
+        2: () => library.pinEncode2(pin),
+        3: () => library.pinEncode3(pin, number, fill),
+      };
+      const block = encoders[values.format]();
+      const key = pinKeyOf(values);
+      if (key === null) return [value("Block in clear", block)];
+      const encrypted = cipherOf(key).encryptEcb(block);
+      return [value("Encrypted block", encrypted), value("Block in clear", block), keyed("PIN key", key)];
+    },
+  },
+  {
+    id: "unpin",
+    title: "PIN block: read",
+    note: "The PIN of a block (ISO 9564-1), in clear or encrypted. All sixteen digits are checked.",
+    fields: [
+      { name: "block", label: "PIN block", hint: "16 hexadecimal digits.", read: bytes(8) },
+      format,
+      { ...account, shown: hasAccount },
+      ...pinKeyFields,
+    ],
+    example: {
+      block: "1B9C1845EB993A7A",
+      format: "0",
+      account: ACCOUNT,
+      under: "dukpt",
+      base: BASE,
+      serial: SERIAL,
+      key: "",
+    },
+    // ANSI X9.24-1:2009, A.4.
+    published: { PIN: "1234", "Block in clear": "041274EDCBA9876F" },
+    faults: {
+      Format: {
+        field: "block",
+        words: "In clear the block does not begin with the digit of this format. Are the key and the format right?",
+      },
+      PinLength: {
+        field: "block",
+        words: "In clear the second digit of the block is no length of a PIN (4 to C). Is the key right?",
+      },
+      PinDigit: {
+        field: "block",
+        words: "A digit of the PIN in this block is above 9. Are the key and the account number right?",
+      },
+      Fill: {
+        field: "block",
+        words: "What stands behind the PIN is not what the format has there. Are the key and the account number right?",
+      },
+    },
+    compute(values) {
+      const { block: given, account: number } = values;
+      const key = pinKeyOf(values);
+      const block = key === null ? given : cipherOf(key).decryptEcb(given);
+      const answers = key === null ? [] : [value("Block in clear", block), keyed("PIN key", key)];
+      const decoders = {
+        0: () => library.pinDecode0(block, number),
+        1: () => library.pinDecode1(block),
+        2: () => library.pinDecode2(block),
+        3: () => library.pinDecode3(block, number),
+      };
+      try {
+        return [value("PIN", decoders[values.format]()), ...answers];
+      } catch (error) {
+        error.answers = answers;
+        throw error;
+      }
+    },
+  },
+  {
+    id: "translate",
+    title: "PIN block: translate",
+    note: "A PIN block under one key becomes one under another; the PIN does not come out (ISO 9564-1).",
+    fields: [
+      { name: "block", label: "PIN block", hint: "16 hexadecimal digits, encrypted.", read: bytes(8) },
+      {
+        name: "from",
+        label: "Its format",
+        options: [["0", "Format 0 (ISO-0, ANSI X9.8)"], ["1", "Format 1 (ISO-1)"], ["3", "Format 3 (ISO-3)"]],
+      },
+      { name: "incoming", label: "Its PIN key", short: "TPK, ZPK", hint: KEY_HINT, read: bytes(...SIZES) },
+      {
+        name: "to",
+        label: "New format",
+        options: [["0", "Format 0 (ISO-0, ANSI X9.8)"], ["3", "Format 3 (ISO-3)"]],
+      },
+      { name: "outgoing", label: "New PIN key", short: "ZPK", hint: KEY_HINT, read: bytes(...SIZES) },
+      account,
+      {
+        name: "fill",
+        label: "Digits to fill with",
+        hint: "Ten hexadecimal digits from A to F. The block takes as many as it has room for.",
+        read: tenDigits,
+        shown: ({ to }) => to === "3",
+        random: () => "ABCDEF",
+      },
+    ],
+    example: {
+      block: "1B9C1845EB993A7A",
+      from: "0",
+      incoming: "042666B49184CF5C68DE9628D0397B36",
+      to: "0",
+      outgoing: BASE,
+      account: ACCOUNT,
+      fill: "",
+    },
+    // The block in clear, which ANSI X9.24-1:2009 publishes, encrypted by OpenSSL's des-ede.
+    published: { "Translated block": "C03D21CDBCB0C58B" },
+    faults: {
+      PinBlock: {
+        field: "block",
+        words: "Decrypted, this is no PIN block of its format and account number. Are these and its key right?",
+      },
+    },
+    compute({ block, from, incoming, to, outgoing, account: number, fill }) {
+      const given = [incoming, Number(from), outgoing, number];
+      const made = to === "0" ? library.pinTranslateTo0(...given, block) : library.pinTranslateTo3(...given, fill, block);
+      return [value("Translated block", made)];
+    },
+  },
+  {
+    id: "pvv",
+    title: "PIN verification value (PVV)",
+    note: "Four digits by which a host knows a PIN without keeping it (Visa).",
+    fields: [
+      {
+        name: "key",
+        label: "PIN verification keys",
+        short: "PVK A and B",
+        hint: "The pair: 32 hexadecimal digits.",
+        read: bytes(16),
+      },
+      {
+        name: "index",
+        label: "Index of the pair",
+        short: "PVKI",
+        options: ["1", "2", "3", "4", "5", "6"].map((digit) => [digit, digit]),
+      },
+      account,
+      { name: "pin", label: "PIN", hint: "The value is of its first four digits.", read: decimal },
+    ],
+    example: { key: BASE, index: "1", account: "4123456789012345", pin: "1234" },
+    // By OpenSSL's des-ede of 5678901234511234.
+    published: { "PIN verification value": "1894" },
+    compute({ key, index, account: number, pin }) {
+      return [value("PIN verification value", library.pvv(key, number, Number(index), pin))];
+    },
+  },
+  {
+    id: "offset",
+    title: "PIN offset (IBM 3624)",
+    note: "The natural PIN of an account, and the offset of a PIN that the customer chose.",
+    fields: [
+      { name: "key", label: "PIN verification key", short: "PVK", hint: KEY_HINT, read: bytes(...SIZES) },
+      {
+        name: "validation",
+        label: "Validation data",
+        hint: "16 hexadecimal digits that the issuer chooses, often of the account number.",
+        read: bytes(8),
+      },
+      { name: "table", label: "Decimalization table", hint: "16 digits, eight different ones at least.", read: decimal },
+      { name: "pin", label: "PIN", hint: "4 to 12 digits.", read: decimal },
+    ],
+    example: { key: BASE, validation: "4123456789012345", table: "0123456789012345", pin: "9519" },
+    // By OpenSSL's des-ede of the validation data, whose first digits are A62A; 9519 less 0620 is 9999.
+    published: { Offset: "9999", "Natural PIN": "0620" },
+    compute({ key, validation, table: digits, pin }) {
+      const table = new library.DecimalTable(digits);
+      const offset = library.pinOffset(key, table, validation, pin);
+      return [value("Offset", offset), value("Natural PIN", library.naturalPin(key, table, validation, pin.length))];
+    },
+  },
+  {
+    id: "emv",
+    title: "Card cryptogram (ARQC, ARPC)",
+    note: "The card’s key, the session key, the cryptogram and the issuer’s response by method 1 (EMV 4.3, Book 2).",
+    fields: [
+      { name: "issuer", label: "Issuer’s master key", short: "IMK-AC", hint: PAIR_HINT, read: bytes(16) },
+      account,
+      {
+        name: "sequence",
+        label: "Sequence number of the account",
+        short: "PSN",
+        hint: "Two digits; 00 where the card has none.",
+        read: decimal,
+      },
+      { name: "counter", label: "Transaction counter", short: "ATC", hint: "4 hexadecimal digits.", read: bytes(2) },
+      {
+        name: "data",
+        label: "Data of the cryptogram",
+        hint: "Hexadecimal digits, as the card scheme joins them, without padding.",
+        isLong: true,
+        read: anyBytes,
+      },
+      {
+        name: "code",
+        label: "Response code",
+        short: "ARC",
+        hint: "4 hexadecimal digits: 3030 is the text 00, approved.",
+        read: bytes(2),
+      },
+    ],
+    example: {
+      issuer: BASE,
+      account: "99012345678901234",
+      sequence: "45",
+      counter: "001C",
+      data: "00000000500000000000000000000840000000000008401502200063A5B1F2580000001C06010A03A4A000",
+      code: "3030",
+    },
+    // A published card key; the others are by OpenSSL.
+    published: {
+      "Application cryptogram (ARQC)": "AC06A6DF7A7D00E8",
+      "Response by method 1 (ARPC)": "F94A6571647B89F7",
+      "Session key": "38324E73F063EFDD5CA88C322476A45B",
+      "Card’s key": "67F8292358083E5EA7AB7FDA58D53B6B",
+    },
+    compute({ issuer, account: number, sequence, counter, data, code }) {
+      const card = library.emvCardKey(issuer, number, sequence);
+      const session = library.emvApplicationKey(card, counter);
+      const cryptogram = library.emvApplicationCryptogram(session, data);
+      return [
+        value("Application cryptogram (ARQC)", cryptogram),
+        value("Response by method 1 (ARPC)", library.emvResponse1(session, cryptogram, code)),
+        keyed("Session key", session),
+        keyed("Card’s key", card),
+      ];
+    },
+  },
+  {
+    id: "mac",
+    title: "MAC",
+    note: "A message authentication code: the retail MAC and CBC-MAC of ISO/IEC 9797-1, or CMAC.",
+    fields: [
+      {
+        name: "kind",
+        label: "Algorithm",
+        options: [
+          ["retail", "Retail MAC (algorithm 3, ANSI X9.19)"],
+          ["cbc", "CBC-MAC (algorithm 1)"],
+          ["cmac", "CMAC (NIST SP 800-38B)"],
+        ],
+      },
+      {
+        name: "padding",
+        label: "Padding",
+        options: [["1", "Method 1: zeros"], ["2", "Method 2: a one bit, then zeros"]],
+        shown: ({ kind }) => kind !== "cmac",
+      },
+      {
+        name: "key",
+        label: "MAC key",
+        short: "TAK, ZAK",
+        hint: "Hexadecimal digits: 32 for the retail MAC; 16, 32 or 48 for CBC-MAC; 32 or 48 for CMAC.",
+        read: (text, { kind }) => bytes(...MACS[kind].sizes)(text),
+      },
+      { name: "form", label: "The message is", options: [["hex", "hexadecimal digits"], ["text", "text (UTF-8)"]] },
+      {
+        name: "message",
+        label: "Message",
+        isLong: true,
+        read: (text, { form }) => (form === "text" ? utf8(text) : anyBytes(text)),
+      },
+    ],
+    example: { kind: "retail", padding: "1", key: BASE, form: "text", message: "Now is the time for it" },
+    // ISO/IEC 9797-1, annex B.
+    published: { MAC: "2E2B1428CC78254F", "First four bytes": "2E2B1428" },
+    compute({ kind, padding, key, message }) {
+      const Mac = MACS[kind][key.length];
+      const mac = kind === "cmac" ? new Mac(key, message) : new Mac(key, Number(padding), message);
+      const tag = mac.digest();
+      const length = remark("Message", `${message.length} bytes`);
+      return [value("MAC", tag), value("First four bytes", tag.slice(0, 4)), length];
+    },
+  },
+  {
+    id: "cvv",
+    title: "Card verification value (CVV, CVC)",
+    note: "For the stripe (CVV, CVC), the print (CVV2, CVC2) and the chip (iCVV).",
+    fields: [
+      {
+        name: "key",
+        label: "Card verification keys",
+        short: "CVK A and B",
+        hint: "The pair: 32 hexadecimal digits.",
+        read: bytes(16),
+      },
+      account,
+      {
+        name: "expiry",
+        label: "Expiry date",
+        hint: "Four digits in the order that the issuer takes, most often year and month.",
+        read: decimal,
+      },
+      {
+        name: "service",
+        label: "Service code",
+        hint: "Three digits: that of the card for CVV, 000 for CVV2, 999 for iCVV.",
+        read: decimal,
+      },
+    ],
+    example: { key: BASE, account: "4123456789012345", expiry: "8701", service: "101" },
+    // An example that many documents have.
+    published: { "Card verification value": "561" },
+    compute: ({ key, account: number, expiry, service }) =>
+      [value("Card verification value", library.cvv(key, number, expiry, service))],
+  },
+  {
+    id: "check",
+    title: "Check value (KCV), parity",
+    note: "The check value of a key, its parity, and whether it is weak.",
+    fields: [{ name: "key", label: "Key", hint: KEY_HINT, read: bytes(...SIZES) }],
+    example: { key: BASE },
+    // An example that many documents have.
+    published: { "Check value (KCV)": "08D7B4" },
+    compute({ key }) {
+      const odd = library.withOddParity(key);
+      const isOdd = digitsOf(odd) === digitsOf(key);
+      const refused = "refuses this key: a part is weak, semi-weak or possibly weak, or two parts are one key";
+      return [
+        value("Check value (KCV)", checkValueOf(key)),
+        value("Its first two bytes", library.shortKeyCheckValue(key)),
+        remark("Cipher", CIPHER_NAMES[key.length]),
+        remark("Parity", isOdd ? "odd in every byte" : "not odd in every byte"),
+        value("With odd parity", odd),
+        remark("Weak key test", library.isWeakKey(key) ? refused : "passed"),
+      ];
+    },
+  },
+  {
+    id: "components",
+    title: "Key from components",
+    note: "The key that two or more components make: their exclusive or, with odd parity.",
+    fields: [
+      {
+        name: "components",
+        label: "Components",
+        hint: "One on a line, each of 16, 32 or 48 hexadecimal digits.",
+        isLong: true,
+        read: lines(...SIZES),
+      },
+    ],
+    example: { components: "10101010101010101010101010101010\n1133557799BBDDFFEECCAA8866442200" },
+    // By hand: the second component is the key with the fourth bit of each byte turned.
+    published: { Key: BASE },
+    faults: {
+      WeakKey: { field: "components", words: "The key of these components is weak, or two of its parts are the same." },
+    },
+    compute({ components }) {
+      const values = components.map((it, at) => value(`Check value of component ${at + 1}`, checkValueOf(it)));
+      return [keyed("Key", library.combine(...components)), ...values];
+    },
+  },
+  {
+    id: "blocks",
+    title: "Encrypt or decrypt blocks",
+    note: "Whole blocks, with no padding. The length of the key chooses the cipher.",
+    fields: [
+      { name: "way", label: "Direction", options: [["encrypt", "Encrypt"], ["decrypt", "Decrypt"]] },
+      { name: "mode", label: "Mode", options: [["ecb", "ECB: each block by itself"], ["cbc", "CBC: chained"]] },
+      {
+        name: "key",
+        label: "Key",
+        hint: `${KEY_HINT} DES, or triple DES with two or three keys.`,
+        read: bytes(...SIZES),
+      },
+      {
+        name: "iv",
+        label: "Initialization vector",
+        short: "IV",
+        hint: "16 hexadecimal digits.",
+        read: bytes(8),
+        shown: ({ mode }) => mode === "cbc",
+      },
+      { name: "data", label: "Blocks", hint: "Hexadecimal digits, 16 a block.", isLong: true, read: wholeBlocks },
+    ],
+    example: {
+      way: "encrypt",
+      mode: "ecb",
+      key: "0123456789ABCDEF23456789ABCDEF01456789ABCDEF0123",
+      iv: "",
+      data: "54686520717566636B2062726F776E20666F78206A756D70",
+    },
+    // NIST SP 800-67, appendix B.
+    published: { Ciphertext: "A826FD8CE53B855FCCE21C8112256FE668D5C05DD9B6B900" },
+    compute({ way, mode, key, iv, data }) {
+      const cipher = cipherOf(key);
+      const calls = {
+        encrypt: { ecb: () => cipher.encryptEcb(data), cbc: () => cipher.encryptCbc(iv, data) },
+        decrypt: { ecb: () => cipher.decryptEcb(data), cbc: () => cipher.decryptCbc(iv, data) },
+      };
+      const label = way === "encrypt" ? "Ciphertext" : "Plaintext";
+      return [value(label, calls[way][mode]()), remark("Cipher", CIPHER_NAMES[key.length])];
+    },
+  },
+];
+
+// ---- Errors of the library, as faults of fields
+
+const FIELDS_OF_ERRORS = {
+  PinLength: "pin",
+  PinDigit: "pin",
+  AccountLength: "account",
+  AccountDigit: "account",
+  Fill: "fill",
+  ExpiryLength: "expiry",
+  ExpiryDigit: "expiry",
+  ServiceLength: "service",
+  ServiceDigit: "service",
+  TableLength: "table",
+  TableDigit: "table",
+  TableVariety: "table",
+  SequenceLength: "sequence",
+  SequenceDigit: "sequence",
+};
+
+/** How many digits an account number has at least, where that is not 8. */
+const LEAST_DIGITS = { pvv: 12, cvv: 13 };
+
+/**
+ * The fault that an error of the library is in a calculation, of the texts in its fields. Any other error comes back as
+ * it is.
+ */
+export function faultOf({ id, faults = {} }, error, texts) {
+  if (!(error instanceof library.CukvasheError)) return error;
+  const { field, words } = faults[error.name] ?? { field: FIELDS_OF_ERRORS[error.name] };
+  if (field === undefined) return error;
+  const message =
+    error.name === "AccountLength" ? `an account number has ${LEAST_DIGITS[id] ?? 8} to 19 digits` : error.message;
+  const sentence = message.slice(0, 1).toUpperCase() + message.slice(1);
+  const count = error.name.endsWith("Length") ? `, and here are ${decimal(texts[field]).length}` : "";
+  return new FieldFault(field, words ?? `${sentence}${count}.`, error.answers);
+}

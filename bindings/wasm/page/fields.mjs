@@ -1,0 +1,105 @@
+// How what stands in a field becomes bytes, and in which words a field says that it can't.
+
+/** What is wrong with what stands in a field. */
+export class Refused extends Error {}
+
+/** The same, of a named field, and the answers that were there before it was seen. */
+export class FieldFault extends Error {
+  constructor(field, message, answers = []) {
+    super(message);
+    this.field = field;
+    this.answers = answers;
+  }
+}
+
+/** Bytes as hexadecimal digits. */
+export const digitsOf = (bytes) => Array.from(bytes, (byte) => byte.toString(16).padStart(2, "0")).join("").toUpperCase();
+
+/** The bytes of a text in UTF-8. */
+export const utf8 = (text) => new TextEncoder().encode(text);
+
+// "16, 32 or 48", of numbers.
+const listed = (numbers) => numbers.join(", ").replace(/, ([^,]*)$/, " or $1");
+
+/** A text without white space, which has at least one character. */
+function filled(text) {
+  const characters = text.replace(/\s/g, "");
+  if (characters === "") throw new Refused("Fill in this field.");
+  return characters;
+}
+
+/** The hexadecimal digits of a text, of which there may be any number. White space is passed over. */
+function hexadecimal(text) {
+  const digits = text.replace(/\s/g, "");
+  const at = digits.search(/[^0-9a-f]/i);
+  if (at < 0) return digits;
+  const [character] = digits.slice(at);
+  throw new Refused(`Character ${at + 1}, “${character}”, is no hexadecimal digit (0 to 9, A to F).`);
+}
+
+/** The bytes of pairs of digits. */
+const bytesOfPairs = (digits) => Uint8Array.from(digits.match(/../g) ?? [], (pair) => parseInt(pair, 16));
+
+/** Reads so many bytes, or one of several numbers of them. */
+export const bytes = (...sizes) => (text) => {
+  const digits = hexadecimal(filled(text));
+  if (sizes.includes(digits.length / 2)) return bytesOfPairs(digits);
+  const wanted = listed(sizes.map((size) => 2 * size));
+  throw new Refused(`${wanted} hexadecimal digits are needed, and here are ${digits.length}.`);
+};
+
+/** Reads bytes, which may be none. */
+export function anyBytes(text) {
+  const digits = hexadecimal(text);
+  if (digits.length % 2 === 0) return bytesOfPairs(digits);
+  throw new Refused(`An even number of hexadecimal digits is needed, and here are ${digits.length}.`);
+}
+
+/** Reads blocks of eight bytes. */
+export function wholeBlocks(text) {
+  const digits = hexadecimal(filled(text));
+  if (digits.length % 16 === 0) return bytesOfPairs(digits);
+  throw new Refused(`Whole blocks of 16 hexadecimal digits are needed, and here are ${digits.length} digits.`);
+}
+
+/** Reads ten hexadecimal digits as one byte for each. */
+export function tenDigits(text) {
+  const digits = hexadecimal(filled(text));
+  if (digits.length !== 10) throw new Refused(`Ten hexadecimal digits are needed, and here are ${digits.length}.`);
+  return Uint8Array.from(digits, (digit) => parseInt(digit, 16));
+}
+
+/** Reads two lines or more, each of them so many bytes, and all of one number. */
+export const lines = (...sizes) => (text) => {
+  const texts = text.split("\n").filter((line) => line.trim() !== "");
+  if (texts.length < 2) throw new Refused("Two components at least are needed, each on a line of its own.");
+  const read = texts.map((line, at) => {
+    try {
+      return bytes(...sizes)(line);
+    } catch (error) {
+      if (!(error instanceof Refused)) throw error;
+      throw new Refused(`Component ${at + 1}: ${error.message}`);
+    }
+  });
+  if (read.every((line) => line.length === read[0].length)) return read;
+  throw new Refused("The components differ in their number of digits.");
+};
+
+/** Reads a number of decimal digits, which the library tests: spaces and hyphens between them are passed over. */
+export const decimal = (text) => filled(text).replace(/-/g, "");
+
+/** What the fields that are shown stand for, by their names, and the faults of those that stand for nothing. */
+export function readAll(fields, texts) {
+  const values = {};
+  const faults = [];
+  for (const { name, read, shown } of fields) {
+    if (shown !== undefined && !shown(texts)) continue;
+    try {
+      values[name] = read === undefined ? texts[name] : read(texts[name], texts);
+    } catch (error) {
+      if (!(error instanceof Refused)) throw error;
+      faults.push(new FieldFault(name, error.message));
+    }
+  }
+  return { values, faults };
+}

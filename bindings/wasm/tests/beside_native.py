@@ -1,0 +1,83 @@
+#!/usr/bin/env python3
+"""beside_native.py: reads random calls from standard input, a line for each, makes the same by the package for Python over the native
+library, and compares answers, names of errors and their texts."""
+
+import collections
+import json
+import re
+import sys
+
+import cukvashe_des
+
+
+def given(word):
+    """An argument as Python takes it."""
+    if isinstance(word, list):
+        return [given(it) for it in word]
+    if not isinstance(word, dict):
+        return word
+    if "bytes" in word:
+        return bytes.fromhex(word["bytes"])
+    if "class" in word:
+        return getattr(cukvashe_des, word["class"])
+    if "table" in word:
+        return cukvashe_des.DecimalTable(word["table"])
+    name, key = word["cipher"]
+    return getattr(cukvashe_des, name)(given(key))
+
+
+def written(answer):
+    """An answer as the lines have it."""
+    if isinstance(answer, (bytes, bytearray)):
+        return {"bytes": answer.hex()}
+    return [written(it) for it in answer] if isinstance(answer, list) else answer
+
+
+def snake(name):
+    return re.sub("[A-Z]|(?<=[a-z])[0-9]", lambda it: "_" + it[0].lower(), name)
+
+
+def accepts(call, tag):
+    try:
+        call(tag)
+    except cukvashe_des.TagMismatch:
+        return False
+    return True
+
+
+def mac_of(kind, arguments, pieces, length):
+    mac = kind(*arguments)
+    for piece in pieces:
+        mac.update(piece)
+    tag = mac.digest()
+    other = bytes(byte ^ 1 for byte in tag)
+    return [tag, accepts(mac.verify, tag[:length]), accepts(mac.verify_truncated_left, tag[:length]), accepts(mac.verify, other)]
+
+
+def answer_of(name, *words):
+    arguments = [given(word) for word in words]
+    first, _, call = name.partition(".")
+    if call:
+        return getattr(getattr(cukvashe_des, first)(arguments[0]), snake(call))(*arguments[1:])
+    if first[0].isupper():
+        return mac_of(getattr(cukvashe_des, first), *arguments)
+    return getattr(cukvashe_des, snake(first))(*arguments)
+
+
+calls, errors = collections.Counter(), collections.Counter()
+for line in sys.stdin:
+    said = json.loads(line)
+    try:
+        answer = written(answer_of(*said["call"]))
+        # What verifies is true here, and says nothing in Python.
+        here = {"answer": True if said["call"][0] in ("pvvVerify", "pinOffsetVerify") else answer}
+    except ValueError as error:
+        here = {"error": [type(error).__name__, str(error)]}
+        errors[type(error).__name__] += 1
+    there = {key: value for key, value in said.items() if key != "call"}
+    if here != there:
+        sys.exit(f"{said['call']}: the module gives {there}, the native library {here}")
+    calls[said["call"][0]] += 1
+least = min(calls.items(), key=lambda it: it[1])
+print(f"beside the native library: {sum(calls.values())} calls of {len(calls)} kinds, each at least {least[1]} times; "
+      f"{sum(errors.values())} errors of {len(errors)} names")

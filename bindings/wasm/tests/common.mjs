@@ -1,0 +1,38 @@
+// What the tests share: the wrapper that was built, the module's instance behind it, and bytes of digits.
+import assert from "node:assert/strict";
+import { readFileSync } from "node:fs";
+
+export const [folder] = process.argv.slice(2);
+export const library = await import(new URL(`${folder}/cukvashe_des.mjs`, "file:///"));
+
+/** The bytes of hexadecimal digits, as a plain Uint8Array. */
+export const unhex = (digits) => Uint8Array.from(digits.match(/../g) ?? [], (pair) => parseInt(pair, 16));
+export const hex = (bytes) => Buffer.from(bytes).toString("hex");
+
+/** That bytes are a plain Uint8Array, which has its memory for itself, of these digits. */
+export function is(bytes, digits) {
+  assert.equal(Object.getPrototypeOf(bytes), Uint8Array.prototype);
+  assert.equal(bytes.buffer.byteLength, bytes.length);
+  assert.equal(hex(bytes), digits);
+}
+
+/** The lines of a file of known answers, in words. */
+export const linesOf = (file) =>
+  readFileSync(file, "ascii").split("\n").filter((line) => line.trim() !== "" && !line.startsWith("#"));
+
+/** Loads the module, and gives its exports, through `changed` where that is given. */
+export async function exportsOf(changed = (exports) => exports) {
+  const { instantiate } = WebAssembly;
+  let exports;
+  WebAssembly.instantiate = async (...words) => {
+    const made = await instantiate(...words);
+    exports = changed({ ...made.instance.exports });
+    return { instance: { exports } };
+  };
+  try {
+    await library.load();
+  } finally {
+    WebAssembly.instantiate = instantiate;
+  }
+  return exports;
+}

@@ -1,0 +1,520 @@
+// faults.mjs FOLDER: each error of the wrapper, each wrong type in the place of each argument, and what was closed or
+// not loaded.
+import assert from "node:assert/strict";
+import { readFileSync } from "node:fs";
+import { runInNewContext } from "node:vm";
+import { folder, hex, is, library, unhex } from "./common.mjs";
+
+const KEY = unhex("0123456789abcdef23456789abcdef01456789abcdef0123");
+const PAIR = unhex("0123456789abcdeffedcba9876543210");
+const IV = unhex("1234567890abcdef");
+const SERIAL = unhex("ffff9876543210e00001");
+const ACCOUNT = "4012345678909";
+const FILL = Uint8Array.of(10, 11, 12, 13, 14, 15, 10, 11, 12, 13);
+const MESSAGE = unhex("6bc1bee22e409f96e93d7e117393172aae2d8a571e03ac9c");
+const TEXT = /^[a-z0-9":,() .-]+$/i;
+
+let faults = 0;
+
+/** A call throws this error, whose text is one of few words, and shows nothing that was given. */
+function throwsFault(run, name, text) {
+  assert.throws(run, (error) => {
+    assert.equal(error.name, name, `${error}`);
+    assert(error instanceof library[name] && error instanceof library.CukvasheError && error instanceof Error);
+    assert.equal(library[name].name, name);
+    if (text !== undefined) assert.equal(error.message, text);
+    assert.match(error.message, TEXT);
+    return true;
+  });
+  faults += 1;
+}
+
+const throwsType = (run, what) => {
+  assert.throws(run, (error) => {
+    assert.equal(error.constructor, TypeError, `${what}: ${error}`);
+    assert.match(error.message, TEXT);
+    return true;
+  }, what);
+  faults += 1;
+};
+
+// ---- Before and while loading
+
+throwsFault(() => new library.Des(KEY.subarray(0, 8)), "NotLoaded");
+throwsFault(() => library.dukptIsUsable(SERIAL), "NotLoaded");
+const module = readFileSync(`${folder}/cukvashe_des.wasm`);
+
+async function refuses(name, ...words) {
+  const isFault = (error) => error.name === name && error instanceof (library[name] ?? globalThis[name]);
+  await assert.rejects(library.load(...words), isFault);
+  throwsFault(() => library.dukptIsUsable(SERIAL), "NotLoaded");
+}
+
+for (const wrong of [null, "cukvashe_des.wasm", 5, {}, [], new Uint16Array(8)]) await refuses("TypeError", wrong);
+await refuses("ModuleMismatch", new Uint8Array());
+await refuses("ModuleMismatch", module.subarray(0, module.length - 1));
+// One bit of each 512th byte, and each bit of the first and last bytes.
+for (let at = 0; at < module.length; at += at < 8 || at > module.length - 8 ? 1 : 512) {
+  const other = Uint8Array.from(module);
+  other[at] ^= 1 << (at % 8);
+  await refuses("ModuleMismatch", other);
+}
+const { validate } = WebAssembly;
+WebAssembly.validate = () => false;
+assert.equal(library.isSupported(), false);
+await refuses("NoMemory64", module);
+WebAssembly.validate = validate;
+assert.equal(library.isSupported(), true);
+
+// A module that is changed while it is loaded is not the changed one.
+const changing = Uint8Array.from(module);
+const loading = library.load(changing);
+changing.fill(0);
+await loading;
+await library.load(module.buffer.slice(module.byteOffset, module.byteOffset + module.length));
+// Where sums can't be made, as on pages by http, the module is loaded as it is.
+const { crypto } = globalThis;
+Object.defineProperty(globalThis, "crypto", { value: undefined, configurable: true });
+await library.load(module);
+await assert.rejects(library.load(new Uint8Array(8)), WebAssembly.CompileError);
+Object.defineProperty(globalThis, "crypto", { value: crypto, configurable: true });
+await library.load();
+assert.equal(library.dukptIsUsable(SERIAL), true);
+
+// ---- Errors of each call
+
+const CIPHERS = [[library.Des, 8], [library.TdesEde2, 16], [library.TdesEde3, 24]];
+const CBC_MACS = [[library.CbcMacDes, 8], [library.CbcMacTdesEde2, 16], [library.CbcMacTdesEde3, 24]];
+const PADDED = [...CBC_MACS, [library.RetailMacDes, 16]];
+const CBC = ["encryptCbc", "decryptCbc"];
+const CMACS = [[library.CmacTdesEde2, 16], [library.CmacTdesEde3, 24]];
+const LENGTHS = Array.from({ length: 34 }, (_, length) => length);
+const of = (length) => new Uint8Array(length).fill(0x5a);
+
+for (const [Cipher, size] of CIPHERS) {
+  assert.deepEqual([Cipher.keySize, Cipher.blockSize], [size, 8]);
+  const cipher = new Cipher(KEY.subarray(0, size));
+  for (const length of LENGTHS) {
+    if (length !== size) {
+      const text = `a key has ${size} bytes, not ${length}`;
+      throwsFault(() => new Cipher(of(length)), "KeyLength", text);
+      throwsFault(() => library.checkValue(Cipher, of(length)), "KeyLength", text);
+    }
+    if (length !== 8) {
+      const text = `an initialization vector has 8 bytes, not ${length}`;
+      for (const call of CBC) throwsFault(() => cipher[call](of(length), of(8)), "VectorLength", text);
+    }
+    if (length % 8 !== 0) {
+      const text = `${length} bytes are not whole blocks of 8`;
+      for (const call of ["encryptEcb", "decryptEcb"]) throwsFault(() => cipher[call](of(length)), "BlockLength", text);
+      for (const call of CBC) throwsFault(() => cipher[call](IV, of(length)), "BlockLength", text);
+      for (const call of ["encryptEach", "decryptEach"]) {
+        throwsFault(() => library[call](Cipher, KEY.subarray(0, size), of(length)), "BlockLength", text);
+      }
+    }
+    if (length % size !== 0) {
+      const text = `${length} bytes are not whole keys of ${size}`;
+      throwsFault(() => library.checkValues(Cipher, of(length)), "KeyLength", text);
+      throwsFault(() => library.encryptEach(Cipher, of(length), IV), "KeyLength", text);
+    } else if (length !== size) {
+      const text = "the numbers of keys and blocks differ";
+      throwsFault(() => library.decryptEach(Cipher, of(length), IV), "CountMismatch", text);
+    }
+  }
+  for (const call of ["encryptEcb", "decryptEcb", "encryptCbc", "decryptCbc"]) {
+    const words = call.endsWith("Cbc") ? [IV] : [];
+    is(cipher[call](...words, new Uint8Array()), "");
+  }
+  // By habit of other modes: nothing may be taken for the data.
+  throwsType(() => cipher.encryptEcb(IV, MESSAGE), "ECB with a vector");
+  throwsType(() => cipher.decryptEcb(MESSAGE, IV), "ECB with a vector");
+  throwsType(() => cipher.encryptCbc(IV), "CBC without data");
+  for (const call of ["encryptCbcRecords", "decryptCbcRecords"]) {
+    throwsFault(() => library[call](cipher, of(7), [1], IV), "VectorLength", "7 bytes are not whole vectors of 8");
+    throwsFault(() => library[call](cipher, IV, [1], of(9)), "BlockLength", "9 bytes are not whole blocks of 8");
+    throwsFault(() => library[call](cipher, IV, [], IV), "CountMismatch", "the numbers of vectors and counts differ");
+    for (const counts of [[0], [2], [8], [Number.MAX_SAFE_INTEGER]]) {
+      const text = "the counts do not add up to the number of blocks";
+      throwsFault(() => library[call](cipher, IV, counts, IV), "CountMismatch", text);
+    }
+    throwsFault(() => library[call](cipher, IV, [-1], IV), "CountMismatch", "a count or a length is no number of 64 bits");
+    throwsFault(() => library[call](cipher, IV, [2 ** 60], IV), "CountMismatch");
+    is(library[call](cipher, new Uint8Array(), [], new Uint8Array()), "");
+  }
+}
+
+const METHOD_TEXT = "padding is by method 1 or 2";
+for (const [Mac, size] of [...PADDED, ...CMACS]) {
+  const padding = PADDED.some(([it]) => it === Mac) ? [2] : [];
+  assert.deepEqual([Mac.keySize, Mac.digestSize], [size, 8]);
+  for (const length of LENGTHS.filter((it) => it !== size)) {
+    throwsFault(() => new Mac(of(length), ...padding), "KeyLength", `a key has ${size} bytes, not ${length}`);
+    throwsFault(() => library.macs(Mac, of(length), padding[0] ?? null, [], new Uint8Array()), "KeyLength");
+  }
+  const key = KEY.subarray(0, size);
+  const mac = new Mac(key, ...padding, MESSAGE);
+  for (const length of LENGTHS) {
+    throwsFault(() => mac.verify(of(length)), "TagMismatch", "the tag is not that of the message");
+    throwsFault(() => mac.verifyTruncatedLeft(of(length)), "TagMismatch", "the tag is not that of the message");
+  }
+  throwsType(() => mac.digest("base64"), "an encoding that is not there");
+  throwsType(() => mac.digest(8), "a length in the place of an encoding");
+  const method = padding[0] ?? null;
+  const many = (lengths, messages) => library.macs(Mac, key, method, lengths, messages);
+  throwsFault(() => many([23], MESSAGE), "CountMismatch", "the lengths do not add up to the messages");
+  throwsFault(() => many([25, -1], MESSAGE), "CountMismatch");
+  const each = (keys, lengths) => library.macsEach(Mac, keys, method, lengths, MESSAGE);
+  throwsFault(() => each(key, [12, 12]), "CountMismatch", "the numbers of keys and messages differ");
+  throwsFault(() => each(of(size + 1), [24]), "KeyLength", `${size + 1} bytes are not whole keys of ${size}`);
+  is(many([], new Uint8Array()), "");
+  if (method === null) {
+    throwsType(() => new Mac(key, 2), "CMAC with a padding method");
+    for (const wrong of [1, 2, undefined]) {
+      throwsType(() => library.macs(Mac, key, wrong, [24], MESSAGE), "CMAC with a padding method");
+    }
+  } else {
+    for (const wrong of [0, 3, -1, 1.5, NaN, 2 ** 32 + 1]) {
+      throwsFault(() => new Mac(key, wrong), "PaddingMethod", METHOD_TEXT);
+      throwsFault(() => library.macs(Mac, key, wrong, [24], MESSAGE), "PaddingMethod", METHOD_TEXT);
+    }
+    for (const wrong of [undefined, null, "2", true, 2n, MESSAGE]) {
+      throwsType(() => new Mac(key, wrong), "a padding method");
+      throwsType(() => library.macsEach(Mac, key, wrong, [24], MESSAGE), "a padding method");
+    }
+  }
+  // What was closed has no key any more; a copy does.
+  const copy = mac.copy();
+  mac.close();
+  mac.close();
+  for (const [call, ...words] of [["update", IV], ["digest"], ["verify", IV], ["verifyTruncatedLeft", IV], ["copy"]]) {
+    throwsFault(() => mac[call](...words), "Closed", "the object was closed");
+  }
+  assert.equal(copy.digest("hex"), new Mac(key, ...padding, MESSAGE).digest("hex"));
+}
+for (const [Cipher, size] of CIPHERS) {
+  const cipher = new Cipher(KEY.subarray(0, size));
+  if (Symbol.dispose === undefined) cipher.close();
+  else cipher[Symbol.dispose]();
+  for (const call of ["encryptEcb", "decryptEcb"]) throwsFault(() => cipher[call](IV), "Closed", "the object was closed");
+  for (const call of CBC) throwsFault(() => cipher[call](IV, IV), "Closed", "the object was closed");
+  throwsFault(() => library.encryptCbcRecords(cipher, IV, [1], IV), "Closed", "the object was closed");
+}
+
+throwsFault(() => library.wrongTags(of(7), of(8)), "CountMismatch", "7 bytes are not whole tags of 8");
+throwsFault(() => library.wrongTags(of(16), of(8)), "CountMismatch", "the numbers of tags and expected tags differ");
+for (const method of ["pkcs5", "PKCS7", "", "zeros"]) {
+  throwsFault(() => library.pad(IV, method), "PaddingMethod", 'padding is by "pkcs7" or "iso7816"');
+  throwsFault(() => library.unpad(IV, method), "PaddingMethod", 'padding is by "pkcs7" or "iso7816"');
+}
+throwsFault(() => library.unpad(of(9), "pkcs7"), "BlockLength", "9 bytes are not whole blocks of 8");
+for (const wrong of ["", "0000000000000000", "0000000000000009", "0707070707070702"]) {
+  throwsFault(() => library.unpad(unhex(wrong), "pkcs7"), "PaddingMismatch", "the data do not end with the padding");
+}
+for (const wrong of ["", "0000000000000000", "8000000000000001"]) {
+  throwsFault(() => library.unpad(unhex(wrong), "iso7816"), "PaddingMismatch", "the data do not end with the padding");
+}
+
+for (const length of LENGTHS) {
+  if (![8, 16, 24].includes(length)) {
+    const text = `a key has 8 or 16 or 24 bytes, not ${length}`;
+    for (const call of ["isWeakKey", "withOddParity"]) throwsFault(() => library[call](of(length)), "KeyLength", text);
+    for (const call of ["equalButParity", "combine"]) {
+      throwsFault(() => library[call](of(length), of(length)), "KeyLength", text);
+    }
+  }
+  if (length !== 16) {
+    const calls = [
+      ...[library.dukptPinKey, library.dukptMacKey, library.dukptDataKey],
+      (key) => library.dukptInitialKey(key, SERIAL),
+      (key) => library.dukptTransactionKey(key, SERIAL),
+      (key) => library.dukptTransactionKeys(key, SERIAL),
+      (key) => library.cvv(key, ACCOUNT, "8701", "101"),
+      (key) => library.equalButParity(PAIR, key),
+      (key) => library.combine(PAIR, PAIR, key),
+    ];
+    for (const call of calls) throwsFault(() => call(of(length)), "KeyLength", `a key has 16 bytes, not ${length}`);
+  }
+  if (length !== 10) {
+    for (const call of [library.dukptIsUsable, library.dukptNextSerial, (serial) => library.dukptInitialKey(PAIR, serial),
+      (serial) => library.dukptTransactionKey(PAIR, serial)]) {
+      throwsFault(() => call(of(length)), "SerialLength", `a key serial number has 10 bytes, not ${length}`);
+    }
+    for (const call of [(fill) => library.pinEncode1("1234", fill), (fill) => library.pinEncode3("1234", ACCOUNT, fill)]) {
+      throwsFault(() => call(of(length)), "FillLength", `there are ten fill digits, not ${length}`);
+    }
+  }
+  if (length % 10 !== 0) {
+    const text = `${length} bytes are not whole key serial numbers of 10`;
+    throwsFault(() => library.dukptTransactionKeys(PAIR, of(length)), "SerialLength", text);
+  }
+  if (length !== 8) {
+    for (const call of ["pinDecode0", "pinDecode1", "pinDecode3"]) {
+      throwsFault(() => library[call](of(length), ACCOUNT), "BlockLength", `a PIN block has 8 bytes, not ${length}`);
+    }
+  }
+}
+throwsFault(() => library.combine(PAIR, PAIR), "WeakKey", "the weak key test refuses the key that the components make");
+
+const PINS = {
+  PinLength: ["a PIN has 4 to 12 digits", "", "123", "1".repeat(13)],
+  PinDigit: [
+    ...["a PIN has digits alone", "123:", "/234", "1 34", "12\x0034"],
+    ...["123\uff14", "\u0661\u0662\u0663\u0664", "123\u{1f600}"],
+  ],
+};
+for (const [name, [text, ...pins]] of Object.entries(PINS)) {
+  for (const pin of pins) {
+    throwsFault(() => library.pinEncode0(pin, ACCOUNT), name, text);
+    throwsFault(() => library.pinEncode1(pin, FILL), name, text);
+    throwsFault(() => library.pinEncode3(pin, ACCOUNT, FILL), name, text);
+  }
+}
+const ACCOUNTS = {
+  AccountLength: [
+    "an account number has 8 to 19 digits, for a PVV 12 to 19, for a CVV 13 to 19", "", "4".repeat(7), "4".repeat(20),
+  ],
+  AccountDigit: ["an account number has digits alone", "401234567890:", "4012 3456 78909"],
+};
+for (const [name, [text, ...accounts]] of Object.entries(ACCOUNTS)) {
+  for (const account of accounts) {
+    throwsFault(() => library.pinEncode0("1234", account), name, text);
+    throwsFault(() => library.pinEncode3("1234", account, FILL), name, text);
+    throwsFault(() => library.pinDecode0(IV, account), name, text);
+    throwsFault(() => library.pinDecode3(IV, account), name, text);
+    throwsFault(() => library.cvv(PAIR, account, "8701", "101"), name, text);
+  }
+}
+for (let at = 0; at < 10; at += 1) {
+  const text = "a fill digit is none of those of the format";
+  throwsFault(() => library.pinEncode1("1234", FILL.with(at, 16)), "Fill", text);
+  for (const digit of [9, 16]) throwsFault(() => library.pinEncode3("1234", ACCOUNT, FILL.with(at, digit)), "Fill", text);
+}
+const BLOCKS = {
+  "141274edcba9876f": "Format",
+  "031274edcba9876f": "PinLength",
+  "0d1274edcba9876f": "PinLength",
+  "04a274edcba9876f": "PinDigit",
+  "041274edcba9876e": "Fill",
+};
+for (const [block, name] of Object.entries(BLOCKS)) throwsFault(() => library.pinDecode0(unhex(block), ACCOUNT), name);
+throwsFault(() => library.pinDecode1(unhex("041234fe09a51234")), "Format", "the PIN block is of another format");
+throwsFault(() => library.pinDecode3(unhex("341274b9f9b9d359"), ACCOUNT), "Fill");
+const TABLE = new library.DecimalTable("0123456789012345");
+const OTHER = unhex("89e88cf7931444f334bd7547fc3f380c");
+const SENT = unhex("c03d21cdbcb0c58b");
+const TABLES = {
+  TableLength: ["a decimalization table has sixteen digits", "", "0".repeat(15), "0123456701234567" + "8"],
+  TableDigit: ["a decimalization table has digits alone", "012345678901234:", "\uff10" + "1".repeat(15)],
+  TableVariety: ["a decimalization table has at least eight different digits", "0123456001234560", "0".repeat(16)],
+};
+for (const [name, [text, ...texts]] of Object.entries(TABLES)) {
+  for (const digits of texts) {
+    throwsFault(() => new library.DecimalTable(digits), name, text);
+    if (name !== "TableVariety") throwsFault(() => library.DecimalTable.ofAnyVariety(digits), name, text);
+  }
+}
+for (const index of [0, 7, -1, 1.5, NaN, 257, 2 ** 32 + 1]) {
+  throwsFault(() => library.pvv(PAIR, ACCOUNT, index, "1234"), "KeyIndex", "the index of a key pair is 1 to 6");
+  throwsFault(() => library.pvvVerify(PAIR, ACCOUNT, index, "1234", "1894"), "KeyIndex");
+}
+throwsFault(() => library.pvv(PAIR, "1".repeat(11), 1, "1234"), "AccountLength");
+throwsFault(() => library.pvv(PAIR, ACCOUNT, 1, "123"), "PinLength");
+for (const length of [0, 3, 13, -4, 4.5, 2 ** 32 + 4]) {
+  throwsFault(() => library.naturalPin(PAIR, TABLE, IV, length), "PinLength", "a PIN has 4 to 12 digits");
+}
+for (const pin of ["123", "123/"]) {
+  throwsFault(() => library.pinOffset(PAIR, TABLE, IV, pin), pin === "123" ? "PinLength" : "PinDigit");
+  throwsFault(() => library.pinOffsetVerify(PAIR, TABLE, IV, pin, "1234"), pin === "123" ? "PinLength" : "PinDigit");
+}
+throwsFault(() => library.pinOffsetVerify(PAIR, TABLE, IV, "12345", "0000"), "WrongPin", "the PIN is not the one");
+for (const format of [2, 4, -1, 0.5, 2 ** 32, 2 ** 32 + 3]) {
+  const text = "PIN blocks are translated from formats 0, 1 and 3";
+  throwsFault(() => library.pinTranslateTo0(PAIR, format, OTHER, "", SENT), "Formats", text);
+  throwsFault(() => library.pinTranslateTo3(PAIR, format, OTHER, "", FILL, SENT), "Formats", text);
+}
+throwsFault(() => library.pinTranslateTo3(PAIR, 0, OTHER, ACCOUNT, new Uint8Array(10), SENT), "Fill");
+for (const block of ["141274edcba9876f", "031274edcba9876f", "041a74edcba9876f", "041274edcba9876e"]) {
+  const sent = new library.TdesEde2(PAIR).encryptEcb(unhex(block));
+  const text = "the PIN block is not one of its format and account number";
+  throwsFault(() => library.pinTranslateTo0(PAIR, 0, OTHER, ACCOUNT, sent), "PinBlock", text);
+}
+for (const [sequence, name, text] of [["0", "SequenceLength", "a sequence number has two digits"], ["0:", "SequenceDigit", "a sequence number has digits alone"]]) {
+  throwsFault(() => library.emvCardKey(PAIR, ACCOUNT, sequence), name, text);
+}
+for (const length of LENGTHS) {
+  if (![8, 16, 24].includes(length)) {
+    const text = `a key has 8 or 16 or 24 bytes, not ${length}`;
+    for (const call of ["keyCheckValue", "shortKeyCheckValue"]) throwsFault(() => library[call](of(length)), "KeyLength", text);
+    throwsFault(() => library.naturalPin(of(length), TABLE, IV, 4), "KeyLength", text);
+    throwsFault(() => library.pinTranslateTo0(of(length), 0, OTHER, ACCOUNT, SENT), "KeyLength", text);
+    throwsFault(() => library.pinTranslateTo3(PAIR, 0, of(length), ACCOUNT, FILL, SENT), "KeyLength", text);
+  }
+  if (length !== 8) {
+    throwsFault(() => library.naturalPin(PAIR, TABLE, of(length), 4), "BlockLength", `validation data have 8 bytes, not ${length}`);
+    throwsFault(() => library.emvSessionKey(PAIR, of(length)), "BlockLength", `the block of a session has 8 bytes, not ${length}`);
+    const text = `an application cryptogram has 8 bytes, not ${length}`;
+    throwsFault(() => library.emvResponse1(PAIR, of(length), of(2)), "BlockLength", text);
+    throwsFault(() => library.emvResponse2(PAIR, of(length), of(4)), "BlockLength", text);
+  }
+  if (length !== 2) {
+    throwsFault(() => library.emvApplicationKey(PAIR, of(length)), "DataLength", `a transaction counter has 2 bytes, not ${length}`);
+    throwsFault(() => library.emvResponse1(PAIR, IV, of(length)), "DataLength", `a response code has 2 bytes, not ${length}`);
+  }
+  if (length !== 4) {
+    const text = `a card status update has 4 bytes, not ${length}`;
+    throwsFault(() => library.emvResponse2(PAIR, IV, of(length)), "DataLength", text);
+  }
+  if (length > 8) {
+    const text = "the data of an issuer have at most 8 bytes";
+    throwsFault(() => library.emvResponse2(PAIR, IV, of(4), of(length)), "DataLength", text);
+  }
+  throwsFault(() => library.DukptTerminal.fromState(of(length)), "StateLength", `the state of a terminal has 346 bytes, not ${length}`);
+}
+const last = new Uint8Array(346);
+last.set(unhex("ffff9876543210fff800"));
+throwsFault(() => library.DukptTerminal.fromState(last).nextKey(), "NoSerial", "the terminal has had its last transaction");
+const terminal = new library.DukptTerminal(PAIR, SERIAL);
+terminal.close();
+for (const call of ["nextKey", "state"]) throwsFault(() => terminal[call](), "Closed", "the object was closed");
+
+const CARDS = [
+  ["870", "101", "ExpiryLength", "an expiry date has four digits"],
+  ["87/1", "101", "ExpiryDigit", "an expiry date has digits alone"],
+  ["8701", "1010", "ServiceLength", "a service code has three digits"],
+  ["8701", "10a", "ServiceDigit", "a service code has digits alone"],
+];
+for (const [expiry, service, name, text] of CARDS) {
+  throwsFault(() => library.cvv(PAIR, ACCOUNT, expiry, service), name, text);
+}
+
+// ---- Wrong types: each of these in the place of each argument
+
+const WRONG = [
+  ...[undefined, null, 5, 5n, true, "0123456789abcdef", [1, 2, 3], {}, { length: 8 }, Symbol("key"), () => KEY],
+  ...[new ArrayBuffer(8), new DataView(new ArrayBuffer(8)), new Uint16Array(8), new Uint8ClampedArray(8)],
+];
+const isText = (it) => typeof it === "string";
+const isNumbers = (it) => Array.isArray(it) || it instanceof Uint16Array || it instanceof Uint8ClampedArray;
+const isFive = (it) => it === 5;
+const BYTES = () => false;
+const cipher = new library.TdesEde3(KEY);
+const CALLS = [
+  ["Des", [KEY.subarray(0, 8)], [BYTES]],
+  ["TdesEde2", [PAIR], [BYTES]],
+  ["TdesEde3", [KEY], [BYTES]],
+  ["RetailMacDes", [PAIR, 2, IV], [BYTES, (it) => it === 5, (it) => it === undefined]],
+  ["CmacTdesEde2", [PAIR, IV], [BYTES, (it) => it === undefined]],
+  ["pad", [IV, "pkcs7"], [BYTES, isText]],
+  ["unpad", [library.pad(IV, "pkcs7"), "pkcs7"], [BYTES, isText]],
+  ["isWeakKey", [KEY], [BYTES]],
+  ["withOddParity", [KEY], [BYTES]],
+  ["equalButParity", [KEY, KEY], [BYTES, BYTES]],
+  ["checkValue", [library.TdesEde3, KEY], [BYTES, BYTES]],
+  ["combine", [PAIR, KEY.slice(0, 16), MESSAGE.slice(0, 16)], [BYTES, BYTES, BYTES]],
+  ["dukptInitialKey", [PAIR, SERIAL], [BYTES, BYTES]],
+  ["dukptTransactionKey", [PAIR, SERIAL], [BYTES, BYTES]],
+  ["dukptPinKey", [PAIR], [BYTES]],
+  ["dukptMacKey", [PAIR, true], [BYTES, (it) => it === undefined || it === true]],
+  ["dukptDataKey", [PAIR, true], [BYTES, (it) => it === undefined || it === true]],
+  ["dukptNextSerial", [SERIAL], [BYTES]],
+  ["dukptIsUsable", [SERIAL], [BYTES]],
+  ["pinEncode0", ["1234", ACCOUNT], [isText, isText]],
+  ["pinEncode1", ["1234", FILL], [isText, BYTES]],
+  ["pinEncode3", ["1234", ACCOUNT, FILL], [isText, isText, BYTES]],
+  ["pinDecode0", [unhex("041274edcba9876f"), ACCOUNT], [BYTES, isText]],
+  ["pinDecode1", [unhex("141234fe09a51234")], [BYTES]],
+  ["pinDecode3", [unhex("341274b9f9b9d35d"), ACCOUNT], [BYTES, isText]],
+  ["cvv", [PAIR, ACCOUNT, "8701", "101"], [BYTES, isText, isText, isText]],
+  ["keyCheckValue", [PAIR], [BYTES]],
+  ["shortKeyCheckValue", [PAIR], [BYTES]],
+  ["dukptDataVariant", [PAIR, true], [BYTES, (it) => it === undefined || it === true]],
+  ["DukptTerminal", [PAIR, SERIAL], [BYTES, BYTES]],
+  ["pinEncode2", ["1234"], [isText]],
+  ["pinDecode2", [unhex("241234ffffffffff")], [BYTES]],
+  ["pinTranslateTo0", [PAIR, 0, OTHER, ACCOUNT, SENT], [BYTES, isFive, BYTES, isText, BYTES]],
+  ["pinTranslateTo3", [PAIR, 0, OTHER, ACCOUNT, FILL, SENT], [BYTES, isFive, BYTES, isText, BYTES, BYTES]],
+  ["pvv", [PAIR, ACCOUNT, 1, "1234"], [BYTES, isText, isFive, isText]],
+  ["pvvVerify", [PAIR, "4123456789012345", 1, "1234", "1894"], [BYTES, isText, isFive, isText, isText]],
+  ["DecimalTable", ["0123456789012345"], [isText]],
+  ["naturalPin", [PAIR, TABLE, IV, 4], [BYTES, BYTES, BYTES, isFive]],
+  ["pinOffset", [PAIR, TABLE, IV, "1234"], [BYTES, BYTES, BYTES, isText]],
+  ["pinOffsetVerify", [PAIR, TABLE, unhex("4123456789012345"), "9519", "9999"], [BYTES, BYTES, BYTES, isText, isText]],
+  ["emvCardKey", [PAIR, ACCOUNT, "45"], [BYTES, isText, isText]],
+  ["emvSessionKey", [PAIR, IV], [BYTES, BYTES]],
+  ["emvApplicationKey", [PAIR, of(2)], [BYTES, BYTES]],
+  ["emvApplicationCryptogram", [PAIR, MESSAGE], [BYTES, BYTES]],
+  ["emvResponse1", [PAIR, IV, of(2)], [BYTES, BYTES, BYTES]],
+  ["emvResponse2", [PAIR, IV, of(4), of(8)], [BYTES, BYTES, BYTES, (it) => it === undefined]],
+  ["encryptEach", [library.TdesEde3, KEY, IV], [BYTES, BYTES, BYTES]],
+  ["decryptEach", [library.TdesEde3, KEY, IV], [BYTES, BYTES, BYTES]],
+  ["checkValues", [library.TdesEde3, KEY], [BYTES, BYTES]],
+  ["dukptTransactionKeys", [PAIR, SERIAL], [BYTES, BYTES]],
+  ["encryptCbcRecords", [cipher, IV, [1], IV], [BYTES, BYTES, isNumbers, BYTES]],
+  ["decryptCbcRecords", [cipher, IV, [1], IV], [BYTES, BYTES, isNumbers, BYTES]],
+  ["macs", [library.RetailMacDes, PAIR, 2, [24], MESSAGE], [BYTES, BYTES, (it) => it === 5, isNumbers, BYTES]],
+  ["macsEach", [library.RetailMacDes, PAIR, 2, [24], MESSAGE], [BYTES, BYTES, (it) => it === 5, isNumbers, BYTES]],
+  ["wrongTags", [IV, IV], [BYTES, BYTES]],
+];
+for (const [name, words, allowed] of CALLS) {
+  const call = (...given) => (/^[A-Z]/.test(name) ? new library[name](...given) : library[name](...given));
+  const seen = () => words.map((word) => (word instanceof Uint8Array ? hex(word) : word));
+  const before = seen();
+  call(...words);
+  assert.deepEqual(seen(), before, `${name} changes what it is given`);
+  words.forEach((_, at) => {
+    for (const wrong of WRONG.filter((it) => !allowed[at](it))) {
+      throwsType(() => call(...words.with(at, wrong)), `${name}, argument ${at + 1}, of the type ${typeof wrong}`);
+    }
+  });
+  throwsType(() => call(), `${name} without arguments`);
+}
+const mac = new library.CmacTdesEde3(KEY);
+for (const wrong of WRONG) {
+  throwsType(() => mac.update(wrong), "update");
+  throwsType(() => mac.verify(wrong), "verify");
+  throwsType(() => mac.verifyTruncatedLeft(wrong), "verifyTruncatedLeft");
+  for (const call of ["encryptEcb", "decryptEcb"]) throwsType(() => cipher[call](wrong), call);
+  for (const call of CBC) {
+    throwsType(() => cipher[call](wrong, IV), call);
+    throwsType(() => cipher[call](IV, wrong), call);
+  }
+}
+for (const wrong of [[1.5], ["1"], [1n], [undefined], [null]]) {
+  throwsType(() => library.encryptCbcRecords(cipher, IV, wrong, IV), "a count");
+}
+// Classes in each other's place, the classes behind them, and methods without their object.
+throwsType(() => library.checkValue(library.RetailMacDes, PAIR), "a MAC for a cipher");
+throwsType(() => library.macs(library.TdesEde2, PAIR, 2, [24], MESSAGE), "a cipher for a MAC");
+throwsType(() => library.encryptCbcRecords(library.TdesEde3, IV, [1], IV), "a class for a cipher");
+throwsType(() => library.encryptCbcRecords(mac, IV, [1], IV), "a MAC for a cipher");
+throwsType(() => new (Object.getPrototypeOf(library.TdesEde3))(KEY), "the class of all ciphers");
+assert.throws(() => library.TdesEde3(KEY), TypeError);
+throwsType(() => library.TdesEde3.prototype.encryptEcb.call({}, IV), "a method of nothing");
+throwsType(() => library.TdesEde3.prototype.encryptEcb.call(mac, IV), "a method of another");
+throwsType(() => Object.create(library.TdesEde3.prototype).encryptEcb(IV), "an object that no constructor made");
+
+// ---- What is right by habit
+
+class Own extends library.TdesEde3 {}
+is(new Own(KEY).encryptEcb(IV), hex(cipher.encryptEcb(IV)));
+is(library.checkValue(Own, KEY), hex(library.checkValue(library.TdesEde3, KEY)));
+is(cipher.encryptEcb(Buffer.from(IV)), hex(cipher.encryptEcb(IV)));
+is(cipher.encryptEcb(new Uint8Array(MESSAGE.buffer, 8, 8)), hex(cipher.encryptEcb(MESSAGE.slice(8, 16))));
+is(cipher.encryptEcb(runInNewContext("Uint8Array.of(18, 52, 86, 120, 144, 171, 205, 239)")), hex(cipher.encryptEcb(IV)));
+is(cipher.encryptEcb(new Uint8Array(new SharedArrayBuffer(8))), hex(cipher.encryptEcb(new Uint8Array(8))));
+assert.deepEqual([PAIR, KEY].map(library.isWeakKey), [false, false]);
+assert.equal(JSON.stringify(cipher), "{}");
+assert.equal(`${Object.getOwnPropertyNames(cipher)}${Object.getOwnPropertySymbols(cipher).length}`, "0");
+assert.match(library.version, /^\d+\.\d+\.\d+$/);
+assert.equal(JSON.parse(readFileSync(`${folder}/package.json`, "utf8")).version, library.version);
+
+// Every error and call of the package for Python has its name here, but those that work in place and that a string of
+// digits replaces.
+const declared = readFileSync(`${folder}/cukvashe_des.d.mts`, "utf8");
+for (const name of Object.keys(library)) {
+  assert.match(declared, new RegExp(`^export (declare )?(class|function|const) ${name}\\b`, "m"), `${name} has no type`);
+}
+for (const [, name] of declared.matchAll(/^export (?:class|function|const) (\w+)/gm)) {
+  assert(name in library, `${name} is declared alone`);
+}
+console.log(`JavaScript: ${faults} errors and wrong types`);

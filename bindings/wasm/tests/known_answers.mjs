@@ -1,0 +1,311 @@
+// known_answers.mjs FOLDER KNOWN_ANSWERS KNOWN_MACS: published values by every call of the wrapper, in lists and pieces
+// of many lengths; and that nothing stays in the module's memory.
+import assert from "node:assert/strict";
+import { exportsOf, hex, is, library, linesOf, unhex } from "./common.mjs";
+
+const [, answersFile, macsFile] = process.argv.slice(2);
+const { memory, __heap_base: base } = await exportsOf();
+const startOfArguments = Math.ceil(Number(base.value) / 16) * 16;
+const data = () => hex(new Uint8Array(memory.buffer, 131072, startOfArguments - 131072));
+const dataAtFirst = data();
+
+const CIPHERS = { des: library.Des, ede2: library.TdesEde2, ede3: library.TdesEde3 };
+
+/** Each list of the file that is of a cipher here: its class, key, plaintext, ciphertext, and of chains the vector. */
+function ciphertexts() {
+  const lists = [];
+  for (const line of linesOf(answersFile)) {
+    const [name, ...words] = line.trim().split(/ +/);
+    if (line.startsWith(" ")) {
+      const last = lists.at(-1);
+      last.plain += name;
+      last.cipher += words[0];
+    } else {
+      lists.push({ name, key: words[0], plain: words[1], cipher: words[2], iv: words[3] });
+    }
+  }
+  return lists.filter(({ name }) => name.split("-")[0] in CIPHERS);
+}
+
+const EDGES = [1, 2, 31, 32, 33, 127, 128, 129, 300];
+
+function isList(Cipher, key, plain, cipher) {
+  const held = new Cipher(key);
+  for (const copies of EDGES) {
+    const [from, to] = [unhex(plain.repeat(copies)), unhex(cipher.repeat(copies))];
+    is(held.encryptEcb(from), hex(to));
+    is(held.decryptEcb(to), hex(from));
+    const keys = new Uint8Array(key.length * (from.length / 8)).map((_, at) => key[at % key.length]);
+    is(library.encryptEach(Cipher, keys, from), hex(to));
+    is(library.decryptEach(Cipher, keys, to), hex(from));
+    assert.equal(hex(library.checkValues(Cipher, keys)), hex(library.checkValue(Cipher, key)).repeat(from.length / 8));
+  }
+  held.close();
+}
+
+function isChain(Cipher, key, iv, plain, cipher) {
+  const held = new Cipher(key);
+  const [from, to] = [unhex(plain), unhex(cipher)];
+  is(held.encryptCbc(iv, from), cipher);
+  is(held.decryptCbc(iv, to), plain);
+  // In two pieces, cut at each block.
+  for (let at = 8; at < from.length; at += 8) {
+    const first = held.encryptCbc(iv, from.subarray(0, at));
+    is(held.encryptCbc(first.subarray(-8), from.subarray(at)), cipher.slice(2 * at));
+    is(held.decryptCbc(to.subarray(at - 8, at), to.subarray(at)), plain.slice(2 * at));
+  }
+  // As many records, between which stands an empty one.
+  for (const copies of EDGES) {
+    const counts = Array.from({ length: 2 * copies }, (_, at) => (at % 2 === 0 ? from.length / 8 : 0));
+    const vectors = unhex(hex(iv).repeat(2 * copies));
+    is(library.encryptCbcRecords(held, vectors, counts, unhex(plain.repeat(copies))), cipher.repeat(copies));
+    const answers = library.decryptCbcRecords(held, vectors, Uint32Array.from(counts), unhex(cipher.repeat(copies)));
+    is(answers, plain.repeat(copies));
+  }
+  held.close();
+}
+
+let lists = 0;
+for (const { name, key, plain, cipher, iv } of ciphertexts()) {
+  const Cipher = CIPHERS[name.split("-")[0]];
+  if (iv === undefined) isList(Cipher, unhex(key), plain, cipher);
+  else isChain(Cipher, unhex(key), unhex(iv), plain, cipher);
+  lists += 1;
+}
+assert(lists >= 40);
+
+// ---- MACs
+
+const KINDS = {
+  cbc_mac_des: library.CbcMacDes, cbc_mac_tdes_ede2: library.CbcMacTdesEde2, cbc_mac_tdes_ede3: library.CbcMacTdesEde3,
+  retail_mac_des: library.RetailMacDes, cmac_tdes_ede2: library.CmacTdesEde2, cmac_tdes_ede3: library.CmacTdesEde3,
+};
+
+function isMac(Mac, key, padding, message, tag) {
+  const make = (...first) => (padding === null ? new Mac(key, ...first) : new Mac(key, padding, ...first));
+  is(make(message).digest(), tag);
+  const pieces = make();
+  for (let at = 0; at < message.length; at += 1 + (at % 13)) {
+    assert.equal(pieces.update(message.subarray(at, at + 1 + (at % 13))), pieces);
+  }
+  assert.equal(pieces.digest("hex"), tag);
+  assert.equal(pieces.verify(unhex(tag)), true);
+  const copy = pieces.copy();
+  pieces.update(Uint8Array.of(1, 2, 3));
+  assert.notEqual(pieces.digest("hex"), tag);
+  assert.equal(copy.digest("hex"), tag);
+  for (let length = 0; length < 12; length += 1) {
+    const given = Uint8Array.from({ length }, (_, at) => unhex(tag)[at] ?? 0);
+    for (const call of ["verify", "verifyTruncatedLeft"]) {
+      const least = call === "verify" ? 8 : 4;
+      if (length >= least && length <= 8) assert.equal(copy[call](given), true);
+      else assert.throws(() => copy[call](given), library.TagMismatch);
+      if (length === 0) continue;
+      for (let bit = 0; bit < 8 * length; bit += 7) {
+        const other = given.slice();
+        other[bit >> 3] ^= 1 << (bit & 7);
+        assert.throws(() => copy[call](other), library.TagMismatch);
+      }
+    }
+  }
+}
+
+const rows = linesOf(macsFile).map((line) => {
+  const [name, method, key, length, tag] = line.split(" ");
+  const message = Uint8Array.from({ length: Number(length) }, (_, at) => at % 251);
+  return { Mac: KINDS[name], padding: method === "-" ? null : Number(method), key: unhex(key), message, tag };
+});
+for (const { Mac, padding, key, message, tag } of rows) isMac(Mac, key, padding, message, tag);
+// All messages of one kind, key and padding together, 130 times over.
+for (const first of new Set(rows.map(({ Mac, padding, key }) => JSON.stringify([Mac.name, padding, hex(key)])))) {
+  const same = rows.filter(({ Mac, padding, key }) => JSON.stringify([Mac.name, padding, hex(key)]) === first);
+  const [{ Mac, padding, key }] = same;
+  const many = Array.from({ length: 130 }, () => same).flat();
+  const lengths = many.map(({ message }) => message.length);
+  const messages = unhex(many.map(({ message }) => hex(message)).join(""));
+  const tags = many.map(({ tag }) => tag).join("");
+  is(library.macs(Mac, key, padding, lengths, messages), tags);
+  is(library.macsEach(Mac, unhex(hex(key).repeat(many.length)), padding, lengths, messages), tags);
+}
+assert(rows.length > 150);
+
+// NIST SP 800-38B, and ISO/IEC 9797-1, annex B.
+const PAIR = unhex("0123456789abcdeffedcba9876543210");
+const THREE = unhex("8aa83bf8cbda10620bc1bf19fbb6cd58bc313d4a371ca8b5");
+is(new library.CmacTdesEde3(THREE).digest(), "b7a688e122ffaf95");
+is(new library.CmacTdesEde3(THREE, unhex("6bc1bee22e409f96")).digest(), "8e8f293136283797");
+is(new library.RetailMacDes(PAIR, 1, Buffer.from("Now is the time for all ")).digest(), "a1c72e74ea3fa9b6");
+is(new library.RetailMacDes(PAIR, 2, Buffer.from("Now is the time for all ")).digest(), "e9086230ca3be796");
+is(new library.CbcMacDes(PAIR.subarray(0, 8), 1, Buffer.from("Now is the time for it")).digest(), "e45b3ad2b7cc0856");
+
+const TAGS = unhex(rows.map(({ tag }) => tag).join(""));
+assert.deepEqual(library.wrongTags(TAGS, TAGS.slice()), []);
+for (let at = 0; at < TAGS.length; at += 5) {
+  const other = TAGS.slice();
+  other[at] ^= 1 << (at % 8);
+  assert.deepEqual(library.wrongTags(other, TAGS), [at >> 3]);
+}
+
+// ---- Padding
+
+for (const [method, marks] of [["pkcs7", null], ["iso7816", "80"]]) {
+  for (let length = 0; length < 40; length += 1) {
+    const bytes = Uint8Array.from({ length }, (_, at) => at + 1);
+    const count = 8 - (length % 8);
+    const padding = marks === null ? count.toString(16).padStart(2, "0").repeat(count) : marks + "00".repeat(count - 1);
+    is(library.pad(bytes, method), hex(bytes) + padding);
+    is(library.unpad(library.pad(bytes, method), method), hex(bytes));
+  }
+}
+
+// ---- Keys and payment formats, as in bindings/c/tests/payment.c
+
+is(library.checkValue(library.Des, unhex("133457799bbcdff1")), "948a43");
+is(library.checkValue(library.TdesEde2, PAIR), "08d7b4");
+is(library.checkValue(library.TdesEde3, unhex("0123456789abcdef23456789abcdef01456789abcdef0123")), "4eba73");
+is(library.combine(unhex("1010101010101010"), unhex("0123456789abcdef")), "1032547698badcfe");
+is(library.combine(unhex("1010101010101010"), unhex("0123456789abcdef"), unhex("8000000000000000")), "9132547698badcfe");
+is(library.withOddParity(unhex("0000000000000000fefefefefefefefe")), "0101010101010101fefefefefefefefe");
+assert.equal(library.isWeakKey(unhex("0101010101010101")), true);
+assert.equal(library.isWeakKey(PAIR), false);
+assert.equal(library.equalButParity(unhex("133457799bbcdff1"), unhex("123556789abddef0")), true);
+assert.equal(library.equalButParity(unhex("133457799bbcdff1"), unhex("133457799bbcdff3")), false);
+
+const TRANSACTIONS = [
+  ["ffff9876543210e00001", "042666b49184cfa368de9628d0397bc9",
+    "042666b49184cf5c68de9628d0397b36", "042666b4918430a368de9628d03984c9"],
+  ["ffff9876543210e00002", "c46551cef9fd24b0aa9ad834130d3bc7",
+    "c46551cef9fd244faa9ad834130d3b38", "c46551cef9fddbb0aa9ad834130dc4c7"],
+  ["ffff9876543210e00003", "0df3d9422aca56e547676d07ad6badfa",
+    "0df3d9422aca561a47676d07ad6bad05", "0df3d9422acaa9e547676d07ad6b52fa"],
+  ["ffff9876543210e00004", "279c0f6aeed0be652b2c733e1383ae91",
+    "279c0f6aeed0be9a2b2c733e1383ae6e", "279c0f6aeed041652b2c733e13835191"],
+  ["ffff9876543210e00010", "59598dcbd9bd94c094165ce453585f57",
+    "59598dcbd9bd943f94165ce453585fa8", "59598dcbd9bd6bc094165ce45358a057"],
+  ["ffff9876543210eff800", "f9cdfebf4f5b1d9eb3ec12454527e176",
+    "f9cdfebf4f5b1d61b3ec12454527e189", "f9cdfebf4f5be29eb3ec124545271e76"],
+];
+for (const [serial, transaction, pinKey, macKey] of TRANSACTIONS) {
+  const initial = library.dukptInitialKey(PAIR, unhex(serial));
+  is(initial, "6ac292faa1315b4d858ab3a3d7d5933a");
+  const key = library.dukptTransactionKey(initial, unhex(serial));
+  is(key, transaction);
+  is(library.dukptPinKey(key), pinKey);
+  is(library.dukptMacKey(key), macKey);
+  assert.equal(library.dukptIsUsable(unhex(serial)), true);
+}
+const first = unhex(TRANSACTIONS[0][1]);
+is(library.dukptDataKey(first), "448d3f076d8304036a55a3d7e0055a78");
+is(library.dukptDataKey(first, true), "ad7bfc8b06ad3a08a560b4105cf8d9e5");
+is(library.dukptNextSerial(unhex("ffff9876543210e00001")), "ffff9876543210e00002");
+assert.equal(library.dukptNextSerial(unhex("ffff9876543210fff800")), null);
+assert.equal(library.dukptIsUsable(unhex("ffff9876543210e00000")), false);
+for (const copies of [0, 1, 21, 22, 43, 100]) {
+  const column = (at) => TRANSACTIONS.map((row) => row[at]).join("").repeat(copies);
+  is(library.dukptTransactionKeys(PAIR, unhex(column(0))), column(1));
+}
+
+const ACCOUNT = "4012345678909";
+const DIGITS = Uint8Array.of(15, 14, 0, 9, 10, 5, 1, 2, 3, 4);
+const FILL = Uint8Array.of(10, 11, 12, 13, 14, 15, 10, 11, 12, 13);
+const TEXTS = [["1234", ACCOUNT], [Buffer.from("1234"), Buffer.from(ACCOUNT)], ["1234", "9999994012345678900"]];
+for (const [pin, account] of TEXTS) {
+  is(library.pinEncode0(pin, account), "041274edcba9876f");
+  is(library.pinEncode3(pin, account, FILL), "341274b9f9b9d35d");
+  assert.equal(library.pinDecode0(unhex("041274edcba9876f"), account), "1234");
+  assert.equal(library.pinDecode3(unhex("341274b9f9b9d35d"), account), "1234");
+}
+is(library.pinEncode1("1234", DIGITS), "141234fe09a51234");
+is(library.pinEncode1("123456789012", DIGITS), "1c123456789012fe");
+assert.equal(library.pinDecode1(unhex("1c123456789012fe")), "123456789012");
+assert.equal(library.cvv(PAIR, "4123456789012345", "8701", "101"), "561");
+
+is(library.pinEncode2("1234"), "241234ffffffffff");
+assert.equal(library.pinDecode2(unhex("241234ffffffffff")), "1234");
+// By hand: an account number of eight digits has zeros at its left.
+is(library.pinEncode0("1234", "12345678"), "041234fffedcba98");
+
+// ---- What a payment host has besides, as in bindings/python/tests/test_pins.py and test_cards.py
+
+for (const [key, value] of [["133457799bbcdff1", "948a43"], ["0123456789abcdeffedcba9876543210", "08d7b4"],
+  ["0123456789abcdef23456789abcdef01456789abcdef0123", "4eba73"]]) {
+  is(library.keyCheckValue(unhex(key)), value);
+  is(library.shortKeyCheckValue(unhex(key)), value.slice(0, 4));
+}
+// By hand: the sixth byte of each half, and the fourth.
+is(library.dukptDataVariant(first), hex(first.map((byte, at) => (at % 8 === 5 ? byte ^ 255 : byte))));
+is(library.dukptDataVariant(first, true), hex(first.map((byte, at) => (at % 8 === 3 ? byte ^ 255 : byte))));
+
+const OTHER = unhex("89e88cf7931444f334bd7547fc3f380c");
+const SENT = unhex("c03d21cdbcb0c58b");
+for (const [key, format, block] of [[PAIR, 0, SENT], [OTHER, 3, unhex("ba041cb9b3034d36")], [PAIR.subarray(0, 8), 1, unhex("824daa361d7dc65a")]]) {
+  is(library.pinTranslateTo0(key, format, OTHER, ACCOUNT, block), "8856db66d89e9eff");
+  is(library.pinTranslateTo0(key, format, PAIR, Buffer.from(ACCOUNT), block), hex(SENT));
+  is(library.pinTranslateTo3(key, format, OTHER, ACCOUNT, FILL, block), "ba041cb9b3034d36");
+}
+
+const VALUES = [["4123456789012345", 1, "1234", "1894"], ["400000123456", 6, "99990", "1723"],
+  ["1234567890123456789", 3, "0000", "5680"], ["456789012340", 1, "1216", "6565"]];
+for (const [account, index, pin, value] of VALUES) {
+  assert.equal(library.pvv(PAIR, account, index, pin), value);
+  assert.equal(library.pvvVerify(PAIR, account, index, pin, value), true);
+  for (const other of ["0000", value.slice(0, 3), `${value}0`, "", `${value.slice(0, 3)}x`]) {
+    assert.throws(() => library.pvvVerify(PAIR, account, index, pin, other), library.WrongPin);
+  }
+}
+
+const VALIDATION = unhex("4123456789012345");
+const PARTS = unhex("0123456789abcdeffedcba98765432108899aabbccddeeff");
+const NATURAL = [[8, "0123456789012345", "176033247122"], [8, "8351296477461538", "646455134311"],
+  [16, "0123456789012345", "062053731020"], [16, "8351296477461538", "861495453414"],
+  [24, "0123456789012345", "811531570951"], [24, "8351296477461538", "763953948793"]];
+for (const [size, digits, natural] of NATURAL) {
+  for (let length = 4; length <= 12; length += 1) {
+    const table = new library.DecimalTable(digits);
+    assert.equal(library.naturalPin(PARTS.subarray(0, size), table, VALIDATION, length), natural.slice(0, length));
+  }
+}
+const TABLE = new library.DecimalTable("0123456789012345");
+for (const [pin, offset] of [["0620", "0000"], ["062053731020", "000000000000"], ["9519", "9999"], ["17316", "11111"]]) {
+  assert.equal(library.pinOffset(PAIR, TABLE, VALIDATION, pin), offset);
+  assert.equal(library.pinOffsetVerify(PAIR, TABLE, VALIDATION, pin, offset), true);
+  const other = `${(Number(pin[0]) + 1) % 10}${pin.slice(1)}`;
+  assert.throws(() => library.pinOffsetVerify(PAIR, TABLE, VALIDATION, other, offset), library.WrongPin);
+}
+const zeros = library.DecimalTable.ofAnyVariety("0".repeat(16));
+assert.equal(library.pinOffset(PAIR, zeros, VALIDATION, "4711"), "4711");
+
+const CARD_KEY = library.emvCardKey(PAIR, "99012345678901234", "45");
+is(CARD_KEY, "67f8292358083e5ea7ab7fda58d53b6b");
+const SESSION = library.emvApplicationKey(CARD_KEY, unhex("001c"));
+is(SESSION, "38324e73f063efdd5ca88c322476a45b");
+is(library.emvSessionKey(CARD_KEY, unhex("123456789abcdef0")), "cff2da9ebf0a165c4117216e8a84e800");
+const DATA = unhex("00000000500000000000000000000840000000000008401502200063a5b1f2580000001c06010a03a4a000");
+const CRYPTOGRAM = library.emvApplicationCryptogram(SESSION, DATA);
+is(CRYPTOGRAM, "ac06a6df7a7d00e8");
+assert.equal(new library.RetailMacDes(SESSION, 2, DATA).verify(CRYPTOGRAM), true);
+is(library.emvResponse1(SESSION, CRYPTOGRAM, Buffer.from("00")), "f94a6571647b89f7");
+is(library.emvResponse2(SESSION, CRYPTOGRAM, unhex("00820000")), "e952019f");
+is(library.emvResponse2(SESSION, CRYPTOGRAM, unhex("00820000"), unhex("0102030405060708")), "264eaa20");
+
+let terminal = new library.DukptTerminal(unhex("6ac292faa1315b4d858ab3a3d7d5933a"), unhex("ffff9876543210fabcde"));
+for (let count = 0; count < 600; count += 1) {
+  const { serial, key } = terminal.nextKey();
+  if (count < 4) assert.deepEqual([hex(serial), hex(key)], TRANSACTIONS[count].slice(0, 2));
+  is(key, hex(library.dukptTransactionKey(unhex("6ac292faa1315b4d858ab3a3d7d5933a"), serial)));
+  if (count % 7 === 0) terminal = library.DukptTerminal.fromState(terminal.state());
+}
+
+// ---- A long list, for which the memory grows; and nothing stays.
+
+const LONG = 1 << 20;
+const cipher = new library.TdesEde3(THREE);
+const long = new Uint8Array(LONG).map((_, at) => at % 251);
+const answer = cipher.encryptEcb(long);
+assert.equal(hex(answer.subarray(-8)), hex(cipher.encryptEcb(long.subarray(-8))));
+assert.equal(hex(cipher.decryptEcb(answer)), hex(long));
+assert(memory.buffer.byteLength > LONG);
+assert(new Uint8Array(memory.buffer, 0, 131072).every((byte) => byte === 0), "the stack is wiped");
+assert(new Uint8Array(memory.buffer, startOfArguments).every((byte) => byte === 0), "the arguments are wiped");
+assert.equal(data(), dataAtFirst, "the module's own data stay");
+console.log(`JavaScript: ${lists} known ciphertexts and ${rows.length} tags, payment formats, nothing left in memory`);

@@ -1,0 +1,282 @@
+// random_calls.mjs FOLDER SEED COUNT: writes a line for each of so many random calls of the wrapper: what was called
+// with what, and what came back or was thrown. beside_native.py reads them.
+import { once } from "node:events";
+import { hex, library } from "./common.mjs";
+
+const [, seed, count] = process.argv.slice(2).map(Number);
+await library.load();
+
+// ---- Random numbers, the same from the same seed (splitmix32)
+
+let state = seed >>> 0;
+function random(below) {
+  state = (state + 0x9e3779b9) >>> 0;
+  let z = state;
+  z = Math.imul(z ^ (z >>> 16), 0x21f0aaad);
+  z = Math.imul(z ^ (z >>> 15), 0x735a2d97);
+  return ((z ^ (z >>> 15)) >>> 0) % below;
+}
+const one = (list) => list[random(list.length)];
+const often = (right, wrong) => (random(16) === 0 ? wrong() : right());
+const bytes = (length) => Uint8Array.from({ length }, () => random(256));
+const times = (number, make) => Array.from({ length: number }, make);
+const joined = (parts) => Uint8Array.from(parts.flatMap((part) => [...part]));
+
+// ---- Arguments, mostly right ones
+
+const WEAK = ["0101010101010101", "fefefefefefefefe", "01fe01fe01fe01fe", "1f1f1f1f0e0e0e0e", "011f011f010e010e"];
+const weak = () => Uint8Array.from(one(WEAK).match(/../g), (pair) => parseInt(pair, 16) ^ random(2));
+const rightKey = (size) => (random(4) === 0 ? joined(times(size / 8, weak)) : bytes(size));
+const key = (size) => often(() => rightKey(size), () => bytes(random(34)));
+const anyKey = () => key(one([8, 16, 24]));
+const blocks = () => often(() => bytes(8 * one([0, 1, 2, random(40), random(300)])), () => bytes(random(200)));
+const vector = () => often(() => bytes(8), () => bytes(random(12)));
+const rightSerial = () => bytes(10).map((byte, at) => (at > 7 && random(3) === 0 ? 255 : byte));
+const serial = () => often(rightSerial, () => bytes(random(14)));
+const message = () => bytes(one([0, 8, 16, random(64), random(400)]));
+const padding = () => often(() => 1 + random(2), () => random(4));
+const method = () => often(() => one(["pkcs7", "iso7816"]), () => "pkcs5");
+
+const ODD_CHARACTERS = ["x", " ", "/", ":", "\u0000", "\u00b2", "\uff14", "\u{1f600}"];
+const digits = (least, most) => times(least + random(most - least + 1), () => String(random(10))).join("");
+const oddDigits = (least, most) => digits(least, most).replace(/.$/, () => one(ODD_CHARACTERS));
+const text = (least, most) => often(() => digits(least, most), () => one([digits(0, 24), oddDigits(least, most)]));
+const pin = () => text(4, 12);
+const account = () => text(one([8, 12, 13]), 19);
+const digitBytes = (least) => bytes(10).map((byte) => least + (byte % (16 - least)));
+const fill = (least) => often(() => digitBytes(least), () => one([bytes(10), bytes(random(14))]));
+
+// Elements of a list, as many as there should be, mostly.
+const elements = (size, count_) => often(() => bytes(size * count_), () => bytes(random(80)));
+
+const CIPHERS = { Des: 8, TdesEde2: 16, TdesEde3: 24 };
+const PADDED = { CbcMacDes: 8, CbcMacTdesEde2: 16, CbcMacTdesEde3: 24, RetailMacDes: 16 };
+const CMACS = { CmacTdesEde2: 16, CmacTdesEde3: 24 };
+const entry = (kinds) => one(Object.entries(kinds));
+
+// Numbers that add up to a sum, mostly.
+function parts(sum, length) {
+  const cuts = times(length - 1, () => random(sum + 1)).sort((first, second) => first - second);
+  const numbers = times(length, (_, at) => (cuts[at] ?? sum) - (at === 0 ? 0 : cuts[at - 1]));
+  return often(() => numbers, () => numbers.with(random(length), random(sum + 2)));
+}
+
+// ---- Kinds of calls: each gives a name and arguments
+
+function ecb() {
+  const [name, size] = entry(CIPHERS);
+  return [`${name}.${one(["encryptEcb", "decryptEcb"])}`, key(size), blocks()];
+}
+
+function cbc() {
+  const [name, size] = entry(CIPHERS);
+  return [`${name}.${one(["encryptCbc", "decryptCbc"])}`, key(size), vector(), blocks()];
+}
+
+// The arguments of the constructor, the pieces of a message, and how much of the tag is verified.
+function paddedMac() {
+  const [name, size] = entry(PADDED);
+  return [name, [key(size), padding()], times(random(5), message), random(9)];
+}
+
+function cmac() {
+  const [name, size] = entry(CMACS);
+  return [name, [key(size)], times(random(5), message), random(9)];
+}
+
+function unpad() {
+  const by = one(["pkcs7", "iso7816"]);
+  const data = library.pad(message(), by);
+  const changed = data.with(data.length - 1 - random(8), random(256));
+  return ["unpad", one([data, data, changed, bytes(random(40))]), often(() => by, method)];
+}
+
+function equalButParity() {
+  const first = anyKey();
+  const near = first.map((byte) => byte ^ random(2) ^ (random(40) === 0 ? 2 : 0));
+  return ["equalButParity", first, often(() => near, anyKey)];
+}
+
+function checkValue() {
+  const [name, size] = entry(CIPHERS);
+  return ["checkValue", { class: name }, key(size)];
+}
+
+function combine() {
+  const size = one([8, 16, 24]);
+  const first = key(size);
+  return ["combine", first, ...times(1 + random(4), () => (random(9) === 0 ? first : key(size)))];
+}
+
+function pinDecode() {
+  const format = one([0, 1, 3]);
+  const [digitsOfPin, number] = [digits(4, 12), digits(13, 19)];
+  const encoders = {
+    0: () => library.pinEncode0(digitsOfPin, number),
+    1: () => library.pinEncode1(digitsOfPin, digitBytes(0)),
+    3: () => library.pinEncode3(digitsOfPin, number, digitBytes(10)),
+  };
+  const block = encoders[format]();
+  const changed = block.map((byte) => byte ^ (random(8) === 0 ? 1 << random(8) : 0));
+  const given = one([block, block, changed, vector()]);
+  return [`pinDecode${format}`, given, ...(format === 1 ? [] : [often(() => number, account)])];
+}
+
+function each() {
+  const [name, size] = entry(CIPHERS);
+  const length = random(one([4, 4, 300]));
+  return [one(["encryptEach", "decryptEach"]), { class: name }, elements(size, length), elements(8, length)];
+}
+
+function checkValues() {
+  const [name, size] = entry(CIPHERS);
+  return ["checkValues", { class: name }, elements(size, random(300))];
+}
+
+function records() {
+  const [name, size] = entry(CIPHERS);
+  const length = 1 + random(one([4, 4, 140]));
+  const sum = random(3 * length);
+  const cipher = { cipher: [name, bytes(size)] };
+  const call = one(["encryptCbcRecords", "decryptCbcRecords"]);
+  return [call, cipher, elements(8, length), parts(sum, length), elements(8, sum)];
+}
+
+function macs() {
+  const isCmac = random(3) === 0;
+  const [name, size] = entry(isCmac ? CMACS : PADDED);
+  const length = 1 + random(one([4, 4, 140]));
+  const sum = random(20 * length);
+  const words = [isCmac ? null : padding(), parts(sum, length), bytes(sum)];
+  if (random(2) === 0) return ["macs", { class: name }, key(size), ...words];
+  return ["macsEach", { class: name }, elements(size, length), ...words];
+}
+
+function wrongTags() {
+  const right = bytes(8 * random(one([3, 140])));
+  const given = right.map((byte) => (random(60) === 0 ? byte ^ (1 << random(8)) : byte));
+  return ["wrongTags", given, often(() => right, () => bytes(random(40)))];
+}
+
+function translate() {
+  const format = one([0, 1, 3]);
+  const [digitsOfPin, number] = [digits(4, 12), digits(8, 19)];
+  const [incoming, outgoing] = times(2, () => bytes(one([8, 16, 24])));
+  const encoders = {
+    0: () => library.pinEncode0(digitsOfPin, number),
+    1: () => library.pinEncode1(digitsOfPin, digitBytes(0)),
+    3: () => library.pinEncode3(digitsOfPin, number, digitBytes(10)),
+  };
+  const cipher = { 8: library.Des, 16: library.TdesEde2, 24: library.TdesEde3 }[incoming.length];
+  const sent = new cipher(incoming).encryptEcb(encoders[format]());
+  const words = [
+    often(() => incoming, anyKey), often(() => format, () => random(6)), often(() => outgoing, anyKey),
+    often(() => number, account),
+  ];
+  const block = often(() => sent, vector);
+  return random(2) === 0 ? ["pinTranslateTo0", ...words, block] : ["pinTranslateTo3", ...words, fill(10), block];
+}
+
+const index = () => often(() => 1 + random(6), () => random(9));
+
+function pvvVerify() {
+  const words = [bytes(16), digits(12, 19), 1 + random(6), digits(4, 12)];
+  const value = library.pvv(...words);
+  return ["pvvVerify", ...words.with(3, often(() => words[3], pin)), often(() => value, () => text(4, 4))];
+}
+
+// A decimalization table is written by its digits.
+const table = () => ({ table: one(["0123456789012345", "8351296477461538", `98765432${digits(8, 8)}`]) });
+
+function offsetVerify() {
+  const held = table();
+  const words = [bytes(one([8, 16, 24])), held, bytes(8)];
+  const pinOf = digits(4, 12);
+  const offset = library.pinOffset(words[0], new library.DecimalTable(held.table), words[2], pinOf);
+  return ["pinOffsetVerify", ...words, often(() => pinOf, pin), often(() => offset, pin)];
+}
+
+const KINDS = [
+  ...[translate, pvvVerify, offsetVerify],
+  () => [one(["keyCheckValue", "shortKeyCheckValue"]), anyKey()],
+  () => ["dukptDataVariant", key(16), random(2) === 0],
+  () => ["pinEncode2", pin()],
+  () => ["pinDecode2", often(() => Uint8Array.of(0x24, random(256), random(256), ...bytes(5).fill(255)), vector)],
+  () => ["pvv", key(16), account(), index(), pin()],
+  () => ["naturalPin", anyKey(), table(), vector(), often(() => 4 + random(9), () => random(16))],
+  () => ["pinOffset", anyKey(), table(), vector(), pin()],
+  () => ["emvCardKey", key(16), account(), text(2, 2)],
+  () => ["emvSessionKey", key(16), vector()],
+  () => ["emvApplicationKey", key(16), often(() => bytes(2), () => bytes(random(5)))],
+  () => ["emvApplicationCryptogram", key(16), message()],
+  () => ["emvResponse1", key(16), vector(), often(() => bytes(2), () => bytes(random(5)))],
+  () => ["emvResponse2", key(16), vector(), often(() => bytes(4), () => bytes(random(7))), bytes(random(10))],
+  ...[ecb, cbc, paddedMac, cmac, unpad, equalButParity, checkValue, combine, pinDecode],
+  ...[each, checkValues, records, macs, wrongTags],
+  () => ["pad", message(), method()],
+  () => [one(["isWeakKey", "withOddParity"]), anyKey()],
+  () => [one(["dukptInitialKey", "dukptTransactionKey"]), key(16), serial()],
+  () => ["dukptPinKey", key(16)],
+  () => [one(["dukptMacKey", "dukptDataKey"]), key(16), random(2) === 0],
+  () => [one(["dukptNextSerial", "dukptIsUsable"]), serial()],
+  () => ["dukptTransactionKeys", key(16), elements(10, random(one([4, 140])))],
+  () => ["pinEncode0", pin(), account()],
+  () => ["pinEncode1", pin(), fill(0)],
+  () => ["pinEncode3", pin(), account(), fill(10)],
+  () => ["cvv", key(16), account(), text(4, 4), text(3, 3)],
+];
+
+// ---- The calls
+
+/** An argument as the wrapper takes it: a class and a cipher are written by their names. */
+function given(word) {
+  if (word?.class !== undefined) return library[word.class];
+  if (word?.table !== undefined) return new library.DecimalTable(word.table);
+  if (word?.cipher === undefined) return word;
+  const [name, held] = word.cipher;
+  return new library[name](held);
+}
+
+/** What a MAC gives: its tag, and whether it accepts the first bytes of it, by each call, and another one. */
+function macOf(name, words, pieces, length) {
+  const mac = new library[name](...words);
+  for (const piece of pieces) mac.update(piece);
+  const tag = mac.digest();
+  const accepts = (call, bytes_) => {
+    try {
+      return mac[call](bytes_);
+    } catch (error) {
+      if (!(error instanceof library.TagMismatch)) throw error;
+      return false;
+    }
+  };
+  const cut = tag.slice(0, length);
+  return [tag, accepts("verify", cut), accepts("verifyTruncatedLeft", cut), accepts("verify", tag.map((byte) => byte ^ 1))];
+}
+
+function answerOf([name, ...words]) {
+  if (name in PADDED || name in CMACS) return macOf(name, ...words);
+  const [first, call] = name.split(".");
+  if (call === undefined) return library[first](...words.map(given));
+  const [held, ...others] = words;
+  return new library[first](held)[call](...others);
+}
+
+const written = (word) => {
+  if (word instanceof Uint8Array) return { bytes: hex(word) };
+  if (Array.isArray(word)) return word.map(written);
+  if (word?.cipher !== undefined) return { cipher: word.cipher.map(written) };
+  return word;
+};
+
+for (let made = 0; made < count; made += 1) {
+  const call = one(KINDS)();
+  const line = { call: written(call) };
+  try {
+    line.answer = written(answerOf(call));
+  } catch (error) {
+    if (!(error instanceof library.CukvasheError)) throw error;
+    line.error = [error.name, error.message];
+  }
+  if (!process.stdout.write(`${JSON.stringify(line)}\n`)) await once(process.stdout, "drain");
+}

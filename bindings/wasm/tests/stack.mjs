@@ -1,0 +1,106 @@
+// stack.mjs FOLDER: each export that the wrapper calls on a stack that was overwritten before, at lengths that take
+// every way: it uses far less than there is; and each export of the module but those of other ways to the same answers
+// is called.
+import assert from "node:assert/strict";
+import { readFileSync } from "node:fs";
+import { exportsOf, folder, library } from "./common.mjs";
+
+const SIZE = 131072;
+const used = new Map();
+let memory;
+
+/** An export that says how much of the stack a call took. */
+const measured = (name, call) => (...words) => {
+  const stack = () => new Uint8Array(memory.buffer, 0, SIZE);
+  stack().fill(0xa5);
+  const answer = call(...words);
+  const lowest = stack().findIndex((byte) => byte !== 0xa5);
+  used.set(name, Math.max(used.get(name) ?? 0, lowest < 0 ? 0 : SIZE - lowest));
+  return answer;
+};
+
+await exportsOf((exports) => {
+  memory = exports.memory;
+  const wrapped = Object.entries(exports).map(([name, it]) => [name, typeof it === "function" ? measured(name, it) : it]);
+  return Object.fromEntries(wrapped);
+});
+
+const of = (length) => Uint8Array.from({ length }, (_, at) => (at * 37 + 11) % 256);
+const SERIALS = of(10 * 300);
+for (const [Cipher, size] of [[library.Des, 8], [library.TdesEde2, 16], [library.TdesEde3, 24]]) {
+  const cipher = new Cipher(of(size));
+  for (const count of [0, 1, 3, 12, 31, 32, 128, 129, 300]) {
+    for (const call of ["encryptEcb", "decryptEcb"]) cipher[call](of(8 * count));
+    for (const call of ["encryptCbc", "decryptCbc"]) cipher[call](of(8), of(8 * count));
+    for (const call of ["encryptEach", "decryptEach"]) library[call](Cipher, of(size * count), of(8 * count));
+    library.checkValues(Cipher, of(size * count));
+    for (const call of ["encryptCbcRecords", "decryptCbcRecords"]) {
+      library[call](cipher, of(8 * count), Array(count).fill(3), of(24 * count));
+    }
+  }
+  library.checkValue(Cipher, of(size));
+  library.combine(of(size), of(size).reverse(), of(size));
+}
+const MACS = [
+  ...[[library.CbcMacDes, 8, 1], [library.CbcMacTdesEde2, 16, 2], [library.CbcMacTdesEde3, 24, 1]],
+  ...[[library.RetailMacDes, 16, 2], [library.CmacTdesEde2, 16, null], [library.CmacTdesEde3, 24, null]],
+];
+for (const [Mac, size, padding] of MACS) {
+  const mac = new Mac(of(size), ...(padding === null ? [] : [padding])).update(of(1000));
+  mac.verify(mac.digest());
+  for (const count of [0, 1, 127, 128, 129, 300]) {
+    library.macs(Mac, of(size), padding, Array(count).fill(21), of(21 * count));
+    library.macsEach(Mac, of(size * count), padding, Array(count).fill(21), of(21 * count));
+    library.wrongTags(of(8 * count), of(8 * count));
+  }
+}
+for (const count of [0, 1, 128, 129, 300]) library.dukptTransactionKeys(of(16), SERIALS.subarray(0, 10 * count));
+library.dukptInitialKey(of(16), of(10));
+library.dukptTransactionKey(of(16), of(10).fill(255, 7));
+library.dukptPinKey(of(16));
+library.dukptMacKey(of(16));
+library.dukptDataKey(of(16), true);
+library.dukptNextSerial(of(10));
+library.dukptIsUsable(of(10));
+library.isWeakKey(of(24));
+library.withOddParity(of(24));
+library.equalButParity(of(24), of(24));
+for (const method of ["pkcs7", "iso7816"]) library.unpad(library.pad(of(13), method), method);
+const FILL = new Uint8Array(10).fill(10);
+const ACCOUNT = "4".repeat(19);
+library.pinDecode0(library.pinEncode0("123456789012", ACCOUNT), ACCOUNT);
+library.pinDecode1(library.pinEncode1("1234", FILL));
+library.pinDecode3(library.pinEncode3("1234", ACCOUNT, FILL), ACCOUNT);
+library.cvv(of(16), ACCOUNT, "8701", "101");
+for (const size of [8, 16, 24]) {
+  library.keyCheckValue(of(size));
+  library.shortKeyCheckValue(of(size));
+}
+library.dukptDataVariant(of(16));
+const terminal = new library.DukptTerminal(of(16), of(10));
+for (let count = 0; count < 40; count += 1) terminal.nextKey();
+library.pinDecode2(library.pinEncode2("123456789012"));
+const sent = new library.TdesEde3(of(24)).encryptEcb(library.pinEncode0("123456789012", ACCOUNT));
+library.pinTranslateTo0(of(24), 0, of(24), ACCOUNT, sent);
+library.pinTranslateTo3(of(24), 0, of(24), ACCOUNT, FILL, sent);
+library.pvvVerify(of(16), ACCOUNT, 6, "1234", library.pvv(of(16), ACCOUNT, 6, "1234"));
+const table = new library.DecimalTable("0123456789012345");
+library.DecimalTable.ofAnyVariety("0".repeat(16));
+library.naturalPin(of(24), table, of(8), 12);
+library.pinOffsetVerify(of(24), table, of(8), "123456789012", library.pinOffset(of(24), table, of(8), "123456789012"));
+const card = library.emvCardKey(of(16), ACCOUNT, "00");
+library.emvSessionKey(card, of(8));
+library.emvApplicationKey(card, of(2));
+const cryptogram = library.emvApplicationCryptogram(card, of(300));
+library.emvResponse1(card, cryptogram, of(2));
+library.emvResponse2(card, cryptogram, of(4), of(8));
+
+// Exports that give answers which others give: contexts without tables, and from one buffer to another.
+const isOther = (name) => /_init_quiet$|_(encrypt|decrypt)_(ecb|cbc)_to$/.test(name);
+const module = new WebAssembly.Module(readFileSync(`${folder}/cukvashe_des.wasm`));
+assert.deepEqual(WebAssembly.Module.imports(module), []);
+const exported = WebAssembly.Module.exports(module).filter(({ kind }) => kind === "function").map(({ name }) => name);
+assert.deepEqual(exported.filter((name) => !used.has(name) && !isOther(name)), [], "exports that nothing calls");
+const [name, most] = [...used].reduce((one, other) => (other[1] > one[1] ? other : one));
+assert(most < SIZE / 2, `${name} takes ${most} bytes`);
+console.log(`JavaScript: ${used.size} of ${exported.length} exports called, at most ${most} bytes of stack, by ${name}`);
