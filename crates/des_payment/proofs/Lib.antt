@@ -1,5 +1,6 @@
 mod KnownAnswers
 mod KnownCardKeys
+mod KnownKeyBlocks
 pub mod OddBytes
 pub mod TextDigits
 pub mod DigitLists
@@ -26,8 +27,36 @@ pub mod PlaceNumbers
 pub mod FutureKeys
 pub mod FutureSteps
 pub mod FutureTaken
+pub mod RegistersAfter
 pub mod LowestOne
 pub mod NextTransaction
 pub mod RightmostDigits
 pub mod ModuloTen
 pub mod PvvTexts
+pub mod HexNumbers
+pub mod HexBytes
+pub mod OptionalBlockTexts
+pub mod OptionalBlockLists
+pub mod OptionalBlockSizes
+pub mod OptionalBlockWrites
+pub mod OptionalBlockReads
+pub mod KeyParts
+pub mod KeyDataBytes
+pub mod HeaderTexts
+pub mod KeyedChains
+pub mod VersionForms
+pub mod HexTexts
+pub mod JoinedBlocks
+pub mod TagBlocks
+pub mod ChainedOnce
+pub mod SealedOnce
+pub mod BlockParts
+pub mod LayoutFaults
+pub mod KeyDataLengths
+pub mod SealedKeys
+pub mod HeldKeys
+pub mod OneBlockTexts
+pub mod BlockPlaces
+pub mod WrittenSeals
+pub mod FilledBlocks
+pub mod WrittenBlocks

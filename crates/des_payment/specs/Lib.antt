@@ -12,3 +12,10 @@ pub mod PinBlockLists
 pub mod KeyLengths
 pub mod PinVerification
 pub mod Translation
+pub mod Hex
+pub mod KeyBlockFaults
+pub mod KeyBlockHeaders
+pub mod OptionalBlocks
+pub mod ProtectionKeys
+pub mod KeyBlocks
+pub mod KeyBlockReading

@@ -10,7 +10,7 @@ ghost use Rattle.std.specs.Int.{w64, bit_at, to_be_bytes, trailing_zeros};
 ghost use Rattle.des_fast.specs.Transposition.{block_at};
 ghost use Rattle.des_payment.specs.Dukpt.{last_bytes as last_bytes_of, counter_of, next_key as next_key_of, with_counter};
 ghost use Rattle.des_payment.specs.Dukpt.{transaction_key as transaction_key_of, IsUsable, IsNextCounter};
-ghost use Rattle.des_payment.specs.Terminals.{key_of, HasFutureKeys};
+ghost use Rattle.des_payment.specs.Terminals.{key_of, HasFutureKeys, place_of, register_after};
 
 use crate::dukpt::{COUNTERS, MOST_ONES, last_bytes, next_key, next_serial, with_last_bytes};
 use des::cipher::are_bytes;
@@ -65,6 +65,9 @@ fn take_key(keys: &mut [[u8; 16]; REGISTERS], last: u64) -> [u8; 16]
     ensures future { (initial : List ℕ) → IsUsable (last % 2 ^ 21)
         → HasFutureKeys initial (last - 1) keys.old → HasFutureKeys initial last keys.new }
     ensures forgotten { block_at keys.new (trailing_zeros w64 (last % 2 ^ 21)) ≡ replicate 16 0 }
+    ensures key { result ≡ block_at keys.old (place_of last) }
+    ensures registers { (place : ℕ)
+        → block_at keys.new place ≡ register_after last keys.old place }
 {
     let counter = last % COUNTERS;
     let place = lowest_one(counter);
@@ -109,6 +112,10 @@ impl Terminal {
         ensures forgotten { IfSome result (λ _.
             block_at self.new.keys (trailing_zeros w64 (counter_of self.new.serial))
             ≡ replicate 16 0) }
+        ensures taken { IfSome result (λ key. key
+            ≡ block_at self.old.keys (place_of (last_bytes_of self.new.serial))) }
+        ensures registers { IfSome result (λ _. (place : ℕ) → block_at self.new.keys place
+            ≡ register_after (last_bytes_of self.new.serial) self.old.keys place) }
         ensures last { IfNone result ((counter : ℕ) → counter_of self.old.serial < counter
             → ¬ (IsUsable counter)) }
         ensures kept { IfNone result (self.new ≡ self.old) }

@@ -9,6 +9,7 @@ mod card_lists;
 mod check_values;
 mod dukpt;
 mod emv;
+mod key_blocks;
 mod key_lists;
 mod pin;
 mod pin_verification;

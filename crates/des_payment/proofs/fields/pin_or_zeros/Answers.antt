@@ -1,5 +1,4 @@
-use Rattle.std.proofs.Common.{◌≡◌, ℕ, List, take, sym, ap, ◌∙◌, arith}
-use Rattle.des_payment.specs.Texts.{text_of}
+use Rattle.std.proofs.Common.{◌∙◌, arith}
 use Rattle.des_payment.proofs.PickedDigits.{picked-decimal, picked-text}
 use Rattle.des_payment.proofs.fields.pin_or_zeros.Goals as goal
 

@@ -1,6 +1,5 @@
 use Rattle.std.proofs.Common.{◌≡◌, ◌↔◌, List, ℕ, IsTrue, None, ap, ◌∙◌, sym, subst}
 use Rattle.des.proofs.ByteArrays.{IsBlock-array}
-use Rattle.des_payment.specs.Digits.{digits_of}
 use Rattle.des_payment.specs.PinBlocks.{field_fault, pin_digits}
 use Rattle.des_payment.specs.Texts.{text_of}
 use Rattle.des_payment.specs.declared.translation.Format.{Format}

@@ -1,6 +1,6 @@
-use Rattle.std.proofs.Common.{◌≡◌, ℕ, ◌+◌, ◌≤◌, List, length, take, IsTrue, sym, ap, ◌∙◌, subst, arith}
+use Rattle.std.proofs.Common.{◌≡◌, ℕ, ◌+◌, List, length, take, IsTrue, sym, ap, ◌∙◌, subst, arith}
 use Rattle.std.proofs.lemmas.List.{length-map, length-take-le, take-map}
-use Rattle.des_payment.specs.Texts.{IsPin, are_digits, text_of}
+use Rattle.des_payment.specs.Texts.{are_digits}
 use Rattle.des_payment.proofs.TextDigits.{are_digits-text_of, are_digits-part}
 use Rattle.des_payment.proofs.pin.Pin.of_first.Goals as goal
 

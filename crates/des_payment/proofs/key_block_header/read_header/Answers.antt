@@ -1,0 +1,77 @@
+use Rattle.std.proofs.Common.{◌≡◌, ℕ, ◌≤◌, List, ◌==◌, ◌&&◌, Bool, true, false, length, take, slice_index, Some, refl, sym, ap, ◌∙◌, arith, rules}
+use Rattle.std.specs.Char.{is_ascii_digit}
+use Rattle.std.specs.Cmp.Derive.{both_true}
+use Rattle.std.proofs.lemmas.Bool.{le-leb, ne_eqb}
+use Rattle.des_payment.specs.declared.key_block_header.Version.{Version}
+use Rattle.des_payment.specs.declared.key_block_header.Version.TheVariants.{A, B, C}
+use Rattle.des_payment.specs.declared.key_block_error.KeyBlockError.TheVariants.{Version as VersionFault}
+use Rattle.des_payment.specs.KeyBlockHeaders.{version_text, decimal_at, header_text, says_length, is_long, header_fault}
+use Rattle.des_payment.proofs.HeaderTexts.{header-read, header-same, header-count}
+use Rattle.des_payment.proofs.key_block_header.read_header.Goals as goal
+
+-- a block as long as it says that has no version
+version-fault : (block : List ℕ) → 16 ≤ length block → length block ≤ 9999 → says_length block ≡ true
+    → ((version : Version) → version_text version ≡ slice_index block 0 → ⊥)
+    → Some VersionFault ≡ header_fault block
+version-fault block least most says none =
+    let long : is_long block ≡ true =
+    both_true (both_true (le-leb 16 (length block) least) (le-leb (length block) 9999 most)) says in
+    let a : (slice_index block 0 == 65) ≡ false = ne_eqb (slice_index block 0) 65 (λ is. none A (sym is)) in
+    let b : (slice_index block 0 == 66) ≡ false = ne_eqb (slice_index block 0) 66 (λ is. none B (sym is)) in
+    let d : (slice_index block 0 == 67) ≡ false = ne_eqb (slice_index block 0) 67 (λ is. none C (sym is)) in
+    rw (long, a, b, d) refl
+
+pub returns-in-None-clause-fault : goal.returns-in-None-clause-fault
+returns-in-None-clause-fault c =
+    version-fault c.args.block.now (omega arith) (omega arith) (search rules) c.in-None.ensures.none
+
+-- numbers that four tests find equal
+four-same : (a b c d a' b' c' d' : ℕ) → (a == a' && b == b' && c == c' && d == d') ≡ true
+    → (a' ≡ a) × (b' ≡ b) × (c' ≡ c) × (d' ≡ d)
+four-same a b c d a' b' c' d' same = (grind arith, grind arith, grind arith, grind arith)
+
+two-same : (p q : Bool) (c d c' d' : ℕ) → (p && q && c == c' && d == d') ≡ true → (c ≡ c') × (d ≡ d')
+two-same p q c d c' d' same = (grind arith, grind arith)
+
+-- the block begins with the header that was read
+begins : (c : goal.After-fields_of)
+    → header_text c.fields_of.result (length c.args.block.now) c.in-Some-count_of.count ≡ take 16 c.args.block.now
+begins c =
+    let block : List ℕ = c.args.block.now in
+    let at : ℕ → ℕ = λ place. slice_index block place in
+    let size : ℕ = length block in
+    let says : says_length block ≡ true = search rules in
+    let digits = four-same (at 1) (at 2) (at 3) (at 4) (decimal_at 1000 size) (decimal_at 100 size)
+    (decimal_at 10 size) (decimal_at 1 size) says in
+    let zeros = two-same (is_ascii_digit (at 12)) (is_ascii_digit (at 13)) (at 14) (at 15) 48 48
+    (sym c.in-Some-count_of.ensures.some) in
+    let fields = c.fields_of.ensures in
+    header-read c.fields_of.result c.in-Some-count_of.count block (record {
+      least = omega arith;
+      version = ap version_text fields.version ∙ c.in-Some.ensures.some;
+      first = digits.0;
+      second = digits.1;
+      third = digits.2;
+      fourth = digits.3;
+      usage = fields.usage;
+      algorithm = fields.algorithm;
+      mode = fields.mode;
+      key_version = fields.key_version;
+      exportability = fields.exportability;
+      tens = c.in-Some-count_of.ensures.tens;
+      ones = c.in-Some-count_of.ensures.ones;
+      zero_there = zeros.0;
+      last = zeros.1;
+    })
+
+pub returns-in-Some-count_of-clause-text : goal.returns-in-Some-count_of-clause-text
+returns-in-Some-count_of-clause-text c = begins c
+
+pub returns-in-Some-count_of-clause-only : goal.returns-in-Some-count_of-clause-only
+returns-in-Some-count_of-clause-only c = λ header count least short few same.
+    header-same c.fields_of.result header (length c.args.block.now) c.in-Some-count_of.count count
+    c.in-Some-count_of.ensures.few few (begins c ∙ sym same)
+
+pub returns-in-None-count_of-clause-only : goal.returns-in-None-count_of-clause-only
+returns-in-None-count_of-clause-only c = λ header count least short few same.
+    absurd (grind (arith, header-count header count c.args.block.now least same, c.in-None-count_of.ensures.some))

@@ -1,0 +1,127 @@
+-- The header of a key block (ANSI X9.143, ASC X9 TR-31), as characters.
+use Rattle.std.specs.Prelude.{ℕ, ◌+◌, ◌/◌, ◌%◌, ◌==◌, ◌&&◌, ◌||◌, Bool, true, false, not, nat_le, if◌then◌else◌, List, [], ◌∷◌, ◌++◌, length, slice_index, codes, Option, Some, None}
+use Rattle.std.specs.Char.{is_ascii_digit}
+use Rattle.des_payment.specs.declared.key_block_header.Header.{Header}
+use Rattle.des_payment.specs.declared.key_block_header.Version.{Version}
+use Rattle.des_payment.specs.declared.key_block_header.Version.TheVariants.{A, B, C}
+use Rattle.des_payment.specs.declared.key_block_header.Usage.{Usage}
+use Rattle.des_payment.specs.declared.key_block_header.Usage.TheVariants.{BaseDerivation, InitialDukpt, CardVerification, Data, ApplicationCryptograms, CardConfidentiality, CardIntegrity, KeyEncryption, KeyProtection, MacAlgorithm1, MacAlgorithm3, Cmac, PinEncryption, PinVerification, Ibm3624, Pvv, OtherUsage}
+use Rattle.des_payment.specs.declared.key_block_header.Algorithm.{Algorithm}
+use Rattle.des_payment.specs.declared.key_block_header.Algorithm.TheVariants.{Des, TripleDes, OtherAlgorithm}
+use Rattle.des_payment.specs.declared.key_block_header.Mode.{Mode}
+use Rattle.des_payment.specs.declared.key_block_header.Mode.TheVariants.{EncryptAndDecrypt, MakeAndVerify, Decrypt, Encrypt, Make, Any, Verify, Derive, OtherMode}
+use Rattle.des_payment.specs.declared.key_block_header.Exportability.{Exportability}
+use Rattle.des_payment.specs.declared.key_block_header.Exportability.TheVariants.{Exportable, NonExportable, Sensitive, OtherRule}
+use Rattle.des_payment.specs.declared.key_block_error.KeyBlockError.{KeyBlockError}
+use Rattle.des_payment.specs.declared.key_block_error.KeyBlockError.TheVariants.{Length as LengthFault, Version as VersionFault, Header as HeaderFault}
+
+-- the characters of each field: 65 is A, 48 is 0
+abbrev pub version_text : Version → ℕ
+version_text A = 65
+version_text B = 66
+version_text C = 67
+
+abbrev pub usage_text : Usage → List ℕ
+usage_text BaseDerivation = codes "B0"
+usage_text InitialDukpt = codes "B1"
+usage_text CardVerification = codes "C0"
+usage_text Data = codes "D0"
+usage_text ApplicationCryptograms = codes "E0"
+usage_text CardConfidentiality = codes "E1"
+usage_text CardIntegrity = codes "E2"
+usage_text KeyEncryption = codes "K0"
+usage_text KeyProtection = codes "K1"
+usage_text MacAlgorithm1 = codes "M1"
+usage_text MacAlgorithm3 = codes "M3"
+usage_text Cmac = codes "M6"
+usage_text PinEncryption = codes "P0"
+usage_text PinVerification = codes "V0"
+usage_text Ibm3624 = codes "V1"
+usage_text Pvv = codes "V2"
+usage_text (OtherUsage text) = text
+
+abbrev pub algorithm_text : Algorithm → ℕ
+algorithm_text Des = 68
+algorithm_text TripleDes = 84
+algorithm_text (OtherAlgorithm character) = character
+
+abbrev pub mode_text : Mode → ℕ
+mode_text EncryptAndDecrypt = 66
+mode_text MakeAndVerify = 67
+mode_text Decrypt = 68
+mode_text Encrypt = 69
+mode_text Make = 71
+mode_text Any = 78
+mode_text Verify = 86
+mode_text Derive = 88
+mode_text (OtherMode character) = character
+
+abbrev pub exportability_text : Exportability → ℕ
+exportability_text Exportable = 69
+exportability_text NonExportable = 78
+exportability_text Sensitive = 83
+exportability_text (OtherRule character) = character
+
+-- the decimal digit of a number at a power of ten
+abbrev pub decimal_at : ℕ → ℕ → ℕ
+decimal_at power number = 48 + number / power % 10
+
+-- the fields from the usage to the exportability
+abbrev pub fields_text : Header → List ℕ
+fields_text header =
+    usage_text header.usage ++ algorithm_text header.algorithm ∷ mode_text header.mode ∷ []
+    ++ header.key_version ++ exportability_text header.exportability ∷ []
+
+-- sixteen characters: the version, the length of the block in four digits, those fields, the number of optional
+-- blocks in two, and two zeros
+abbrev pub header_text : Header → ℕ → ℕ → List ℕ
+header_text header length count =
+    version_text header.version
+    ∷ decimal_at 1000 length ∷ decimal_at 100 length ∷ decimal_at 10 length ∷ decimal_at 1 length ∷ []
+    ++ fields_text header ++ decimal_at 10 count ∷ decimal_at 1 count ∷ 48 ∷ 48 ∷ []
+
+-- ---- reading
+
+-- whether a usage, an algorithm, a mode or a rule has a name of its own
+abbrev pub is_named_usage : Usage → Bool
+is_named_usage (OtherUsage text) = false
+is_named_usage _ = true
+
+abbrev pub is_named_algorithm : Algorithm → Bool
+is_named_algorithm (OtherAlgorithm character) = false
+is_named_algorithm _ = true
+
+abbrev pub is_named_mode : Mode → Bool
+is_named_mode (OtherMode character) = false
+is_named_mode _ = true
+
+abbrev pub is_named_rule : Exportability → Bool
+is_named_rule (OtherRule character) = false
+is_named_rule _ = true
+
+-- a block is as long as the four digits after its version say
+abbrev pub says_length : List ℕ → Bool
+says_length block =
+    slice_index block 1 == decimal_at 1000 (length block) && slice_index block 2 == decimal_at 100 (length block)
+    && slice_index block 3 == decimal_at 10 (length block) && slice_index block 4 == decimal_at 1 (length block)
+
+abbrev pub is_long : List ℕ → Bool
+is_long block = nat_le 16 (length block) && nat_le (length block) 9999 && says_length block
+
+-- A, B or C
+abbrev pub is_version : ℕ → Bool
+is_version character = character == 65 || character == 66 || character == 67
+
+-- two digits and two zeros end the header
+abbrev pub has_count : List ℕ → Bool
+has_count block =
+    is_ascii_digit (slice_index block 12) && is_ascii_digit (slice_index block 13)
+    && slice_index block 14 == 48 && slice_index block 15 == 48
+
+-- the first fault that shows in the header of a block
+abbrev pub header_fault : List ℕ → Option KeyBlockError
+header_fault block =
+    if not (is_long block) then Some LengthFault
+    else if not (is_version (slice_index block 0)) then Some VersionFault
+    else if not (has_count block) then Some HeaderFault
+    else None

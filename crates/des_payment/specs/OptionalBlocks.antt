@@ -1,0 +1,49 @@
+-- The optional blocks of a key block (ANSI X9.143, ASC X9 TR-31). Texts are lists of ASCII characters.
+use Rattle.std.specs.Prelude.{◌≡◌, ℕ, ◌+◌, ◌-◌, ◌%◌, ◌^◌, ◌<◌, ◌⊎◌, ◌==◌, nat_lt, if◌then◌else◌, List, [], ◌∷◌, ◌++◌, length, replicate, codes}
+use Rattle.des_payment.specs.Hex.{hex_number}
+
+-- ---- one block
+
+-- a name, the number of characters, and the content
+abbrev pub short_block : List ℕ → List ℕ → List ℕ
+short_block name content = name ++ (hex_number 2 (length content + 4) ++ content)
+
+-- the same with a number of four digits, after two zeros and how long that number is: in bytes, 2, or in digits, 4
+abbrev pub long_block : ℕ → List ℕ → List ℕ → List ℕ
+long_block unit name content =
+    name ++ (codes "00" ++ (hex_number 2 unit ++ (hex_number 4 (length content + 10) ++ content)))
+
+abbrev pub IsShortBlock : List ℕ → List ℕ → List ℕ → Type 0
+IsShortBlock name content text = (length content + 4 < 256) × (text ≡ short_block name content)
+
+abbrev pub IsLongBlock : ℕ → List ℕ → List ℕ → List ℕ → Type 0
+IsLongBlock unit name content text =
+    ((unit ≡ 2) ⊎ (unit ≡ 4)) × (length content + 10 < 16 ^ 4) × (text ≡ long_block unit name content)
+
+abbrev pub IsOptionalBlock : List ℕ → List ℕ → List ℕ → Type 0
+IsOptionalBlock name content text =
+    (length name ≡ 2) × (IsShortBlock name content text ⊎ (unit : ℕ) × IsLongBlock unit name content text)
+
+-- ---- the blocks of a header
+
+-- each block is a name and its content
+unfoldable pub AreOptionalBlocks : List (List ℕ × List ℕ) → List ℕ → Type 0
+AreOptionalBlocks [] text = text ≡ []
+AreOptionalBlocks (block ∷ blocks) text =
+    (first : List ℕ) × ((rest : List ℕ) × ((text ≡ first ++ rest)
+    × IsOptionalBlock block.0 block.1 first × AreOptionalBlocks blocks rest))
+
+-- how many characters blocks have where each has the shorter form, if it can, and else a length of four digits
+abbrev pub size_of : List ℕ → ℕ
+size_of content = if nat_lt (length content + 4) 256 then length content + 4 else length content + 10
+
+unfoldable pub size_of_all : List (List ℕ × List ℕ) → ℕ
+size_of_all [] = 0
+size_of_all (block ∷ blocks) = size_of block.1 + size_of_all blocks
+
+-- a block `PB` of zeros that fills a number of characters to a multiple of eight, where it is none
+abbrev pub filling : ℕ → List (List ℕ × List ℕ)
+filling size = if size % 8 == 0 then [] else (codes "PB", replicate ((12 - size % 8) % 8) 48) ∷ []
+
+abbrev pub filled : List (List ℕ × List ℕ) → List (List ℕ × List ℕ)
+filled blocks = blocks ++ filling (size_of_all blocks)
