@@ -1,6 +1,19 @@
 pub mod BlockKeys
 pub mod CountedDigests
+pub mod HeadersOfPem
 pub mod IteratedTags
 pub mod JoinedParts
+pub mod DerElements
+pub mod DerIntegers
+pub mod DerNumbers
+pub mod KeyFiles
+pub mod KeyReadings
+pub mod KeySpellings
+pub mod LinesOfBase64
+pub mod LinesOfText
 mod KnownAnswers
+mod KnownPem
+pub mod LinesOfPem
+pub mod ReadBase64
+pub mod SpelledBase64
 pub mod XoredBytes

@@ -1,5 +1,5 @@
 -- How `openssl enc` derives key and vector from a password and a salt (manual page openssl-enc(1)).
-use Rattle.std.specs.Prelude.{◌≢◌, ℕ, ◌*◌, ◌≤◌, List}
+use Rattle.std.specs.Prelude.{◌≡◌, ◌≢◌, ℕ, ◌*◌, ◌<◌, ◌≤◌, List}
 use Rattle.md5.specs.Md5.{md5}
 use Rattle.sha1.specs.Sha1.{sha1}
 use Rattle.sha2.specs.Sha256.{sha256}
@@ -24,3 +24,19 @@ IsDerivable Sha1 length = Unit {0}
 IsDerivable Sha256 length = Unit {0}
 IsDerivable (Pbkdf2Sha1 count) length = (count ≢ 0) × (length ≤ 0xFFFFFFFF * 20)
 IsDerivable (Pbkdf2Sha256 count) length = (count ≢ 0) × (length ≤ 0xFFFFFFFF * 32)
+
+-- PBKDF2 with no iteration
+abbrev pub HasNoIteration : Derivation → Type 0
+HasNoIteration Md5 = ⊥
+HasNoIteration Sha1 = ⊥
+HasNoIteration Sha256 = ⊥
+HasNoIteration (Pbkdf2Sha1 count) = count ≡ 0
+HasNoIteration (Pbkdf2Sha256 count) = count ≡ 0
+
+-- PBKDF2 of more bytes than it gives
+abbrev pub IsTooLong : Derivation → ℕ → Type 0
+IsTooLong Md5 length = ⊥
+IsTooLong Sha1 length = ⊥
+IsTooLong Sha256 length = ⊥
+IsTooLong (Pbkdf2Sha1 count) length = (count ≢ 0) × (0xFFFFFFFF * 20 < length)
+IsTooLong (Pbkdf2Sha256 count) length = (count ≢ 0) × (0xFFFFFFFF * 32 < length)

@@ -1,6 +1,15 @@
+pub mod Base64Lines
 pub mod BytesToKey
+pub mod Der
+pub mod DerReading
 pub mod Derivations
 pub mod DeriveErrors
+pub mod EncryptedKeys
 pub mod Hmac
+pub mod KeyFileFaults
+pub mod KeySpellings
 pub mod Pbkdf2
+pub mod Pem
+pub mod PemFaults
 pub mod Salted
+pub mod TextLines

@@ -1,6 +1,6 @@
 //! Keys as OpenSSL makes them from passwords, where no PBKDF2 is asked for.
 
-ghost use Rattle.std.specs.Prelude.{◌≡◌, ◌≢◌, ◌≤◌, ◌<◌, ◌-◌, ◌+◌, ◌*◌, ◌↔◌, ◌++◌, ℕ, List, length, take, IsOk, OnOk, OnErr};
+ghost use Rattle.std.specs.Prelude.{◌≡◌, ◌≢◌, ◌≤◌, ◌<◌, ◌-◌, ◌+◌, ◌*◌, ◌↔◌, ◌++◌, ℕ, List, length, take, IsOk, IsErrOf, OnOk, OnErr};
 ghost use Rattle.des_records.specs.BytesToKey.{bytes_to_key, d, repeated};
 
 use crate::hash_function::HashFunction;
@@ -62,6 +62,7 @@ pub fn bytes_to_key<H: HashFunction>(
     bytes: &mut [u8],
 ) -> Result<(), DeriveError>
     ensures accepted { IsOk result ↔ (iterations ≢ 0) }
+    ensures no_iteration { IsErrOf result DeriveError.NoIteration ↔ (iterations ≡ 0) }
     ensures ok { OnOk result (bytes.new ≡ bytes_to_key H.digest H.SIZE password.now salt.now
         iterations (length bytes.old)) }
     ensures err { OnErr result (bytes.new ≡ bytes.old) }

@@ -1,7 +1,7 @@
 //! Keys and vectors as `openssl enc` derives them from passwords.
 
-ghost use Rattle.std.specs.Prelude.{◌≡◌, ◌≤◌, ◌+◌, ◌↔◌, ◌++◌, length, IsOk, IfOk, OnOk, OnErr};
-ghost use Rattle.des_records.specs.Derivations.{derived, IsDerivable};
+ghost use Rattle.std.specs.Prelude.{◌≡◌, ◌≤◌, ◌+◌, ◌↔◌, ◌++◌, length, IsOk, IsErrOf, IfOk, OnOk, OnErr};
+ghost use Rattle.des_records.specs.Derivations.{derived, HasNoIteration, IsDerivable, IsTooLong};
 
 use crate::bytes_to_key::bytes_to_key;
 use crate::pbkdf2::{DeriveError, pbkdf2};
@@ -42,6 +42,9 @@ impl Derivation {
         bytes: &mut [u8],
     ) -> Result<(), DeriveError>
         ensures accepted { IsOk result ↔ IsDerivable self (length bytes.old) }
+        ensures no_iteration { IsErrOf result DeriveError.NoIteration ↔ HasNoIteration self }
+        ensures key_length { IsErrOf result DeriveError.KeyLength
+            ↔ IsTooLong self (length bytes.old) }
         ensures ok { OnOk result (bytes.new
             ≡ derived self password.now salt.now (length bytes.old)) }
         ensures err { OnErr result (bytes.new ≡ bytes.old) }
@@ -64,6 +67,7 @@ impl Derivation {
     ) -> Result<KeyAndVector<N>, DeriveError>
         requires { N ≤ 24 }
         ensures accepted { IsOk result ↔ IsDerivable self (N + 8) }
+        ensures no_iteration { IsErrOf result DeriveError.NoIteration ↔ HasNoIteration self }
         ensures ok { IfOk result (λ both. both.key ++ both.vector
             ≡ derived self password.now salt.now (N + 8)) }
     {

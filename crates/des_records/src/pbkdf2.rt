@@ -1,6 +1,6 @@
 //! PBKDF2 (RFC 8018, section 5.2), with HMAC over a hash function.
 
-ghost use Rattle.std.specs.Prelude.{◌≡◌, ◌≢◌, ◌≤◌, ◌<◌, ◌-◌, ◌+◌, ◌*◌, ◌↔◌, ◌++◌, ℕ, List, [], length, take, IsOk, OnOk, OnErr};
+ghost use Rattle.std.specs.Prelude.{◌≡◌, ◌≢◌, ◌≤◌, ◌<◌, ◌-◌, ◌+◌, ◌*◌, ◌↔◌, ◌++◌, ℕ, List, [], length, take, IsOk, IsErrOf, OnOk, OnErr};
 ghost use Rattle.des_records.specs.Hmac.{hmac, IsHmacOf};
 ghost use Rattle.des_records.specs.Pbkdf2.{block, pbkdf2, u, xor_of};
 
@@ -84,6 +84,9 @@ pub fn pbkdf2<H: HashFunction>(
     key: &mut [u8],
 ) -> Result<(), DeriveError>
     ensures accepted { IsOk result ↔ (iterations ≢ 0) × (length key.old ≤ 0xFFFFFFFF * H.SIZE) }
+    ensures no_iteration { IsErrOf result DeriveError.NoIteration ↔ (iterations ≡ 0) }
+    ensures key_length { IsErrOf result DeriveError.KeyLength
+        ↔ (iterations ≢ 0) × (0xFFFFFFFF * H.SIZE < length key.old) }
     ensures ok { OnOk result (key.new
         ≡ pbkdf2 (hmac H.digest password.now) H.SIZE salt.now iterations (length key.old)) }
     ensures err { OnErr result (key.new ≡ key.old) }

@@ -6,6 +6,8 @@
 #[cfg(test)]
 mod callers;
 #[cfg(test)]
+mod key_files;
+#[cfg(test)]
 mod libraries;
 #[cfg(test)]
 mod passwords;
