@@ -55,7 +55,7 @@ pub const ERR_SERVICE_DIGIT: i32 = 16;
 /// The last block does not end with the padding, or there is no block.
 pub const ERR_PADDING: i32 = 17;
 
-/// There is no room for the padding.
+/// There is no room for the padding, or for what is opened.
 pub const ERR_CAPACITY: i32 = 18;
 
 /// Lists that belong together differ in length, or sizes do not add up to what is there.
@@ -90,3 +90,46 @@ pub const ERR_SEQUENCE_DIGIT: i32 = 28;
 
 /// The issuer's data have more than eight bytes.
 pub const ERR_DATA_LENGTH: i32 = 29;
+
+/// A protection key of key blocks has not 16 or 24 bytes.
+pub const ERR_PROTECTION_KEY_LENGTH: i32 = 30;
+
+/// A key block is not as long as its header says, or too long, or there is no room for it.
+pub const ERR_KEY_BLOCK_LENGTH: i32 = 31;
+
+/// The version of a key block is none that the call takes.
+pub const ERR_VERSION: i32 = 32;
+
+/// A field of a key block's header is not what the standard has.
+pub const ERR_HEADER: i32 = 33;
+
+/// The optional blocks of a key block are not what the standard has.
+pub const ERR_OPTIONAL_BLOCK: i32 = 34;
+
+/// The encrypted key of a key block and its MAC are not as long as the standard has them.
+pub const ERR_KEY_DATA_LENGTH: i32 = 35;
+
+/// A character of the encrypted key of a key block, or of its MAC, is no hexadecimal digit in upper
+/// case.
+pub const ERR_KEY_BLOCK_DIGIT: i32 = 36;
+
+/// The MAC of a key block is not its own.
+pub const ERR_KEY_BLOCK_MAC: i32 = 37;
+
+/// The padding of a key does not fill blocks of eight bytes, or has too many.
+pub const ERR_PADDING_LENGTH: i32 = 38;
+
+/// A key block has no optional block at this place.
+pub const ERR_NO_OPTIONAL_BLOCK: i32 = 39;
+
+/// No hash function that the call takes has this number.
+pub const ERR_HASH: i32 = 40;
+
+/// There is no iteration, or there are more than 2^32 - 1.
+pub const ERR_ITERATIONS: i32 = 41;
+
+/// The bytes do not begin with `Salted__`.
+pub const ERR_NOT_SALTED: i32 = 42;
+
+/// The bytes end within the salt.
+pub const ERR_SALT_LENGTH: i32 = 43;

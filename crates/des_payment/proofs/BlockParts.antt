@@ -2,12 +2,13 @@
 use Rattle.std.proofs.Common.{◌≡◌, ℕ, ◌+◌, ◌-◌, ◌%◌, ◌<◌, ◌≤◌, List, ◌++◌, length, take, drop, sym, ap, ◌∙◌, subst, append_assoc, take-add, arith}
 use Rattle.std.specs.Prelude.{IsTrue}
 use Rattle.std.proofs.lemmas.List.{length-append, length-take, take_at, drop_at, take-append-drop, take_rest}
-use Rattle.des_payment.specs.KeyBlockHeaders.{header_text}
+use Rattle.des_payment.specs.KeyBlockHeaders.{IsHeader, header_text}
 use Rattle.des_payment.specs.KeyBlockReading.{is_sealed_length}
 use Rattle.des_payment.specs.KeyBlocks.{HasParts}
 use Rattle.des_payment.specs.OptionalBlocks.{AreOptionalBlocks}
 use Rattle.des_payment.specs.declared.key_block_header.Header.{Header}
 use Rattle.des_payment.specs.declared.key_block_header.Version.{Version}
+use Rattle.des_payment.proofs.HeaderTexts.{header-sixteen}
 
 -- the front of a block, and what comes after it
 pub front-there : (block front rest : List ℕ) (size : ℕ) → block ≡ front ++ rest → size ≡ length front
@@ -32,9 +33,11 @@ module _ (header : Header) (blocks : List (List ℕ × List ℕ)) (front rest bl
   abbrev head : List ℕ
   head = header_text header (length block) (length blocks)
 
+  sixteen : length head ≡ 16
+  sixteen = header-sixteen header (length block) (length blocks) parts.is_header
+
   pub front-length : length front ≡ 16 + length parts.optional
   front-length =
-      let sixteen : length head ≡ 16 = parts.sixteen in
       ap length parts.is_front ∙ length-append head parts.optional ∙ ap (λ n. n + length parts.optional) sixteen
 
   in_pieces : block ≡ head ++ (parts.optional ++ rest)
@@ -48,10 +51,10 @@ module _ (header : Header) (blocks : List (List ℕ × List ℕ)) (front rest bl
 
   -- the header, and what comes after it
   pub header-there : head ≡ take 16 block
-  header-there = sym (front-there block head (parts.optional ++ rest) 16 in_pieces (sym parts.sixteen))
+  header-there = sym (front-there block head (parts.optional ++ rest) 16 in_pieces (sym sixteen))
 
   pub optional-there : drop 16 block ≡ parts.optional ++ rest
-  optional-there = rest-there block head (parts.optional ++ rest) 16 in_pieces (sym parts.sixteen)
+  optional-there = rest-there block head (parts.optional ++ rest) 16 in_pieces (sym sixteen)
 
   -- the optional blocks, between the header and the rest
   pub optional-cut : (size : ℕ) → size ≡ length front → take (size - 16) (drop 16 block) ≡ parts.optional
@@ -62,11 +65,11 @@ module _ (header : Header) (blocks : List (List ℕ × List ℕ)) (front rest bl
 
 -- the parts of a block of which a header and optional blocks were read
 pub parts-read : (header : Header) (blocks : List (List ℕ × List ℕ)) (count size : ℕ) (block : List ℕ)
-    → 16 ≤ length block → length block < 10000 → count < 100 → header_text header (length block) count ≡ take 16 block
+    → IsHeader header → length block < 10000 → count < 100 → header_text header (length block) count ≡ take 16 block
     → length blocks ≡ count → AreOptionalBlocks blocks (take size (take (length block - 16) (drop 16 block)))
     → size ≤ length (take (length block - 16) (drop 16 block)) → size % 8 ≡ 0
     → HasParts header blocks (take (16 + size) block) (drop (16 + size) block) block
-parts-read header blocks count size block least short few is counted are within whole =
+parts-read header blocks count size block is_header short few is counted are within whole =
     let text : List ℕ = drop 16 block in
     let all : take (length block - 16) text ≡ text = take_rest block 16 in
     let fits : size ≤ length text = subst (λ (t : List ℕ). size ≤ length t) all within in
@@ -74,7 +77,7 @@ parts-read header blocks count size block least short few is counted are within 
     subst (λ n. header_text header (length block) n ≡ take 16 block) (sym counted) is in
     record {
       optional = take size text;
-      sixteen = ap length head ∙ omega (arith, length-take 16 block);
+      is_header = is_header;
       short = short;
       few = omega arith;
       are_optional = subst (λ (t : List ℕ). AreOptionalBlocks blocks (take size t)) all are;

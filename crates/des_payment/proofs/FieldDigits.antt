@@ -26,7 +26,7 @@ AreDigits-values text all =
     All-from_get_or (λ (digit : ℕ). digit < 16) (values text) 0 (λ i within.
     let small = below_at 10 (values text) i (decimal-values text all) within in omega arith)
 
-AreDigits-fill : (least : ℕ) (fill : List ℕ) → AreFill least fill → AreDigits fill
+pub AreDigits-fill : (least : ℕ) (fill : List ℕ) → AreFill least fill → AreDigits fill
 AreDigits-fill least fill filled =
     All-from_get_or (λ (digit : ℕ). digit < 16) fill 0 (λ i within.
     let digit : ℕ = get_or fill i 0 in

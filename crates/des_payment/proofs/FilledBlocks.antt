@@ -8,7 +8,7 @@ zero-or-some : (n : ℕ) → (n ≡ 0) ⊎ (n ≢ 0)
 zero-or-some zero = inl refl
 zero-or-some (suc n) = inr (λ none. omega arith)
 
-filling-none : (size : ℕ) → size % 8 ≡ 0 → filling size ≡ []
+pub filling-none : (size : ℕ) → size % 8 ≡ 0 → filling size ≡ []
 filling-none size is =
     ap (λ n. if n == 0 then [] else (codes "PB", replicate ((12 - n) % 8) 48) ∷ []) is
 

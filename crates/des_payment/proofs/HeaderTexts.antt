@@ -1,7 +1,7 @@
 -- The sixteen characters of a header, as those of its fields.
 use Rattle.std.proofs.Common.{◌≡◌, ℕ, zero, suc, ◌+◌, ◌<◌, ◌≤◌, List, [], ◌∷◌, ◌++◌, length, take, drop, get_or, refl, sym, ap, ap₂, ◌∙◌, arith}
 use Rattle.std.proofs.lemmas.List.{drop_more, take_all, take_at, drop_at, length-append, length-take, drop-take}
-use Rattle.des_payment.specs.KeyBlockHeaders.{version_text, usage_text, algorithm_text, mode_text, exportability_text, decimal_at, fields_text, header_text}
+use Rattle.des_payment.specs.KeyBlockHeaders.{version_text, usage_text, algorithm_text, mode_text, exportability_text, decimal_at, fields_text, header_text, IsHeader}
 use Rattle.des_payment.specs.declared.key_block_header.Header.{Header}
 use Rattle.des_payment.specs.declared.key_block_header.Version.{Version}
 use Rattle.des_payment.specs.declared.key_block_header.Version.TheVariants.{A, B, C}
@@ -110,6 +110,23 @@ length-header : (header : Header) (size count : ℕ)
 length-header header size count =
     let tail : List ℕ = decimal_at 10 count ∷ decimal_at 1 count ∷ 48 ∷ 48 ∷ [] in
     omega (arith, length-append (fields_text header) tail)
+
+length-fields : (usage : List ℕ) (a m : ℕ) (key_version : List ℕ) (e : ℕ) → length usage ≡ 2 → length key_version ≡ 2
+    → length (usage ++ a ∷ m ∷ [] ++ key_version ++ e ∷ []) ≡ 7
+length-fields usage a m key_version e two version_two =
+    omega (
+      arith,
+      length-append usage (a ∷ m ∷ []),
+      length-append (usage ++ a ∷ m ∷ []) key_version,
+      length-append (usage ++ a ∷ m ∷ [] ++ key_version) (e ∷ []),
+    )
+
+pub header-sixteen : (header : Header) (size count : ℕ) → IsHeader header → length (header_text header size count) ≡ 16
+header-sixteen header size count is =
+    let seven : length (fields_text header) ≡ 7 =
+    length-fields (usage_text header.usage) (algorithm_text header.algorithm) (mode_text header.mode)
+    header.key_version (exportability_text header.exportability) is.0 is.1 in
+    length-header header size count ∙ ap (λ n. 9 + n) seven
 
 -- a count below 100 has digits of its own
 count-same : (n m : ℕ) → n < 100 → m < 100 → decimal_at 10 n ≡ decimal_at 10 m → decimal_at 1 n ≡ decimal_at 1 m

@@ -8,6 +8,7 @@ pub mod PinFaults
 pub mod PinFields
 pub mod LastDigits
 pub mod FieldDigits
+pub mod FillPlaces
 pub mod PickedDigits
 pub mod Decoding
 pub mod TranslatedPins
@@ -52,11 +53,13 @@ pub mod ChainedOnce
 pub mod SealedOnce
 pub mod BlockParts
 pub mod LayoutFaults
+pub mod NamedHeaders
 pub mod KeyDataLengths
 pub mod SealedKeys
 pub mod HeldKeys
 pub mod OneBlockTexts
 pub mod BlockPlaces
 pub mod WrittenSeals
+pub mod WrittenTexts
 pub mod FilledBlocks
 pub mod WrittenBlocks

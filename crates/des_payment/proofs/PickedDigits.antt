@@ -1,5 +1,5 @@
 -- The digits of a PIN that are picked from a PIN field: digits of it, or zeros.
-use Rattle.std.proofs.Common.{◌≡◌, ℕ, ◌+◌, ◌<◌, ◌≤◌, List, Bool, true, false, ◌&&◌, if◌then◌else◌, nat_lt, length, take, drop, get_or, slice_index, IsTrue, inl, inr, refl, sym, ap, ◌∙◌, subst, arith}
+use Rattle.std.proofs.Common.{◌≡◌, ℕ, ◌+◌, ◌%◌, ◌<◌, ◌≤◌, List, Bool, true, false, ◌&&◌, if◌then◌else◌, nat_lt, length, take, drop, get_or, slice_index, IsTrue, inl, inr, refl, sym, ap, ◌∙◌, subst, arith}
 use Rattle.std.specs.List.{list_all}
 use Rattle.std.proofs.lemmas.Bool.{lt-ltb, cases_lt}
 use Rattle.std.proofs.lemmas.Bool.Decides.{nat_tests}
@@ -65,6 +65,48 @@ small true field count k long is_count few digits =
     subst (λ (n : ℕ). picked_at true field n k < 10) (sym is_count)
     (picked-small field long (few refl) k (digits refl))
 small false field count k long is_count few digits = omega arith
+
+-- they are those that are taken, all or none
+pub picked-few : (right : Bool) (field : List ℕ) (taken : ℕ) → taken ≡ (if right then slice_index field 1 else 0)
+    → (IsTrue right → slice_index field 1 ≤ 12) → taken ≤ 12
+picked-few true field taken is_taken few = omega (arith, is_taken, few refl)
+picked-few false field taken is_taken few = omega (arith, is_taken)
+
+digit-kept : (is : Bool) (digit : ℕ) → (if is then digit else 0) < 10
+    → (if is then digit % 16 else 0) ≡ (if is then digit else 0)
+digit-kept true digit small = omega (arith, small)
+digit-kept false digit small = refl
+
+taken-at : (right : Bool) (field : List ℕ) (count taken k : ℕ) → length field ≡ 16
+    → count ≡ (if right then slice_index field 1 else 4) → taken ≡ (if right then slice_index field 1 else 0)
+    → (IsTrue right → slice_index field 1 ≤ 12)
+    → (IsTrue right → IsTrue (list_all (λ digit. nat_lt digit 10) (pin_digits field)))
+    → (if nat_lt k taken then get_or field (k + 2) 0 % 16 else 0) ≡ picked_at right field count k
+taken-at true field count taken k long is_count is_taken few digits =
+    ap (λ n. if nat_lt k n then get_or field (k + 2) 0 % 16 else 0) is_taken
+    ∙ digit-kept (nat_lt k (slice_index field 1)) (get_or field (k + 2) 0)
+    (picked-small field long (few refl) k (digits refl))
+    ∙ ap (λ n. if nat_lt k n then get_or field (k + 2) 0 else 0) (sym is_count)
+taken-at false field count taken k long is_count is_taken few digits =
+    let none : nat_lt k taken ≡ false = grind (arith, nat_tests) in
+    ap (λ b. if b then get_or field (k + 2) 0 % 16 else 0) none
+
+pub picked-taken : (right : Bool) (field : List ℕ) (count taken : ℕ) (picked : List ℕ) → length field ≡ 16
+    → count ≡ (if right then slice_index field 1 else 4) → taken ≡ (if right then slice_index field 1 else 0)
+    → (IsTrue right → slice_index field 1 ≤ 12)
+    → (IsTrue right → IsTrue (list_all (λ digit. nat_lt digit 10) (pin_digits field)))
+    → length picked ≡ 12
+    → ((k : ℕ) → k < 12 → get_or picked k 0 ≡ (if nat_lt k taken then get_or (take 12 (drop 2 field)) k 0 % 16 else 0))
+    → IsPicked right field count picked
+picked-taken right field count taken picked long is_count is_taken few digits is_long is = (
+  is_long,
+  λ k within.
+      let place : 2 + k ≡ k + 2 = omega arith in
+      is k within
+      ∙ ap (λ digit. if nat_lt k taken then digit % 16 else 0)
+      (get_or-take 12 (drop 2 field) k 0 within ∙ get_or-drop 2 field k 0 ∙ ap (λ n. get_or field n 0) place)
+      ∙ taken-at right field count taken k long is_count is_taken few digits,
+)
 
 -- each is a digit of a PIN
 pub picked-decimal : (right : Bool) (field : List ℕ) (count : ℕ) (picked : List ℕ) → length field ≡ 16

@@ -1,8 +1,7 @@
 -- The key block that is written, of parts that are right.
 use Rattle.std.proofs.Common.{◌≡◌, ℕ, ◌+◌, ◌%◌, ◌<◌, List, ◌++◌, length, Bool, true, false, Option, Some, None, refl, sym, ap, ◌∙◌, arith}
 use Rattle.std.specs.Prelude.{IsTrue, not, if◌then◌else◌}
-use Rattle.std.proofs.lemmas.List.{length-append}
-use Rattle.des_payment.specs.KeyBlockHeaders.{header_text}
+use Rattle.des_payment.specs.KeyBlockHeaders.{IsHeader, header_text}
 use Rattle.des_payment.specs.KeyBlocks.{key_data, is_protection_key, is_key_data, is_made, parts_fault, IsSealed, IsKeyBlock}
 use Rattle.des_payment.specs.KeyLengths.{is_key}
 use Rattle.des_payment.specs.OptionalBlocks.{AreOptionalBlocks}
@@ -11,31 +10,24 @@ use Rattle.des_payment.specs.declared.key_block_error.KeyBlockError.TheVariants.
 use Rattle.des_payment.specs.declared.key_block_header.Header.{Header}
 use Rattle.des_payment.specs.declared.key_block_header.Version.{Version}
 
--- what stands before optional blocks
-header-rest : (head optional front : List ℕ) → front ≡ head ++ optional → length front ≡ 16 + length optional
-    → length head ≡ 16
-header-rest head optional front is long = omega (arith, ap length is, length-append head optional)
-
 -- a header, optional blocks that end at a multiple of eight characters, and what is sealed after them
 pub block-written : (protection : List ℕ) (header : Header) (blocks : List (List ℕ × List ℕ))
     (key padding front rest block optional : List ℕ) (size count : ℕ) → block ≡ front ++ rest → length block ≡ size
     → size < 10000 → count ≡ length blocks → count < 100 → AreOptionalBlocks blocks optional
-    → front ≡ header_text header size count ++ optional → length front ≡ 16 + length optional → length optional % 8 ≡ 0
+    → front ≡ header_text header size count ++ optional → IsHeader header → length optional % 8 ≡ 0
     → IsTrue (is_protection_key protection) → IsTrue (is_key_data key padding)
     → IsSealed header.version protection front (key_data key padding) rest
     → IsKeyBlock protection header blocks key padding block
 block-written protection header blocks key padding front rest block optional size count pieces long short counted few
-    are is_front front_long whole is_protection is_clear sealed =
+    are is_front is_header whole is_protection is_clear sealed =
     let head : header_text header size count ≡ header_text header (length block) (length blocks) =
     ap (λ n. header_text header n count) (sym long) ∙ ap (header_text header (length block)) counted in
-    let sixteen : length (header_text header size count) ≡ 16 =
-    header-rest (header_text header size count) optional front is_front front_long in
     record {
       front = front;
       sealed = rest;
       parts = record {
         optional = optional;
-        sixteen = sym (ap length head) ∙ sixteen;
+        is_header = is_header;
         short = omega arith;
         few = omega arith;
         are_optional = are;

@@ -1,5 +1,5 @@
 -- Digits of four bits.
-use Rattle.std.specs.Prelude.{ℕ, ◌+◌, ◌*◌, ◌/◌, ◌%◌, List, [], ◌∷◌}
+use Rattle.std.specs.Prelude.{ℕ, ◌+◌, ◌-◌, ◌*◌, ◌/◌, ◌%◌, ◌^◌, List, [], ◌∷◌}
 
 -- the digits of bytes, two a byte
 unfoldable pub digits_of : List ℕ → List ℕ
@@ -11,3 +11,7 @@ unfoldable pub bytes_of : List ℕ → List ℕ
 bytes_of [] = []
 bytes_of (high ∷ []) = []
 bytes_of (high ∷ low ∷ digits) = (16 * high + low) ∷ bytes_of digits
+
+-- the digit at a place of a number of so many digits, the first, at place 0, the highest
+abbrev pub digit_in : ℕ → ℕ → ℕ → ℕ
+digit_in number count place = number / 2 ^ (4 * (count - (place + 1))) % 16

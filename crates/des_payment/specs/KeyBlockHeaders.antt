@@ -1,5 +1,5 @@
 -- The header of a key block (ANSI X9.143, ASC X9 TR-31), as characters.
-use Rattle.std.specs.Prelude.{ℕ, ◌+◌, ◌/◌, ◌%◌, ◌==◌, ◌&&◌, ◌||◌, Bool, true, false, not, nat_le, if◌then◌else◌, List, [], ◌∷◌, ◌++◌, length, slice_index, codes, Option, Some, None}
+use Rattle.std.specs.Prelude.{◌≡◌, ℕ, ◌+◌, ◌/◌, ◌%◌, ◌==◌, ◌&&◌, ◌||◌, Bool, true, false, not, nat_le, if◌then◌else◌, List, [], ◌∷◌, ◌++◌, length, slice_index, codes, Option, Some, None, IsTrue}
 use Rattle.std.specs.Char.{is_ascii_digit}
 use Rattle.des_payment.specs.declared.key_block_header.Header.{Header}
 use Rattle.des_payment.specs.declared.key_block_header.Version.{Version}
@@ -9,7 +9,7 @@ use Rattle.des_payment.specs.declared.key_block_header.Usage.TheVariants.{BaseDe
 use Rattle.des_payment.specs.declared.key_block_header.Algorithm.{Algorithm}
 use Rattle.des_payment.specs.declared.key_block_header.Algorithm.TheVariants.{Des, TripleDes, OtherAlgorithm}
 use Rattle.des_payment.specs.declared.key_block_header.Mode.{Mode}
-use Rattle.des_payment.specs.declared.key_block_header.Mode.TheVariants.{EncryptAndDecrypt, MakeAndVerify, Decrypt, Encrypt, Make, Any, Verify, Derive, OtherMode}
+use Rattle.des_payment.specs.declared.key_block_header.Mode.TheVariants.{EncryptAndDecrypt, GenerateAndVerify, Decrypt, Encrypt, Generate, NoRestriction, Verify, Derive, OtherMode}
 use Rattle.des_payment.specs.declared.key_block_header.Exportability.{Exportability}
 use Rattle.des_payment.specs.declared.key_block_header.Exportability.TheVariants.{Exportable, NonExportable, Sensitive, OtherRule}
 use Rattle.des_payment.specs.declared.key_block_error.KeyBlockError.{KeyBlockError}
@@ -47,11 +47,11 @@ algorithm_text (OtherAlgorithm character) = character
 
 abbrev pub mode_text : Mode → ℕ
 mode_text EncryptAndDecrypt = 66
-mode_text MakeAndVerify = 67
+mode_text GenerateAndVerify = 67
 mode_text Decrypt = 68
 mode_text Encrypt = 69
-mode_text Make = 71
-mode_text Any = 78
+mode_text Generate = 71
+mode_text NoRestriction = 78
 mode_text Verify = 86
 mode_text Derive = 88
 mode_text (OtherMode character) = character
@@ -80,6 +80,10 @@ header_text header length count =
     ∷ decimal_at 1000 length ∷ decimal_at 100 length ∷ decimal_at 10 length ∷ decimal_at 1 length ∷ []
     ++ fields_text header ++ decimal_at 10 count ∷ decimal_at 1 count ∷ 48 ∷ 48 ∷ []
 
+-- the usage has two characters, and so has the number of the key's version
+abbrev pub IsHeader : Header → Type 0
+IsHeader header = (length (usage_text header.usage) ≡ 2) × (length header.key_version ≡ 2)
+
 -- ---- reading
 
 -- whether a usage, an algorithm, a mode or a rule has a name of its own
@@ -98,6 +102,17 @@ is_named_mode _ = true
 abbrev pub is_named_rule : Exportability → Bool
 is_named_rule (OtherRule character) = false
 is_named_rule _ = true
+
+-- each field that has the text of a name is that name
+pub record IsNamed (header : Header) : Type 0 where
+  pub usage : (usage : Usage) → IsTrue (is_named_usage usage) → usage_text usage ≡ usage_text header.usage
+      → header.usage ≡ usage
+  pub algorithm : (algorithm : Algorithm) → IsTrue (is_named_algorithm algorithm)
+      → algorithm_text algorithm ≡ algorithm_text header.algorithm → header.algorithm ≡ algorithm
+  pub mode : (mode : Mode) → IsTrue (is_named_mode mode) → mode_text mode ≡ mode_text header.mode
+      → header.mode ≡ mode
+  pub exportability : (rule : Exportability) → IsTrue (is_named_rule rule)
+      → exportability_text rule ≡ exportability_text header.exportability → header.exportability ≡ rule
 
 -- a block is as long as the four digits after its version say
 abbrev pub says_length : List ℕ → Bool

@@ -10,8 +10,8 @@ use Rattle.des_mac.specs.CbcMac.{cbc_mac}
 use Rattle.des_mac.specs.Cmac.{cmac}
 use Rattle.des_payment.specs.Hex.{hex_of}
 use Rattle.des_payment.specs.KeyLengths.{is_key}
-use Rattle.des_payment.specs.KeyBlockHeaders.{header_text}
-use Rattle.des_payment.specs.OptionalBlocks.{AreOptionalBlocks, filled, size_of_all}
+use Rattle.des_payment.specs.KeyBlockHeaders.{IsHeader, header_text}
+use Rattle.des_payment.specs.OptionalBlocks.{AreOptionalBlocks, blocks_text, filled, size_of_all}
 use Rattle.des_payment.specs.ProtectionKeys.{encryption_key, mac_key}
 use Rattle.des_payment.specs.declared.key_block_header.Header.{Header}
 use Rattle.des_payment.specs.declared.key_block_header.Version.{Version}
@@ -74,7 +74,7 @@ is_key_data key padding =
 -- a block is a header of 16 characters with optional blocks that end at a multiple of eight, and a rest
 pub record HasParts (header : Header) (blocks : List (List ℕ × List ℕ)) (front rest block : List ℕ) : Type 0 where
   pub optional : List ℕ
-  pub sixteen : length (header_text header (length block) (length blocks)) ≡ 16
+  pub is_header : IsHeader header
   pub short : length block < 10000
   pub few : length blocks < 100
   pub are_optional : AreOptionalBlocks blocks optional
@@ -114,6 +114,10 @@ parts_fault protection version key padding =
     else if not (is_key key) then Some KeyLength
     else if not (is_key_data key padding) then Some PaddingLength
     else None
+
+-- what is written before key data in a block of so many characters
+abbrev pub front_text : Header → List (List ℕ × List ℕ) → ℕ → List ℕ
+front_text header blocks size = header_text header size (length blocks) ++ blocks_text blocks
 
 -- how many characters the block has, with as many optional blocks as fill it
 abbrev pub size_of_block : Version → List (List ℕ × List ℕ) → List ℕ → List ℕ → ℕ

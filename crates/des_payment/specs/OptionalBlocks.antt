@@ -1,5 +1,6 @@
 -- The optional blocks of a key block (ANSI X9.143, ASC X9 TR-31). Texts are lists of ASCII characters.
 use Rattle.std.specs.Prelude.{◌≡◌, ℕ, ◌+◌, ◌-◌, ◌%◌, ◌^◌, ◌<◌, ◌⊎◌, ◌==◌, nat_lt, if◌then◌else◌, List, [], ◌∷◌, ◌++◌, length, replicate, codes}
+use Rattle.std.specs.List.{flat_map}
 use Rattle.des_payment.specs.Hex.{hex_number}
 
 -- ---- one block
@@ -40,6 +41,14 @@ size_of content = if nat_lt (length content + 4) 256 then length content + 4 els
 unfoldable pub size_of_all : List (List ℕ × List ℕ) → ℕ
 size_of_all [] = 0
 size_of_all (block ∷ blocks) = size_of block.1 + size_of_all blocks
+
+-- the text of such blocks: where the length has four digits, it is said to have two bytes
+abbrev pub block_text : List ℕ × List ℕ → List ℕ
+block_text block =
+    if nat_lt (length block.1 + 4) 256 then short_block block.0 block.1 else long_block 2 block.0 block.1
+
+abbrev pub blocks_text : List (List ℕ × List ℕ) → List ℕ
+blocks_text blocks = flat_map block_text blocks
 
 -- a block `PB` of zeros that fills a number of characters to a multiple of eight, where it is none
 abbrev pub filling : ℕ → List (List ℕ × List ℕ)

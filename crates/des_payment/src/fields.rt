@@ -1,44 +1,29 @@
 //! The fields of PIN blocks: sixteen digits of four bits each.
 
-ghost use Rattle.std.specs.Prelude.{◌≡◌, ◌↔◌, ◌-◌, ◌≤◌, ◌==◌, ◌&&◌, ◌++◌, take, drop, slice_index, nat_lt, nat_le, None, IfOk, OnOk, IsTrue};
-ghost use Rattle.std.specs.List.{list_all};
+ghost use Rattle.std.specs.Prelude.{◌≡◌, ◌↔◌, ◌<◌, ◌≤◌, ◌==◌, ◌&&◌, take, drop, slice_index, nat_lt, nat_le, None, IfOk, OnOk, IsTrue};
+ghost use Rattle.std.specs.List.{All, list_all};
 ghost use Rattle.std.specs.Result.{result_err};
 ghost use Rattle.des_payment.specs.Texts.{IsPin, IsAccountNumber, text_of};
 ghost use Rattle.des_payment.specs.PinBlocks.{pin_field as pin_field_of, account_field as account_field_of, account_fault, is_fill};
 ghost use Rattle.des_payment.specs.PinBlocks.{field_fault, pin_digits, fill_digits};
 
-use crate::masks::{chosen, write_if};
+use crate::filling::{filled, first_or_zeros};
+use crate::masks::chosen;
 use crate::pin::Pin;
 use crate::pin_error::PinError;
 use crate::texts::{check_number, to_values};
 
-// The digits of a PIN of so many of them, and then fill digits to the fourteenth.
-fn filled(count: usize, values: &[u8; 12], fill: &[u8; 10]) -> [u8; 14]
-    requires at_least { 4 ≤ count }
-    requires at_most { count ≤ 12 }
-    ensures { result ≡ take count values.now ++ take (14 - count) fill.now }
-{
-    let mut digits = [0; 14];
-    digits[..count].copy_from_slice(&values[..count]);
-    digits[count..].copy_from_slice(&fill[..14 - count]);
-    digits
-}
-
-// The PIN field of a format. Those of all lengths are made, and one is picked.
+// The PIN field of a format.
 pub(crate) fn pin_field(format: u8, pin: &Pin, fill: &[u8; 10]) -> [u8; 16]
+    requires { All (λ digit. digit < 16) fill.now }
     ensures is_pin { IsPin pin.now }
     ensures field { result ≡ pin_field_of format pin.now fill.now }
 {
     let count = pin.count();
-    let values = pin.values();
-    let mut digits = [0; 14];
-    'counts: for other in 4..13 {
-        write_if(other == count, &filled(other, &values, fill), &mut digits);
-    }
     let mut field = [0; 16];
     field[0] = format;
     field[1] = count as u8;
-    field[2..].copy_from_slice(&digits);
+    field[2..].copy_from_slice(&filled(count, &pin.values(), fill));
     field
 }
 
@@ -138,11 +123,8 @@ fn pin_or_zeros(is_right: bool, field: &[u8; 16]) -> Pin
     ensures { IsTrue is_right → result ≡ text_of (pin_digits field.now) }
 {
     let count = chosen(is_right, field[1], 4) as usize;
-    let mut digits = [0; 12];
-    for (k, digit) in digits.iter_mut().enumerate() {
-        *digit = chosen(is_right & (k < count), field[k + 2], 0);
-    }
-    Pin::of_first(count, &digits)
+    let taken = chosen(is_right, field[1], 0) as usize;
+    Pin::of_first(count, &first_or_zeros(taken, &field[2..14]))
 }
 
 // Whether the digits are a PIN field of a format that has fill digits from a least one to 15, and its

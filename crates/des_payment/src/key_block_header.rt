@@ -3,7 +3,7 @@
 ghost use Rattle.std.specs.Prelude.{◌≡◌, ℕ, ◌<◌, ◌≤◌, [], ◌∷◌, length, take, slice_index, is_some, IsTrue, IfOk, IfSome, IfNone, IsOkAnd};
 ghost use Rattle.std.specs.Result.{result_err};
 ghost use Rattle.des_payment.specs.KeyBlockHeaders.{version_text, usage_text, algorithm_text, mode_text, exportability_text};
-ghost use Rattle.des_payment.specs.KeyBlockHeaders.{is_named_usage, is_named_algorithm, is_named_mode, is_named_rule, decimal_at};
+ghost use Rattle.des_payment.specs.KeyBlockHeaders.{is_named_usage, is_named_algorithm, is_named_mode, is_named_rule, IsHeader, IsNamed, decimal_at};
 ghost use Rattle.des_payment.specs.KeyBlockHeaders.{fields_text, header_text as header_text_of};
 ghost use Rattle.des_payment.specs.KeyBlockHeaders.{says_length as says_length_of, has_count, header_fault};
 
@@ -74,21 +74,21 @@ pub enum Algorithm {
 /// What may be done with the key of a block.
 #[derive(Clone, Copy, Debug, PartialEq, Eq)]
 pub enum Mode {
-    /// Encrypt and decrypt (`B`).
+    /// Both encrypt and decrypt (`B`).
     EncryptAndDecrypt,
-    /// Make and verify MACs (`C`).
-    MakeAndVerify,
-    /// Decrypt (`D`).
+    /// Both generate and verify (`C`).
+    GenerateAndVerify,
+    /// Decrypt only (`D`).
     Decrypt,
-    /// Encrypt (`E`).
+    /// Encrypt only (`E`).
     Encrypt,
-    /// Make MACs (`G`).
-    Make,
-    /// All that the usage has (`N`).
-    Any,
-    /// Verify MACs (`V`).
+    /// Generate only (`G`).
+    Generate,
+    /// No restriction but those of the usage (`N`).
+    NoRestriction,
+    /// Verify only (`V`).
     Verify,
-    /// Derive keys (`X`).
+    /// Derive other keys (`X`).
     Derive,
     /// Another mode, by its character.
     OtherMode(u8),
@@ -240,11 +240,11 @@ impl Mode {
     {
         match character {
             b'B' => Mode::EncryptAndDecrypt,
-            b'C' => Mode::MakeAndVerify,
+            b'C' => Mode::GenerateAndVerify,
             b'D' => Mode::Decrypt,
             b'E' => Mode::Encrypt,
-            b'G' => Mode::Make,
-            b'N' => Mode::Any,
+            b'G' => Mode::Generate,
+            b'N' => Mode::NoRestriction,
             b'V' => Mode::Verify,
             b'X' => Mode::Derive,
             other => Mode::OtherMode(other),
@@ -257,11 +257,11 @@ impl Mode {
     {
         match self {
             Mode::EncryptAndDecrypt => b'B',
-            Mode::MakeAndVerify => b'C',
+            Mode::GenerateAndVerify => b'C',
             Mode::Decrypt => b'D',
             Mode::Encrypt => b'E',
-            Mode::Make => b'G',
-            Mode::Any => b'N',
+            Mode::Generate => b'G',
+            Mode::NoRestriction => b'N',
             Mode::Verify => b'V',
             Mode::Derive => b'X',
             Mode::OtherMode(character) => character,
@@ -310,7 +310,8 @@ fn decimal(number: usize, power: usize) -> u8
 pub(crate) fn header_text(header: &Header, length: usize, count: usize) -> [u8; 16]
     requires length { length < 10000 }
     requires count { count < 100 }
-    ensures { result ≡ header_text_of header.now length count }
+    ensures is_header { IsHeader header.now }
+    ensures text { result ≡ header_text_of header.now length count }
 {
     let usage = header.usage.text();
     [
@@ -375,6 +376,7 @@ fn fields_of(version: Version, block: &[u8]) -> Header
     ensures key_version { result.key_version
         ≡ slice_index block.now 9 ∷ slice_index block.now 10 ∷ [] }
     ensures exportability { exportability_text result.exportability ≡ slice_index block.now 11 }
+    ensures named { IsNamed result }
 {
     Header {
         version,
@@ -391,6 +393,8 @@ pub(crate) fn read_header(block: &[u8]) -> Result<(Header, usize), KeyBlockError
     ensures least { IfOk result (λ _. 16 ≤ length block.now) }
     ensures short { IfOk result (λ _. length block.now < 10000) }
     ensures few { IfOk result (λ read. read.1 < 100) }
+    ensures is_header { IfOk result (λ read. IsHeader read.0) }
+    ensures named { IfOk result (λ read. IsNamed read.0) }
     ensures text { IfOk result (λ read.
         header_text_of read.0 (length block.now) read.1 ≡ take 16 block.now) }
     ensures only { (header : Header) (count : ℕ) → 16 ≤ length block.now

@@ -6,11 +6,11 @@ ghost use Rattle.std.specs.Result.{result_err};
 ghost use Rattle.std.specs.List.{All};
 ghost use Rattle.des.specs.Blocks.{AreBytes, IsBlock};
 ghost use Rattle.des_payment.specs.Hex.{hex_of};
-ghost use Rattle.des_payment.specs.KeyBlockHeaders.{header_text as header_text_of};
-ghost use Rattle.des_payment.specs.KeyBlocks.{joined, key_data, mac_size as mac_size_of, is_protection_key, is_key_data, parts_fault, HasParts, IsSealed, HoldsKey, IsKeyBlock, wrap_fault};
+ghost use Rattle.des_payment.specs.KeyBlockHeaders.{IsHeader, IsNamed, header_text as header_text_of};
+ghost use Rattle.des_payment.specs.KeyBlocks.{joined, key_data, mac_size as mac_size_of, is_protection_key, is_key_data, parts_fault, HasParts, IsSealed, HoldsKey, IsKeyBlock, front_text, size_of_block, wrap_fault};
 ghost use Rattle.des_payment.specs.KeyBlockReading.{AreAlike, is_sealed_length as is_sealed_length_of, AreHexDigits, HasLayoutFault, HasSealFault, HasFault};
 ghost use Rattle.des_payment.specs.KeyLengths.{is_key as is_key_of};
-ghost use Rattle.des_payment.specs.OptionalBlocks.{AreOptionalBlocks, filled, size_of_all as size_of_contents};
+ghost use Rattle.des_payment.specs.OptionalBlocks.{AreOptionalBlocks, blocks_text, filled, size_of_all as size_of_contents};
 
 use crate::hex::{read_hex, write_hex};
 use crate::key_block_error::KeyBlockError;
@@ -79,6 +79,7 @@ fn front_of(block: &[u8]) -> Result<(Header, usize), KeyBlockError>
     ensures within { IfOk result (λ found. found.1 ≤ length block.now) }
     ensures found { IfOk result (λ found. (blocks : List (List ℕ × List ℕ))
         × HasParts found.0 blocks (take found.1 block.now) (drop found.1 block.now) block.now) }
+    ensures named { IfOk result (λ found. IsNamed found.0) }
     ensures only { (header : Header) (blocks : List (List ℕ × List ℕ)) (front rest : List ℕ)
         → HasParts header blocks front rest block.now
         → IsOkAnd result (λ found. AreAlike found.0 header × (found.1 ≡ length front)) }
@@ -110,6 +111,7 @@ fn layout_of(block: &[u8]) -> Result<(Header, usize), KeyBlockError>
     ensures within { IfOk result (λ found. found.1 ≤ length block.now) }
     ensures found { IfOk result (λ found. (blocks : List (List ℕ × List ℕ))
         × HasParts found.0 blocks (take found.1 block.now) (drop found.1 block.now) block.now) }
+    ensures named { IfOk result (λ found. IsNamed found.0) }
     ensures sealed { IfOk result (λ found. IsTrue (is_sealed_length_of found.0.version
         (length (drop found.1 block.now)))) }
     ensures only { (header : Header) (blocks : List (List ℕ × List ℕ)) (front rest : List ℕ)
@@ -245,6 +247,10 @@ fn sealed_key(
 pub fn unwrap(protection: &[u8], block: &[u8]) -> Result<(Header, BlockKey), KeyBlockError>
     ensures opened { IfOk result (λ opened.
         HoldsKey protection.now block.now opened.0 opened.1) }
+    ensures named { IfOk result (λ opened. IsNamed opened.0) }
+    ensures exact { (header : Header) (key : List ℕ) → IsNamed header
+        → HoldsKey protection.now block.now header key → IsOkAnd result (λ opened.
+        (opened.0 ≡ header) × (opened.1 ≡ key)) }
     ensures only { (header : Header) (key : List ℕ) → HoldsKey protection.now block.now header key
         → IsOkAnd result (λ opened. AreAlike opened.0 header × (opened.1 ≡ key)) }
     ensures fault { IfErr result (λ error. HasFault protection.now block.now error) }
@@ -264,6 +270,7 @@ pub fn header(block: &[u8]) -> Result<Header, KeyBlockError>
     ensures found { IfOk result (λ header. (blocks : List (List ℕ × List ℕ))
         × ((front : List ℕ) × ((rest : List ℕ) × (HasParts header blocks front rest block.now
         × IsTrue (is_sealed_length_of header.version (length rest)))))) }
+    ensures named { IfOk result (λ header. IsNamed header) }
     ensures only { (header : Header) (blocks : List (List ℕ × List ℕ)) (front rest : List ℕ)
         → HasParts header blocks front rest block.now
         → IsTrue (is_sealed_length_of header.version (length rest))
@@ -360,9 +367,12 @@ fn write_front(
         ≤ 9999 }
     requires front { length front.old ≡ 16 + size_of_contents
         (filled (map (λ block. (block.name, block.content.now)) optional.now)) }
-    ensures { (text : List ℕ) × ((length front.new ≡ 16 + length text) × AreOptionalBlocks
-        (filled (map (λ block. (block.name, block.content.now)) optional.now)) text
-        × (front.new ≡ header_text_of header.now size count ++ text)) }
+    ensures is_header { IsHeader header.now }
+    ensures are { AreOptionalBlocks
+        (filled (map (λ block. (block.name, block.content.now)) optional.now))
+        (blocks_text (filled (map (λ block. (block.name, block.content.now)) optional.now))) }
+    ensures text { front.new ≡ header_text_of header.now size count
+        ++ blocks_text (filled (map (λ block. (block.name, block.content.now)) optional.now)) }
 {
     let (fields, blocks) = front.split_at_mut(HEADER);
     fields.copy_from_slice(&header_text(header, size, count));
@@ -404,7 +414,7 @@ fn write_sealed(
 ///
 /// The padding fills the last eight bytes after two bytes of length and the key; 22, 14 or 6 bytes
 /// of it hide how long the key is. Where the optional blocks do not fill eight characters, a block
-/// `PB` of zeros does.
+/// `PB` of zeros does. A block's length has two digits where they hold it, else the longer form.
 ///
 /// The first fault is reported, in this order: `ProtectionKeyLength`; `Version`, where it is `A`;
 /// `KeyLength`; `PaddingLength`; `OptionalBlock`, where there are more than 99; `Length`, where
@@ -423,6 +433,14 @@ pub fn wrap(
         (map (λ block. (block.name, block.content.now)) optional.now)
         key.now padding.now (length text.old) }
     ensures within { IfOk result (λ size. size ≤ length text.new) }
+    ensures size { IfOk result (λ size. size ≡ size_of_block header.now.version
+        (map (λ block. (block.name, block.content.now)) optional.now) key.now padding.now) }
+    ensures text { IfOk result (λ size. (sealed : List ℕ) × ((take size text.new
+        ≡ front_text header.now
+        (filled (map (λ block. (block.name, block.content.now)) optional.now)) size ++ sealed)
+        × IsSealed header.now.version protection.now (front_text header.now
+        (filled (map (λ block. (block.name, block.content.now)) optional.now)) size)
+        (key_data key.now padding.now) sealed)) }
     ensures wrapped { IfOk result (λ size. IsKeyBlock protection.now header.now
         (filled (map (λ block. (block.name, block.content.now)) optional.now))
         key.now padding.now (take size text.new)) }

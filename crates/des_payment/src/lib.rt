@@ -24,6 +24,7 @@ pub mod dukpt;
 pub mod emv;
 pub mod emv_error;
 mod fields;
+mod filling;
 mod hex;
 pub mod key_block_error;
 pub mod key_block_header;

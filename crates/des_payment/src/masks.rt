@@ -1,4 +1,4 @@
-//! One of two bytes or lists, and one of many, with no branch and no index that depends on which.
+//! One of two bytes, and one of many, with no branch and no index that depends on which.
 
 ghost use Rattle.std.specs.Prelude.{◌≡◌, ◌<◌, ℕ, ◌==◌, if◌then◌else◌, length, slice_index};
 
@@ -7,15 +7,6 @@ pub(crate) fn chosen(condition: bool, one: u8, other: u8) -> u8
     ensures { result ≡ (if condition then one else other) }
 {
     other ^ ((condition as u8).wrapping_neg() & (other ^ one))
-}
-
-// Writes one list over another where the condition holds: every byte is written.
-pub(crate) fn write_if<const N: usize>(condition: bool, one: &[u8; N], other: &mut [u8; N])
-    ensures { other.new ≡ (if condition then one.now else other.old) }
-{
-    for (k, byte) in other.iter_mut().enumerate() {
-        *byte = chosen(condition, one[k], *byte);
-    }
 }
 
 // The entry at a place: every entry is read.

@@ -4,7 +4,7 @@ ghost use Rattle.std.specs.Prelude.{◌≡◌, ℕ, List, ◌+◌, ◌-◌, ◌*
 ghost use Rattle.std.specs.Result.{result_err};
 ghost use Rattle.des_payment.specs.declared.key_block_error.KeyBlockError.TheVariants.{OptionalBlock as NoOptionalBlock};
 ghost use Rattle.des_payment.specs.KeyBlocks.{blocks_fault};
-ghost use Rattle.des_payment.specs.OptionalBlocks.{long_block, IsOptionalBlock, AreOptionalBlocks, filled};
+ghost use Rattle.des_payment.specs.OptionalBlocks.{long_block, IsOptionalBlock, AreOptionalBlocks, block_text, blocks_text, filled};
 ghost use Rattle.des_payment.specs.OptionalBlocks.{size_of as size_of_content, size_of_all as size_of_contents};
 ghost use Rattle.des_payment.specs.Hex.{hex_number as hex_number_of};
 
@@ -220,7 +220,8 @@ fn two_digits(number: usize) -> [u8; 2]
 fn write_block(block: &OptionalBlock<'_>, text: &mut [u8])
     requires size { length text.old ≡ size_of_content block.now.content.now }
     requires few { length block.now.content.now ≤ 9999 }
-    ensures { IsOptionalBlock block.now.name block.now.content.now text.new }
+    ensures is { IsOptionalBlock block.now.name block.now.content.now text.new }
+    ensures text { text.new ≡ block_text (block.now.name, block.now.content.now) }
 {
     let size = text.len();
     let (name, rest) = text.split_at_mut(2);
@@ -247,8 +248,10 @@ pub(crate) fn write_blocks(blocks: &[OptionalBlock<'_>], text: &mut [u8])
         ≤ 9999 }
     requires size { length text.old ≡ size_of_contents
         (filled (map (λ block. (block.name, block.content.now)) blocks.now)) }
-    ensures { AreOptionalBlocks
+    ensures are { AreOptionalBlocks
         (filled (map (λ block. (block.name, block.content.now)) blocks.now)) text.new }
+    ensures text { text.new
+        ≡ blocks_text (filled (map (λ block. (block.name, block.content.now)) blocks.now)) }
 {
     let mut at = 0;
     for block in blocks {

@@ -548,7 +548,29 @@ fn opens_what_it_wraps(rt: HostRuntime) {
         assert!(rt; are_opened(Version::C, &content[..246 + size]));
     }
     assert!(rt; are_opened(Version::B, &content) && are_opened(Version::C, &content));
-    assert!(rt; !is_opened(Version::A, &KEY_24, &[0xa1; 6], &content[..4]));
+}
+
+// Version A is read and not made: parts that make a block of the others are refused for it alone, and
+// nothing is written.
+#[test]
+fn makes_no_version_a(rt: HostRuntime) {
+    let optional = [OptionalBlock {
+        name: *b"KS",
+        content: b"7777",
+    }];
+    let mut text = [0x5a; 120];
+    let made = wrap(
+        &PROTECTION_24,
+        &other_header(Version::A),
+        &optional,
+        &KEY_24,
+        &[0xa1; 6],
+        &mut text,
+    );
+    assert!(rt; made == Err(KeyBlockError::Version));
+    assert!(rt; text == [0x5a; 120]);
+    assert!(rt; is_opened(Version::B, &KEY_24, &[0xa1; 6], b"7777"));
+    assert!(rt; is_opened(Version::C, &KEY_24, &[0xa1; 6], b"7777"));
 }
 
 // ---- faults of what is made

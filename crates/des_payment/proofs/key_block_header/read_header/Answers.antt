@@ -64,6 +64,10 @@ begins c =
       last = zeros.1;
     })
 
+pub returns-in-Some-count_of-clause-is_header : goal.returns-in-Some-count_of-clause-is_header
+returns-in-Some-count_of-clause-is_header c =
+    (ap length c.fields_of.ensures.usage, ap length c.fields_of.ensures.key_version)
+
 pub returns-in-Some-count_of-clause-text : goal.returns-in-Some-count_of-clause-text
 returns-in-Some-count_of-clause-text c = begins c
 

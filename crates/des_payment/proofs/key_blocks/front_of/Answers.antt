@@ -54,7 +54,7 @@ returns-clause-found c =
     let all = c.in-Some.ensures.all in (
       all.0,
       parts-read c.in_ok-header.header all.0 c.in_ok-header.count c.in-Some.size c.args.block.now
-          c.in_ok-header.ensures.least c.in_ok-header.ensures.short c.in_ok-header.ensures.few
+          c.in_ok-header.ensures.is_header c.in_ok-header.ensures.short c.in_ok-header.ensures.few
           c.in_ok-header.ensures.text all.1.0 all.1.1 c.in-Some.ensures.within c.if-size-ne0.false,
     )
 

@@ -7,6 +7,7 @@ use Rattle.des_payment.specs.KeyBlockReading.{is_sealed_length}
 use Rattle.des_payment.specs.declared.key_block_header.Header.{Header}
 use Rattle.des_payment.proofs.HeldKeys.{held-sealed, seal-fault}
 use Rattle.des_payment.proofs.KeyDataLengths.{key-data-sealed}
+use Rattle.des_payment.proofs.NamedHeaders.{named-same}
 use Rattle.des_payment.proofs.key_blocks.unwrap.Goals as goal
 use Rattle.des_payment.proofs.key_blocks.unwrap.Goals.{else-protection-ne16-via-then-protection-ne16+else-protection-ne24, else-protection-ne16-via-else-protection-ne16}
 
@@ -27,8 +28,24 @@ returns-in_err-header-clause-only c = λ header key holds.
     absurd (c.in_err-header.ensures.only header holds.0 held.front held.sealed held.parts
     (held-length c.args.protection.now header holds.0 key holds.1.0 c.args.block.now held))
 
+pub returns-in_err-header-clause-exact : goal.returns-in_err-header-clause-exact
+returns-in_err-header-clause-exact c = λ header key named holds.
+    let held = holds.1.1 in
+    absurd (c.in_err-header.ensures.only header holds.0 held.front held.sealed held.parts
+    (held-length c.args.protection.now header holds.0 key holds.1.0 c.args.block.now held))
+
 pub returns-in_err-key-clause-only : goal.returns-in_err-key-clause-only
 returns-in_err-key-clause-only c = λ header key holds.
+    let held = holds.1.1 in
+    let found = c.in_ok-header.ensures.only header holds.0 held.front held.sealed held.parts
+    (held-length c.args.protection.now header holds.0 key holds.1.0 c.args.block.now held) in
+    absurd (c.in_err-key.ensures.only key holds.1.0 held.is_clear
+    (held-sealed c.args.protection.now c.args.block.now c.split_at.result.0.now c.split_at.result.1.now
+    c.in_ok-header.size c.split_at.ensures.front c.split_at.ensures.back c.in_ok-header.header.version header holds.0
+    key holds.1.0 held found.1 found.0.0))
+
+pub returns-in_err-key-clause-exact : goal.returns-in_err-key-clause-exact
+returns-in_err-key-clause-exact c = λ header key named holds.
     let held = holds.1.1 in
     let found = c.in_ok-header.ensures.only header holds.0 held.front held.sealed held.parts
     (held-length c.args.protection.now header holds.0 key holds.1.0 c.args.block.now held) in
@@ -63,4 +80,13 @@ returns-clause-only c = λ header key holds.
           (held-sealed c.args.protection.now c.args.block.now c.split_at.result.0.now c.split_at.result.1.now
           c.in_ok-header.size c.split_at.ensures.front c.split_at.ensures.back c.in_ok-header.header.version header
           holds.0 key holds.1.0 held found.1 found.0.0),
+    )
+
+-- the header that was found has its names, as the other has
+pub returns-clause-exact : goal.returns-clause-exact
+returns-clause-exact c = λ header key named holds.
+    let alike = returns-clause-only c header key holds in (
+      named-same c.in_ok-header.header header c.in_ok-header.ensures.found.1.is_header holds.1.1.parts.is_header
+          c.in_ok-header.ensures.named named alike.0,
+      alike.1,
     )

@@ -1,12 +1,13 @@
 use Rattle.std.proofs.Common.{ℕ, ◌+◌, ◌-◌, ◌≤◌, List, length, take, get_or, refl, ap, ◌∙◌, subst, arith, rules}
-use Rattle.des_payment.specs.OptionalBlocks.{AreOptionalBlocks, size_of_all}
+use Rattle.des_payment.specs.OptionalBlocks.{AreOptionalBlocks, blocks_text, size_of_all}
 use Rattle.des_payment.proofs.OptionalBlockSizes.{no_block, pairs_of, size-within, size-more, size_of-least, size-filled_least, all-pairs}
 use Rattle.des_payment.proofs.OptionalBlockWrites.{are-step, are-filled, eight-zeros, last-room, last-size}
+use Rattle.des_payment.proofs.WrittenTexts.{text-step, text-filled, text-whole}
 use Rattle.des_payment.proofs.optional_blocks.write_blocks.Goals as goal
 
 pub loop-block-init : goal.loop-block-init
 unfolding AreOptionalBlocks size_of_all
-loop-block-init c = record { so_far = refl; are = refl }
+loop-block-init c = record { so_far = refl; are = refl; text = refl }
 
 pub size_of-requires : goal.size_of-requires
 size_of-requires c =
@@ -41,7 +42,10 @@ loop-block-preserved c =
           omega (arith, more);
       are = are-step c.args.blocks.now c.loop-block.block-index no_block c.loop-block.at _ c.size_of.result
           c.loop-block.text c.write_block.new.text c.loop-block-test.true bound (search rules)
-          c.loop-block.invariant.are c.write_block.ensures;
+          c.loop-block.invariant.are c.write_block.ensures.is;
+      text = text-step c.args.blocks.now c.loop-block.block-index no_block c.loop-block.at _ c.size_of.result
+          c.loop-block.text c.write_block.new.text c.loop-block-test.true bound (search rules)
+          c.loop-block.invariant.text c.write_block.ensures.text;
     }
 
 pub slice_bounds-write_block-count-then-at-ne0 : goal.slice_bounds-write_block-count-then-at-ne0
@@ -70,8 +74,8 @@ write_block-requires-then-at-ne0-clause-size c =
     (c.loop-block.auto.text ∙ c.requires.size) in
     last-size at n text _ c.zeros_after.ensures room (eight-zeros at n c.zeros_after.ensures)
 
-pub returns-then-at-ne0 : goal.returns-then-at-ne0
-returns-then-at-ne0 c =
+pub returns-then-at-ne0-clause-are : goal.returns-then-at-ne0-clause-are
+returns-then-at-ne0-clause-are c =
     let front = all-pairs c.args.blocks.now c.loop-block.block-index c.loop-block-test.false in
     let all = c.loop-block.invariant.so_far ∙ ap size_of_all front in
     let at : ℕ = c.loop-block.at in
@@ -81,4 +85,22 @@ returns-then-at-ne0 c =
     c.loop-block.invariant.are in
     are-filled (pairs_of c.args.blocks.now) at (length text - at) text _ c.write_block-then-at-ne0.new.text all
     c.if-at-ne0.true (omega arith) (search rules) (eight-zeros at c.zeros_after.result c.zeros_after.ensures) are
-    c.write_block-then-at-ne0.ensures
+    c.write_block-then-at-ne0.ensures.is
+
+pub returns-then-at-ne0-clause-text : goal.returns-then-at-ne0-clause-text
+returns-then-at-ne0-clause-text c =
+    let front = all-pairs c.args.blocks.now c.loop-block.block-index c.loop-block-test.false in
+    let all = c.loop-block.invariant.so_far ∙ ap size_of_all front in
+    let at : ℕ = c.loop-block.at in
+    let text : List ℕ = c.loop-block.text in
+    let there : at ≤ length text = omega (arith, all, size-filled_least (pairs_of c.args.blocks.now)) in
+    text-filled (pairs_of c.args.blocks.now) at (length text - at) text _ c.write_block-then-at-ne0.new.text all
+    c.if-at-ne0.true (omega arith) (search rules) (eight-zeros at c.zeros_after.result c.zeros_after.ensures)
+    (c.loop-block.invariant.text ∙ ap blocks_text front) c.write_block-then-at-ne0.ensures.text
+
+pub returns-else-at-ne0-clause-text : goal.returns-else-at-ne0-clause-text
+returns-else-at-ne0-clause-text c =
+    let front = all-pairs c.args.blocks.now c.loop-block.block-index c.loop-block-test.false in
+    let all = c.loop-block.invariant.so_far ∙ ap size_of_all front in
+    text-whole (pairs_of c.args.blocks.now) c.loop-block.at c.loop-block.text all c.if-at-ne0.false
+    (c.loop-block.auto.text ∙ c.requires.size) (c.loop-block.invariant.text ∙ ap blocks_text front)

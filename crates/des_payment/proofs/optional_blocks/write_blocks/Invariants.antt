@@ -1,5 +1,5 @@
 use Rattle.std.proofs.Common.{◌≡◌, map, take}
-use Rattle.des_payment.specs.OptionalBlocks.{AreOptionalBlocks, size_of_all}
+use Rattle.des_payment.specs.OptionalBlocks.{AreOptionalBlocks, blocks_text, size_of_all}
 use Rattle.des_payment.proofs.optional_blocks.write_blocks.Given as goal
 
 -- the blocks so far stand in the characters so far
@@ -8,4 +8,5 @@ invariant-loop-block l = record {
   so_far : l.at ≡ size_of_all (take l.block-index (map (λ block. (block.name, block.content.now)) l.blocks));
   are : AreOptionalBlocks (take l.block-index (map (λ block. (block.name, block.content.now)) l.blocks))
       (take l.at l.text);
+  text : take l.at l.text ≡ blocks_text (take l.block-index (map (λ block. (block.name, block.content.now)) l.blocks));
 }
