@@ -12,7 +12,7 @@ const PREFIX: [u8; 8] = *b"Salted__";
 #[derive(Clone, Copy, Debug, PartialEq, Eq)]
 pub enum SaltedError {
     /// They do not begin with `Salted__`.
-    NoPrefix,
+    NotSalted,
     /// They end within the salt.
     SaltCut,
 }
@@ -27,7 +27,7 @@ impl fmt::Display for SaltedError {
 
     fn fmt<W: fmt::Write>(&self, f: &mut fmt::Formatter<W>) -> fmt::Result {
         f.write_str(match self {
-            SaltedError::NoPrefix => "the bytes do not begin with Salted__",
+            SaltedError::NotSalted => "the bytes do not begin with Salted__",
             SaltedError::SaltCut => "the bytes end within the salt",
         })
     }
@@ -45,21 +45,21 @@ pub struct Salted<'a> {
 }
 
 /// Reads what `openssl enc` wrote, with no `-nosalt` and no `-S`: `Salted__`, the salt, and the
-/// rest. `NoPrefix` where the bytes begin otherwise or are fewer, `SaltCut` where no eight follow.
+/// rest. `NotSalted` where the bytes begin otherwise or are fewer, `SaltCut` where no eight follow.
 pub fn read_salted(bytes: &[u8]) -> Result<Salted<'_>, SaltedError>
     ensures ok { IfOk result (λ read. IsSalted bytes.now read.salt.now read.encrypted.now) }
     ensures accepted { IsOk result ↔ (take 8 bytes.now ≡ codes "Salted__")
         × (16 ≤ length bytes.now) }
-    ensures no_prefix { IsErrOf result SaltedError.NoPrefix
+    ensures not_salted { IsErrOf result SaltedError.NotSalted
         ↔ (take 8 bytes.now ≢ codes "Salted__") }
     ensures cut { IsErrOf result SaltedError.SaltCut ↔ (take 8 bytes.now ≡ codes "Salted__")
         × (length bytes.now < 16) }
 {
     let Some((prefix, rest)) = bytes.split_first_chunk::<8>() else {
-        return Err(SaltedError::NoPrefix);
+        return Err(SaltedError::NotSalted);
     };
     if *prefix != PREFIX {
-        return Err(SaltedError::NoPrefix);
+        return Err(SaltedError::NotSalted);
     }
     let Some((salt, encrypted)) = rest.split_first_chunk::<8>() else {
         return Err(SaltedError::SaltCut);

@@ -237,7 +237,7 @@ fn reads_salted_bytes(rt: HostRuntime) {
     let error = |bytes: &[u8]| read_salted(bytes).err();
     assert!(rt; error(b"Salted__1234567") == Some(SaltedError::SaltCut));
     assert!(rt; error(b"Salted__") == Some(SaltedError::SaltCut));
-    assert!(rt; error(b"Salted_") == Some(SaltedError::NoPrefix));
-    assert!(rt; error(b"salted__12345678") == Some(SaltedError::NoPrefix));
-    assert!(rt; error(b"") == Some(SaltedError::NoPrefix));
+    assert!(rt; error(b"Salted_") == Some(SaltedError::NotSalted));
+    assert!(rt; error(b"salted__12345678") == Some(SaltedError::NotSalted));
+    assert!(rt; error(b"") == Some(SaltedError::NotSalted));
 }

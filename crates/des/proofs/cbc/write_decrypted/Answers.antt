@@ -1,5 +1,5 @@
 -- The blocks are written over the beginning of the array, and decrypted there.
-use Rattle.std.proofs.Common.{ℕ, List, map, length, ap, ◌∙◌, arith}
+use Rattle.std.proofs.Common.{ℕ, List, map, length, ap, ◌∙◌}
 use Rattle.std.proofs.lemmas.List.{take_at, length-map}
 use Rattle.des.proofs.cbc.write_decrypted.Goals as goal
 
