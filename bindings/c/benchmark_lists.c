@@ -7,6 +7,7 @@
 #define OPENSSL_SUPPRESS_DEPRECATED
 #include "benchmark.h"
 #include <openssl/des.h>
+#include <openssl/evp.h>
 #include <pthread.h>
 #include <string.h>
 #ifdef HAS_GCRYPT
@@ -265,6 +266,30 @@ static void rows_of_threads(void) {
     printf("| %zu | %8.1f | %5.2f |\n", threads[i], least[i] / (MOST / 8), least[i] / least[0]);
 }
 
+/* A key of 24 bytes by PBKDF2, of a password and a salt of eight bytes. */
+enum { ITERATIONS = 1000 };
+
+static const char password[] = "password";
+
+static void pbkdf2(void *state, size_t bytes) {
+  uint8_t key[24];
+  (void)bytes;
+  check(cukvashe_pbkdf2(*(const int *)state, (const uint8_t *)password, 8, vectors, 8, ITERATIONS, key, sizeof key));
+}
+
+static void openssl_pbkdf2(void *state, size_t bytes) {
+  const EVP_MD *hash = *(const int *)state == CUKVASHE_SHA1 ? EVP_sha1() : EVP_sha256();
+  uint8_t key[24];
+  (void)bytes;
+  if (!PKCS5_PBKDF2_HMAC(password, 8, vectors, 8, ITERATIONS, hash, sizeof key, key)) fail("PKCS5_PBKDF2_HMAC");
+}
+
+static void row_of_pbkdf2(const char *name, int hash) {
+  struct timed row[2] = {{pbkdf2, &hash, 0}, {openssl_pbkdf2, &hash, 0}};
+  time_all(row, 2, 0);
+  printf("| %s | %8.1f | %8.1f | %5.2f |\n", name, row[0].least / ITERATIONS, row[1].least / ITERATIONS, row[0].least / row[1].least);
+}
+
 static void prepare(void) {
   for (size_t i = 0; i < sizeof keys; i++) keys[i] = (uint8_t)(17 * i * i + 59 * i + 3);
   for (size_t i = 0; i < sizeof texts; i++) texts[i] = (uint8_t)(31 * i + i / 64);
@@ -298,5 +323,8 @@ int main(void) {
   rows_of_few(true);
   printf("\nNanoseconds for a block of 1 MiB, EDE3, by threads\n\n| threads | time | of one |\n|---|---|---|\n");
   rows_of_threads();
+  printf("\nNanoseconds for an iteration of PBKDF2, for a key of 24 bytes\n\n| hash | time | OpenSSL | of OpenSSL |\n|---|---|---|---|\n");
+  row_of_pbkdf2("SHA-1", CUKVASHE_SHA1);
+  row_of_pbkdf2("SHA-256", CUKVASHE_SHA256);
   return 0;
 }

@@ -1,6 +1,6 @@
 /*
  * What of the library is C: which of two proved calls is taken, by length and processor; proved calls in the header's order of
- * arguments, and lists of blocks by their length in bytes; texts; and wiping.
+ * arguments, lists of blocks by their length in bytes, and a part of a text by its place; texts; and wiping.
  */
 #include "internal.h"
 #include <string.h>
@@ -141,6 +141,17 @@ bool cukvashe_equal_but_parity(const uint8_t *first, const uint8_t *second, size
   return cukvashe_narrow_equal_but_parity(first, key_length, second, key_length);
 }
 
+/* The proved call gives the content as a part of the block, by where it stands. */
+int cukvashe_key_block_optional_block(const char *block, size_t block_length, size_t place, char name[3],
+                                      size_t *offset, size_t *length) {
+  cukvashe_message content = {(const uint8_t *)block, 0};
+  int status = cukvashe_narrow_key_block_optional_block(block, block_length, place, name, &content);
+  if (status != CUKVASHE_OK) return status;
+  *offset = (size_t)(content.bytes - (const uint8_t *)block);
+  *length = content.length;
+  return status;
+}
+
 const char *cukvashe_version(void) { return CUKVASHE_VERSION; }
 
 const char *cukvashe_strerror(int status) {
@@ -163,7 +174,7 @@ const char *cukvashe_strerror(int status) {
       [CUKVASHE_ERR_SERVICE_LENGTH] = "the service code does not have three digits",
       [CUKVASHE_ERR_SERVICE_DIGIT] = "a character of the service code is not a digit",
       [CUKVASHE_ERR_PADDING] = "the last block does not end with the padding",
-      [CUKVASHE_ERR_CAPACITY] = "the buffer has no room for the padding",
+      [CUKVASHE_ERR_CAPACITY] = "the buffer has no room",
       [CUKVASHE_ERR_COUNTS] = "the numbers of elements do not agree",
       [CUKVASHE_ERR_KEY_INDEX] = "the index of the key pair is not 1 to 6",
       [CUKVASHE_ERR_TABLE_LENGTH] = "the decimalization table does not have sixteen digits",
@@ -175,6 +186,23 @@ const char *cukvashe_strerror(int status) {
       [CUKVASHE_ERR_SEQUENCE_LENGTH] = "the sequence number does not have two digits",
       [CUKVASHE_ERR_SEQUENCE_DIGIT] = "a character of the sequence number is not a digit",
       [CUKVASHE_ERR_DATA_LENGTH] = "the issuer's data have more than 8 bytes",
+      [CUKVASHE_ERR_PROTECTION_KEY_LENGTH] = "the protection key does not have 16 or 24 bytes",
+      [CUKVASHE_ERR_KEY_BLOCK_LENGTH] =
+          "the key block is not as long as its header says, longer than 9999 characters, or too long for its buffer",
+      [CUKVASHE_ERR_VERSION] = "the version of the key block is not one that the call takes",
+      [CUKVASHE_ERR_HEADER] =
+          "the number of optional blocks is not two digits and two zeros, or a field to be written is not letters and digits",
+      [CUKVASHE_ERR_OPTIONAL_BLOCK] =
+          "the optional blocks can't be read: a wrong length, an end off a multiple of eight, or more than 99",
+      [CUKVASHE_ERR_KEY_DATA_LENGTH] = "the encrypted key data do not have a length that they can have",
+      [CUKVASHE_ERR_KEY_BLOCK_DIGIT] = "a character of the encrypted key data or the MAC is not 0 to 9 or A to F",
+      [CUKVASHE_ERR_KEY_BLOCK_MAC] = "the MAC is not that of the key block",
+      [CUKVASHE_ERR_PADDING_LENGTH] = "the padding of the key does not have a length that it can have",
+      [CUKVASHE_ERR_NO_OPTIONAL_BLOCK] = "the key block has no optional block at this place",
+      [CUKVASHE_ERR_HASH] = "no hash function that the call takes has this number",
+      [CUKVASHE_ERR_ITERATIONS] = "the number of iterations is 0, or above 2^32 - 1",
+      [CUKVASHE_ERR_NOT_SALTED] = "the bytes do not begin with Salted__",
+      [CUKVASHE_ERR_SALT_LENGTH] = "the bytes end within the salt",
   };
   const size_t place = (size_t)status; /* of a negative number, beyond all */
   return place < sizeof texts / sizeof *texts ? texts[place] : "there is no status of this number";

@@ -32,8 +32,8 @@
  * The library can't check that a pointer is good for its length, that arguments do not overlap, and that a context was
  * written by its init or init_quiet; if not, behaviour is undefined. You may copy, move and overwrite the bytes of a
  * context. Weak keys are accepted: call cukvashe_weak_key_test if you care. No mode here authenticates. Use an
- * initialization vector that is fresh and that nobody can foresee. Wipe contexts, terminals, keys and PINs after use
- * (cukvashe_wipe).
+ * initialization vector that is fresh and that nobody can foresee. Wipe contexts, terminals, keys, passwords and PINs
+ * after use (cukvashe_wipe).
  *
  * SECRETS AND TIME
  *
@@ -56,7 +56,8 @@
  * cukvashe_set_odd_parity, cukvashe_equal_but_parity, check values, components, PIN verification and card verification
  * values: their rules are the words below. Tested and not proved are the few lines of C in the library: they choose the
  * width of the vectors, hand the arguments of some calls to proved ones in another order, make of the length of a list
- * its number of blocks, and are cukvashe_wipe, cukvashe_strerror and cukvashe_version.
+ * its number of blocks, and of a part of a key block its place, and are cukvashe_wipe, cukvashe_strerror and
+ * cukvashe_version.
  */
 #ifndef CUKVASHE_DES_H
 #define CUKVASHE_DES_H
@@ -100,7 +101,7 @@ extern "C" {
 #define CUKVASHE_ERR_SERVICE_LENGTH 15  /* the service code does not have three digits */
 #define CUKVASHE_ERR_SERVICE_DIGIT 16   /* a character of the service code is not a digit */
 #define CUKVASHE_ERR_PADDING 17         /* the last block does not end with the padding */
-#define CUKVASHE_ERR_CAPACITY 18        /* the buffer has no room for the padding */
+#define CUKVASHE_ERR_CAPACITY 18        /* the buffer has no room for the padding, or for what is opened */
 #define CUKVASHE_ERR_COUNTS 19          /* numbers of elements do not agree: a count, or a sum of counts, and a length */
 #define CUKVASHE_ERR_KEY_INDEX 20       /* the index of the key pair is not 1 to 6 */
 #define CUKVASHE_ERR_TABLE_LENGTH 21    /* the decimalization table does not have sixteen digits */
@@ -112,6 +113,20 @@ extern "C" {
 #define CUKVASHE_ERR_SEQUENCE_LENGTH 27 /* the sequence number does not have two digits */
 #define CUKVASHE_ERR_SEQUENCE_DIGIT 28  /* a character of the sequence number is not a digit */
 #define CUKVASHE_ERR_DATA_LENGTH 29     /* the issuer's data have more than 8 bytes */
+#define CUKVASHE_ERR_PROTECTION_KEY_LENGTH 30    /* the protection key does not have 16 or 24 bytes */
+#define CUKVASHE_ERR_KEY_BLOCK_LENGTH 31         /* the key block is not as long as it says, or too long for its buffer */
+#define CUKVASHE_ERR_VERSION 32                  /* the version of the key block is none that the call takes */
+#define CUKVASHE_ERR_HEADER 33                   /* no number of optional blocks, or a field not of letters and digits */
+#define CUKVASHE_ERR_OPTIONAL_BLOCK 34           /* the optional blocks can't be read, end wrongly, or are over 99 */
+#define CUKVASHE_ERR_KEY_DATA_LENGTH 35          /* encrypted key data and MAC do not have a length that they can have */
+#define CUKVASHE_ERR_KEY_BLOCK_DIGIT 36          /* a character of encrypted key data or MAC is not 0 to 9 or A to F */
+#define CUKVASHE_ERR_KEY_BLOCK_MAC 37            /* the MAC is not that of the key block */
+#define CUKVASHE_ERR_PADDING_LENGTH 38           /* the padding of the key does not fill blocks, or is too long */
+#define CUKVASHE_ERR_NO_OPTIONAL_BLOCK 39        /* the key block has no optional block at this place */
+#define CUKVASHE_ERR_HASH 40                     /* no hash function that the call takes has this number */
+#define CUKVASHE_ERR_ITERATIONS 41               /* the number of iterations is 0, or above 2^32 - 1 */
+#define CUKVASHE_ERR_NOT_SALTED 42               /* the bytes do not begin with Salted__ */
+#define CUKVASHE_ERR_SALT_LENGTH 43              /* the bytes end within the salt */
 
 /* Sizes, in bytes. */
 #define CUKVASHE_BLOCK_SIZE 8
@@ -133,10 +148,17 @@ extern "C" {
 #define CUKVASHE_PIN_SIZE 13  /* a PIN of up to 12 digits, and a zero byte */
 #define CUKVASHE_CVV_SIZE 4   /* three digits, and a zero byte */
 #define CUKVASHE_PVV_SIZE 5   /* four digits, and a zero byte */
+#define CUKVASHE_KEY_DATA_SIZE 32     /* two bytes, a key and padding that hides its length */
+#define CUKVASHE_KEY_BLOCK_SIZE 10000 /* the longest key block, and a zero byte */
 
 /* The padding methods of cukvashe_pad: PKCS#7 (RFC 5652, 6.3), and ISO/IEC 7816-4. */
 #define CUKVASHE_PKCS7 11
 #define CUKVASHE_ISO7816 12
+
+/* The hash functions of keys from passwords: MD5 (RFC 1321), and SHA-1 and SHA-256 (FIPS 180-4). */
+#define CUKVASHE_MD5 21
+#define CUKVASHE_SHA1 22
+#define CUKVASHE_SHA256 23
 
 /* The padding methods of MACs (ISO/IEC 9797-1:2011, 6.3): zeros; and a one bit, then zeros. */
 #define CUKVASHE_MAC_PADDING_1 1
@@ -682,8 +704,8 @@ CUKVASHE_CHECK int cukvashe_pin_decode_3(const uint8_t block[8], const char *acc
  * PINs.
  *
  * Both branch on the lengths of keys and of the account number, on whether each of its characters, and of the fill
- * digits, is one that may be there, on whether the block is right, and on how many digits its PIN has. Nothing else of
- * a key, a block or a PIN decides a branch or an address; a block is encrypted even if the incoming one is not right.
+ * digits, is one that may be there, and on whether the block is right. Nothing else of a key, a block or a PIN decides a
+ * branch or an address; a block is encrypted even if the incoming one is not right.
  */
 CUKVASHE_CHECK int cukvashe_pin_translate_to_0(const uint8_t *incoming_key, size_t incoming_key_length,
                                                int incoming_format, const uint8_t *outgoing_key,
@@ -801,6 +823,120 @@ void cukvashe_emv_response_1(const uint8_t session[16], const uint8_t cryptogram
 CUKVASHE_CHECK int cukvashe_emv_response_2(const uint8_t session[16], const uint8_t cryptogram[8],
                                            const uint8_t status[4], const uint8_t *data, size_t length,
                                            uint8_t response[4]);
+
+/*
+ * KEY BLOCKS
+ *
+ * Key blocks (ANSI X9.143, ASC X9 TR-31) of versions B and C, made and read, and of version A, read alone. A key block
+ * is a text of ASCII characters: a header that says what a key is for, optional blocks, and the key, of 8, 16 or 24
+ * bytes, encrypted and authenticated under a protection key (KBPK) of 16 or 24 bytes. A `char` of the header is one
+ * character, as 'B'. After a text that a call writes stands a zero byte, which no length counts; so it is with the texts
+ * of two characters in the header.
+ *
+ * unwrap writes the header, the key and then zeros to 24 bytes, and into `key_length` how many bytes the key has. The
+ * status is that of the first fault, in this order: CUKVASHE_ERR_PROTECTION_KEY_LENGTH; _KEY_BLOCK_LENGTH; _VERSION;
+ * _HEADER, if the number of optional blocks is not two digits with two zeros after it; _OPTIONAL_BLOCK, if the blocks
+ * can't be read, or do not end at a multiple of eight characters; _KEY_DATA_LENGTH; _KEY_BLOCK_DIGIT; _KEY_BLOCK_MAC;
+ * _KEY_LENGTH. The key's length is looked at only when the MAC is right. The header says what the key may be used for:
+ * look at it before you use the key. No call compares it with the key's length.
+ *
+ * wrap writes the block and a zero byte, and into `length` how many characters the block has; `room` is the number of
+ * bytes at `block`, that of the zero byte included. Without optional blocks a block has at most 96 characters.
+ *
+ * `optional` are the optional blocks, one after the other. Each is a name of two characters, its whole length in two
+ * hexadecimal digits in upper case, as KS1800604B120F9292800000, and its content; one that is longer than 255 characters
+ * has 0002 and four digits in their place. They are written in this order, each with the shorter form of its length. If
+ * they end at no multiple of eight characters, a block `PB` of zeros is added: leave out that of a block that was read.
+ * That their characters are printable is not tested.
+ *
+ * `padding` are random bytes of yours, after the key. CUKVASHE_KEY_DATA_SIZE - 2 - key_length of them hide how long the
+ * key is. Do not give the same bytes each time.
+ *
+ * The status of wrap is that of the first fault, in this order: CUKVASHE_ERR_VERSION, unless the version is B or C;
+ * _HEADER, if a field has other characters than letters and digits; _OPTIONAL_BLOCK, if `optional` can't be read, or
+ * holds more than 99; _PROTECTION_KEY_LENGTH; _KEY_LENGTH; _PADDING_LENGTH, unless 2 bytes, the key and the padding are
+ * 8, 16, 24 or 32 bytes together; _KEY_BLOCK_LENGTH, if the optional blocks have more than 9999 characters;
+ * _OPTIONAL_BLOCK, if they are more than 99 with `PB`; _KEY_BLOCK_LENGTH, if the block has more than 9999 characters, or
+ * `room` is too small.
+ *
+ * header writes the fields of a block's header. optional_block writes the name of the optional block at a place, from 0,
+ * into `offset` where in the block its content begins, and into `length` the content's length. Neither takes a key, and
+ * nothing that they write is authenticated. The status is that of the first fault of unwrap's, from _KEY_BLOCK_LENGTH to
+ * _KEY_DATA_LENGTH; of optional_block then CUKVASHE_ERR_NO_OPTIONAL_BLOCK, if there is none at this place.
+ *
+ * These calls branch on what is no secret: lengths, the block, its header. unwrap compares all bytes of the MAC, branches
+ * on whether it is right, and then on the key's length. Nothing else of a key decides a branch or an address. What unwrap
+ * does after a right MAC is said by the source, and not tested.
+ */
+typedef struct {
+  char version;        /* A, B or C */
+  char usage[3];       /* as P0, for keys that encrypt PIN blocks */
+  char algorithm;      /* as T, for triple DES */
+  char mode;           /* as E, for encryption alone */
+  char key_version[3]; /* 00: no versions; c and a character: a component of a key, not the key; else the version */
+  char exportability;  /* E, N or S */
+} cukvashe_key_block_fields;
+
+CUKVASHE_CHECK int cukvashe_key_block_unwrap(const uint8_t *protection, size_t protection_length, const char *block,
+                                             size_t block_length, cukvashe_key_block_fields *header, uint8_t key[24],
+                                             size_t *key_length);
+CUKVASHE_CHECK int cukvashe_key_block_wrap(const uint8_t *protection, size_t protection_length,
+                                           const cukvashe_key_block_fields *header, const char *optional,
+                                           size_t optional_length, const uint8_t *key, size_t key_length,
+                                           const uint8_t *padding, size_t padding_length, char *block, size_t room,
+                                           size_t *length);
+CUKVASHE_CHECK int cukvashe_key_block_header(const char *block, size_t block_length, cukvashe_key_block_fields *header);
+CUKVASHE_CHECK int cukvashe_key_block_optional_block(const char *block, size_t block_length, size_t place, char name[3],
+                                                     size_t *offset, size_t *length);
+
+/*
+ * PASSWORDS
+ *
+ * To read what others wrote. MD5 and SHA-1 are broken as hashes, and bytes_to_key makes a password quick to guess. `hash`
+ * is CUKVASHE_SHA1 or CUKVASHE_SHA256, and without PBKDF2 also CUKVASHE_MD5. Another number is CUKVASHE_ERR_HASH, also
+ * one of OpenSSL's or libgcrypt's.
+ *
+ * pbkdf2 writes the key of a password and a salt by PBKDF2 (RFC 8018, 5.2) with HMAC over the hash function.
+ * CUKVASHE_ERR_ITERATIONS if `iterations` is 0 or above 2^32 - 1, CUKVASHE_ERR_KEY_LENGTH if the key is longer than
+ * 2^32 - 1 digests.
+ *
+ * bytes_to_key writes the key, and after it the vector, that OpenSSL's EVP_BytesToKey makes with one iteration. Ask for
+ * both together: 32 bytes for a key of 24 bytes and a vector.
+ *
+ * int cukvashe_NAME_open_salted(int hash, size_t iterations, const uint8_t *password, size_t password_length,
+ *                               const uint8_t *bytes, size_t length, uint8_t *plain, size_t room, size_t *plain_length)
+ *
+ * Decrypts what the command openssl enc encrypted under a password: by `-des-cbc` (des), `-des-ede-cbc` (tdes_ede2), or
+ * `-des3` or `-des-ede3-cbc` (tdes_ede3). It writes the plaintext without its padding, and into `plain_length` how many
+ * bytes it has; `room` is the number of bytes at `plain`, for which `length` - 16 are always enough. `bytes` are the whole
+ * file: Salted__, a salt of 8 bytes and the ciphertext, not Base64 (`-a`).
+ *
+ * `hash` is that of `-md`: CUKVASHE_SHA256 by default since OpenSSL 1.1.0, CUKVASHE_MD5 before. `iterations` are those of
+ * `-iter`; 10000 if `-pbkdf2` was given without it; and 0, not 1, if neither was given: then bytes_to_key is taken, and
+ * else PBKDF2.
+ *
+ * The status is that of the first fault, in this order: CUKVASHE_ERR_HASH, _NOT_SALTED, _SALT_LENGTH, _ITERATIONS,
+ * _BLOCKS, _PADDING, _CAPACITY. A wrong password, hash function or number of iterations is CUKVASHE_ERR_PADDING, but for
+ * one in 256, which gives CUKVASHE_OK and wrong bytes: nothing here authenticates. Tell nobody who sends you files which
+ * fault they have.
+ *
+ * These calls branch on lengths, and open_salted on the padding of the plaintext. They have no other branch on a password
+ * or on what is made of it, and read no table at an address that depends on it. How long they take depends on the
+ * iterations and the lengths.
+ */
+CUKVASHE_CHECK int cukvashe_pbkdf2(int hash, const uint8_t *password, size_t password_length, const uint8_t *salt,
+                                   size_t salt_length, size_t iterations, uint8_t *key, size_t key_length);
+CUKVASHE_CHECK int cukvashe_bytes_to_key(int hash, const uint8_t *password, size_t password_length, const uint8_t *salt,
+                                         size_t salt_length, uint8_t *key, size_t key_length);
+CUKVASHE_CHECK int cukvashe_des_open_salted(int hash, size_t iterations, const uint8_t *password,
+                                            size_t password_length, const uint8_t *bytes, size_t length, uint8_t *plain,
+                                            size_t room, size_t *plain_length);
+CUKVASHE_CHECK int cukvashe_tdes_ede2_open_salted(int hash, size_t iterations, const uint8_t *password,
+                                                  size_t password_length, const uint8_t *bytes, size_t length,
+                                                  uint8_t *plain, size_t room, size_t *plain_length);
+CUKVASHE_CHECK int cukvashe_tdes_ede3_open_salted(int hash, size_t iterations, const uint8_t *password,
+                                                  size_t password_length, const uint8_t *bytes, size_t length,
+                                                  uint8_t *plain, size_t room, size_t *plain_length);
 
 #ifdef __cplusplus
 }

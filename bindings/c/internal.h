@@ -77,6 +77,8 @@ DECLARE_CMAC(tdes_ede3, narrow)
 int cukvashe_narrow_compare_tags(const uint8_t *tags, size_t tags_count, const uint8_t *expected, size_t expected_count,
                                 bool *right, size_t right_count);
 int cukvashe_narrow_pad(uint8_t *buffer, size_t capacity, size_t length, int method, size_t *padded_length);
+int cukvashe_narrow_key_block_optional_block(const char *block, size_t block_length, size_t place, char name[3],
+                                             cukvashe_message *content);
 bool cukvashe_narrow_equal_but_parity(const uint8_t *first, size_t first_length, const uint8_t *second,
                                       size_t second_length);
 

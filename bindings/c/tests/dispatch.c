@@ -169,6 +169,16 @@ int cukvashe_narrow_pad(uint8_t *buffer, size_t capacity, size_t length, int met
 
 static bool answer;
 
+/* The content is the last two characters before the length. */
+int cukvashe_narrow_key_block_optional_block(const char *block, size_t block_length, size_t place, char name[3],
+                                             cukvashe_message *content) {
+  const int status = place == 7 ? CUKVASHE_OK : STATUS;
+  CHECK(content->bytes == (const uint8_t *)block && content->length == 0);
+  made("optional", name, NULL, block, block_length, NULL, place);
+  if (status == CUKVASHE_OK) *content = (cukvashe_message){(const uint8_t *)block + block_length - 2, 2};
+  return status;
+}
+
 bool cukvashe_narrow_equal_but_parity(const uint8_t *first, size_t first_length, const uint8_t *second,
                                       size_t second_length) {
   made("equal", NULL, NULL, first, first_length, second, second_length);
@@ -313,6 +323,17 @@ static void hands_on_any_blocks(size_t length) {
   for (size_t i = 0; i < sizeof counts / sizeof *counts; i++) hands_on_blocks(counts[i], length);
 }
 
+static void gives_places(void) {
+  static const char text[30];
+  char name[3];
+  size_t offset = 3, length = 4;
+  CHECK(cukvashe_key_block_optional_block(text, 30, 6, name, &offset, &length) == STATUS && offset == 3 && length == 4);
+  CHECK(last.input == text && last.input_length == 30 && last.output_length == 6 && last.context == name);
+  CHECK(cukvashe_key_block_optional_block(text, 30, 7, name, &offset, &length) == CUKVASHE_OK && offset == 28 && length == 2);
+  CHECK(last.input == text && last.input_length == 30 && last.output_length == 7 && last.context == name);
+  CHECK(cukvashe_key_block_optional_block(NULL, 0, 6, name, &offset, &length) == STATUS && last.input == NULL);
+}
+
 static void hands_on_the_rest(void) {
   size_t padded;
   CHECK(cukvashe_pad(output, 5, 16, 2, &padded) == STATUS && padded == 2 && calls == 1 && strcmp(last.name, "pad") == 0);
@@ -381,6 +402,7 @@ int main(int count, char **words) {
   for (size_t i = 0; i < sizeof lengths / sizeof *lengths; i++) hands_on_any_blocks(lengths[i]);
   CHECK(questions == HAS_WIDE);
   hands_on_the_rest();
+  gives_places();
   cukvashe_wipe(NULL, 0);
   CHECK(cukvashe_strerror(-1) == cukvashe_strerror(INT_MIN) && cukvashe_strerror(0) != cukvashe_strerror(-1));
   for (size_t i = 0; i < SECRET; i++) secret[i] = (uint8_t)(3 * i + 101);

@@ -35,6 +35,19 @@ int main(void) {
   uint8_t block[8];
   /* By OpenSSL's `des-ede` of the account number's digits, the index 1 and the PIN, under the key of the tag. */
   static const char *const number = "4123456789012345";
+  /* A published key block of a PIN key, its protection key and the key. */
+  static const uint8_t protection[16] = {0xdd, 0x75, 0x15, 0xf2, 0xbf, 0xc1, 0x7f, 0x85, 0xce, 0x48, 0xf3, 0xca, 0x25, 0xcb, 0x21, 0xf6};
+  static const uint8_t wrapped[16] = {0x3f, 0x41, 0x9e, 0x1c, 0xb7, 0x07, 0x94, 0x42, 0xaa, 0x37, 0x47, 0x4c, 0x2e, 0xfb, 0xf8, 0xb8};
+  static const char *const key_block = "B0080P0TE00E000094B420079CC80BA3461F86FE26EFC4A3B8E4FA4C5F5341176EED7B727B8A248E";
+  /* The same key for data. */
+  static const char *const data_block = "B0080D0TB00E0000683635CF870E200549B4D6184DE572754C155E7DA8801A3579B3462A5E142EE3";
+  uint8_t taken[24];
+  /* `openssl enc -des3 -pbkdf2 -pass pass:secret` of "Now is the time". */
+  static const uint8_t file[32] = {
+      'S',  'a',  'l',  't',  'e',  'd',  '_',  '_',  0x01, 0x23, 0x45, 0x67, 0x89, 0xab, 0xcd, 0xef,
+      0xe9, 0xd6, 0x42, 0x0d, 0xfd, 0xe6, 0xf7, 0x6f, 0x72, 0xe1, 0x4a, 0xc6, 0xc0, 0x54, 0x6f, 0x83,
+  };
+  static const uint8_t *const password = (const uint8_t *)"secret";
   int failed = 0;
   failed += holds("the status of a record", decrypt_record(key, iv, data, sizeof data, &length) == CUKVASHE_OK);
   failed += holds("the record", length == 24 && memcmp(data, "The qufck brown fox jump", 24) == 0);
@@ -51,5 +64,12 @@ int main(void) {
   failed += holds("a PIN that is none", encrypt_pin(pin_key, "123", 3, "4012345678909", 13, block) == CUKVASHE_ERR_PIN_LENGTH);
   failed += holds("the PIN of a value", is_right(mac_key, number, 16, "1234", 4, "1894"));
   failed += holds("another PIN", !is_right(mac_key, number, 16, "1235", 4, "1894"));
+  failed += holds("the status of a key block", take_pin_key(protection, key_block, 80, taken, &length) == CUKVASHE_OK);
+  failed += holds("the key of a key block", length == 16 && memcmp(taken, wrapped, 16) == 0);
+  failed += holds("a key block that was cut", take_pin_key(protection, key_block, 79, taken, &length) == CUKVASHE_ERR_KEY_BLOCK_LENGTH);
+  failed += holds("a key of another usage", take_pin_key(protection, data_block, 80, taken, &length) == CUKVASHE_ERR_HEADER);
+  failed += holds("the status of a file", open_file(password, 6, file, sizeof file, taken, 16, &length) == CUKVASHE_OK);
+  failed += holds("a file", length == 15 && memcmp(taken, "Now is the time", 15) == 0);
+  failed += holds("a cut file", open_file(password, 6, file, 31, taken, 16, &length) == CUKVASHE_ERR_BLOCKS);
   return failed;
 }

@@ -6,7 +6,7 @@
 enum { MOST = 33, PAINT = 0x77 };
 
 /* The statuses that a call returned. */
-enum { LAST = CUKVASHE_ERR_DATA_LENGTH };
+enum { LAST = CUKVASHE_ERR_SALT_LENGTH };
 
 static int was_returned[LAST + 1];
 
@@ -173,16 +173,55 @@ static void returns_statuses_of_pins_and_cards(void) {
   CHECK(seen(cukvashe_emv_response_2(key, block, bytes, bytes, 9, made)) == CUKVASHE_ERR_DATA_LENGTH);
 }
 
+/* Those of key blocks. */
+static void returns_statuses_of_key_blocks(void) {
+  static const uint8_t key[16] = {0};
+  cukvashe_key_block_fields header = {'A', "P0", 'T', 'E', "00", 'E'};
+  uint8_t opened[24];
+  char name[3], text[100], block[] = "B0080P0TE00E000094B420079CC80BA3461F86FE26EFC4A3B8E4FA4C5F5341176EED7B727B8A248E";
+  size_t length;
+  CHECK(seen(cukvashe_key_block_unwrap(key, 8, block, 80, &header, opened, &length)) == CUKVASHE_ERR_PROTECTION_KEY_LENGTH);
+  CHECK(seen(cukvashe_key_block_unwrap(key, 16, block, 79, &header, opened, &length)) == CUKVASHE_ERR_KEY_BLOCK_LENGTH);
+  CHECK(seen(cukvashe_key_block_unwrap(key, 16, block, 80, &header, opened, &length)) == CUKVASHE_ERR_KEY_BLOCK_MAC);
+  CHECK(seen(cukvashe_key_block_wrap(key, 16, &header, "", 0, key, 16, key, 6, text, 100, &length)) == CUKVASHE_ERR_VERSION);
+  header.version = 'B';
+  CHECK(seen(cukvashe_key_block_wrap(key, 16, &header, "x", 1, key, 16, key, 6, text, 100, &length)) == CUKVASHE_ERR_OPTIONAL_BLOCK);
+  CHECK(seen(cukvashe_key_block_wrap(key, 16, &header, "", 0, key, 16, key, 7, text, 100, &length)) == CUKVASHE_ERR_PADDING_LENGTH);
+  header.mode = ' ';
+  CHECK(seen(cukvashe_key_block_wrap(key, 16, &header, "", 0, key, 16, key, 6, text, 100, &length)) == CUKVASHE_ERR_HEADER);
+  CHECK(seen(cukvashe_key_block_optional_block(block, 80, 0, name, &length, &length)) == CUKVASHE_ERR_NO_OPTIONAL_BLOCK);
+  block[0] = 'C';
+  CHECK(seen(cukvashe_key_block_header(block, 80, &header)) == CUKVASHE_ERR_KEY_DATA_LENGTH);
+  block[0] = 'B';
+  block[79] = 'e';
+  CHECK(seen(cukvashe_key_block_unwrap(key, 16, block, 80, &header, opened, &length)) == CUKVASHE_ERR_KEY_BLOCK_DIGIT);
+}
+
+/* Those of passwords. */
+static void returns_statuses_of_passwords(void) {
+  static const uint8_t bytes[] = "Salted__1234567";
+  uint8_t key[24], plain[8];
+  size_t length;
+  CHECK(seen(cukvashe_pbkdf2(CUKVASHE_MD5, bytes, 8, bytes, 8, 1, key, 24)) == CUKVASHE_ERR_HASH);
+  CHECK(seen(cukvashe_pbkdf2(CUKVASHE_SHA1, bytes, 8, bytes, 8, 0, key, 24)) == CUKVASHE_ERR_ITERATIONS);
+  CHECK(seen(cukvashe_des_open_salted(CUKVASHE_MD5, 0, bytes, 8, bytes, 7, plain, 8, &length)) == CUKVASHE_ERR_NOT_SALTED);
+  CHECK(seen(cukvashe_des_open_salted(CUKVASHE_MD5, 0, bytes, 8, bytes, 15, plain, 8, &length)) == CUKVASHE_ERR_SALT_LENGTH);
+}
+
 /* Words that the sentence of each status has. */
 static const char *const words[] = {
     "success", "key does not have a length", "multiple of 8", "key is weak", "no padding method", "tag is not that",
     "no next key serial number", "PIN block format", "PIN does not have 4 to 12 digits", "character of the PIN",
     "account number has fewer digits than the call takes", "character of the account number", "fill digit",
     "expiry date does not have four digits", "character of the expiry date", "service code does not have three digits",
-    "character of the service code", "does not end with the padding", "no room for the padding",
+    "character of the service code", "does not end with the padding", "has no room",
     "numbers of elements do not agree", "index of the key pair", "table does not have sixteen digits", "character of the decimalization",
     "fewer than eight different digits", "PIN is not the one", "no translation of PIN blocks", "PIN block is not one of its format",
     "sequence number does not have two digits", "character of the sequence number", "more than 8 bytes",
+    "protection key does not have", "key block is not as long as its header says", "version of the key block", "number of optional blocks",
+    "optional blocks can't be read", "encrypted key data do not have", "0 to 9 or A to F", "MAC is not that of the key block",
+    "padding of the key", "no optional block at this place", "no hash function", "number of iterations", "do not begin with Salted__",
+    "end within the salt",
 };
 
 /* Every status was returned by some call, and has a sentence of its own; other numbers have one sentence. */
@@ -275,6 +314,8 @@ int main(void) {
   for (int n = 0; n < MACS; n++) refuses_macs(&macs[n]);
   returns_statuses();
   returns_statuses_of_pins_and_cards();
+  returns_statuses_of_key_blocks();
+  returns_statuses_of_passwords();
   has_sentences();
   has_numbers();
   has_words();

@@ -2,7 +2,9 @@
  * Under valgrind, with keys, vectors and data marked undefined: memcheck reports where an index or a branch depends on them.
  * `secret_indexes calls` runs the calls that must give no report; each other word runs one that must give one: `short`, a list that
  * goes by tables, and `rest`, a list whose rest does, `chain` and `message`, of quick contexts, which all read them so; `pin`, which
- * branches on whether the characters of the PIN are digits; and `planted`, a lookup here.
+ * branches on whether the characters of the PIN are digits; `translation`, on whether a PIN block is right; `block`, on whether a MAC is;
+ * `key`, where it is right, on the length of the key too; `file`, on the padding of what is opened under a password; and `planted`, a
+ * lookup here.
  */
 #include "mac_calls.h"
 #include <valgrind/memcheck.h>
@@ -246,10 +248,197 @@ static void cryptograms_of_a_card(void) {
   CHECK(cukvashe_emv_response_2(session, other, code, data, 8, iv) == CUKVASHE_OK);
 }
 
+/* Keys of hidden passwords of each length about that of a block of the hash functions. */
+static void keys_of_passwords(void) {
+  static const uint8_t salt[8] = {1, 2, 3, 4, 5, 6, 7, 8};
+  static const size_t lengths[] = {0, 1, 55, 56, 63, 64, 65, 100};
+  for (size_t i = 0; i < sizeof lengths / sizeof *lengths; i++) {
+    hide(data, 100);
+    CHECK(cukvashe_pbkdf2(CUKVASHE_SHA1, data, lengths[i], salt, 8, 2, other, 32) == CUKVASHE_OK);
+    CHECK(cukvashe_pbkdf2(CUKVASHE_SHA256, data, lengths[i], salt, 8, 2, other, 33) == CUKVASHE_OK);
+    for (int hash = CUKVASHE_MD5; hash <= CUKVASHE_SHA256; hash++)
+      CHECK(cukvashe_bytes_to_key(hash, data, lengths[i], salt, 8, other, 32) == CUKVASHE_OK);
+  }
+}
+
+/* A key in a key block, under a hidden protection key. The block is no secret. */
+static size_t make_block(int i, uint8_t protection[24], char *block, size_t room) {
+  const cukvashe_key_block_fields header = {i % 2 ? 'B' : 'C', "P0", 'T', 'E', "00", 'E'};
+  const size_t size = 8 + 8 * (size_t)(i / 4);
+  size_t length;
+  hide(protection, 24);
+  hide(key, sizeof key);
+  hide(data, 22);
+  CHECK(cukvashe_key_block_wrap(protection, i / 2 % 2 ? 16 : 24, &header, "", 0, key, size, data, 30 - size, block, room, &length) ==
+        CUKVASHE_OK);
+  (void)VALGRIND_MAKE_MEM_DEFINED(block, room);
+  return length;
+}
+
+static void keys_in_key_blocks(void) {
+  char block[100];
+  uint8_t protection[24];
+  for (int i = 0; i < 12; i++) (void)make_block(i, protection, block, sizeof block);
+}
+
+/* Whether the MAC of a block is right decides a branch, which is reported, and nothing else does of a block whose MAC is wrong: of one
+   that is right the length of the key decides more. */
+static void opened_block(void) {
+  for (int i = 0; i < 4; i++) {
+    char block[100];
+    uint8_t protection[24];
+    size_t length = make_block(i, protection, block, sizeof block), key_length;
+    cukvashe_key_block_fields read;
+    const unsigned before = VALGRIND_COUNT_ERRORS;
+    block[length - 1] = block[length - 1] == '0' ? '1' : '0';
+    CHECK(is_status(cukvashe_key_block_unwrap(protection, i / 2 % 2 ? 16 : 24, block, length, &read, other, &key_length),
+                    CUKVASHE_ERR_KEY_BLOCK_MAC));
+    CHECK(VALGRIND_COUNT_ERRORS == before + 1);
+  }
+  printf("one report of each block\n");
+}
+
+/* Once the MAC is right, the length of the key decides more branches, and how many bytes are copied. How many reports that makes depends on
+   this length alone: not on the version, the protection key, its length, the key or the padding. */
+static void opened_key(void) {
+  unsigned of_length[3] = {0, 0, 0};
+  for (int i = 0; i < 24; i++) {
+    char block[100];
+    uint8_t protection[24];
+    const size_t size = 8 + 8 * (size_t)(i % 12 / 4), length = make_block(i % 12, protection, block, sizeof block);
+    size_t key_length;
+    cukvashe_key_block_fields read;
+    const unsigned before = VALGRIND_COUNT_ERRORS;
+    CHECK(is_status(cukvashe_key_block_unwrap(protection, i / 2 % 2 ? 16 : 24, block, length, &read, other, &key_length), CUKVASHE_OK));
+    const unsigned reports = VALGRIND_COUNT_ERRORS - before;
+    (void)VALGRIND_MAKE_MEM_DEFINED(&key_length, sizeof key_length);
+    (void)VALGRIND_MAKE_MEM_DEFINED(other, size);
+    (void)VALGRIND_MAKE_MEM_DEFINED(key, size);
+    CHECK(key_length == size && memcmp(other, key, size) == 0);
+    if (i < 12 && i % 4 == 0) of_length[i / 4] = reports;
+    CHECK(reports > 1 && reports == of_length[i % 12 / 4]);
+  }
+  printf("reports by the length of the key alone\n");
+}
+
+/* How the key of a file is derived: where there are no iterations, by no PBKDF2. */
+struct derivation {
+  int hash;
+  size_t iterations;
+};
+
+enum { PASSWORD = 10 };
+
+/* In `data` a file of openssl enc, of so many blocks, under the password of PASSWORD bytes at `key`. It ends with so many bytes of padding; 0
+   is no padding. How many bytes it has. */
+static size_t make_file(int cipher, const struct derivation *by, size_t blocks, uint8_t padding) {
+  const size_t size = ciphers[cipher].key_size, length = 8 * blocks;
+  union context context;
+  uint8_t both[32];
+  memcpy(data, "Salted__saltsalt", 16);
+  random_bytes(data + 16, length);
+  for (size_t i = 1; i <= padding || i == 1; i++) data[16 + length - i] = padding;
+  if (by->iterations == 0)
+    CHECK(cukvashe_bytes_to_key(by->hash, key, PASSWORD, data + 8, 8, both, size + 8) == CUKVASHE_OK);
+  else
+    CHECK(cukvashe_pbkdf2(by->hash, key, PASSWORD, data + 8, 8, by->iterations, both, size + 8) == CUKVASHE_OK);
+  CHECK(ciphers[cipher].init_quiet(&context, both, size) == CUKVASHE_OK);
+  CHECK(ciphers[cipher].ways[0].encrypt_cbc(&context, both + size, data + 16, length) == CUKVASHE_OK);
+  return 16 + length;
+}
+
+/* The reports of an opening of that file, of which these bytes are hidden. */
+static unsigned reports_of(int cipher, const struct derivation *by, size_t length, uint8_t padding, void *hidden, size_t count) {
+  static int (*const opens[CIPHERS])(int, size_t, const uint8_t *, size_t, const uint8_t *, size_t, uint8_t *, size_t, size_t *) = {
+      cukvashe_des_open_salted, cukvashe_tdes_ede2_open_salted, cukvashe_tdes_ede3_open_salted};
+  const int wanted = padding == 0 ? CUKVASHE_ERR_PADDING : CUKVASHE_OK;
+  size_t plain = 0;
+  (void)VALGRIND_MAKE_MEM_UNDEFINED(hidden, count);
+  const unsigned before = VALGRIND_COUNT_ERRORS;
+  const int status = opens[cipher](by->hash, by->iterations, key, PASSWORD, data, length, other, sizeof other, &plain);
+  const unsigned reports = VALGRIND_COUNT_ERRORS - before;
+  CHECK(is_status(status, wanted));
+  (void)VALGRIND_MAKE_MEM_DEFINED(&plain, sizeof plain);
+  (void)VALGRIND_MAKE_MEM_DEFINED(hidden, count);
+  CHECK(plain == (padding == 0 ? 0 : length - 16 - padding));
+  return reports;
+}
+
+/* A hidden password gives the reports that the file's last block gives where nothing else is hidden, and no more. So they come of the
+   padding, and none of the password, of what is derived from it, or of the rest of the plaintext. */
+static void opened_file(void) {
+  static const size_t lengths[] = {1, 2, 3, 12, 40, 257};
+  static const struct derivation by[] = {
+      {CUKVASHE_MD5, 0}, {CUKVASHE_SHA1, 0}, {CUKVASHE_SHA256, 0}, {CUKVASHE_SHA1, 2}, {CUKVASHE_SHA256, 2}};
+  random_bytes(key, PASSWORD);
+  for (int n = 0; n < CIPHERS; n++)
+    for (size_t i = 0; i < sizeof by / sizeof *by; i++)
+      for (size_t j = 0; j < sizeof lengths / sizeof *lengths; j++)
+        for (uint8_t padding = 0; padding <= 8; padding++) {
+          const size_t length = make_file(n, &by[i], lengths[j], padding);
+          const unsigned reports = reports_of(n, &by[i], length, padding, key, PASSWORD);
+          CHECK(reports > 0 && reports == reports_of(n, &by[i], length, padding, data + length - 8, 8));
+        }
+  printf("no report but of the padding\n");
+}
+
 static void pin_of_a_card(void) {
   char digits[4] = {'1', '2', '3', '4'};
   (void)VALGRIND_MAKE_MEM_UNDEFINED(digits, sizeof digits);
   CHECK(is_status(cukvashe_pin_encode_2(digits, sizeof digits, data), CUKVASHE_OK));
+}
+
+/* In `block` a PIN block of format 0, 1 or 3 under the key of 16 bytes at `key`: of a PIN of so many digits, or with a wrong first digit or
+   of another format. */
+static void make_pin_block(int format, size_t digits, const char *account, bool is_right, uint8_t block[8]) {
+  static const char pin[] = "924681357024";
+  static const uint8_t fill[10] = {10, 11, 12, 13, 14, 15, 10, 11, 12, 13};
+  cukvashe_tdes_ede2 cipher;
+  uint8_t transaction[10];
+  random_bytes(key, 16);
+  random_bytes(transaction, sizeof transaction);
+  for (size_t i = 0; i < sizeof transaction; i++) transaction[i] &= 15;
+  if (format == 0)
+    CHECK(cukvashe_pin_encode_0(pin, digits, account, 12, block) == CUKVASHE_OK);
+  else if (format == 1)
+    CHECK(cukvashe_pin_encode_1(pin, digits, transaction, block) == CUKVASHE_OK);
+  else
+    CHECK(cukvashe_pin_encode_3(pin, digits, account, 12, fill, block) == CUKVASHE_OK);
+  if (!is_right && digits % 2) block[1] |= 0xf0;
+  if (!is_right && digits % 2 == 0) block[0] ^= 0x70;
+  CHECK(cukvashe_tdes_ede2_init_quiet(&cipher, key, 16) == CUKVASHE_OK);
+  CHECK(cukvashe_tdes_ede2_encrypt_ecb(&cipher, block, 8) == CUKVASHE_OK);
+}
+
+/* The reports of one translation, of which both keys and the block are hidden. */
+static unsigned reports_of_translation(int format, size_t digits, bool is_right, bool to_0) {
+  static const char account[] = "401234567890";
+  static const uint8_t fill[10] = {10, 11, 12, 13, 14, 15, 15, 14, 13, 12};
+  uint8_t block[8], outgoing[16], translated[8];
+  make_pin_block(format, digits, account, is_right, block);
+  hide(outgoing, sizeof outgoing);
+  (void)VALGRIND_MAKE_MEM_UNDEFINED(key, 16);
+  (void)VALGRIND_MAKE_MEM_UNDEFINED(block, sizeof block);
+  const unsigned before = VALGRIND_COUNT_ERRORS;
+  const int status = to_0 ? cukvashe_pin_translate_to_0(key, 16, format, outgoing, 16, account, 12, block, translated)
+                          : cukvashe_pin_translate_to_3(key, 16, format, outgoing, 16, account, 12, fill, block, translated);
+  const unsigned reports = VALGRIND_COUNT_ERRORS - before;
+  CHECK(is_status(status, is_right ? CUKVASHE_OK : CUKVASHE_ERR_PIN_BLOCK));
+  (void)VALGRIND_MAKE_MEM_DEFINED(key, 16);
+  return reports;
+}
+
+/* Whether a block is right decides a branch, which is reported: as often for a PIN of each length, and for what is none. */
+static void translations(void) {
+  static const int formats[] = {0, 1, 3};
+  for (size_t i = 0; i < 6; i++) {
+    const unsigned reports = reports_of_translation(formats[i / 2], 4, true, i % 2);
+    CHECK(reports > 0);
+    for (size_t digits = 4; digits <= 12; digits++)
+      for (int is_right = 0; is_right < 2; is_right++)
+        CHECK(reports_of_translation(formats[i / 2], digits, is_right, i % 2) == reports);
+  }
+  printf("no report of the length of a PIN\n");
 }
 
 static void list_of(size_t count) {
@@ -293,6 +482,8 @@ int main(int count, char **words) {
     transactions_of_a_terminal();
     values_of_cards();
     cryptograms_of_a_card();
+    keys_in_key_blocks();
+    keys_of_passwords();
     lists_of_keys();
   } else if (strcmp(words[1], "short") == 0) {
     list_of(18);
@@ -304,6 +495,14 @@ int main(int count, char **words) {
     message_of_two();
   } else if (strcmp(words[1], "pin") == 0) {
     pin_of_a_card();
+  } else if (strcmp(words[1], "translation") == 0) {
+    translations();
+  } else if (strcmp(words[1], "block") == 0) {
+    opened_block();
+  } else if (strcmp(words[1], "key") == 0) {
+    opened_key();
+  } else if (strcmp(words[1], "file") == 0) {
+    opened_file();
   } else {
     CHECK(strcmp(words[1], "planted") == 0);
     planted();

@@ -152,7 +152,7 @@ static void of_record(const struct work *work) {
   }
 }
 
-enum { OF_TEXT = 20 };
+enum { OF_TEXT = 20, OF_BLOCK = 4, OF_PASSWORD = 5 };
 
 static void of_text(const struct work *work) {
   static const char *const account = "4012345678909", *const digits = "123456789012";
@@ -180,6 +180,55 @@ static void of_text(const struct work *work) {
     case 17: returned = cukvashe_pin_translate_to_3(key, 24, 0, key, 24, account, 13, fill, sent, others); break;
     case 18: returned = cukvashe_pad(blocks, 77, sizeof blocks, CUKVASHE_PKCS7, &length); break;
     default: returned = cukvashe_unpad(blocks, 80, CUKVASHE_PKCS7, &length); break;
+  }
+}
+
+/* Key blocks of the most optional blocks, and of the most characters. */
+static void of_block(const struct work *work) {
+  static const cukvashe_key_block_fields header = {'B', "P0", 'T', 'E', "00", 'E'};
+  static char optional[9888], name[3], block[CUKVASHE_KEY_BLOCK_SIZE];
+  static size_t size, length;
+  cukvashe_key_block_fields read;
+  const size_t longest = work->number ? sizeof optional : 4 * 98;
+  memset(optional, 'x', sizeof optional);
+  for (int i = 0; i < 98; i++) memcpy(optional + 4 * i, "KS04", 4);
+  if (work->number) memcpy(optional, "KS000226A0", 10); /* 9,888 in digits of four bits */
+  switch (work->call) {
+    case 0:
+      returned = cukvashe_key_block_wrap(key, 24, &header, optional, longest, key, 24, others, 6, block, sizeof block, &size);
+      CHECK(returned == CUKVASHE_OK);
+      break;
+    case 1:
+      returned = cukvashe_key_block_unwrap(key, 24, block, size, &read, others, &length);
+      CHECK(returned == CUKVASHE_OK);
+      break;
+    case 2: returned = cukvashe_key_block_header(block, size, &read); break;
+    default:
+      returned = cukvashe_key_block_optional_block(block, size, 0, name, &length, &length);
+      CHECK(returned == CUKVASHE_OK);
+      break;
+  }
+}
+
+/* Passwords that are longer than a block of the hash functions, and a file whose end is no padding, or, of the last cipher, is. */
+static void of_password(const struct work *work) {
+  static uint8_t file[8 * LIST], plain[8 * LIST];
+  static size_t length;
+  const size_t size = sizeof file;
+  memcpy(file, "Salted__", 8);
+  switch (work->call) {
+    case 0: returned = cukvashe_pbkdf2(CUKVASHE_SHA256, others, 100, blocks, 100, 2, key, 24); break;
+    case 1: returned = cukvashe_bytes_to_key(CUKVASHE_SHA256, others, 100, blocks, 100, key, 24); break;
+    case 2: returned = cukvashe_des_open_salted(CUKVASHE_SHA1, 1, others, 100, file, size, plain, size, &length); break;
+    case 3: returned = cukvashe_tdes_ede2_open_salted(CUKVASHE_MD5, 0, others, 100, file, size, plain, size, &length); break;
+    default:
+      /* One password in 256 fits. */
+      do {
+        others[0]++;
+        others[1] += others[0] == 0;
+        returned = cukvashe_tdes_ede3_open_salted(CUKVASHE_SHA256, 0, others, 100, file, size, plain, size, &length);
+      } while (returned != CUKVASHE_OK);
+      break;
   }
 }
 
@@ -263,6 +312,9 @@ int main(void) {
   most = 0;
   for (int call = 0; call < OF_KEY; call++) measure(of_key, call, 0, 0, 0);
   for (int call = 0; call < OF_TEXT; call++) measure(of_text, call, 0, 0, 0);
+  for (int call = 0; call < OF_PASSWORD; call++) measure(of_password, call, 0, 0, 0);
+  for (int number = 0; number < 2; number++)
+    for (int call = 0; call < OF_BLOCK; call++) measure(of_block, call, number, 0, 0);
   for (int number = 0; number < MACS; number++)
     for (int init = 0; init < INITS; init++) measure_mac(number, init);
   CHECK(most > 100);

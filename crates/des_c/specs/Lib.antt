@@ -5,6 +5,9 @@ pub mod CvvStatuses
 pub mod VerificationStatuses
 pub mod TranslationStatuses
 pub mod EmvStatuses
+pub mod KeyBlockStatuses
+pub mod KeyBlockTexts
+pub mod Passwords
 pub mod Formats
 pub mod Statuses
 pub mod Texts

@@ -9,4 +9,5 @@ mod ciphers;
 mod keys;
 mod macs;
 mod padding;
+mod passwords;
 mod payment;

@@ -1,0 +1,377 @@
+/* Key blocks: published ones, ones that the `cryptography` package for Python made, what is made and read again, each fault by the least
+   wrong input, and that nothing is written then. */
+#include "digits.h"
+
+typedef cukvashe_key_block_fields fields;
+
+/* A protection key, a block, its key and its header: examples of ASC X9 TR-31, one of each version, and another. The next two, and
+   those of no key below, are by the package, under a protection key of 24 bytes and that of the fourth. */
+static const struct {
+  const char *protection, *block, *key;
+  fields header;
+} known[] = {
+    {"89e88cf7931444f334bd7547fc3f380c",
+     "A0072P0TE00E0000F5161ED902807AF26F1D62263644BD24192FDB3193C730301CEE8701",
+     "f039121bec83d26b169bdcd5b22aaf8f",
+     {'A', "P0", 'T', 'E', "00", 'E'}},
+    {"1d22bf32387c600ad97f9b97a51311ac",
+     "B0104B0TX12S0100KS1800604B120F9292800000BB68BE8680A400D9191AD4ECE45B6E6C0D21C4738A52190E248719E24B433627",
+     "e8bc63e5479455e26577f715d587fe68",
+     {'B', "B0", 'T', 'X', "12", 'S'}},
+    {"b8ed59e0a279a295e9f5ed7944fd06b9",
+     "C0096B0TX12S0100KS1800604B120F9292800000BFB9B689CB567E66FC3FEE5AD5F52161FC6545B9D60989015D02155C",
+     "edb380dd340bc2620247d445f5b8d678",
+     {'C', "B0", 'T', 'X', "12", 'S'}},
+    {"dd7515f2bfc17f85ce48f3ca25cb21f6",
+     "B0080P0TE00E000094B420079CC80BA3461F86FE26EFC4A3B8E4FA4C5F5341176EED7B727B8A248E",
+     "3f419e1cb7079442aa37474c2efbf8b8",
+     {'B', "P0", 'T', 'E', "00", 'E'}},
+    {"3132333435363738393a3b3c3d3e3f404142434445464748",
+     "B0112D0TB00N0200KV0AABCDEFPB0600E5F817BCB9632D20A17A5D89EACA9C285438591465453BC1D189836F4D5E534A7F55B5941D869047",
+     "000102030405060708090a0b0c0d0e0f1011121314151617",
+     {'B', "D0", 'T', 'B', "00", 'N'}},
+    {"3132333435363738393a3b3c3d3e3f404142434445464748",
+     "C0088D0TB00N0000C4E018DF42F39F60D80861D90D48657431AE5186F304704049244D894538D8BDF28B587B",
+     "000102030405060708090a0b0c0d0e0f1011121314151617",
+     {'C', "D0", 'T', 'B', "00", 'N'}},
+};
+
+enum { KNOWN = sizeof known / sizeof *known, TAKEN = 3 };
+
+/* The bytes of digits, and how many they are. */
+struct bytes {
+  uint8_t at[32];
+  size_t length;
+};
+
+static struct bytes bytes_of(const char *digits) {
+  struct bytes bytes;
+  bytes.length = strlen(digits) / 2;
+  put(bytes.at, digits);
+  return bytes;
+}
+
+/* What `unwrap` writes, painted before. */
+struct opened {
+  fields header;
+  uint8_t key[24];
+  size_t length;
+};
+
+static int unwrap(const char *protection, const char *block, size_t length, struct opened *opened) {
+  const struct bytes key = bytes_of(protection);
+  memset(opened, PAINTED, sizeof *opened);
+  return cukvashe_key_block_unwrap(key.at, key.length, block, length, &opened->header, opened->key, &opened->length);
+}
+
+/* Whether a block is opened to a key, with zeros after it. */
+static int holds(const char *protection, const char *block, const char *digits) {
+  const struct bytes key = bytes_of(digits);
+  uint8_t wanted[24] = {0};
+  struct opened opened;
+  memcpy(wanted, key.at, key.length);
+  return unwrap(protection, block, strlen(block), &opened) == CUKVASHE_OK && opened.length == key.length &&
+         memcmp(opened.key, wanted, sizeof wanted) == 0;
+}
+
+static void opens_known_blocks(void) {
+  struct opened opened;
+  fields header;
+  CHECK(sizeof header == 10);
+  for (int i = 0; i < KNOWN; i++) {
+    const char *block = known[i].block;
+    CHECK(holds(known[i].protection, block, known[i].key));
+    CHECK(unwrap(known[i].protection, block, strlen(block), &opened) == CUKVASHE_OK);
+    CHECK(memcmp(&opened.header, &known[i].header, sizeof header) == 0);
+    memset(&header, PAINTED, sizeof header);
+    CHECK(cukvashe_key_block_header(TEXT(block), &header) == CUKVASHE_OK);
+    CHECK(memcmp(&header, &known[i].header, sizeof header) == 0 && strcmp(header.usage, known[i].header.usage) == 0);
+  }
+}
+
+/* The optional block of a known block at a place. */
+static int optional_is(int block, size_t place, const char *name, const char *content) {
+  char read_name[3];
+  size_t offset, length;
+  CHECK(cukvashe_key_block_optional_block(TEXT(known[block].block), place, read_name, &offset, &length) == CUKVASHE_OK);
+  return length == strlen(content) && strcmp(read_name, name) == 0 && memcmp(known[block].block + offset, content, length) == 0;
+}
+
+static void refuses_optional(const char *block, size_t length, size_t place, int status) {
+  char name[3];
+  size_t written[2];
+  memset(name, PAINTED, sizeof name);
+  memset(written, PAINTED, sizeof written);
+  CHECK(cukvashe_key_block_optional_block(block, length, place, name, &written[0], &written[1]) == status);
+  CHECK(is_kept(name, sizeof name) && is_kept(written, sizeof written));
+}
+
+static void reads_optional_blocks(void) {
+  CHECK(optional_is(1, 0, "KS", "00604B120F9292800000") && optional_is(2, 0, "KS", "00604B120F9292800000"));
+  CHECK(optional_is(4, 0, "KV", "ABCDEF") && optional_is(4, 1, "PB", "00"));
+  refuses_optional(TEXT(known[3].block), 0, CUKVASHE_ERR_NO_OPTIONAL_BLOCK);
+  refuses_optional(TEXT(known[4].block), 2, CUKVASHE_ERR_NO_OPTIONAL_BLOCK);
+  refuses_optional(TEXT(known[4].block), (size_t)-1, CUKVASHE_ERR_NO_OPTIONAL_BLOCK);
+  refuses_optional("B0080", 5, 0, CUKVASHE_ERR_KEY_BLOCK_LENGTH);
+  refuses_optional(NULL, 0, 0, CUKVASHE_ERR_KEY_BLOCK_LENGTH);
+}
+
+/* A block that is opened by no key gives no header, optional block or key; what shows without a key, shows so to all. */
+static void refuses(const char *protection, const char *block, size_t length, int status) {
+  const int shows = status != CUKVASHE_ERR_PROTECTION_KEY_LENGTH && status != CUKVASHE_ERR_KEY_BLOCK_DIGIT &&
+                    status != CUKVASHE_ERR_KEY_BLOCK_MAC && status != CUKVASHE_ERR_KEY_LENGTH;
+  struct opened opened;
+  fields header;
+  CHECK(unwrap(protection, block, length, &opened) == status && is_kept(&opened, sizeof opened));
+  memset(&header, PAINTED, sizeof header);
+  CHECK(cukvashe_key_block_header(block, length, &header) == (shows ? status : CUKVASHE_OK));
+  CHECK(is_kept(&header, sizeof header) == shows);
+  refuses_optional(block, length, 0, shows ? status : CUKVASHE_ERR_NO_OPTIONAL_BLOCK);
+}
+
+/* A character of the fourth known block that is changed, and the first fault. */
+static const struct {
+  int place;
+  char character;
+  int status;
+} changes[] = {
+    {1, '1', CUKVASHE_ERR_KEY_BLOCK_LENGTH},  {4, '1', CUKVASHE_ERR_KEY_BLOCK_LENGTH}, {4, ':', CUKVASHE_ERR_KEY_BLOCK_LENGTH},
+    {0, 'D', CUKVASHE_ERR_VERSION},           {0, 'b', CUKVASHE_ERR_VERSION},          {0, '@', CUKVASHE_ERR_VERSION},
+    {12, '/', CUKVASHE_ERR_HEADER},           {13, ':', CUKVASHE_ERR_HEADER},          {14, '1', CUKVASHE_ERR_HEADER},
+    {15, '1', CUKVASHE_ERR_HEADER},           {13, '1', CUKVASHE_ERR_OPTIONAL_BLOCK},  {12, '1', CUKVASHE_ERR_OPTIONAL_BLOCK},
+    {0, 'A', CUKVASHE_ERR_KEY_DATA_LENGTH},   {0, 'C', CUKVASHE_ERR_KEY_DATA_LENGTH},  {16, 'a', CUKVASHE_ERR_KEY_BLOCK_DIGIT},
+    {16, 'G', CUKVASHE_ERR_KEY_BLOCK_DIGIT},  {79, 'G', CUKVASHE_ERR_KEY_BLOCK_DIGIT}, {64, '/', CUKVASHE_ERR_KEY_BLOCK_DIGIT},
+    {63, '0', CUKVASHE_ERR_KEY_BLOCK_MAC},    {64, '7', CUKVASHE_ERR_KEY_BLOCK_MAC},   {79, 'F', CUKVASHE_ERR_KEY_BLOCK_MAC},
+    {5, 'K', CUKVASHE_ERR_KEY_BLOCK_MAC},     {11, 'S', CUKVASHE_ERR_KEY_BLOCK_MAC},   {9, '1', CUKVASHE_ERR_KEY_BLOCK_MAC},
+};
+
+/* Of these the key data, authenticated, say a length of 15 bytes, of 0 and of 24 where there are fewer. */
+static const char *const no_keys[] = {
+    "B0080P0TE00E000046AD3EFD0DCF51A1FFDD4D468C4DC235EC217D6B8557FF68335F3126A5C1C8B5",
+    "B0080P0TE00E0000809B509B7A4DEE8998BCF59CFC0FCFB65C9067A7E3F6763D6F2215D796C88D94",
+    "B0080P0TE00E00005C149CA6FB89E70ED78FDF23C3C11C0AD78A849929B41BF512D7545FB841EB5C",
+};
+
+static void refuses_blocks(void) {
+  const char *protection = known[3].protection, *block = known[3].block;
+  char changed[81];
+  for (size_t i = 0; i < sizeof changes / sizeof *changes; i++) {
+    strcpy(changed, block);
+    changed[changes[i].place] = changes[i].character;
+    refuses(protection, changed, 80, changes[i].status);
+  }
+  for (size_t i = 0; i < 3; i++) refuses(protection, no_keys[i], 80, CUKVASHE_ERR_KEY_LENGTH);
+  for (size_t length = 0; length < 80; length++) refuses(protection, block, length, CUKVASHE_ERR_KEY_BLOCK_LENGTH);
+  refuses(protection, block, 81, CUKVASHE_ERR_KEY_BLOCK_LENGTH); /* with its zero byte */
+  refuses(protection, NULL, 0, CUKVASHE_ERR_KEY_BLOCK_LENGTH);
+  refuses(known[4].protection, block, 80, CUKVASHE_ERR_KEY_BLOCK_MAC);
+  for (int place = 0; place < 80; place++)
+    for (int character = 0; character < 256; character++) {
+      struct opened opened;
+      strcpy(changed, block);
+      changed[place] = (char)character;
+      if (changed[place] == block[place]) continue;
+      CHECK(unwrap(protection, changed, 80, &opened) != CUKVASHE_OK && is_kept(&opened, sizeof opened));
+    }
+}
+
+/* Each wrong length of a protection key, which stands before all faults of the block. */
+static void refuses_protection_keys(void) {
+  uint8_t key[33] = {0};
+  struct opened opened;
+  for (size_t length = 0; length < sizeof key; length++) {
+    if (length == 16 || length == 24) continue;
+    memset(&opened, PAINTED, sizeof opened);
+    CHECK(cukvashe_key_block_unwrap(key, length, "", 0, &opened.header, opened.key, &opened.length) ==
+              CUKVASHE_ERR_PROTECTION_KEY_LENGTH &&
+          is_kept(&opened, sizeof opened));
+  }
+  CHECK(cukvashe_key_block_unwrap(NULL, 0, "", 0, &opened.header, opened.key, &opened.length) == CUKVASHE_ERR_PROTECTION_KEY_LENGTH);
+}
+
+/* What a block is made of. */
+struct parts {
+  const char *protection;
+  fields header;
+  const char *optional, *key;
+  uint8_t padding[32];
+  size_t padding_length;
+};
+
+/* The fourth known block, its two parts after the fifth, and that with no `PB`. */
+static const struct parts published = {
+    "dd7515f2bfc17f85ce48f3ca25cb21f6", {'B', "P0", 'T', 'E', "00", 'E'}, "", "3f419e1cb7079442aa37474c2efbf8b8",
+    {0x1c, 0x29, 0x65, 0x47, 0x3c, 0xe2}, 6};
+static const struct parts with_one = {
+    "3132333435363738393a3b3c3d3e3f404142434445464748", {'B', "D0", 'T', 'B', "00", 'N'}, "KV0AABCDEF",
+    "000102030405060708090a0b0c0d0e0f1011121314151617", {0xa1, 0xa1, 0xa1, 0xa1, 0xa1, 0xa1}, 6};
+
+static int wrap(const struct parts *parts, char *block, size_t room, size_t *length) {
+  const struct bytes protection = bytes_of(parts->protection), key = bytes_of(parts->key);
+  return cukvashe_key_block_wrap(protection.at, protection.length, &parts->header, TEXT(parts->optional), key.at, key.length,
+                                 parts->padding, parts->padding_length, block, room, length);
+}
+
+/* The block, with a zero byte after it and nothing else, in the least room; with a byte less there is none. */
+static void makes(const struct parts *parts, const char *wanted) {
+  char block[200];
+  size_t length;
+  memset(block, PAINTED, sizeof block);
+  memset(&length, PAINTED, sizeof length);
+  for (size_t room = 0; room <= strlen(wanted); room++) {
+    CHECK(wrap(parts, block, room, &length) == CUKVASHE_ERR_KEY_BLOCK_LENGTH);
+    CHECK(is_kept(block, sizeof block) && is_kept(&length, sizeof length));
+  }
+  CHECK(wrap(parts, NULL, 0, &length) == CUKVASHE_ERR_KEY_BLOCK_LENGTH && is_kept(&length, sizeof length));
+  CHECK(wrap(parts, block, strlen(wanted) + 1, &length) == CUKVASHE_OK && length == strlen(wanted));
+  CHECK(strcmp(block, wanted) == 0 && is_kept(block + length + 1, sizeof block - length - 1));
+}
+
+static void makes_known_blocks(void) {
+  struct parts other = with_one;
+  makes(&published, known[3].block);
+  makes(&with_one, known[4].block);
+  other.optional = "KV0AABCDEFPB0600";
+  makes(&other, known[4].block);
+  other.optional = "";
+  other.header.version = 'C';
+  makes(&other, known[5].block);
+  /* What stands after the two characters plays no part. */
+  other.header.usage[2] = other.header.key_version[2] = 'x';
+  makes(&other, known[5].block);
+}
+
+/* Blocks of random keys are opened to them, with every length of a protection key, a key and padding. */
+static void opens_what_it_makes(void) {
+  static const char *const contents[] = {"", "KS04", "KS05a", "CT0002000E7B22", "TS0Bxyz1234IK06ab"};
+  char block[200];
+  uint8_t protection[24], key[24], padding[22];
+  fields header = {'B', "K1", 'D', 'Q', "c1", 'S'};
+  for (int i = 0; i < 3 * 2 * 2 * 5 * 3; i++) {
+    const size_t key_length = 8 + 8 * (size_t)(i % 3), protection_length = i / 3 % 2 ? 24 : 16;
+    const size_t most = CUKVASHE_KEY_DATA_SIZE - 2 - key_length, less = 8 * (size_t)(i / 60 % 3);
+    const size_t padding_length = less < most ? most - less : most;
+    const char *optional = contents[i / 12 % 5];
+    struct opened opened;
+    size_t length;
+    random_bytes(protection, sizeof protection);
+    random_bytes(key, sizeof key);
+    random_bytes(padding, sizeof padding);
+    header.version = i / 6 % 2 ? 'B' : 'C';
+    CHECK(cukvashe_key_block_wrap(protection, protection_length, &header, TEXT(optional), key, key_length, padding, padding_length,
+                                  block, sizeof block, &length) == CUKVASHE_OK);
+    CHECK(cukvashe_key_block_unwrap(protection, protection_length, block, length, &opened.header, opened.key, &opened.length) ==
+          CUKVASHE_OK);
+    CHECK(opened.length == key_length && memcmp(opened.key, key, key_length) == 0);
+    CHECK(memcmp(&opened.header, &header, sizeof header) == 0 && block[length] == 0);
+  }
+}
+
+/* A fault of what a block is to be made of; nothing is written then. */
+static void refuses_parts(const struct parts *parts, int status) {
+  char block[200];
+  size_t length;
+  memset(block, PAINTED, sizeof block);
+  memset(&length, PAINTED, sizeof length);
+  CHECK(wrap(parts, block, sizeof block, &length) == status);
+  CHECK(is_kept(block, sizeof block) && is_kept(&length, sizeof length));
+}
+
+static void refuses_headers(void) {
+  static const char wrong[] = {0, ' ', '/', ':', '@', '[', '`', '{', '-', (char)0x80, (char)0xff};
+  for (size_t i = 0; i < sizeof wrong; i++) {
+    struct parts parts = published;
+    char *const places[] = {parts.header.usage, parts.header.usage + 1, &parts.header.algorithm, &parts.header.mode,
+                            parts.header.key_version, parts.header.key_version + 1, &parts.header.exportability};
+    for (size_t place = 0; place < sizeof places / sizeof *places; place++) {
+      const char kept = *places[place];
+      *places[place] = wrong[i];
+      refuses_parts(&parts, CUKVASHE_ERR_HEADER);
+      *places[place] = kept;
+    }
+    parts.header.version = wrong[i];
+    parts.header.mode = wrong[i];
+    refuses_parts(&parts, CUKVASHE_ERR_VERSION);
+  }
+}
+
+static void refuses_optional_blocks(void) {
+  static const char *const wrong[] = {"K", "KS", "KS0", "KS03", "KS05", "KS04K", "KSxx", "KS0bxyz1234", "KS00", "KS0002000A0", "KS00030010"};
+  static char many[4 * 101 + 1];
+  struct parts parts = published;
+  for (size_t i = 0; i < sizeof wrong / sizeof *wrong; i++) {
+    parts.optional = wrong[i];
+    refuses_parts(&parts, CUKVASHE_ERR_OPTIONAL_BLOCK);
+  }
+  for (int i = 0; i < 100; i++) memcpy(many + 4 * i, "KS04", 4);
+  parts.optional = many;
+  refuses_parts(&parts, CUKVASHE_ERR_OPTIONAL_BLOCK);
+  /* 99 that do not fill eight characters would have to be one more. */
+  many[4 * 99] = 0;
+  refuses_parts(&parts, CUKVASHE_ERR_OPTIONAL_BLOCK);
+  many[4 * 98] = 0;
+  refuses_parts(&parts, CUKVASHE_ERR_KEY_BLOCK_LENGTH);
+}
+
+static void refuses_what_is_no_block(void) {
+  struct parts parts = published;
+  for (const char *version = "AD b\n0"; *version; version++) {
+    parts.header.version = *version;
+    refuses_parts(&parts, CUKVASHE_ERR_VERSION);
+  }
+  parts = published;
+  parts.protection = "dd7515f2bfc17f85ce48f3ca25cb21f6dd";
+  refuses_parts(&parts, CUKVASHE_ERR_PROTECTION_KEY_LENGTH);
+  parts.protection = "dd7515f2bfc17f85";
+  refuses_parts(&parts, CUKVASHE_ERR_PROTECTION_KEY_LENGTH);
+  parts = published;
+  parts.key = "3f419e1cb7079442aa37474c2efbf8";
+  refuses_parts(&parts, CUKVASHE_ERR_KEY_LENGTH);
+  parts.key = "";
+  refuses_parts(&parts, CUKVASHE_ERR_KEY_LENGTH);
+  parts = published;
+  for (size_t length = 0; length <= 32; length++) {
+    parts.padding_length = length;
+    if (length % 8 != 6 || length > 14) refuses_parts(&parts, CUKVASHE_ERR_PADDING_LENGTH);
+  }
+}
+
+/* The longest block has 9,999 characters at most. */
+static void makes_long_blocks(void) {
+  static char optional[9905], block[CUKVASHE_KEY_BLOCK_SIZE];
+  static const uint8_t key[16] = {1}, padding[14] = {2};
+  char name[3];
+  fields header = published.header;
+  struct opened opened;
+  size_t length, offset;
+  memset(optional, 'x', sizeof optional);
+  snprintf(optional, 11, "KS0002%04X", 9888);
+  optional[10] = 'x';
+  CHECK(cukvashe_key_block_wrap(key, 16, &header, optional, 9888, key, 16, padding, 14, block, sizeof block, &length) == CUKVASHE_OK);
+  CHECK(length == 9984 && memcmp(block, "B9984", 5) == 0);
+  CHECK(cukvashe_key_block_unwrap(key, 16, block, length, &opened.header, opened.key, &opened.length) == CUKVASHE_OK);
+  CHECK(opened.length == 16 && memcmp(opened.key, key, 16) == 0);
+  CHECK(cukvashe_key_block_optional_block(block, length, 0, name, &offset, &length) == CUKVASHE_OK);
+  CHECK(offset == 26 && length == 9878 && memcmp(block + offset, optional + 10, length) == 0);
+  snprintf(optional, 11, "KS0002%04X", 9904);
+  optional[10] = 'x';
+  memset(block, PAINTED, sizeof block);
+  CHECK(cukvashe_key_block_wrap(key, 16, &header, optional, 9904, key, 16, padding, 14, block, sizeof block, &length) ==
+        CUKVASHE_ERR_KEY_BLOCK_LENGTH);
+  CHECK(is_kept(block, sizeof block));
+}
+
+int main(void) {
+  opens_known_blocks();
+  reads_optional_blocks();
+  refuses_blocks();
+  refuses_protection_keys();
+  makes_known_blocks();
+  opens_what_it_makes();
+  refuses_headers();
+  refuses_optional_blocks();
+  refuses_what_is_no_block();
+  makes_long_blocks();
+  printf("key blocks: %d known ones, and each fault\n", (int)KNOWN);
+  return 0;
+}

@@ -1,0 +1,14 @@
+use Rattle.std.proofs.Common.{rules, ◌≡◌, length, ap, ◌∙◌, Option}
+use Rattle.des_records.specs.declared.derivation.Derivation.{Derivation}
+use Rattle.des_c.specs.Passwords.{derive_status, with_pbkdf2}
+use Rattle.des_c.proofs.passwords.cukvashe_pbkdf2.Goals as goal
+
+pub returns-clause-status : goal.returns-clause-status
+returns-clause-status c =
+    let status : c.write_key.result ≡ derive_status (with_pbkdf2 c.args.hash c.args.iterations) (length c.args.key.now) =
+    c.write_key.ensures.status
+    ∙ ap (λ (by : Option Derivation). derive_status by (length c.args.key.now)) c.by_pbkdf2.ensures in
+    search (rules, status)
+
+pub returns-clause-key : goal.returns-clause-key
+returns-clause-key c = λ done by is. c.write_key.ensures.key (search (rules, done)) by (c.by_pbkdf2.ensures ∙ is)
