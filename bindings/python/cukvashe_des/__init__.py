@@ -28,6 +28,13 @@ keys of cards and cryptograms. A PIN is verified by its value or its offset; a c
 
     cukvashe_des.pvv_verify(key, account, 1, pin, value)    # WrongPin, a ValueError, if it is not the one
 
+`unwrap_key_block(protection, block)` gives the header and the key of a key block (TR-31), `wrap_key_block` makes one, with random
+padding:
+
+    header, key = cukvashe_des.unwrap_key_block(protection, block)    # KeyBlockMac, a ValueError, if it was changed
+
+`open_salted(TdesEde3, password, data)` gives what `openssl enc -des3` encrypted; `pbkdf2` and `bytes_to_key` derive keys from passwords.
+
 Lists go in one call: `encrypt_each` and `decrypt_each` with a key for each block, `check_values` of many keys and
 `dukpt_transaction_keys` of many key serial numbers. They take arrays of `uint8` or of words `>u8`, as of shape (n, 8) or
 (n, 16), where they stand, and other threads of Python run meanwhile:
@@ -66,14 +73,27 @@ from ._faults import (
     FillLength,
     Format,
     Formats,
+    HashName,
+    IterationCount,
+    KeyBlockDigit,
+    KeyBlockField,
+    KeyBlockLength,
+    KeyBlockMac,
+    KeyBlockVersion,
+    KeyDataLength,
     KeyIndex,
     KeyLength,
     NoSerial,
+    NotSalted,
+    OptionalBlock,
+    PaddingLength,
     PaddingMethod,
     PaddingMismatch,
     PinBlock,
     PinDigit,
     PinLength,
+    ProtectionKeyLength,
+    SaltLength,
     SequenceDigit,
     SequenceLength,
     SerialLength,
@@ -96,6 +116,7 @@ from ._emv import (
     emv_response_2,
     emv_session_key,
 )
+from ._key_blocks import KeyBlockHeader, key_block_header, key_block_optional_blocks, unwrap_key_block, wrap_key_block
 from ._keys import (
     check_value,
     combine,
@@ -128,6 +149,7 @@ from ._lists import (
 )
 from ._macs import TAG_SIZE, CbcMacDes, CbcMacTdesEde2, CbcMacTdesEde3, CmacTdesEde2, CmacTdesEde3, RetailMacDes
 from ._padding import pad, unpad
+from ._passwords import bytes_to_key, open_salted, pbkdf2
 from ._payment import (
     cvv,
     pin_decode_0,
@@ -148,18 +170,21 @@ from ._version import __version__
 __all__ = [
     "AccountDigit", "AccountLength", "BLOCK_SIZE", "BlockLength", "CbcMacDes", "CbcMacTdesEde2", "CbcMacTdesEde3", "Closed",
     "CmacTdesEde2", "CmacTdesEde3", "CountMismatch", "DataLength", "DecimalTable", "Des", "DukptTerminal", "ExpiryDigit",
-    "ExpiryLength", "Fill", "FillLength", "Format", "Formats", "KeyIndex", "KeyLength", "NoSerial", "PaddingMethod",
-    "PaddingMismatch", "PinBlock", "PinDigit", "PinLength", "RetailMacDes", "SequenceDigit", "SequenceLength", "SerialLength",
-    "ServiceDigit", "ServiceLength", "StateLength", "TAG_SIZE", "TableDigit", "TableLength", "TableVariety", "TagMismatch",
-    "TdesEde2", "TdesEde3", "VectorLength", "WeakKey", "WrongPin", "__version__", "check_value", "check_values", "combine",
-    "cvv", "decrypt_cbc_records", "decrypt_each", "decrypt_each_into", "dukpt_data_key", "dukpt_data_variant",
-    "dukpt_initial_key", "dukpt_is_usable", "dukpt_mac_key", "dukpt_next_serial", "dukpt_pin_key", "dukpt_transaction_key",
-    "dukpt_transaction_keys", "emv_application_cryptogram", "emv_application_key", "emv_card_key", "emv_response_1",
-    "emv_response_2", "emv_session_key", "encrypt_cbc_records", "encrypt_each", "encrypt_each_into", "equal_but_parity",
-    "is_weak_key", "key_check_value", "macs", "macs_each", "natural_pin", "pad", "pin_decode_0", "pin_decode_1", "pin_decode_2",
-    "pin_decode_3", "pin_encode_0", "pin_encode_1", "pin_encode_2", "pin_encode_3", "pin_offset", "pin_offset_verify",
-    "pin_translate_to_0", "pin_translate_to_3", "pvv", "pvv_verify", "short_key_check_value", "unpad", "with_odd_parity",
-    "wrong_tags",
+    "ExpiryLength", "Fill", "FillLength", "Format", "Formats", "HashName", "IterationCount", "KeyBlockDigit",
+    "KeyBlockField", "KeyBlockHeader", "KeyBlockLength", "KeyBlockMac", "KeyBlockVersion", "KeyDataLength", "KeyIndex",
+    "KeyLength", "NoSerial", "NotSalted", "OptionalBlock", "PaddingLength", "PaddingMethod", "PaddingMismatch", "PinBlock",
+    "PinDigit", "PinLength", "ProtectionKeyLength", "RetailMacDes", "SaltLength", "SequenceDigit", "SequenceLength",
+    "SerialLength", "ServiceDigit", "ServiceLength", "StateLength", "TAG_SIZE", "TableDigit", "TableLength", "TableVariety",
+    "TagMismatch", "TdesEde2", "TdesEde3", "VectorLength", "WeakKey", "WrongPin", "__version__", "bytes_to_key",
+    "check_value", "check_values", "combine", "cvv", "decrypt_cbc_records", "decrypt_each", "decrypt_each_into",
+    "dukpt_data_key", "dukpt_data_variant", "dukpt_initial_key", "dukpt_is_usable", "dukpt_mac_key", "dukpt_next_serial",
+    "dukpt_pin_key", "dukpt_transaction_key", "dukpt_transaction_keys", "emv_application_cryptogram", "emv_application_key",
+    "emv_card_key", "emv_response_1", "emv_response_2", "emv_session_key", "encrypt_cbc_records", "encrypt_each",
+    "encrypt_each_into", "equal_but_parity", "is_weak_key", "key_block_header", "key_block_optional_blocks",
+    "key_check_value", "macs", "macs_each", "natural_pin", "open_salted", "pad", "pbkdf2", "pin_decode_0", "pin_decode_1",
+    "pin_decode_2", "pin_decode_3", "pin_encode_0", "pin_encode_1", "pin_encode_2", "pin_encode_3", "pin_offset",
+    "pin_offset_verify", "pin_translate_to_0", "pin_translate_to_3", "pvv", "pvv_verify", "short_key_check_value", "unpad",
+    "unwrap_key_block", "with_odd_parity", "wrap_key_block", "wrong_tags",
 ]
 
 # Texts of errors and of `help` name the package, and not the file that defines a class.

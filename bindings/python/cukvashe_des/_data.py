@@ -51,6 +51,13 @@ def key_of(key: ReadableBuffer, *sizes: int) -> Iterator[Any]:
         yield held
 
 
+@contextlib.contextmanager
+def secret_of(secret: ReadableBuffer) -> Iterator[Tuple[Any, int]]:
+    """A copy of secret bytes of any length for one call, and their length, wiped after it."""
+    with _held(_copy_of(secret)) as held:
+        yield held, len(held)
+
+
 def vector_of(iv: ReadableBuffer) -> Any:
     """A copy of an initialization vector, which a call may change."""
     taken = bytes_of(iv)

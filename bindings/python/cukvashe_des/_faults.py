@@ -139,6 +139,60 @@ class DataLength(ValueError):
     """Data of a card cryptogram do not have the number of bytes that the call takes."""
 
 
+class ProtectionKeyLength(ValueError):
+    """A protection key of key blocks does not have 16 or 24 bytes."""
+
+
+class KeyBlockLength(ValueError):
+    """A key block does not have as many characters as its header says, or more than a key block can have."""
+
+
+class KeyBlockVersion(ValueError):
+    """The version of a key block is none of A, B and C, or one is to be made of another than B and C."""
+
+
+class KeyBlockField(ValueError):
+    """The number of optional blocks of a key block is not two digits and two zeros, or a field to be written is not as many letters
+    and digits as it has."""
+
+
+class OptionalBlock(ValueError):
+    """The optional blocks of a key block can't be read, or do not end at a multiple of eight characters; or those of a block that is
+    to be made have other names or contents than ASCII characters, are more than 99, or one is a PB."""
+
+
+class KeyDataLength(ValueError):
+    """The encrypted key of a key block does not have a length that it can have."""
+
+
+class KeyBlockDigit(ValueError):
+    """A character of the encrypted key of a key block, or of its MAC, is none of 0 to 9 and A to F."""
+
+
+class KeyBlockMac(ValueError):
+    """The MAC is not that of a key block: the block was changed, or is under another protection key."""
+
+
+class PaddingLength(ValueError):
+    """The padding of the key of a key block does not have a length that it can have."""
+
+
+class HashName(ValueError):
+    """There is no hash function of this name that the call takes."""
+
+
+class IterationCount(ValueError):
+    """There is no iteration, or there are more than PBKDF2 counts."""
+
+
+class NotSalted(ValueError):
+    """Data do not begin with Salted__."""
+
+
+class SaltLength(ValueError):
+    """Data end within the salt."""
+
+
 _FAULTS: Dict[int, Tuple[Type[ValueError], str]] = {
     _library.FORMAT: (Format, "the PIN block is of another format"),
     _library.PIN_LENGTH: (PinLength, "a PIN has 4 to 12 digits"),
@@ -160,6 +214,26 @@ _FAULTS: Dict[int, Tuple[Type[ValueError], str]] = {
     _library.SEQUENCE_LENGTH: (SequenceLength, "a sequence number has two digits"),
     _library.SEQUENCE_DIGIT: (SequenceDigit, "a sequence number has digits alone"),
     _library.DATA_LENGTH: (DataLength, "the data of an issuer have at most 8 bytes"),
+    _library.KEY_LENGTH: (KeyLength, "a key has 8, 16 or 24 bytes"),
+    _library.PROTECTION_KEY_LENGTH: (ProtectionKeyLength, "a protection key has 16 or 24 bytes"),
+    _library.KEY_BLOCK_LENGTH: (KeyBlockLength, "a key block has as many characters as it says, at most 9999"),
+    _library.VERSION: (KeyBlockVersion, "a key block is read of version A, B or C, and made of version B or C"),
+    _library.HEADER: (
+        KeyBlockField,
+        "the number of optional blocks is not two digits and two zeros, or a field to be written is not letters and digits",
+    ),
+    _library.OPTIONAL_BLOCK: (
+        OptionalBlock,
+        "the optional blocks can't be read: a wrong length, an end off a multiple of eight, or more than 99",
+    ),
+    _library.KEY_DATA_LENGTH: (KeyDataLength, "the encrypted key does not have a length that it can have"),
+    _library.KEY_BLOCK_DIGIT: (KeyBlockDigit, "an encrypted key and its MAC have digits 0 to 9 and A to F alone"),
+    _library.KEY_BLOCK_MAC: (KeyBlockMac, "the MAC is not that of the key block"),
+    _library.PADDING_LENGTH: (PaddingLength, "the padding has 6, 14 or 22 bytes, with the key at most 30"),
+    _library.HASH: (HashName, 'the hash function of PBKDF2 is "sha1" or "sha256"'),
+    _library.ITERATIONS: (IterationCount, "the iterations are 1 at least, and at most 2^32 - 1"),
+    _library.NOT_SALTED: (NotSalted, "the data do not begin with Salted__"),
+    _library.SALT_LENGTH: (SaltLength, "the data end within the salt"),
 }
 
 

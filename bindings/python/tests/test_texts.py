@@ -5,9 +5,9 @@ import traceback
 import unittest
 
 import cukvashe_des
-from cukvashe_des import Des
+from cukvashe_des import Des, KeyBlockHeader
 
-from .values import ACCOUNT, CALLS, IV, KEY, LISTS, MESSAGE, OBJECTS, PADDED_MACS
+from .values import ACCOUNT, BLOCK, BLOCK_HEADER, CALLS, IV, KEY, LISTS, MESSAGE, OBJECTS, PADDED_MACS, SALTED, opens
 
 
 # Each error and its text, which tells a length, here #, and nothing else that is not the same at every call.
@@ -34,6 +34,19 @@ SENTENCES = {
     ("FillLength", "there are ten fill digits, not #"),
     ("Format", "the PIN block is of another format"),
     ("Formats", "PIN blocks are translated from formats 0, 1 and 3"),
+    ("HashName", 'a hash function is "md5", "sha1" or "sha256"'),
+    ("HashName", 'the hash function of PBKDF2 is "sha1" or "sha256"'),
+    ("IterationCount", "the iterations are 1 at least, and at most 2^32 - 1"),
+    ("KeyBlockDigit", "a key block has ASCII characters alone"),
+    ("KeyBlockDigit", "an encrypted key and its MAC have digits 0 to 9 and A to F alone"),
+    ("KeyBlockField", "the number of optional blocks is not two digits and two zeros, or a field to be written is not letters and digits"),
+    ("KeyBlockField", "the usage and the key's version have two characters, the other fields one"),
+    ("KeyBlockLength", "a key block has as many characters as it says, at most 9999"),
+    ("KeyBlockLength", "a key block has at most 9999 characters"),
+    ("KeyBlockMac", "the MAC is not that of the key block"),
+    ("KeyBlockVersion", "a key block is made of version B or C"),
+    ("KeyBlockVersion", "a key block is read of version A, B or C, and made of version B or C"),
+    ("KeyDataLength", "the encrypted key does not have a length that it can have"),
     ("KeyIndex", "the index of a key pair is 1 to 6"),
     ("KeyLength", "a key has 8 bytes, not #"),
     ("KeyLength", "a key has 16 bytes, not #"),
@@ -42,13 +55,22 @@ SENTENCES = {
     ("KeyLength", "# bytes are not whole keys of 8"),
     ("KeyLength", "# bytes are not whole keys of 16"),
     ("KeyLength", "# bytes are not whole keys of 24"),
+    ("KeyLength", "a key has 8, 16 or 24 bytes"),
+    ("KeyLength", "a key that is derived has one byte at least, and less than 2^32"),
     ("NoSerial", "the terminal has had its last transaction"),
+    ("NotSalted", "the data do not begin with Salted__"),
+    ("OptionalBlock", "a block PB is added where one is needed: leave out that of a block that was read"),
+    ("OptionalBlock", "an optional block has a name of two characters and a content, all ASCII"),
+    ("OptionalBlock", "the optional blocks can't be read: a wrong length, an end off a multiple of eight, or more than 99"),
+    ("PaddingLength", "the padding has 6, 14 or 22 bytes, with the key at most 30"),
     ("PaddingMethod", "padding is by method 1 or 2"),
     ("PaddingMethod", 'padding is by "pkcs7" or "iso7816"'),
     ("PaddingMismatch", "the data do not end with the padding"),
     ("PinBlock", "the PIN block is not one of its format and account number"),
     ("PinDigit", "a PIN has digits alone"),
     ("PinLength", "a PIN has 4 to 12 digits"),
+    ("ProtectionKeyLength", "a protection key has 16 or 24 bytes"),
+    ("SaltLength", "the data end within the salt"),
     ("SequenceDigit", "a sequence number has digits alone"),
     ("SequenceLength", "a sequence number has two digits"),
     ("SerialLength", "a key serial number has 10 bytes, not #"),
@@ -65,6 +87,9 @@ SENTENCES = {
     ("WeakKey", "the weak key test refuses the key that the components make"),
     ("WrongPin", "the PIN is not the one"),
 }
+
+# What no text hides, since all have it.
+METHODS = ("pkcs7", "iso7816", "md5", "sha1", "sha256")
 
 
 def pieces_of(value):
@@ -85,8 +110,8 @@ class Texts(unittest.TestCase):
                 texts += getattr(teller, "__notes__", [])
                 teller = teller.__cause__ or teller.__context__
         for value in given:
-            if isinstance(value, (bytes, bytearray, str)) and value not in ("pkcs7", "iso7816"):
-                for piece in pieces_of(value):
+            if isinstance(value, (bytes, bytearray, str)) and value not in METHODS:
+                for piece in pieces_of(value) - pieces_of(b"Salted__"):
                     for text in texts:
                         self.assertNotIn(piece.lower(), text.lower())
 
@@ -163,6 +188,19 @@ class Texts(unittest.TestCase):
         names |= self.faults(PADDED_MACS[0], KEY[:8], 3)
         names |= self.faults(cukvashe_des.cvv, KEY[:16], ACCOUNT, "87:1", "101") | self.faults(
             cukvashe_des.cvv, KEY[:16], ACCOUNT, "8701", "1:1")
+        for place, character in ((0, b"C"), (12, b"x"), (13, b"1"), (20, b"x")):
+            names |= self.faults(cukvashe_des.unwrap_key_block, KEY, BLOCK[:place] + character + BLOCK[place + 1 :])
+        for header, optional in ((BLOCK_HEADER, [("K", "")]), (BLOCK_HEADER, [("PB", "")]), (BLOCK_HEADER, [("KS", "x" * 10001)]),
+                                 (BLOCK_HEADER, ["KS"]),
+                                 (BLOCK_HEADER, "KS04"), (KeyBlockHeader("BB", "P0", "T", "E", "00", "E"), ()),
+                                 (KeyBlockHeader("B", "P", "T", "E", "00", "E"), ()), (KeyBlockHeader("B", "P0", "T", "E", 0, "E"), ()),
+                                 (KeyBlockHeader("B", "P0", "T", "E", "  ", "E"), ())):
+            names |= self.faults(lambda key, of=header, more=optional: cukvashe_des.wrap_key_block(key, of, key, optional=more), KEY)
+        for name, count in (("sha256", 0), ("md5", 1), ("whirlpool", 1)):
+            names |= self.faults(cukvashe_des.pbkdf2, name, MESSAGE, IV, count, 24)
+        names |= self.faults(cukvashe_des.pbkdf2, "sha1", MESSAGE, IV, 1, 0)
+        for cut in (7, 15):
+            names |= self.faults(opens, KEY, SALTED[:cut])
         faults = {name for name in cukvashe_des.__all__ if name[0].isupper() and isinstance(getattr(cukvashe_des, name), type)
                   and issubclass(getattr(cukvashe_des, name), ValueError)}
         self.assertEqual(names, faults | {"TypeError"})

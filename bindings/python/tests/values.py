@@ -36,6 +36,16 @@ SENT = bytes.fromhex("c03d21cdbcb0c58b")
 VALIDATION = bytes.fromhex("4123456789012345")
 TABLE = cukvashe_des.DecimalTable("0123456789012345")
 
+# A protection key, a key block of version B that is published, its header and its key.
+PROTECTION = bytes.fromhex("dd7515f2bfc17f85ce48f3ca25cb21f6")
+BLOCK = b"B0080P0TE00E000094B420079CC80BA3461F86FE26EFC4A3B8E4FA4C5F5341176EED7B727B8A248E"
+BLOCK_HEADER = cukvashe_des.KeyBlockHeader("B", "P0", "T", "E", "00", "E")
+BLOCK_KEY = bytes.fromhex("3f419e1cb7079442aa37474c2efbf8b8")
+
+# `openssl enc -des3 -md sha256 -pass pass:secret`, of OpenSSL 3.0, and what it encrypted.
+SALTED = bytes.fromhex("53616c7465645f5fe927a7d874ff28cd93ad37243eb1e04e969de009cb5daeb794437e9ef739ae56dc0b84dd9380ace766ec9187d68c226b")
+SALTED_TEXT = b"Now is the time for all good men"
+
 # Lists shorter than a batch of either width, whole ones, and longer ones, in blocks.
 COUNTS = (0, 1, 2, 127, 128, 129, 300, 600)
 
@@ -93,6 +103,19 @@ OBJECTS = [(kind, (KEY[: kind.key_size],)) for kind in ANSWERS]
 OBJECTS += [(kind, (KEY[: kind.key_size], 2, MESSAGE)) for kind in PADDED_MACS]
 OBJECTS += [(kind, (KEY[: kind.key_size], MESSAGE)) for kind in CMACS]
 
+
+def wrap_with_padding(protection, key, padding):
+    """The call that makes a key block, with the padding in the place that the tests of all calls give it, and not random."""
+    if padding is None:
+        raise TypeError("the padding is random")
+    return cukvashe_des.wrap_key_block(protection, BLOCK_HEADER, key, padding=padding)
+
+
+def opens(password, data):
+    """The call that opens a file, whose own name is a part of the file's first bytes."""
+    return cukvashe_des.open_salted(TdesEde3, password, data)
+
+
 # Of each function its arguments. Of the numbers of card and PIN no three digits are a length that a text may tell.
 FUNCTIONS = [
     (cukvashe_des.is_weak_key, (KEY,)),
@@ -134,6 +157,13 @@ FUNCTIONS = [
     (cukvashe_des.emv_response_1, (PAIR, IV, b"\xd1\xe2")),
     (cukvashe_des.emv_response_2, (PAIR, IV, MESSAGE[:4], MESSAGE[8:12])),
     (cukvashe_des.cvv, (PAIR, b"4123456789012345", b"8701", b"101")),
+    (cukvashe_des.unwrap_key_block, (PROTECTION, BLOCK)),
+    (wrap_with_padding, (PROTECTION, BLOCK_KEY, bytes.fromhex("1c2965473ce2"))),
+    (cukvashe_des.key_block_header, (BLOCK,)),
+    (cukvashe_des.pbkdf2, ("sha1", MESSAGE, IV, 1, 24)),
+    (cukvashe_des.bytes_to_key, ("md5", MESSAGE, IV, 24)),
+    (opens, (b"secret", SALTED)),
+    (cukvashe_des.key_block_optional_blocks, (BLOCK,)),
 ]
 
 # Counters 1, 2 and eff800.

@@ -1,0 +1,158 @@
+"""Key blocks (ANSI X9.143, ASC X9 TR-31): a key with what it is for, encrypted and authenticated under a protection key."""
+
+from __future__ import annotations
+
+import ctypes
+import os
+from dataclasses import dataclass
+from typing import TYPE_CHECKING, Any, Iterable, List, Mapping, Optional, Tuple, Union
+
+from ._data import bytes_from, bytes_of, room, secret_of
+from ._faults import KeyBlockDigit, KeyBlockField, KeyBlockLength, KeyBlockVersion, OptionalBlock, check
+from ._library import INT, NO_OPTIONAL_BLOCK, POINTER, SIZE, function
+
+if TYPE_CHECKING:
+    from _typeshed import ReadableBuffer
+
+    _Text = Union[str, ReadableBuffer]
+    _OptionalBlocks = Union[Mapping[str, str], Iterable[Tuple[str, str]]]
+
+_KEY_SIZE = 24
+_KEY_DATA_SIZE = 32
+_FIELDS_SIZE = 10
+
+# More characters than a block has besides its optional blocks, and a zero byte.
+_MORE = 128
+
+# More characters than a block can have.
+_TOO_MANY = 10000
+
+_unwrap = function("key_block_unwrap", INT, POINTER, SIZE, POINTER, SIZE, POINTER, POINTER, POINTER)
+_wrap = function(
+    "key_block_wrap", INT, POINTER, SIZE, POINTER, POINTER, SIZE, POINTER, SIZE, POINTER, SIZE, POINTER, SIZE, POINTER
+)
+_header = function("key_block_header", INT, POINTER, SIZE, POINTER)
+_optional_block = function("key_block_optional_block", INT, POINTER, SIZE, SIZE, POINTER, POINTER, POINTER)
+
+
+@dataclass(frozen=True)
+class KeyBlockHeader:
+    """What a key is for, and who may have it, in the characters of the standard. KeyBlockHeader(version="B", usage="P0",
+    algorithm="T", mode="E", key_version="00", exportability="E") is that of a key of triple DES that encrypts PIN blocks, and does
+    nothing else, in a block of version B. A key version "00" means that there are no versions, "c" and a character that the value is
+    a component of a key and not the key; else it is the version. The exportability is "E", "N" or "S". No call compares a header
+    with the key's length.
+
+    A header has no optional blocks. To wrap the key of a block b again pass
+    `optional=[x for x in key_block_optional_blocks(b) if x[0] != "PB"]`, and for version A also
+    `dataclasses.replace(header, version="B")`."""
+
+    version: str
+    usage: str
+    algorithm: str
+    mode: str
+    key_version: str
+    exportability: str
+
+
+def _header_from(fields: Any) -> KeyBlockHeader:
+    """The header of the fields that a call wrote."""
+    text = bytes(fields).decode("latin-1")
+    return KeyBlockHeader(text[0], text[1:3], text[4], text[5], text[6:8], text[9])
+
+
+def _fields_of(header: KeyBlockHeader) -> bytes:
+    """The fields of a header, as a call takes them."""
+    if not isinstance(header, KeyBlockHeader):
+        raise TypeError("a header is a KeyBlockHeader")
+    two = (header.usage, header.key_version)
+    one = (header.algorithm, header.mode, header.exportability)
+    if not all(isinstance(field, str) for field in (header.version, *two, *one)):
+        raise TypeError("the fields of a header are texts")
+    if len(header.version) != 1:
+        raise KeyBlockVersion("a key block is made of version B or C")
+    if any(len(field) != 2 for field in two) or any(len(field) != 1 for field in one):
+        raise KeyBlockField("the usage and the key's version have two characters, the other fields one")
+    text = f"{header.version}{header.usage}\0{header.algorithm}{header.mode}{header.key_version}\0{header.exportability}"
+    return text.encode("ascii", "replace")
+
+
+def _block_of(block: _Text) -> bytes:
+    """The characters of a key block."""
+    if isinstance(block, str):
+        if not block.isascii():
+            raise KeyBlockDigit("a key block has ASCII characters alone")
+        return block.encode("ascii")
+    return bytes_of(block)
+
+
+def _optional_text(pair: Tuple[str, str]) -> str:
+    """An optional block. The library writes it in its shortest form."""
+    if not isinstance(pair, (tuple, list)) or [type(part) for part in pair] != [str, str]:
+        raise TypeError("an optional block is a pair of its name and its content, two texts")
+    name, content = pair
+    if len(name) != 2 or not name.isascii() or not content.isascii():
+        raise OptionalBlock("an optional block has a name of two characters and a content, all ASCII")
+    if name == "PB":
+        raise OptionalBlock("a block PB is added where one is needed: leave out that of a block that was read")
+    if len(content) > _TOO_MANY:
+        raise KeyBlockLength("a key block has at most 9999 characters")
+    return f"{name}0002{len(content) + 10:04X}{content}"
+
+
+def _optional_of(optional: _OptionalBlocks) -> bytes:
+    """Optional blocks, one after the other."""
+    if isinstance(optional, (str, bytes, bytearray, memoryview)):
+        raise TypeError("optional blocks are pairs of a name and its content")
+    pairs = optional.items() if isinstance(optional, Mapping) else optional
+    return "".join(map(_optional_text, pairs)).encode("ascii")
+
+
+def unwrap_key_block(protection: ReadableBuffer, block: _Text) -> Tuple[KeyBlockHeader, bytes]:
+    """The header and the key, 8, 16 or 24 bytes, of a key block of version A, B or C, as str or bytes, under a protection key of 16 or
+    24 bytes. KeyBlockMac if the block was changed, or is under another key. The header says what the key may be used for: look at
+    it before you use the key."""
+    text, fields, key, length = _block_of(block), room(_FIELDS_SIZE), room(_KEY_SIZE), SIZE()
+    with secret_of(protection) as held:
+        check(_unwrap(*held, text, len(text), fields, key, ctypes.byref(length)))
+    return _header_from(fields), bytes_from(key)[: length.value]
+
+
+def wrap_key_block(
+    protection: ReadableBuffer,
+    header: KeyBlockHeader,
+    key: ReadableBuffer,
+    *,
+    optional: _OptionalBlocks = (),
+    padding: Optional[ReadableBuffer] = None,
+) -> str:
+    """The key block of a key of 8, 16 or 24 bytes under a protection key of 16 or 24 bytes, of version B or C. Optional blocks are
+    pairs of a name of two characters and its content, without a length. A block PB is added where they do not end at a multiple of
+    eight characters, and none is taken: OptionalBlock. The padding is random bytes that hide how long the key is, or those that are
+    given: 6, 14 or 22, with the key at most 30."""
+    fields, more = _fields_of(header), _optional_of(optional)
+    block, length = room(len(more) + _MORE), SIZE()
+    with secret_of(protection) as held, secret_of(key) as bare:
+        hiding = os.urandom(max(0, _KEY_DATA_SIZE - 2 - bare[1])) if padding is None else bytes_of(padding)
+        check(_wrap(*held, fields, more, len(more), *bare, hiding, len(hiding), block, len(block), ctypes.byref(length)))
+    return bytes(block)[: length.value].decode("ascii")
+
+
+def key_block_header(block: _Text) -> KeyBlockHeader:
+    """The header of a key block, read with no key. Nothing of it is authenticated."""
+    text, fields = _block_of(block), room(_FIELDS_SIZE)
+    check(_header(text, len(text), fields))
+    return _header_from(fields)
+
+
+def key_block_optional_blocks(block: _Text) -> List[Tuple[str, str]]:
+    """The optional blocks of a key block, pairs of a name and its content, read with no key. Nothing of them is authenticated."""
+    text, found = _block_of(block), []
+    name, offset, length = room(3), SIZE(), SIZE()
+    while True:
+        status = _optional_block(text, len(text), len(found), name, ctypes.byref(offset), ctypes.byref(length))
+        if status == NO_OPTIONAL_BLOCK:
+            return found
+        check(status)
+        content = text[offset.value : offset.value + length.value]
+        found.append((bytes(name)[:2].decode("latin-1"), content.decode("latin-1")))

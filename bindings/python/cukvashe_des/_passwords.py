@@ -1,0 +1,101 @@
+"""Keys from passwords, and what `openssl enc` encrypted under them."""
+
+from __future__ import annotations
+
+import ctypes
+from typing import TYPE_CHECKING, Optional, Type
+
+from ._ciphers import Cipher, class_of
+from ._data import bytes_from, bytes_of, room, secret_of
+from ._faults import BlockLength, HashName, IterationCount, KeyLength, PaddingMismatch, check
+from ._library import BLOCKS, INT, PADDING, POINTER, SIZE, function
+
+if TYPE_CHECKING:
+    from _typeshed import ReadableBuffer
+
+_HASHES = {"md5": 21, "sha1": 22, "sha256": 23}
+
+# One more than PBKDF2 counts, which it refuses.
+_TOO_MANY = 2**32
+
+_pbkdf2 = function("pbkdf2", INT, INT, POINTER, SIZE, POINTER, SIZE, SIZE, POINTER, SIZE)
+_bytes_to_key = function("bytes_to_key", INT, INT, POINTER, SIZE, POINTER, SIZE, POINTER, SIZE)
+_open_salted = {
+    name: function(name + "_open_salted", INT, INT, SIZE, POINTER, SIZE, POINTER, SIZE, POINTER, SIZE, POINTER)
+    for name in ("des", "tdes_ede2", "tdes_ede3")
+}
+
+
+def _hash_of(name: str) -> int:
+    """The number of a hash function. What is given in its place may be a secret, so no text tells it."""
+    if not isinstance(name, str):
+        raise TypeError('a hash function is "md5", "sha1" or "sha256"')
+    number = _HASHES.get(name)
+    if number is None:
+        raise HashName('a hash function is "md5", "sha1" or "sha256"')
+    return number
+
+
+def _count_of(number: int, what: str) -> int:
+    """A number that is one at least, or the next that is refused."""
+    if not isinstance(number, int) or isinstance(number, bool):
+        raise TypeError(what)
+    return max(0, min(int(number), _TOO_MANY))
+
+
+def _iterations_of(number: int) -> int:
+    count = _count_of(number, "iterations are a number")
+    if count == 0:
+        raise IterationCount("the iterations are 1 at least, and at most 2^32 - 1")
+    return count
+
+
+def _length_of(number: int) -> int:
+    count = _count_of(number, "the length of a key is a number")
+    if count in (0, _TOO_MANY):
+        raise KeyLength("a key that is derived has one byte at least, and less than 2^32")
+    return count
+
+
+def pbkdf2(hash_name: str, password: ReadableBuffer, salt: ReadableBuffer, iterations: int, length: int) -> bytes:
+    """The key of so many bytes of a password and a salt by PBKDF2 with HMAC over "sha1" or "sha256"."""
+    number, count, key, grains = _hash_of(hash_name), _iterations_of(iterations), room(_length_of(length)), bytes_of(salt)
+    with secret_of(password) as held:
+        check(_pbkdf2(number, *held, grains, len(grains), count, key, len(key)))
+    return bytes_from(key)
+
+
+def bytes_to_key(hash_name: str, password: ReadableBuffer, salt: ReadableBuffer, length: int) -> bytes:
+    """The key, and after it the vector, of so many bytes together that OpenSSL's EVP_BytesToKey makes of a password and a salt with
+    one iteration over "md5", "sha1" or "sha256". A password is quick to guess by it: take it to read what others wrote."""
+    number, key, grains = _hash_of(hash_name), room(_length_of(length)), bytes_of(salt)
+    with secret_of(password) as held:
+        check(_bytes_to_key(number, *held, grains, len(grains), key, len(key)))
+    return bytes_from(key)
+
+
+def open_salted(
+    cipher: Type[Cipher],
+    password: ReadableBuffer,
+    data: ReadableBuffer,
+    *,
+    hash_name: str = "sha256",
+    iterations: Optional[int] = None,
+) -> bytes:
+    """The plaintext of a file that `openssl enc` encrypted under a password: by -des-cbc, -des-ede-cbc or -des3, as `cipher` is the
+    class Des, TdesEde2 or TdesEde3. The data are the whole file, and no Base64 (-a). The hash function is that of -md, "sha256" by
+    default, "md5" before OpenSSL 1.1.0. The iterations are those of -iter; 10000 where -pbkdf2 was given alone; None, and not 1,
+    where neither was. A wrong password, hash function or number of iterations is PaddingMismatch, but for one in 256, which returns
+    wrong bytes: nothing here authenticates."""
+    call, number = _open_salted[class_of(cipher).name], _hash_of(hash_name)
+    count = 0 if iterations is None else _iterations_of(iterations)
+    given, length = bytes_of(data), SIZE()
+    plain = room(len(given))
+    with secret_of(password) as held:
+        status = call(number, count, *held, given, len(given), plain, len(plain), ctypes.byref(length))
+    if status == BLOCKS:
+        raise BlockLength(f"{len(given)} bytes are not whole blocks of 8")
+    if status == PADDING:
+        raise PaddingMismatch("the data do not end with the padding")
+    check(status)
+    return bytes_from(plain)[: length.value]

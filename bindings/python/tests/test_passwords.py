@@ -1,0 +1,101 @@
+"""Keys from passwords beside `hashlib`, files of `openssl enc`, and each fault."""
+
+import hashlib
+import inspect
+import os
+import shutil
+import subprocess
+import unittest
+
+import cukvashe_des
+from cukvashe_des import Des, TdesEde2, TdesEde3, bytes_to_key, open_salted, pbkdf2
+
+from .values import SALTED, SALTED_TEXT
+
+SALT = bytes.fromhex("0123456789abcdef")
+
+# Of each cipher the word of `openssl enc`.
+CIPHERS = {Des: "des-cbc", TdesEde2: "des-ede-cbc", TdesEde3: "des3"}
+
+# Each -md, and the iterations of -iter.
+DERIVATIONS = [("md5", None), ("sha1", None), ("sha256", None), ("sha1", 1), ("sha256", 7)]
+
+
+class Keys(unittest.TestCase):
+    def test_beside_hashlib(self):
+        for password in (b"", b"x", b"secret", bytes(range(63)), bytes(range(64)), bytes(range(65)), bytes(200)):
+            for name in ("sha1", "sha256"):
+                for length in (1, 8, 20, 21, 32, 33, 100):
+                    for count in (1, 2, 50):
+                        key = hashlib.pbkdf2_hmac(name, password, SALT, count, length)
+                        self.assertEqual(pbkdf2(name, password, SALT, count, length), key)
+            for name in ("md5", "sha1", "sha256"):
+                digest = made = b""
+                while len(made) < 100:
+                    digest = hashlib.new(name, digest + password + SALT).digest()
+                    made += digest
+                for length in (1, 16, 24, 32, 33, 100):
+                    self.assertEqual(bytes_to_key(name, bytearray(password), memoryview(SALT), length), made[:length])
+
+    def test_refused(self):
+        for name in ("md5", "sha512", "", "SHA1", "sha-1"):
+            self.assertRaises(cukvashe_des.HashName, pbkdf2, name, b"secret", SALT, 1, 24)
+            if name != "md5":
+                self.assertRaises(cukvashe_des.HashName, bytes_to_key, name, b"secret", SALT, 24)
+        for count in (0, -1, 2**32, 2**32 + 1, 2**64, 2**64 + 1, -(2**64) + 1):
+            self.assertRaises(cukvashe_des.IterationCount, pbkdf2, "sha1", b"secret", SALT, count, 24)
+        for length in (0, -1, 2**32, 2**64 + 1):
+            self.assertRaises(cukvashe_des.KeyLength, pbkdf2, "sha1", b"secret", SALT, 1, length)
+            self.assertRaises(cukvashe_des.KeyLength, bytes_to_key, "sha1", b"secret", SALT, length)
+        for wrong in ("secret", None, 6):
+            self.assertRaises(TypeError, pbkdf2, "sha1", wrong, SALT, 1, 24)
+            self.assertRaises(TypeError, pbkdf2, "sha1", b"secret", wrong, 1, 24)
+            self.assertRaises(TypeError, bytes_to_key, "sha1", wrong, SALT, 24)
+        for wrong in ("1", 1.0, None, True):
+            self.assertRaises(TypeError, pbkdf2, "sha1", b"secret", SALT, wrong, 24)
+            self.assertRaises(TypeError, pbkdf2, "sha1", b"secret", SALT, 1, wrong)
+        for wrong in (b"sha1", hashlib.sha1, 22):
+            self.assertRaises(TypeError, pbkdf2, wrong, b"secret", SALT, 1, 24)
+
+
+class Files(unittest.TestCase):
+    def test_file(self):
+        """One of OpenSSL 3.0, -des3 -md sha256, in each kind of data."""
+        for data in (SALTED, bytearray(SALTED), memoryview(SALTED)):
+            self.assertEqual(open_salted(TdesEde3, b"secret", data), SALTED_TEXT)
+            self.assertEqual(open_salted(TdesEde3, bytearray(b"secret"), data, hash_name="sha256", iterations=None), SALTED_TEXT)
+
+    def test_refused(self):
+        for cut in range(len(SALTED)):
+            fault = ("NotSalted" if cut < 8 else "SaltLength" if cut < 16 else "BlockLength" if cut % 8 else "PaddingMismatch")
+            self.assertRaises(getattr(cukvashe_des, fault), open_salted, TdesEde3, b"secret", SALTED[:cut])
+        self.assertRaises(cukvashe_des.NotSalted, open_salted, TdesEde3, b"secret", b"salted__" + SALTED[8:])
+        for more in ({"hash_name": "md5"}, {"hash_name": "sha1"}, {"iterations": 1}, {"iterations": 10000}):
+            with self.assertRaises(cukvashe_des.PaddingMismatch):
+                open_salted(TdesEde3, b"secret", SALTED, **more)
+        self.assertRaises(cukvashe_des.PaddingMismatch, open_salted, TdesEde2, b"secret", SALTED)
+        self.assertRaises(cukvashe_des.PaddingMismatch, open_salted, TdesEde3, b"secret\n", SALTED)
+        for more, fault in (({"hash_name": "sha512"}, "HashName"), ({"hash_name": "md5", "iterations": 1}, "HashName"),
+                            ({"iterations": 0}, "IterationCount"), ({"iterations": 2**32}, "IterationCount"),
+                            ({"iterations": 2**64}, "IterationCount")):
+            with self.assertRaises(getattr(cukvashe_des, fault)):
+                open_salted(TdesEde3, b"secret", SALTED, **more)
+        self.assertRaises(TypeError, open_salted, TdesEde3, "secret", SALTED)
+        self.assertRaises(TypeError, open_salted, TdesEde3, b"secret", SALTED.hex())
+        self.assertRaises(TypeError, open_salted, "des3", b"secret", SALTED)
+        self.assertRaises(TypeError, open_salted, TdesEde3, b"secret", SALTED, "sha256")
+        for name in ("hash_name", "iterations"):
+            self.assertIs(inspect.signature(open_salted).parameters[name].kind, inspect.Parameter.KEYWORD_ONLY)
+
+    @unittest.skipIf(shutil.which("openssl") is None, "the program `openssl` is not there")
+    def test_beside_openssl(self):
+        """Files of each cipher, hash function and length about that of a block."""
+        for cipher, word in CIPHERS.items():
+            for name, count in DERIVATIONS:
+                for length in (0, 1, 7, 8, 9, 100, 5000):
+                    text = os.urandom(length)
+                    words = ["openssl", "enc", f"-{word}", "-md", name, "-pass", "pass:secret", "-provider", "legacy",
+                             "-provider", "default"]
+                    words += [] if count is None else ["-iter", str(count)]
+                    data = subprocess.run(words, input=text, stdout=subprocess.PIPE, stderr=subprocess.DEVNULL, check=True).stdout
+                    self.assertEqual(open_salted(cipher, b"secret", data, hash_name=name, iterations=count), text)
