@@ -14,6 +14,8 @@ pub const ACCOUNT_DIGIT: c_int = 11;
 pub const EXPIRY_LENGTH: c_int = 13;
 pub const EXPIRY_DIGIT: c_int = 14;
 pub const SERVICE_LENGTH: c_int = 15;
+pub const PADDING: c_int = 17;
+pub const CAPACITY: c_int = 18;
 pub const KEY_INDEX: c_int = 20;
 pub const TABLE_LENGTH: c_int = 21;
 pub const TABLE_DIGIT: c_int = 22;
@@ -22,9 +24,25 @@ pub const FORMATS: c_int = 25;
 pub const PIN_BLOCK: c_int = 26;
 pub const SEQUENCE_LENGTH: c_int = 27;
 pub const SEQUENCE_DIGIT: c_int = 28;
+pub const PROTECTION_KEY_LENGTH: c_int = 30;
+pub const KEY_BLOCK_LENGTH: c_int = 31;
+pub const VERSION: c_int = 32;
+pub const HEADER: c_int = 33;
+pub const OPTIONAL_BLOCK: c_int = 34;
+pub const KEY_DATA_LENGTH: c_int = 35;
+pub const KEY_BLOCK_DIGIT: c_int = 36;
+pub const KEY_BLOCK_MAC: c_int = 37;
+pub const PADDING_LENGTH: c_int = 38;
+pub const NO_OPTIONAL_BLOCK: c_int = 39;
+pub const ITERATIONS: c_int = 41;
+pub const NOT_SALTED: c_int = 42;
+pub const SALT_LENGTH: c_int = 43;
 
 pub const PKCS7: c_int = 11;
 pub const ISO7816: c_int = 12;
+pub const MD5: c_int = 21;
+pub const SHA1: c_int = 22;
+pub const SHA256: c_int = 23;
 pub const MAC_PADDING_1: c_int = 1;
 pub const MAC_PADDING_2: c_int = 2;
 
@@ -55,6 +73,25 @@ impl Drop for DukptTerminal {
 #[derive(Clone, Copy)]
 pub struct DecimalTable {
     pub digits: [u8; 16],
+}
+
+/// The fields of a key block's header, with a zero byte after each text of two.
+#[repr(C)]
+#[derive(Clone, Copy)]
+pub struct KeyBlockFields {
+    pub version: u8,
+    pub usage: [u8; 3],
+    pub algorithm: u8,
+    pub mode: u8,
+    pub key_version: [u8; 3],
+    pub exportability: u8,
+}
+
+impl KeyBlockFields {
+    /// Room for a call to write.
+    pub fn empty() -> Self {
+        KeyBlockFields { version: 0, usage: [0; 3], algorithm: 0, mode: 0, key_version: [0; 3], exportability: 0 }
+    }
 }
 
 /// A context, which is wiped when it is dropped.
@@ -627,5 +664,91 @@ extern "C" {
         data: *const u8,
         length: usize,
         response: *mut [u8; 4],
+    ) -> c_int;
+
+    pub fn cukvashe_key_block_unwrap(
+        protection: *const u8,
+        protection_length: usize,
+        block: *const c_char,
+        block_length: usize,
+        header: *mut KeyBlockFields,
+        key: *mut [u8; 24],
+        key_length: *mut usize,
+    ) -> c_int;
+    pub fn cukvashe_key_block_wrap(
+        protection: *const u8,
+        protection_length: usize,
+        header: *const KeyBlockFields,
+        optional: *const c_char,
+        optional_length: usize,
+        key: *const u8,
+        key_length: usize,
+        padding: *const u8,
+        padding_length: usize,
+        block: *mut c_char,
+        room: usize,
+        length: *mut usize,
+    ) -> c_int;
+    pub fn cukvashe_key_block_header(block: *const c_char, block_length: usize, header: *mut KeyBlockFields) -> c_int;
+    pub fn cukvashe_key_block_optional_block(
+        block: *const c_char,
+        block_length: usize,
+        place: usize,
+        name: *mut [u8; 3],
+        offset: *mut usize,
+        length: *mut usize,
+    ) -> c_int;
+
+    pub fn cukvashe_pbkdf2(
+        hash: c_int,
+        password: *const u8,
+        password_length: usize,
+        salt: *const u8,
+        salt_length: usize,
+        iterations: usize,
+        key: *mut u8,
+        key_length: usize,
+    ) -> c_int;
+    pub fn cukvashe_bytes_to_key(
+        hash: c_int,
+        password: *const u8,
+        password_length: usize,
+        salt: *const u8,
+        salt_length: usize,
+        key: *mut u8,
+        key_length: usize,
+    ) -> c_int;
+    pub fn cukvashe_des_open_salted(
+        hash: c_int,
+        iterations: usize,
+        password: *const u8,
+        password_length: usize,
+        bytes: *const u8,
+        length: usize,
+        plain: *mut u8,
+        room: usize,
+        plain_length: *mut usize,
+    ) -> c_int;
+    pub fn cukvashe_tdes_ede2_open_salted(
+        hash: c_int,
+        iterations: usize,
+        password: *const u8,
+        password_length: usize,
+        bytes: *const u8,
+        length: usize,
+        plain: *mut u8,
+        room: usize,
+        plain_length: *mut usize,
+    ) -> c_int;
+    pub fn cukvashe_tdes_ede3_open_salted(
+        hash: c_int,
+        iterations: usize,
+        password: *const u8,
+        password_length: usize,
+        bytes: *const u8,
+        length: usize,
+        plain: *mut u8,
+        room: usize,
+        plain_length: *mut usize,
     ) -> c_int;
 }

@@ -1,5 +1,5 @@
-//! Check values, keys of components, PIN blocks, PIN verification, card verification values, card cryptograms, and the keys of
-//! a transaction (DUKPT with triple DES, ANSI X9.24-1:2009) at the host and in the terminal.
+//! Check values, keys of components, PIN blocks, PIN verification, card verification values, card cryptograms, key blocks, and the
+//! keys of a transaction (DUKPT with triple DES, ANSI X9.24-1:2009) at the host and in the terminal.
 //!
 //! A key of a transaction has 16 bytes, two halves of 8, and a key serial number ten, of which the last 21 bits are the
 //! transaction counter. PINs, account numbers, dates and codes are texts, slices of ASCII digits. No call reads a table at an
@@ -28,6 +28,7 @@
 
 mod card_verification;
 pub mod emv;
+pub mod key_blocks;
 pub mod pin_blocks;
 pub mod pin_verification;
 mod terminal;
@@ -35,6 +36,7 @@ pub mod translation;
 
 pub use card_verification::{cvv, CvvError};
 pub use emv::EmvError;
+pub use key_blocks::{BlockKey, KeyBlockError};
 pub use pin_blocks::{Pin, PinError};
 pub use pin_verification::{DecimalTable, VerificationError};
 pub use terminal::Terminal;

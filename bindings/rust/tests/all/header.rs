@@ -126,6 +126,12 @@ fn structs_are_those_of_the_header() {
             "uint8_t serial[10]; uint8_t keys[21][16]; } cukvashe_dukpt_terminal;",
             "pub struct DukptTerminal {\n    pub serial: [u8; 10],\n    pub keys: [[u8; 16]; 21],\n}",
         ),
+        (
+            "char version; char usage[3]; char algorithm; char mode; char key_version[3]; char exportability; } \
+             cukvashe_key_block_fields;",
+            "pub struct KeyBlockFields {\n    pub version: u8,\n    pub usage: [u8; 3],\n    pub algorithm: u8,\n    \
+             pub mode: u8,\n    pub key_version: [u8; 3],\n    pub exportability: u8,\n}",
+        ),
         ("char digits[16]; } cukvashe_decimal_table;", "pub struct DecimalTable {\n    pub digits: [u8; 16],\n}"),
     ] {
         assert!(header.contains(&format!("typedef struct {{ {fields}")), "{fields}");

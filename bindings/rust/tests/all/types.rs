@@ -3,6 +3,7 @@
 use crate::common::*;
 use cukvashe_des::mac::*;
 use cukvashe_des::padding::{NoRoom, UnpadError};
+use cukvashe_des::passwords::{DeriveError, OpenError};
 use cukvashe_des::payment::*;
 use cukvashe_des::*;
 use std::error::Error;
@@ -111,6 +112,25 @@ fn terminals_are_no_different() {
     is_shown_as(&DecimalTable::new(b"0123456789012345").unwrap(), "DecimalTable");
 }
 
+/// A key out of a key block has no clone either. No byte of it is left when it is dropped.
+#[test]
+fn keys_of_blocks_are_no_different() {
+    fn shared<T: Send + Sync>(_: &T) {}
+    let protection = 0xdd7515f2bfc17f85ce48f3ca25cb21f6u128.to_be_bytes();
+    let block = b"B0080P0TE00E000094B420079CC80BA3461F86FE26EFC4A3B8E4FA4C5F5341176EED7B727B8A248E";
+    let (_, key) = key_blocks::unwrap(&protection, block).unwrap();
+    shared(&key);
+    is_shown_as(&key, "BlockKey");
+    let bytes = key.bytes().to_vec();
+    let mut place = MaybeUninit::new(key);
+    // SAFETY: as of `is_wiped`; what is read is made of bytes and of a number, with nothing between them.
+    let left = unsafe {
+        place.assume_init_drop();
+        slice::from_raw_parts(place.as_ptr().cast::<u8>(), size_of::<BlockKey>())
+    };
+    assert!(left.windows(2).all(|pair| !bytes.windows(2).any(|given| given == pair)));
+}
+
 /// Without an equality or a hash no one compares secrets byte by byte, without `Display` no one prints them, and no conversion
 /// lends their bytes: where a type had one, `answer` would have two candidates here, and this file would not compile.
 #[test]
@@ -138,6 +158,7 @@ fn secrets_have_no_equality() {
     <RetailMacDes<Method1> as Without<_>>::answer();
     <CmacTdesEde2 as Without<_>>::answer();
     <CmacTdesEde3 as Without<_>>::answer();
+    <BlockKey as Without<_>>::answer();
     <Pin as Without<_>>::answer();
     <Terminal as Without<_>>::answer();
 }
@@ -187,6 +208,33 @@ fn errors_are_sentences() {
         (Box::new(EmvError::SequenceLength), "the sequence number does not have two digits"),
         (Box::new(EmvError::SequenceDigit), "a character of the sequence number is not a digit"),
         (Box::new(EmvError::DataLength), "the issuer's data have more than 8 bytes"),
+        (Box::new(DeriveError::NoIteration), "the number of iterations is 0"),
+        (Box::new(DeriveError::KeyLength), "the key is longer than 2^32 - 1 digests"),
+        (Box::new(OpenError::NotSalted), "the bytes do not begin with Salted__"),
+        (Box::new(OpenError::SaltCut), "the bytes end within the salt"),
+        (Box::new(OpenError::NoIteration), "the number of iterations is 0"),
+        (Box::new(OpenError::NotBlocks), "what is encrypted is not whole blocks of 8 bytes"),
+        (Box::new(OpenError::Padding), "the last block does not end with the padding"),
+        (Box::new(OpenError::NoRoom), "there is no room for what is opened"),
+        (Box::new(KeyBlockError::ProtectionKeyLength), "the protection key does not have 16 or 24 bytes"),
+        (
+            Box::new(KeyBlockError::Length),
+            "the key block is not as long as its header says, longer than 9999 characters, or too long for its buffer",
+        ),
+        (Box::new(KeyBlockError::Version), "the version of the key block is not one that the call takes"),
+        (
+            Box::new(KeyBlockError::Header),
+            "the number of optional blocks is not two digits and two zeros, or a field to be written is not letters and digits",
+        ),
+        (
+            Box::new(KeyBlockError::OptionalBlock),
+            "the optional blocks can't be read: a wrong length, an end off a multiple of eight, or more than 99; or one is a PB",
+        ),
+        (Box::new(KeyBlockError::DataLength), "the encrypted key data do not have a length that they can have"),
+        (Box::new(KeyBlockError::Digit), "a character of the encrypted key data or the MAC is not 0 to 9 or A to F"),
+        (Box::new(KeyBlockError::Mac), "the MAC is not that of the key block"),
+        (Box::new(KeyBlockError::KeyLength), "the key does not have 8, 16 or 24 bytes"),
+        (Box::new(KeyBlockError::PaddingLength), "the padding of the key does not have a length that it can have"),
     ];
     for (error, sentence) in errors {
         assert_eq!(error.to_string(), sentence);
