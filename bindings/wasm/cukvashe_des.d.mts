@@ -97,6 +97,32 @@ export class SequenceLength extends CukvasheError {}
 export class SequenceDigit extends CukvasheError {}
 /** Data of a card cryptogram do not have the number of bytes that the call takes. */
 export class DataLength extends CukvasheError {}
+/** A protection key of key blocks does not have 16 or 24 bytes. */
+export class ProtectionKeyLength extends CukvasheError {}
+/** A key block does not have as many characters as its header says, or more than a key block can have. */
+export class KeyBlockLength extends CukvasheError {}
+/** The version of a key block is none of A, B and C, or one is to be made of another than B and C. */
+export class KeyBlockVersion extends CukvasheError {}
+/** A key block's number of optional blocks is not two digits and two zeros, or a field is not letters and digits. */
+export class KeyBlockField extends CukvasheError {}
+/** The optional blocks of a key block can't be read, do not end at a multiple of eight characters, or are more than 99. */
+export class OptionalBlock extends CukvasheError {}
+/** The encrypted key of a key block does not have a length that it can have. */
+export class KeyDataLength extends CukvasheError {}
+/** A character of the encrypted key of a key block, or of its MAC, is none of 0 to 9 and A to F. */
+export class KeyBlockDigit extends CukvasheError {}
+/** The MAC is not that of a key block: the block was changed, or is under another protection key. */
+export class KeyBlockMac extends CukvasheError {}
+/** The padding of the key of a key block does not have a length that it can have. */
+export class PaddingLength extends CukvasheError {}
+/** There is no hash function of this name that the call takes. */
+export class HashName extends CukvasheError {}
+/** There is no iteration, or there are more than PBKDF2 counts. */
+export class IterationCount extends CukvasheError {}
+/** Data do not begin with Salted__. */
+export class NotSalted extends CukvasheError {}
+/** Data end within the salt. */
+export class SaltLength extends CukvasheError {}
 
 // ---- Ciphers and MACs
 
@@ -291,6 +317,54 @@ export function emvResponse2(
   session: Uint8Array, cryptogram: Uint8Array, status: Uint8Array, data?: Uint8Array,
 ): Uint8Array;
 export function cvv(key: Uint8Array, account: Digits, expiry: Digits, service: Digits): string;
+
+// ---- Key blocks (TR-31)
+
+/** The characters of a header: `usage` and `keyVersion` have two, the others one. */
+interface KeyBlockHeader {
+  version: string;
+  usage: string;
+  algorithm: string;
+  mode: string;
+  keyVersion: string;
+  exportability: string;
+}
+/**
+ * ProtectionKeyLength, KeyBlockLength, KeyBlockVersion, KeyBlockField, OptionalBlock, KeyDataLength, KeyBlockDigit,
+ * KeyBlockMac, KeyLength.
+ */
+export function unwrapKeyBlock(
+  protection: Uint8Array, block: string | Uint8Array,
+): { header: KeyBlockHeader; key: Uint8Array };
+/**
+ * The padding is random where it is not given; an option of another name is a TypeError. KeyBlockVersion, KeyBlockField,
+ * OptionalBlock, ProtectionKeyLength, KeyLength, PaddingLength, KeyBlockLength.
+ */
+export function wrapKeyBlock(
+  protection: Uint8Array, header: KeyBlockHeader, key: Uint8Array,
+  options?: { optional?: Iterable<[name: string, content: string]>; padding?: Uint8Array },
+): string;
+/** Nothing of it is authenticated. */
+export function keyBlockHeader(block: string | Uint8Array): KeyBlockHeader;
+/** Nothing of them is authenticated. */
+export function keyBlockOptionalBlocks(block: string | Uint8Array): [name: string, content: string][];
+
+// ---- Keys from passwords, which are bytes. HashName, IterationCount, KeyLength
+
+export function pbkdf2(
+  hashName: "sha1" | "sha256", password: Uint8Array, salt: Uint8Array, iterations: number, length: number,
+): Uint8Array;
+export function bytesToKey(
+  hashName: "md5" | "sha1" | "sha256", password: Uint8Array, salt: Uint8Array, length: number,
+): Uint8Array;
+/**
+ * A file of `openssl enc`; an option of another name is a TypeError. NotSalted, SaltLength, BlockLength, and PaddingMismatch
+ * of most wrong passwords.
+ */
+export function openSalted(
+  cipher: CipherClass, password: Uint8Array, data: Uint8Array,
+  options?: { hashName?: "md5" | "sha1" | "sha256"; iterations?: number },
+): Uint8Array;
 
 // ---- Lists: elements stand one after the other, without a gap. CountMismatch where numbers of elements do not agree
 

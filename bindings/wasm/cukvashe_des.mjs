@@ -72,12 +72,28 @@ export const PinBlock = fault("PinBlock");
 export const SequenceLength = fault("SequenceLength");
 export const SequenceDigit = fault("SequenceDigit");
 export const DataLength = fault("DataLength");
+export const ProtectionKeyLength = fault("ProtectionKeyLength");
+export const KeyBlockLength = fault("KeyBlockLength");
+export const KeyBlockVersion = fault("KeyBlockVersion");
+export const KeyBlockField = fault("KeyBlockField");
+export const OptionalBlock = fault("OptionalBlock");
+export const KeyDataLength = fault("KeyDataLength");
+export const KeyBlockDigit = fault("KeyBlockDigit");
+export const KeyBlockMac = fault("KeyBlockMac");
+export const PaddingLength = fault("PaddingLength");
+export const HashName = fault("HashName");
+export const IterationCount = fault("IterationCount");
+export const NotSalted = fault("NotSalted");
+export const SaltLength = fault("SaltLength");
 
 // The statuses of cukvashe_des.h that are tested here, and those that are errors by themselves.
 const OK = 0;
 const BLOCKS = 2;
 const WEAK_KEY = 3;
+const PADDING = 17;
+const NO_OPTIONAL_BLOCK = 39;
 const FAULTS = new Map([
+  [1, [KeyLength, "a key has 8, 16 or 24 bytes"]],
   [7, [Format, "the PIN block is of another format"]],
   [8, [PinLength, "a PIN has 4 to 12 digits"]],
   [9, [PinDigit, "a PIN has digits alone"]],
@@ -98,6 +114,19 @@ const FAULTS = new Map([
   [27, [SequenceLength, "a sequence number has two digits"]],
   [28, [SequenceDigit, "a sequence number has digits alone"]],
   [29, [DataLength, "the data of an issuer have at most 8 bytes"]],
+  [30, [ProtectionKeyLength, "a protection key has 16 or 24 bytes"]],
+  [31, [KeyBlockLength, "a key block has as many characters as it says, at most 9999"]],
+  [32, [KeyBlockVersion, "a key block is read of version A, B or C, and made of version B or C"]],
+  [33, [KeyBlockField, "the number of optional blocks is not two digits and two zeros, or a field to be written is not letters and digits"]],
+  [34, [OptionalBlock, "the optional blocks can't be read: a wrong length, an end off a multiple of eight, or more than 99"]],
+  [35, [KeyDataLength, "the encrypted key does not have a length that it can have"]],
+  [36, [KeyBlockDigit, "an encrypted key and its MAC have digits 0 to 9 and A to F alone"]],
+  [37, [KeyBlockMac, "the MAC is not that of the key block"]],
+  [38, [PaddingLength, "the padding has 6, 14 or 22 bytes, with the key at most 30"]],
+  [40, [HashName, 'the hash function of PBKDF2 is "sha1" or "sha256"']],
+  [41, [IterationCount, "the iterations are 1 at least, and at most 2^32 - 1"]],
+  [42, [NotSalted, "the data do not begin with Salted__"]],
+  [43, [SaltLength, "the data end within the salt"]],
 ]);
 
 /** Throws the error of a status of the payment calls. */
@@ -168,6 +197,23 @@ function textOf(text, what) {
   if (typeof text !== "string") throw new TypeError(`${what}: a string of digits is needed`);
   return Uint8Array.from(text, (character) => (character.codePointAt(0) < 128 ? character.codePointAt(0) : 63));
 }
+
+/**
+ * The options of a call, an object of these names and of no others: a name that is spelled otherwise would pass for one
+ * that was left out.
+ */
+function optionsOf(options, ...names) {
+  if (Object.prototype.toString.call(options) !== "[object Object]") {
+    throw new TypeError("options: an object of names is needed");
+  }
+  const given = Reflect.ownKeys(options);
+  for (const name in options) given.push(name);
+  if (given.every((name) => names.includes(name))) return options;
+  throw new TypeError(`options: the names are ${names.map((name) => `"${name}"`).join(" and ")} alone`);
+}
+
+/** The text of bytes, each of them a character. */
+const charactersOf = (bytes) => Array.from(bytes, (byte) => String.fromCharCode(byte)).join("");
 
 /** The word for the message. Any other type would stand for the response, whatever it says. */
 function responseOf(isResponse) {
@@ -1099,6 +1145,206 @@ export function cvv(key, account, expiry, service) {
   const pair = keyOf(key, 16);
   const texts = [textOf(account, "an account number"), textOf(expiry, "an expiry date"), textOf(service, "a service code")];
   return writtenText(CVV_SIZE, "cvv", (memory) => [memory.put(pair), ...texts.flatMap((text) => memory.list(text))]);
+}
+
+// ---- Key blocks (ANSI X9.143, ASC X9 TR-31): a key with what it is for, encrypted and authenticated under another -----
+
+const FIELDS_SIZE = 10;
+const KEY_DATA_SIZE = 32;
+
+// More characters than a block has besides its optional blocks, and a zero byte; and more than it can have.
+const MORE_CHARACTERS = 128;
+const TOO_MANY_CHARACTERS = 10000;
+
+const isAscii = (text) => /^[\0-\x7f]*$/.test(text);
+
+/** The bytes of a text of ASCII characters. Another character becomes one that no field of a header has. */
+const asciiOf = (text) => Uint8Array.from(text, (character) => (isAscii(character) ? character.charCodeAt(0) : 63));
+
+/** The characters of a key block. */
+function keyBlockOf(block) {
+  if (typedArrayName.call(block) === "Uint8Array") return bytesOf(block, "a key block");
+  if (typeof block !== "string") throw new TypeError("a key block: a string is needed");
+  if (!isAscii(block)) throw new KeyBlockDigit("a key block has ASCII characters alone");
+  return asciiOf(block);
+}
+
+/** The header of the fields that a call wrote. */
+function headerFrom(fields) {
+  const text = charactersOf(fields);
+  const [usage, keyVersion] = [text.slice(1, 3), text.slice(6, 8)];
+  return { version: text[0], usage, algorithm: text[4], mode: text[5], keyVersion, exportability: text[9] };
+}
+
+/** The fields of a header, as a call takes them. */
+function fieldsOf(header) {
+  if (typeof header !== "object" || header === null) throw new TypeError("a header: an object of its fields is needed");
+  const { version, usage, algorithm, mode, keyVersion, exportability } = header;
+  const [two, one] = [[usage, keyVersion], [algorithm, mode, exportability]];
+  if (![version, ...two, ...one].every((field) => typeof field === "string")) {
+    throw new TypeError("the fields of a header: strings are needed");
+  }
+  if ([...version].length !== 1) throw new KeyBlockVersion("a key block is made of version B or C");
+  if (two.some((field) => [...field].length !== 2) || one.some((field) => [...field].length !== 1)) {
+    throw new KeyBlockField("the usage and the key's version have two characters, the other fields one");
+  }
+  return asciiOf(`${version}${usage}\0${algorithm}${mode}${keyVersion}\0${exportability}`);
+}
+
+/** Optional blocks, one after the other. The library writes each in its shortest form. */
+function optionalOf(optional) {
+  if (typeof optional !== "object" || typeof optional?.[Symbol.iterator] !== "function") {
+    throw new TypeError("optional blocks: an array of pairs of a name and its content is needed");
+  }
+  const texts = Array.from(optional, (pair) => {
+    if (!Array.isArray(pair) || pair.length !== 2 || pair.some((part) => typeof part !== "string")) {
+      throw new TypeError("an optional block: a pair of its name and its content, two strings, is needed");
+    }
+    const [name, content] = pair;
+    if (name.length !== 2 || !isAscii(name) || !isAscii(content)) {
+      throw new OptionalBlock("an optional block has a name of two characters and a content, all ASCII");
+    }
+    if (content.length > TOO_MANY_CHARACTERS) throw new KeyBlockLength("a key block has at most 9999 characters");
+    return `${name}0002${(content.length + 10).toString(16).toUpperCase().padStart(4, "0")}${content}`;
+  });
+  return asciiOf(texts.join(""));
+}
+
+/**
+ * The header and the key, 8, 16 or 24 bytes, of a key block of version A, B or C, a string, under a protection key of 16
+ * or 24 bytes. KeyBlockMac where the block was changed, or is under another key. The header says what the key may be
+ * used for: look at it before you use the key.
+ */
+export function unwrapKeyBlock(protection, block) {
+  const held = bytesOf(protection, "a protection key");
+  const text = keyBlockOf(block);
+  return inside((memory) => {
+    const laid = [...memory.list(held), ...memory.list(text)];
+    const [fields, key, length] = [FIELDS_SIZE, 24, 8].map((size) => memory.room(size));
+    check(memory.call("key_block_unwrap", ...laid, fields, key, length));
+    return { header: headerFrom(memory.taken(fields, FIELDS_SIZE)), key: memory.taken(key, memory.word(length)) };
+  });
+}
+
+/**
+ * The key block, a string, of a key of 8, 16 or 24 bytes under a protection key of 16 or 24 bytes, of version B or C.
+ * `header` has the fields that unwrapKeyBlock gives; no call compares them with the key's length. Options are `optional`,
+ * pairs of a name of two characters and its content, after which a block PB is added where they do not end at a multiple
+ * of eight characters; and `padding`, random bytes that hide how long the key is, 6, 14 or 22: without it they come from
+ * the engine. An option of another name is a TypeError.
+ */
+export function wrapKeyBlock(protection, header, key, options = {}) {
+  const { optional = [], padding } = optionsOf(options, "optional", "padding");
+  const [held, bare] = [bytesOf(protection, "a protection key"), bytesOf(key, "a key")];
+  const given = padding === undefined ? null : bytesOf(padding, "the padding");
+  const [fields, more] = [fieldsOf(header), optionalOf(optional)];
+  const hiding = given ?? crypto.getRandomValues(new Uint8Array(Math.max(0, KEY_DATA_SIZE - 2 - bare.length)));
+  return inside((memory) => {
+    const laid = [...memory.list(held), memory.put(fields), ...[more, bare, hiding].flatMap((bytes) => memory.list(bytes))];
+    const room = more.length + MORE_CHARACTERS;
+    const [at, length] = [memory.room(room), memory.room(8)];
+    check(memory.call("key_block_wrap", ...laid, at, BigInt(room), length));
+    return charactersOf(memory.taken(at, memory.word(length)));
+  });
+}
+
+/** The header of a key block, read with no key. Nothing of it is authenticated. */
+export function keyBlockHeader(block) {
+  const text = keyBlockOf(block);
+  return headerFrom(written(FIELDS_SIZE, "key_block_header", (memory) => memory.list(text)));
+}
+
+/** The optional blocks of a key block, pairs of a name and its content, read with no key. Nothing is authenticated. */
+export function keyBlockOptionalBlocks(block) {
+  const text = keyBlockOf(block);
+  return inside((memory) => {
+    const found = [];
+    const [at, size] = memory.list(text);
+    const [name, content] = [memory.room(3), memory.words([Number(at), 0])];
+    for (;;) {
+      const status = memory.call("narrow_key_block_optional_block", at, size, BigInt(found.length), name, content);
+      if (status === NO_OPTIONAL_BLOCK) return found;
+      check(status);
+      const start = memory.word(content) - Number(at);
+      const characters = text.subarray(start, start + memory.word(content + 8n));
+      found.push([charactersOf(memory.taken(name, 2)), charactersOf(characters)]);
+    }
+  });
+}
+
+// ---- Keys from passwords, and what `openssl enc` encrypted under them -------------------------------------------------
+
+const HASHES = new Map([["md5", 21], ["sha1", 22], ["sha256", 23]]);
+
+// One more than PBKDF2 counts, which it refuses.
+const TOO_MANY_ITERATIONS = 2 ** 32;
+
+function hashOf(name) {
+  if (typeof name !== "string") throw new TypeError('a hash function: "md5", "sha1" or "sha256" is wanted');
+  if (!HASHES.has(name)) throw new HashName('a hash function is "md5", "sha1" or "sha256"');
+  return HASHES.get(name);
+}
+
+/** A number of iterations, of which there is one at least, or one that is refused. */
+function iterationsOf(number) {
+  if (typeof number !== "number") throw new TypeError("iterations: a number is needed");
+  if (!(Number.isInteger(number) && number >= 1)) {
+    throw new IterationCount("the iterations are 1 at least, and at most 2^32 - 1");
+  }
+  return BigInt(Math.min(number, TOO_MANY_ITERATIONS));
+}
+
+/** The length of a key that is derived. */
+function derivedLengthOf(number) {
+  if (typeof number !== "number") throw new TypeError("the length of a key: a number is needed");
+  if (Number.isInteger(number) && number >= 1 && number < 2 ** 32) return number;
+  throw new KeyLength("a key that is derived has one byte at least, and less than 2^32");
+}
+
+/** The key of so many bytes that a call derives. */
+function derived(name, hash, password, salt, words, length) {
+  const [secret, grains] = [bytesOf(password, "a password"), bytesOf(salt, "a salt")];
+  return inside((memory) => {
+    const at = memory.room(length);
+    check(memory.call(name, hash, ...memory.list(secret), ...memory.list(grains), ...words, at, BigInt(length)));
+    return memory.taken(at, length);
+  });
+}
+
+/** The key of so many bytes of a password, as bytes, and a salt by PBKDF2 with HMAC over "sha1" or "sha256". */
+export function pbkdf2(hashName, password, salt, iterations, length) {
+  return derived("pbkdf2", hashOf(hashName), password, salt, [iterationsOf(iterations)], derivedLengthOf(length));
+}
+
+/**
+ * The key, and after it the vector, of so many bytes together that OpenSSL's EVP_BytesToKey makes of a password and a
+ * salt with one iteration. A password is quick to guess by it: take it to read what others wrote.
+ */
+export function bytesToKey(hashName, password, salt, length) {
+  return derived("bytes_to_key", hashOf(hashName), password, salt, [], derivedLengthOf(length));
+}
+
+/**
+ * The plaintext of a file that `openssl enc` encrypted under a password, as bytes: by -des-cbc, -des-ede-cbc or -des3, as
+ * `cipher` is the class Des, TdesEde2 or TdesEde3. The data are the whole file, and no Base64 (-a). Options are
+ * `hashName`, that of -md, "sha256" where it is not given and "md5" before OpenSSL 1.1.0; and `iterations`, those of
+ * -iter, 10000 where -pbkdf2 was given alone, and left out, not 1, where neither was. An option of another name is a
+ * TypeError. A wrong password is PaddingMismatch, but for one in 256, which gives wrong bytes: nothing here authenticates.
+ */
+export function openSalted(cipher, password, data, options = {}) {
+  const { hashName = "sha256", iterations } = optionsOf(options, "hashName", "iterations");
+  const { name } = cipherOf(cipher);
+  const [secret, bytes] = [bytesOf(password, "a password"), bytesOf(data, "data")];
+  const [hash, count] = [hashOf(hashName), iterations === undefined ? 0n : iterationsOf(iterations)];
+  return inside((memory) => {
+    const [plain, length] = [memory.room(bytes.length), memory.room(8)];
+    const laid = [...memory.list(secret), ...memory.list(bytes), plain, BigInt(bytes.length), length];
+    const status = memory.call(`${name}_open_salted`, hash, count, ...laid);
+    if (status === BLOCKS) throw new BlockLength(`${bytes.length} bytes are not whole blocks of ${BLOCK_SIZE}`);
+    if (status === PADDING) throw new PaddingMismatch("the data do not end with the padding");
+    check(status);
+    return memory.taken(plain, memory.word(length));
+  });
 }
 
 // ---- Lists: elements stand one after the other, without a gap -------------------------------------------------------

@@ -1,6 +1,7 @@
 // The table of calculations. The page has what stands here, in this order, and nothing that depends on which they are.
 import * as library from "../cukvashe_des.mjs";
 import { FieldFault, anyBytes, bytes, decimal, digitsOf, lines, tenDigits, utf8, wholeBlocks } from "./fields.mjs";
+import { keyBlock, optionalBlocks, shortText } from "./fields.mjs";
 
 const CIPHERS = { 8: library.Des, 16: library.TdesEde2, 24: library.TdesEde3 };
 const CIPHER_NAMES = { 8: "DES", 16: "triple DES (EDE) with two keys", 24: "triple DES (EDE) with three keys" };
@@ -84,6 +85,53 @@ const MACS = {
   cbc: { sizes: SIZES, 8: library.CbcMacDes, 16: library.CbcMacTdesEde2, 24: library.CbcMacTdesEde3 },
   cmac: { sizes: [16, 24], 16: library.CmacTdesEde2, 24: library.CmacTdesEde3 },
 };
+
+// ---- Key blocks
+
+/** What the characters of a header stand for (ANSI X9.143). */
+const USAGES = [
+  ["B0", "base derivation key (BDK)"], ["B1", "initial key of DUKPT"], ["C0", "card verification"], ["D0", "data"],
+  ["E0", "EMV: application cryptograms"], ["E1", "EMV: confidentiality of messages"], ["E2", "EMV: integrity of messages"],
+  ["K0", "encryption of keys"], ["K1", "protection of key blocks (KBPK)"], ["M1", "MAC, ISO 9797-1 algorithm 1"],
+  ["M3", "MAC, ISO 9797-1 algorithm 3"], ["M6", "CMAC"], ["P0", "encryption of PIN blocks"], ["V0", "PIN verification"],
+  ["V1", "PIN verification, IBM 3624"], ["V2", "PIN verification, PVV"],
+];
+const ALGORITHMS = [["T", "triple DES"], ["D", "DES"]];
+const MODES = [
+  ["E", "encrypt"], ["D", "decrypt"], ["B", "encrypt and decrypt"], ["G", "make MACs"], ["V", "verify"],
+  ["C", "make and verify MACs"], ["X", "derive keys"], ["N", "no restriction"],
+];
+const EXPORTABILITIES = [
+  ["E", "whoever has a key that protects key blocks"], ["N", "nobody else"], ["S", "also under keys of other forms"],
+];
+const VERSIONS = [["B", "derived keys"], ["C", "variants of the protection key"], ["A", "variants, deprecated"]];
+
+const coded = (options) => options.map(([code, words]) => [code, `${code}: ${words}`]);
+const named = (options, code) => {
+  const found = options.find(([it]) => it === code);
+  return found === undefined ? `${code}: a code of its own` : `${code}: ${found[1]}`;
+};
+
+const protection = {
+  name: "protection",
+  label: "Protection key",
+  short: "KBPK",
+  hint: "32 or 48 hexadecimal digits.",
+  read: bytes(16, 24),
+};
+
+/** What a header says, in words, and the optional blocks. */
+const headerAnswers = (block, { version, usage, algorithm, mode, keyVersion, exportability }) => [
+  remark("Usage", named(USAGES, usage)),
+  remark("Algorithm", named(ALGORITHMS, algorithm)),
+  remark("Mode of use", named(MODES, mode)),
+  remark("Exportability", named(EXPORTABILITIES, exportability)),
+  remark("Version of the block", named(VERSIONS, version)),
+  remark("Version of the key", keyVersion === "00" ? "00: none" : keyVersion),
+  ...library.keyBlockOptionalBlocks(block).map(([name, content]) => value(`Optional block ${name}`, content)),
+];
+
+const NOT_LONG = "The block has another number of characters than it says (characters 2 to 5), or is too short.";
 
 // ---- What examples have
 
@@ -535,6 +583,109 @@ export const calculations = [
     compute({ components }) {
       const values = components.map((it, at) => value(`Check value of component ${at + 1}`, checkValueOf(it)));
       return [keyed("Key", library.combine(...components)), ...values];
+    },
+  },
+  {
+    id: "unwrap",
+    title: "Key block: read (TR-31)",
+    note: "The key of a key block and what it may be used for (ANSI X9.143, ASC X9 TR-31), versions A, B and C.",
+    fields: [
+      protection,
+      { name: "block", label: "Key block", hint: "The whole block, from its version on.", isLong: true, read: keyBlock },
+    ],
+    example: {
+      protection: "1D22BF32387C600AD97F9B97A51311AC",
+      block: "B0104B0TX12S0100KS1800604B120F9292800000BB68BE8680A400D9191AD4ECE45B6E6C0D21C4738A52190E248719E24B433627",
+    },
+    // ASC X9 TR-31.
+    published: { Key: "E8BC63E5479455E26577F715D587FE68", "Optional block KS": "00604B120F9292800000" },
+    faults: {
+      KeyBlockLength: { field: "block", words: NOT_LONG },
+      KeyBlockVersion: { field: "block", words: "The block begins with none of A, B and C, the versions of triple DES." },
+      KeyBlockField: { field: "block", words: "Characters 13 to 16 of the block are not two decimal digits and two zeros." },
+      OptionalBlock: { field: "block", words: "The optional blocks, from character 17 on, are not as many as the header says." },
+      KeyDataLength: { field: "block", words: "Behind the header there is another number of digits than a key and its MAC have." },
+      KeyBlockDigit: { field: "block", words: "Behind the header stands a character that is none of 0 to 9 and A to F in upper case." },
+      KeyBlockMac: { field: "block", words: "The MAC is not that of the block. Is the protection key right, and the block whole?" },
+      KeyLength: { field: "block", words: "The MAC is right, and the block holds no key of DES or triple DES." },
+    },
+    compute({ protection: held, block }) {
+      const header = library.keyBlockHeader(block);
+      const answers = headerAnswers(block, header);
+      try {
+        return [keyed("Key", library.unwrapKeyBlock(held, block).key), ...answers];
+      } catch (error) {
+        error.answers = answers.map((it) => ({ ...it, label: `${it.label}, not authenticated` }));
+        throw error;
+      }
+    },
+  },
+  {
+    id: "wrap",
+    title: "Key block: make (TR-31)",
+    note: "A key with what it may be used for, under a protection key (ANSI X9.143, ASC X9 TR-31).",
+    fields: [
+      protection,
+      { name: "key", label: "Key", hint: KEY_HINT, read: bytes(...SIZES) },
+      { name: "version", label: "Version", options: coded(VERSIONS.slice(0, 2)) },
+      { name: "usage", label: "Usage", options: [...coded(USAGES), ["other", "another"]] },
+      {
+        name: "otherUsage",
+        label: "Code of the usage",
+        hint: "Two letters or digits.",
+        read: shortText(2),
+        shown: ({ usage }) => usage === "other",
+      },
+      { name: "algorithm", label: "Algorithm", options: coded(ALGORITHMS) },
+      { name: "mode", label: "Mode of use", options: coded(MODES) },
+      { name: "keyVersion", label: "Version of the key", hint: "Two characters; 00 where it has none.", read: shortText(2) },
+      { name: "exportability", label: "Exportability", options: coded(EXPORTABILITIES) },
+      {
+        name: "optional",
+        label: "Optional blocks",
+        hint: "None, or one on a line: as it stands in a key block, with its length, as KS1800604B120F9292800000; or its name, a space, and "
+          + "its content without a length, as KS 00604B120F9292800000.",
+        isLong: true,
+        read: optionalBlocks,
+      },
+      {
+        name: "padding",
+        label: "Padding",
+        hint: "Leave it empty: it is random then, and hides how long the key is. Else 12, 28 or 44 hexadecimal digits.",
+        read: anyBytes,
+      },
+    ],
+    example: {
+      protection: "DD7515F2BFC17F85CE48F3CA25CB21F6",
+      key: "3F419E1CB7079442AA37474C2EFBF8B8",
+      version: "B",
+      usage: "P0",
+      otherUsage: "",
+      algorithm: "T",
+      mode: "E",
+      keyVersion: "00",
+      exportability: "E",
+      optional: "",
+      padding: "1C2965473CE2",
+    },
+    // A published block, whose padding OpenSSL decrypts.
+    published: { "Key block": "B0080P0TE00E000094B420079CC80BA3461F86FE26EFC4A3B8E4FA4C5F5341176EED7B727B8A248E" },
+    faults: {
+      KeyBlockField: { field: "keyVersion", words: "The codes of the header are letters and digits alone." },
+      OptionalBlock: { field: "optional", words: "An optional block has a name of two characters and a content, all ASCII; there are 99 at most." },
+      KeyBlockLength: { field: "optional", words: "The optional blocks are too long: a key block has at most 9999 characters." },
+      PaddingLength: { field: "padding", words: "With two bytes and the key the padding fills 8, 16, 24 or 32 bytes." },
+    },
+    compute({ protection: held, key, usage, otherUsage, optional, padding, ...codes }) {
+      const header = { ...codes, usage: usage === "other" ? otherUsage : usage };
+      const options = padding.length === 0 ? { optional } : { optional, padding };
+      const block = library.wrapKeyBlock(held, header, key, options);
+      return [
+        value("Key block", block),
+        remark("Check value of the key", checkValueOf(key)),
+        remark("Padding", padding.length === 0 ? "random" : "as given"),
+        ...headerAnswers(block, header),
+      ];
     },
   },
   {

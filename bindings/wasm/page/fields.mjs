@@ -62,6 +62,52 @@ export function wholeBlocks(text) {
   throw new Refused(`Whole blocks of 16 hexadecimal digits are needed, and here are ${digits.length} digits.`);
 }
 
+/** Reads a key block, whose characters the library tests. White space is passed over, but for spaces that its length counts. */
+export function keyBlock(text) {
+  const joined = text.replace(/[\r\n]/g, "").trim();
+  return joined !== "" && Number(joined.slice(1, 5)) === joined.length ? joined : filled(text);
+}
+
+/** Reads a text of so many characters, or none. */
+export const shortText = (size) => (text) => {
+  const taken = filled(text);
+  if ([...taken].length === size) return taken;
+  throw new Refused(`${size} characters are needed, and here are ${[...taken].length}.`);
+};
+
+// The number of a text of hexadecimal digits; NaN of any other.
+const numberOf = (digits) => (/^[0-9a-f]+$/i.test(digits) ? parseInt(digits, 16) : NaN);
+
+/**
+ * The content of an optional block as it stands in a key block: its name, its length in two digits, or in four after 0002 or
+ * 0004, and its content. Null where the length is another.
+ */
+function contentOf(block) {
+  const [start, end] = /^..000[24]/s.test(block) ? [6, 10] : [2, 4];
+  return numberOf(block.slice(start, end)) === block.length && end <= block.length ? block.slice(end) : null;
+}
+
+/** Reads an optional block: as it stands in a key block, or a name, white space and a content without a length. */
+function optionalBlock(line, at) {
+  const whole = contentOf(line);
+  if (whole !== null) return [line.slice(0, 2), whole];
+  const [, name, content] = /^(\S{2})(?:\s+(.*))?$/s.exec(line) ?? [];
+  if (name === undefined) {
+    throw new Refused(`Line ${at + 1} is neither an optional block as it stands in a key block, of the length that it says, nor a name of two `
+      + "characters, a space and a content.");
+  }
+  if (content === undefined) return [name, ""];
+  if ([content, content.replace(/\s/g, "")].every((it) => contentOf(name + it) === null)) return [name, content];
+  throw new Refused(`Line ${at + 1}: the content begins with the length of the block. Leave out that length; or leave out the spaces, and the `
+    + "line is read as it stands in a key block.");
+}
+
+/** Reads optional blocks, each on a line of its own: pairs of a name and its content. */
+export function optionalBlocks(text) {
+  const lines = text.split("\n").map((line, at) => [line.trim(), at]);
+  return lines.filter(([line]) => line !== "").map(([line, at]) => optionalBlock(line, at));
+}
+
 /** Reads ten hexadecimal digits as one byte for each. */
 export function tenDigits(text) {
   const digits = hexadecimal(filled(text));

@@ -3,6 +3,7 @@
 library, and compares answers, names of errors and their texts."""
 
 import collections
+import dataclasses
 import json
 import re
 import sys
@@ -20,6 +21,10 @@ def given(word):
         return bytes.fromhex(word["bytes"])
     if "class" in word:
         return getattr(cukvashe_des, word["class"])
+    if "header" in word:
+        return cukvashe_des.KeyBlockHeader(*word["header"])
+    if "options" in word:
+        return {snake(name): given(it) for name, it in word["options"].items()}
     if "table" in word:
         return cukvashe_des.DecimalTable(word["table"])
     name, key = word["cipher"]
@@ -30,11 +35,17 @@ def written(answer):
     """An answer as the lines have it."""
     if isinstance(answer, (bytes, bytearray)):
         return {"bytes": answer.hex()}
+    if isinstance(answer, cukvashe_des.KeyBlockHeader):
+        return {"header": list(dataclasses.astuple(answer))}
+    if isinstance(answer, tuple) and isinstance(answer[0], cukvashe_des.KeyBlockHeader):
+        return {"options": {"header": written(answer[0]), "key": written(answer[1])}}
+    if isinstance(answer, tuple):
+        return list(answer)
     return [written(it) for it in answer] if isinstance(answer, list) else answer
 
 
 def snake(name):
-    return re.sub("[A-Z]|(?<=[a-z])[0-9]", lambda it: "_" + it[0].lower(), name)
+    return name if name.islower() else re.sub("[A-Z]|(?<=[a-z])[0-9]", lambda it: "_" + it[0].lower(), name)
 
 
 def accepts(call, tag):
@@ -61,7 +72,8 @@ def answer_of(name, *words):
         return getattr(getattr(cukvashe_des, first)(arguments[0]), snake(call))(*arguments[1:])
     if first[0].isupper():
         return mac_of(getattr(cukvashe_des, first), *arguments)
-    return getattr(cukvashe_des, snake(first))(*arguments)
+    options = arguments.pop() if arguments and isinstance(arguments[-1], dict) else {}
+    return getattr(cukvashe_des, snake(first))(*arguments, **options)
 
 
 calls, errors = collections.Counter(), collections.Counter()

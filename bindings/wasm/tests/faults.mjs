@@ -12,7 +12,7 @@ const SERIAL = unhex("ffff9876543210e00001");
 const ACCOUNT = "4012345678909";
 const FILL = Uint8Array.of(10, 11, 12, 13, 14, 15, 10, 11, 12, 13);
 const MESSAGE = unhex("6bc1bee22e409f96e93d7e117393172aae2d8a571e03ac9c");
-const TEXT = /^[a-z0-9":,() .-]+$/i;
+const TEXT = /^[a-z0-9":,()^'_ .-]+$/i;
 
 let faults = 0;
 
@@ -370,6 +370,129 @@ for (const length of LENGTHS) {
   }
   throwsFault(() => library.DukptTerminal.fromState(of(length)), "StateLength", `the state of a terminal has 346 bytes, not ${length}`);
 }
+// ---- Key blocks
+
+const PROTECTION = unhex("dd7515f2bfc17f85ce48f3ca25cb21f6");
+const BLOCK = "B0080P0TE00E000094B420079CC80BA3461F86FE26EFC4A3B8E4FA4C5F5341176EED7B727B8A248E";
+const HEADER = library.keyBlockHeader(BLOCK);
+const changed = (place, character) => BLOCK.slice(0, place) + character + BLOCK.slice(place + 1);
+const BLOCK_CALLS = [(block) => library.unwrapKeyBlock(PROTECTION, block), library.keyBlockHeader, library.keyBlockOptionalBlocks];
+const OF_BLOCKS = {
+  KeyBlockLength: ["a key block has as many characters as it says, at most 9999", "", `${BLOCK}\n`, BLOCK.slice(1), changed(4, "1")],
+  KeyBlockVersion: ["a key block is read of version A, B or C, and made of version B or C", changed(0, "D"), changed(0, "b")],
+  KeyBlockField: ["the number of optional blocks is not two digits and two zeros, or a field to be written is not letters and digits", changed(12, "x"), changed(15, "1")],
+  OptionalBlock: ["the optional blocks can't be read: a wrong length, an end off a multiple of eight, or more than 99", changed(13, "1")],
+  KeyDataLength: ["the encrypted key does not have a length that it can have", changed(0, "A"), changed(0, "C")],
+};
+for (const [name, [text, ...blocks]] of Object.entries(OF_BLOCKS)) {
+  for (const block of blocks) for (const call of BLOCK_CALLS) throwsFault(() => call(block), name, text);
+}
+for (const block of [changed(79, "\uff15"), changed(5, "\u00e9"), changed(0, "\u{1f600}")]) {
+  for (const call of BLOCK_CALLS) throwsFault(() => call(block), "KeyBlockDigit", "a key block has ASCII characters alone");
+}
+for (const block of [changed(16, "a"), changed(79, "G")]) {
+  const text = "an encrypted key and its MAC have digits 0 to 9 and A to F alone";
+  throwsFault(() => library.unwrapKeyBlock(PROTECTION, block), "KeyBlockDigit", text);
+}
+for (const block of [changed(5, "K"), changed(63, "0"), changed(79, "F")]) {
+  throwsFault(() => library.unwrapKeyBlock(PROTECTION, block), "KeyBlockMac", "the MAC is not that of the key block");
+}
+// Authenticated by the `cryptography` package for Python: the key data say a length of no key.
+throwsFault(() => library.unwrapKeyBlock(PROTECTION,
+  "B0080P0TE00E000046AD3EFD0DCF51A1FFDD4D468C4DC235EC217D6B8557FF68335F3126A5C1C8B5"), "KeyLength", "a key has 8, 16 or 24 bytes");
+const wraps = (header, key = PAIR, options = {}) => library.wrapKeyBlock(PROTECTION, { ...HEADER, ...header }, key, options);
+for (const length of LENGTHS) {
+  if (![16, 24].includes(length)) {
+    const text = "a protection key has 16 or 24 bytes";
+    throwsFault(() => library.unwrapKeyBlock(of(length), BLOCK), "ProtectionKeyLength", text);
+    throwsFault(() => library.wrapKeyBlock(of(length), HEADER, PAIR), "ProtectionKeyLength", text);
+  }
+  if (![8, 16, 24].includes(length)) throwsFault(() => wraps({}, of(length)), "KeyLength", "a key has 8, 16 or 24 bytes");
+  if (![6, 14].includes(length)) {
+    const text = "the padding has 6, 14 or 22 bytes, with the key at most 30";
+    throwsFault(() => wraps({}, PAIR, { padding: of(length) }), "PaddingLength", text);
+  }
+}
+for (const version of ["A", "D", "b", "", "BB", "\u{1f600}"]) throwsFault(() => wraps({ version }), "KeyBlockVersion");
+const FIELDS = { usage: ["P", "P00", "", "P ", "P\0", "P\u00e9"], algorithm: ["", "TT", "-"], mode: ["\uff25", "EE"],
+  keyVersion: ["0", "000", "\0\0"], exportability: [" ", "", "\u{1f600}"] };
+for (const [name, texts] of Object.entries(FIELDS)) {
+  for (const text of texts) throwsFault(() => wraps({ [name]: text }), "KeyBlockField");
+  for (const wrong of [undefined, null, 0, 5n, unhex("5030")]) throwsType(() => wraps({ [name]: wrong }), name);
+}
+for (const optional of [[["K", ""]], [["KSX", ""]], [["K\u00e9", ""]], [["KS", "\uff10"]], Array(100).fill(["KS", ""])]) {
+  throwsFault(() => wraps({}, PAIR, { optional }), "OptionalBlock");
+}
+for (const length of [9900, 10001, 70000]) {
+  throwsFault(() => wraps({}, PAIR, { optional: [["CT", "x".repeat(length)]] }), "KeyBlockLength");
+}
+for (const optional of ["KS04", ["KS"], [["KS"]], [["KS", "", ""]], [["KS", unhex("00")]], { KS: "" }, 3, null, [null]]) {
+  throwsType(() => wraps({}, PAIR, { optional }), "optional blocks");
+}
+for (const wrong of [null, "1c2965473ce2", 6, [1, 2, 3, 4, 5, 6]]) throwsType(() => wraps({}, PAIR, { padding: wrong }), "padding");
+
+// ---- Keys from passwords
+
+const SALTED = unhex("53616c7465645f5fe927a7d874ff28cd93ad37243eb1e04e969de009cb5daeb794437e9ef739ae56dc0b84dd9380ace766ec9187d68c226b");
+const SECRET = Buffer.from("secret");
+const opens = (data, options = {}) => library.openSalted(library.TdesEde3, SECRET, data, options);
+is(opens(SALTED), hex(Buffer.from("Now is the time for all good men")));
+for (let cut = 0; cut < SALTED.length; cut += 1) {
+  const name = cut < 8 ? "NotSalted" : cut < 16 ? "SaltLength" : cut % 8 === 0 ? "PaddingMismatch" : "BlockLength";
+  throwsFault(() => opens(SALTED.subarray(0, cut)), name);
+}
+for (const options of [{ hashName: "md5" }, { hashName: "sha1" }, { iterations: 1 }, { iterations: 10000 }]) {
+  throwsFault(() => opens(SALTED, options), "PaddingMismatch", "the data do not end with the padding");
+}
+throwsFault(() => opens(SALTED, { hashName: "md5", iterations: 1 }), "HashName", 'the hash function of PBKDF2 is "sha1" or "sha256"');
+for (const hashName of ["SHA256", "sha512", ""]) {
+  throwsFault(() => opens(SALTED, { hashName }), "HashName", 'a hash function is "md5", "sha1" or "sha256"');
+  throwsFault(() => library.bytesToKey(hashName, SECRET, IV, 24), "HashName");
+  throwsFault(() => library.pbkdf2(hashName, SECRET, IV, 1, 24), "HashName");
+}
+throwsFault(() => library.pbkdf2("md5", SECRET, IV, 1, 24), "HashName");
+for (const iterations of [0, -1, 1.5, NaN, 2 ** 32, 2 ** 32 + 1, 2 ** 64, Infinity]) {
+  throwsFault(() => opens(SALTED, { iterations }), "IterationCount");
+  throwsFault(() => library.pbkdf2("sha1", SECRET, IV, iterations, 24), "IterationCount");
+}
+for (const length of [0, -1, 1.5, NaN, 2 ** 32, 2 ** 64]) {
+  throwsFault(() => library.pbkdf2("sha1", SECRET, IV, 1, length), "KeyLength");
+  throwsFault(() => library.bytesToKey("sha1", SECRET, IV, length), "KeyLength");
+}
+for (const wrong of [null, 5n, "1", true]) throwsType(() => opens(SALTED, { iterations: wrong }), "iterations");
+for (const wrong of [null, 22, SECRET]) throwsType(() => opens(SALTED, { hashName: wrong }), "a hash function");
+
+// ---- Options of another name, as Python refuses an unknown keyword: nothing is taken for one that was left out
+
+const declared = readFileSync(`${folder}/cukvashe_des.d.mts`, "utf8");
+const OF_OPTIONS = [
+  {
+    call: (options) => wraps({}, PAIR, options),
+    right: { optional: [["KS", "0123"]], padding: of(6) },
+    others: ["optionalBlocks", "optional_blocks", "Optional", "blocks", "pad", "paddings"],
+    text: 'options: the names are "optional" and "padding" alone',
+  },
+  {
+    call: (options) => opens(SALTED, options),
+    right: { hashName: "sha256", iterations: undefined },
+    others: ["hash_name", "hashname", "hash", "md", "iteration", "iter"],
+    text: 'options: the names are "hashName" and "iterations" alone',
+  },
+];
+assert.equal(declared.match(/^  options\?: /gm).length, OF_OPTIONS.length, "a call with options that is not tested");
+for (const { call, right, others, text } of OF_OPTIONS) {
+  const answer = call(right);
+  assert.deepEqual(call(Object.assign(Object.create(null), right)), answer);
+  assert.deepEqual(call(Object.create(right)), answer);
+  const hidden = Object.defineProperty({ ...right }, others[0], { value: undefined, enumerable: false });
+  const wrong = [hidden, { ...right, [Symbol(others[0])]: 1 }, Object.create({ [others[0]]: 1 })];
+  for (const other of [...others, "", "0", "toString"]) wrong.push({ [other]: undefined }, { ...right, [other]: 1 });
+  for (const options of wrong) {
+    throwsType(() => call(options), "an option of another name");
+    assert.throws(() => call(options), { name: "TypeError", message: text });
+  }
+}
+
 const last = new Uint8Array(346);
 last.set(unhex("ffff9876543210fff800"));
 throwsFault(() => library.DukptTerminal.fromState(last).nextKey(), "NoSerial", "the terminal has had its last transaction");
@@ -396,6 +519,7 @@ const WRONG = [
 const isText = (it) => typeof it === "string";
 const isNumbers = (it) => Array.isArray(it) || it instanceof Uint16Array || it instanceof Uint8ClampedArray;
 const isFive = (it) => it === 5;
+const isOptions = (it) => it === undefined || (Object.prototype.toString.call(it) === "[object Object]" && Object.keys(it).length === 0);
 const BYTES = () => false;
 const cipher = new library.TdesEde3(KEY);
 const CALLS = [
@@ -445,6 +569,13 @@ const CALLS = [
   ["emvApplicationCryptogram", [PAIR, MESSAGE], [BYTES, BYTES]],
   ["emvResponse1", [PAIR, IV, of(2)], [BYTES, BYTES, BYTES]],
   ["emvResponse2", [PAIR, IV, of(4), of(8)], [BYTES, BYTES, BYTES, (it) => it === undefined]],
+  ["unwrapKeyBlock", [PROTECTION, BLOCK], [BYTES, isText]],
+  ["wrapKeyBlock", [PROTECTION, HEADER, PAIR, {}], [BYTES, BYTES, BYTES, isOptions]],
+  ["keyBlockHeader", [BLOCK], [isText]],
+  ["keyBlockOptionalBlocks", [BLOCK], [isText]],
+  ["pbkdf2", ["sha1", SECRET, IV, 1, 24], [isText, BYTES, BYTES, isFive, isFive]],
+  ["bytesToKey", ["md5", SECRET, IV, 24], [isText, BYTES, BYTES, isFive]],
+  ["openSalted", [library.TdesEde3, SECRET, SALTED, {}], [BYTES, BYTES, BYTES, isOptions]],
   ["encryptEach", [library.TdesEde3, KEY, IV], [BYTES, BYTES, BYTES]],
   ["decryptEach", [library.TdesEde3, KEY, IV], [BYTES, BYTES, BYTES]],
   ["checkValues", [library.TdesEde3, KEY], [BYTES, BYTES]],
@@ -510,7 +641,6 @@ assert.equal(JSON.parse(readFileSync(`${folder}/package.json`, "utf8")).version,
 
 // Every error and call of the package for Python has its name here, but those that work in place and that a string of
 // digits replaces.
-const declared = readFileSync(`${folder}/cukvashe_des.d.mts`, "utf8");
 for (const name of Object.keys(library)) {
   assert.match(declared, new RegExp(`^export (declare )?(class|function|const) ${name}\\b`, "m"), `${name} has no type`);
 }

@@ -296,6 +296,98 @@ for (let count = 0; count < 600; count += 1) {
   if (count % 7 === 0) terminal = library.DukptTerminal.fromState(terminal.state());
 }
 
+// ---- Key blocks, as in bindings/python/tests/test_key_blocks.py
+
+const KEY_BLOCKS = [
+  ["89e88cf7931444f334bd7547fc3f380c", "A0072P0TE00E0000F5161ED902807AF26F1D62263644BD24192FDB3193C730301CEE8701",
+    "f039121bec83d26b169bdcd5b22aaf8f", []],
+  ["1d22bf32387c600ad97f9b97a51311ac",
+    "B0104B0TX12S0100KS1800604B120F9292800000BB68BE8680A400D9191AD4ECE45B6E6C0D21C4738A52190E248719E24B433627",
+    "e8bc63e5479455e26577f715d587fe68", [["KS", "00604B120F9292800000"]]],
+  ["b8ed59e0a279a295e9f5ed7944fd06b9",
+    "C0096B0TX12S0100KS1800604B120F9292800000BFB9B689CB567E66FC3FEE5AD5F52161FC6545B9D60989015D02155C",
+    "edb380dd340bc2620247d445f5b8d678", [["KS", "00604B120F9292800000"]]],
+  ["dd7515f2bfc17f85ce48f3ca25cb21f6",
+    "B0080P0TE00E000094B420079CC80BA3461F86FE26EFC4A3B8E4FA4C5F5341176EED7B727B8A248E",
+    "3f419e1cb7079442aa37474c2efbf8b8", []],
+  ["3132333435363738393a3b3c3d3e3f404142434445464748",
+    "B0112D0TB00N0200KV0AABCDEFPB0600E5F817BCB9632D20A17A5D89EACA9C285438591465453BC1D189836F4D5E534A7F55B5941D869047",
+    "000102030405060708090a0b0c0d0e0f1011121314151617", [["KV", "ABCDEF"], ["PB", "00"]]],
+];
+for (const [protection, block, key, optional] of KEY_BLOCKS) {
+  const [version, usage, algorithm] = [block[0], block.slice(5, 7), block[7]];
+  const of = { version, usage, algorithm, mode: block[8], keyVersion: block.slice(9, 11), exportability: block[11] };
+  for (const form of [block, Buffer.from(block)]) {
+    const opened = library.unwrapKeyBlock(unhex(protection), form);
+    assert.deepEqual(opened.header, of);
+    is(opened.key, key);
+    assert.deepEqual(library.keyBlockHeader(form), of);
+    assert.deepEqual(library.keyBlockOptionalBlocks(form), optional);
+  }
+  if (version === "A") continue;
+  for (let size = 8; size <= 24; size += 8) {
+    const made = library.wrapKeyBlock(unhex(protection), of, unhex(key).subarray(0, size), { optional });
+    const again = library.wrapKeyBlock(unhex(protection), of, unhex(key).subarray(0, size), { optional });
+    assert.notEqual(made, again, "the padding is random");
+    assert.equal(made.length, again.length, "the length of the key is hidden");
+    is(library.unwrapKeyBlock(unhex(protection), made).key, key.slice(0, 2 * size));
+  }
+}
+const [pairKey, published, publishedKey] = KEY_BLOCKS[3];
+const [longKey, longBlock, threeParts] = KEY_BLOCKS[4];
+const headerOfBlock = (block) => library.keyBlockHeader(block);
+const padding = unhex("1c2965473ce2");
+assert.equal(library.wrapKeyBlock(unhex(pairKey), headerOfBlock(published), unhex(publishedKey), { padding }), published);
+for (const optional of [[["KV", "ABCDEF"]], new Map([["KV", "ABCDEF"]]), [["KV", "ABCDEF"], ["PB", "00"]]]) {
+  const options = { optional, padding: new Uint8Array(6).fill(0xa1) };
+  assert.equal(library.wrapKeyBlock(unhex(longKey), headerOfBlock(longBlock), unhex(threeParts), options), longBlock);
+}
+for (const length of [0, 1, 250, 251, 252, 9800]) {
+  const content = "x".repeat(length);
+  const made = library.wrapKeyBlock(unhex(pairKey), headerOfBlock(published), unhex(publishedKey), { optional: [["CT", content]] });
+  assert.deepEqual(library.keyBlockOptionalBlocks(made)[0], ["CT", content]);
+  is(library.unwrapKeyBlock(unhex(pairKey), made).key, publishedKey);
+}
+
+// ---- Keys from passwords: RFC 6070 and RFC 7914, what `openssl enc -P` prints, and files of `openssl enc`
+
+const [SECRET, SALT] = [Buffer.from("secret"), unhex("0123456789abcdef")];
+is(library.pbkdf2("sha1", Buffer.from("password"), Buffer.from("salt"), 4096, 20), "4b007901b765489abead49d926f721d065a429c1");
+is(library.pbkdf2("sha256", Buffer.from("passwd"), Buffer.from("salt"), 1, 32),
+  "55ac046e56e3089fec1691c22544b605f94185216dde0465e68b9d57c20dacbc");
+is(library.bytesToKey("md5", SECRET, SALT, 32), "5f772a83139a8d48ba45597c721ab6f2d37975c93f36a944cef01de4be7eb5d4");
+is(library.bytesToKey("sha1", SECRET, SALT, 32), "0367227b84a1c14afa3d9ac56823f56a3d7b9eb46392577deeb7c0acae589260");
+is(library.bytesToKey("sha256", SECRET, SALT, 32), "f153ef81cbc7ffbf834e5616495d710219caf9d13cbe822dae2ca8dcccae62fa");
+is(library.pbkdf2("sha1", SECRET, SALT, 1, 32), "cb6fabc3f3fd2ec1e2e8c6b9022dc86e74202a7e41b146ff9899e68f6b6ca213");
+is(library.pbkdf2("sha1", SECRET, SALT, 10000, 32), "1d1eb78f529e49042062cdd9e9f4b4aad23e6fd1e4cc2060cb799b75c523e1df");
+is(library.pbkdf2("sha256", SECRET, SALT, 1, 32), "935825f530da89bd49e67570aa3e55a7e0bed1359f84f0ca859b183afe5c3cc1");
+is(library.pbkdf2("sha256", SECRET, SALT, 10000, 32), "041771e1fc3357af9abf70057fcc8609982411bea5d63e036a0850b7c6c27437");
+for (const [Cipher, hashName, iterations, length, encrypted] of [
+  [library.Des, "md5", 0, 0, "f495a996951221e7"],
+  [library.Des, "sha1", 0, 7, "05d041900411a87f"],
+  [library.Des, "sha256", 0, 8, "6e025eb2d48753b41ed1f6bd139057c3"],
+  [library.Des, "sha1", 10, 23, "48c0d01ce855b9f14ea7e97d430b7c4af948b98a17870803"],
+  [library.Des, "sha256", 10000, 51,
+    "574e0786560fedd80cf8d6b242ce05a4e2f279f608e624ed6cb88816ccd6d32bb80d288e1064009191cff5244a6f257e24b30263f5653b06"],
+  [library.TdesEde2, "md5", 0, 0, "39222c48f928c759"],
+  [library.TdesEde2, "sha1", 0, 7, "ba3c62b93e33f275"],
+  [library.TdesEde2, "sha256", 0, 8, "7acb011cc3310a03ceeecfd486d193a7"],
+  [library.TdesEde2, "sha1", 10, 23, "e343c11c7b758cb7db2cf5437ce24996fded4959a349ec94"],
+  [library.TdesEde2, "sha256", 10000, 51,
+    "8432a96600858ac7cbe9df3b2d95f7e8d100285f2e2b8c9a4ac6ff01994651884e0abbd21a22a75892c8ad7a890a2a5fe1c755d3d1130dac"],
+  [library.TdesEde3, "md5", 0, 0, "7ab89c16c5e3c8d4"],
+  [library.TdesEde3, "sha1", 0, 7, "b690bc2ca698d190"],
+  [library.TdesEde3, "sha256", 0, 8, "ad295497d9157ea3743a7672497e8b5b"],
+  [library.TdesEde3, "sha1", 10, 23, "59b2273678be21f77d761d7f788e025c18d3ecda56906ea9"],
+  [library.TdesEde3, "sha256", 10000, 51,
+    "e9d6420dfde6f76f5525aeb07fae131c14079b19c0aeaf97c48e8da2f131be1a9b8d44c026b2f2c6206066867f0c8ac93628f139cc769a0d"],
+]) {
+  const file = Buffer.concat([Buffer.from("Salted__"), SALT, unhex(encrypted)]);
+  const options = iterations === 0 ? { hashName } : { hashName, iterations };
+  const text = Buffer.from("Now is the time for all good men to come to the aid").subarray(0, length);
+  is(library.openSalted(Cipher, SECRET, file, options), hex(text));
+}
+
 // ---- A long list, for which the memory grows; and nothing stays.
 
 const LONG = 1 << 20;

@@ -26,6 +26,11 @@ BASE = "0123456789ABCDEFFEDCBA9876543210"
 THREE = "8aa83bf8cbda1062 0bc1bf19fbb6cd58 bc313d4a371ca8b5"
 CARD = "4012345678909"
 
+# A key block that is published, its protection key and its key.
+PROTECTION = "DD7515F2BFC17F85CE48F3CA25CB21F6"
+PUBLISHED = "B0080P0TE00E000094B420079CC80BA3461F86FE26EFC4A3B8E4FA4C5F5341176EED7B727B8A248E"
+WRAPPED = "3F419E1CB7079442AA37474C2EFBF8B8"
+
 
 class Browser:
     """A session of Chromium."""
@@ -175,6 +180,10 @@ EXAMPLES = {
     "cvv": {"Card verification value": "561"},
     "check": {"Check value (KCV)": "08D7B4", "Parity": "odd in every byte", "Weak key test": "passed"},
     "components": {"Key": f"{BASE} KCV 08D7B4"},
+    "unwrap": {"Key": "E8BC63E5479455E26577F715D587FE68 KCV 9A4212", "Usage": "B0: base derivation key (BDK)", "Algorithm": "T: triple DES",
+               "Mode of use": "X: derive keys", "Exportability": "S: also under keys of other forms", "Version of the key": "12",
+               "Version of the block": "B: derived keys", "Optional block KS": "00604B120F9292800000"},
+    "wrap": {"Key block": PUBLISHED, "Padding": "as given", "Usage": "P0: encryption of PIN blocks"},
     "blocks": {"Ciphertext": "A826FD8CE53B855FCCE21C8112256FE668D5C05DD9B6B900"},
 }
 
@@ -262,6 +271,42 @@ def other_values(browser):
     choose(browser, "components")
     fill(browser, "components", components="1010101010101010\n0123456789ABCDEF\n\n8000000000000000\n")
     same(answers(browser, "components")["Key"].split(" ")[0], "9132547698BADCFE", "three components")
+
+
+def key_blocks(browser):
+    """Published blocks of each version; blocks by the package `cryptography`; and what is made with random padding is read again."""
+    choose(browser, "unwrap")
+    for protection, block, key in (
+            ("89E88CF7931444F334BD7547FC3F380C", "A0072P0TE00E0000F5161ED902807AF26F1D62263644BD24192FDB3193C730301CEE8701",
+             "F039121BEC83D26B169BDCD5B22AAF8F"),
+            ("b8ed59e0 a279a295 e9f5ed79 44fd06b9",
+             "C0096B0TX12S0100KS1800604B120F9292800000\nBFB9B689CB567E66FC3FEE5AD5F52161FC6545B9D6098901\n5D02155C",
+             "EDB380DD340BC2620247D445F5B8D678"),
+            ("3132333435363738393A3B3C3D3E3F404142434445464748",
+             "C0088D0TB00N0000C4E018DF42F39F60D80861D90D48657431AE5186F304704049244D894538D8BDF28B587B",
+             "000102030405060708090A0B0C0D0E0F1011121314151617")):
+        fill(browser, "unwrap", protection=protection, block=block)
+        same(answers(browser, "unwrap").get("Key", "").partition(" KCV ")[0], key, f"the key of {block} ({faults(browser)})")
+    choose(browser, "wrap")
+    made = []
+    for key in (WRAPPED[:16], WRAPPED, BASE + WRAPPED[:16]):
+        fill(browser, "wrap", protection=PROTECTION, key=key, version="B", usage="other", otherUsage="9x", algorithm="T", mode="N",
+             keyVersion="c1", exportability="S", optional="KS 0123\n\nID a test ", padding="")
+        got = answers(browser, "wrap")
+        same(got.get("Padding"), "random", f"the padding of {key} ({faults(browser)})")
+        same((got["Usage"], got["Optional block KS"], got["Optional block ID"]), ("9x: a code of its own", "0123", "a test"), "what is wrapped")
+        made.append((got["Key block"], key))
+    same(len({len(block) for block, _ in made}), 1, "the length of the blocks, which hides that of the key")
+    # The published optional block as it stands, and by its name and content; contents that begin with a length.
+    for text, content in (("KS1800604B120F9292800000", "00604B120F9292800000"), ("KS 00604B120F9292800000", "00604B120F9292800000"),
+                          ("KS1A1800604B120F9292800000", "1800604B120F9292800000"), ("  KS0cABCDEFGH ", "ABCDEFGH"),
+                          ("KS0002000CAB", "AB"), ("KS0004000CAB", "AB"), ("KS0B0a test", "0a test"), ("KS", ""), ("KS04", "")):
+        fill(browser, "wrap", optional=text)
+        same(answers(browser, "wrap").get("Optional block KS"), content, f"the content of {text} ({faults(browser)})")
+    choose(browser, "unwrap")
+    for block, key in made:
+        is_answer(browser, "unwrap", {"Version of the key": "c1", "Mode of use": "N: no restriction"}, protection=PROTECTION, block=block)
+        same(answers(browser, "unwrap")["Key"].partition(" KCV ")[0], key, "what is wrapped, read again")
 
 
 def known_answers(browser):
@@ -374,6 +419,33 @@ def each_fault(browser):
     refuses("components", {"components": "Component 2: 16, 32 or 48"}, components=f"{BASE}\n{BASE[:6]}")
     refuses("components", {"components": "differ in their number"}, components=f"{BASE}\n{BASE[:16]}")
     refuses("components", {"components": "weak"}, components=f"{BASE}\n{BASE}")
+    choose(browser, "unwrap")
+    refuses("unwrap", {"protection": EMPTY, "block": EMPTY})
+    refuses("unwrap", {"protection": "32 or 48 hexadecimal digits are needed, and here are 16."}, protection=BASE[:16], block=PUBLISHED)
+    for place, character, words in ((1, "1", "another number of characters"), (0, "D", "none of A, B and C"), (12, "x", "Characters 13 to 16"),
+                                    (13, "1", "optional blocks"), (0, "A", "another number of digits"), (16, "a", "upper case"),
+                                    (79, "\uff15", "upper case"), (79, "F", "The MAC is not"), (5, "K", "The MAC is not")):
+        refuses("unwrap", {"block": words}, protection=PROTECTION, block=PUBLISHED[:place] + character + PUBLISHED[place + 1:])
+    same(answers(browser, "unwrap").get("Usage, not authenticated"), "K0: encryption of keys", "a header beside a wrong MAC")
+    same("Key" in answers(browser, "unwrap"), False, "no key beside a wrong MAC")
+    browser.picture("forged")
+    refuses("unwrap", {"block": "holds no key"}, block="B0080P0TE00E000046AD3EFD0DCF51A1FFDD4D468C4DC235EC217D6B8557FF68335F3126A5C1C8B5")
+    choose(browser, "wrap")
+    refuses("wrap", {"protection": EMPTY, "key": EMPTY, "keyVersion": EMPTY})
+    refuses("wrap", {"keyVersion": "2 characters are needed, and here are 3."}, protection=PROTECTION, key=WRAPPED, keyVersion="000")
+    refuses("wrap", {"keyVersion": "letters and digits"}, keyVersion="0-")
+    refuses("wrap", {"otherUsage": EMPTY}, usage="other", keyVersion="00")
+    refuses("wrap", {"padding": "8, 16, 24 or 32 bytes"}, usage="P0", padding="00")
+    refuses("wrap", {"padding": "even number"}, padding="0")
+    # An optional block with its length, by habit, and what is neither that nor a name and a content.
+    for text in ("K", "K S", "KS0123", "KS1800604B120F929280000", "KS1800604B120F92928000000", "KS18 00604B120F9292800000", "KS03", "KS0", "KS00",
+                 "KS0000", "KS00020009", "KS0002000DAB", "KS0003000CAB", "KSxx", "KS 0123\n\nKS0123"):
+        line = len(text.split("\n"))
+        refuses("wrap", {"optional": f"Line {line} is neither an optional block as it stands in a key block"}, padding="", optional=text)
+    for text in ("KS 1800604B120F9292800000", "KS 18 00604B120F9292800000", "KS\t0cABCDEFGH", "KS 04", "KS 0002000CAB", "ID 0Aa test"):
+        refuses("wrap", {"optional": "Line 1: the content begins with the length of the block."}, optional=text)
+    refuses("wrap", {"optional": "all ASCII"}, optional="KS \u00e9")
+    refuses("wrap", {"optional": "at most 9999 characters"}, optional="KS " + "x" * 9990)
     choose(browser, "blocks")
     refuses("blocks", {"key": EMPTY, "data": EMPTY})
     refuses("blocks", {"data": "Whole blocks of 16"}, key=BASE, data="0123456789")
@@ -568,6 +640,7 @@ begun = Browser()
 same(begun.open(PAGE).startswith("Ready: the library in this page computed "), True, "the page is ready")
 examples(begun)
 other_values(begun)
+key_blocks(begun)
 known_answers(begun)
 each_fault(begun)
 random_digits(begun)

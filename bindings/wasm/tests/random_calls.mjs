@@ -196,7 +196,60 @@ function offsetVerify() {
   return ["pinOffsetVerify", ...words, often(() => pinOf, pin), often(() => offset, pin)];
 }
 
+// A key block: a header is written by its fields, and a block that is read is one that was made, or nearly one.
+const letter = () => one(["A", "B", "D", "E", "N", "S", "T", "0", "5", "x"]);
+const header = () => ({
+  version: often(() => one(["B", "C"]), () => one(["A", "D", ""])),
+  usage: letter() + letter(),
+  algorithm: letter(),
+  mode: often(letter, () => one(["", " ", "EE"])),
+  keyVersion: letter() + letter(),
+  exportability: letter(),
+});
+const optionalBlocks = () => times(random(3), () => [
+  often(() => letter() + letter(), letter), often(() => digits(0, one([9, 260])), () => oddDigits(1, 5)),
+]);
+const rightBlock = (protection) => {
+  const padding_ = bytes(one([6, 14]));
+  const of = { ...header(), version: one(["B", "C"]), mode: letter() };
+  const optional = times(random(3), () => [letter() + letter(), digits(0, one([9, 260]))]);
+  return library.wrapKeyBlock(protection, of, bytes(one([8, 16])), { optional, padding: padding_ });
+};
+const changedText = (text_) => {
+  const at = random(text_.length);
+  return text_.slice(0, at) + one([...ODD_CHARACTERS, "0", "1", "A", "B", ""]) + text_.slice(at + 1);
+};
+
+function keyBlock() {
+  const protection = bytes(one([16, 24]));
+  const block = rightBlock(protection);
+  const given_ = one([block, block, changedText(block)]);
+  if (random(2) === 0) return [one(["keyBlockHeader", "keyBlockOptionalBlocks"]), given_];
+  return ["unwrapKeyBlock", often(() => protection, () => key(one([16, 24]))), given_];
+}
+
+function wrapKeyBlock() {
+  const held = key(one([8, 16, 24]));
+  const size = Math.max(0, 30 - held.length - 8 * random(2));
+  const options = { optional: optionalBlocks(), padding: often(() => bytes(size), () => bytes(random(32))) };
+  return ["wrapKeyBlock", key(one([16, 24])), header(), held, options];
+}
+
+const hashName = () => often(() => one(["sha1", "sha256"]), () => one(["md5", "sha512"]));
+const iterations = () => often(() => 1 + random(20), () => one([0, -1, 2 ** 32]));
+
+function openSalted() {
+  const [name] = entry(CIPHERS);
+  const file = joined([Buffer.from(often(() => "Salted__", () => "salted__")), bytes(8 * (1 + random(5)))]);
+  const cut = often(() => file, () => file.subarray(0, random(file.length)));
+  const by = random(2) === 0 ? { hashName: one(["md5", "sha1", "sha256"]) } : { hashName: hashName(), iterations: iterations() };
+  return ["openSalted", { class: name }, bytes(random(70)), Uint8Array.from(cut), by];
+}
+
 const KINDS = [
+  ...[keyBlock, wrapKeyBlock, openSalted],
+  () => ["pbkdf2", hashName(), bytes(random(70)), bytes(8), iterations(), often(() => 1 + random(70), () => 0)],
+  () => ["bytesToKey", often(() => one(["md5", "sha1", "sha256"]), () => "md4"), bytes(random(70)), bytes(8), 1 + random(70)],
   ...[translate, pvvVerify, offsetVerify],
   () => [one(["keyCheckValue", "shortKeyCheckValue"]), anyKey()],
   () => ["dukptDataVariant", key(16), random(2) === 0],
@@ -266,7 +319,9 @@ const written = (word) => {
   if (word instanceof Uint8Array) return { bytes: hex(word) };
   if (Array.isArray(word)) return word.map(written);
   if (word?.cipher !== undefined) return { cipher: word.cipher.map(written) };
-  return word;
+  if (word?.exportability !== undefined) return { header: Object.values(word) };
+  if (word === null || typeof word !== "object" || "class" in word || "table" in word) return word;
+  return { options: Object.fromEntries(Object.entries(word).map(([name, it]) => [name, written(it)])) };
 };
 
 for (let made = 0; made < count; made += 1) {

@@ -94,6 +94,27 @@ library.emvApplicationKey(card, of(2));
 const cryptogram = library.emvApplicationCryptogram(card, of(300));
 library.emvResponse1(card, cryptogram, of(2));
 library.emvResponse2(card, cryptogram, of(4), of(8));
+const header = { version: "B", usage: "P0", algorithm: "T", mode: "E", keyVersion: "00", exportability: "E" };
+for (const optional of [[], Array(98).fill(["KS", ""]), [["CT", "x".repeat(9800)]]]) {
+  const block = library.wrapKeyBlock(of(24), header, of(24), { optional });
+  library.unwrapKeyBlock(of(24), block);
+  library.keyBlockHeader(block);
+  library.keyBlockOptionalBlocks(block);
+}
+library.pbkdf2("sha256", of(100), of(100), 2, 100);
+library.bytesToKey("sha256", of(100), of(100), 100);
+const file = Uint8Array.from([...Buffer.from("Salted__"), ...of(8 * 300)]);
+for (const Cipher of [library.Des, library.TdesEde2, library.TdesEde3]) {
+  // One password in 256 fits, and then the whole file is decrypted.
+  for (let at = 0, opened = false; !opened; at += 1) {
+    try {
+      library.openSalted(Cipher, Uint8Array.of(at, at >> 8), file);
+      opened = true;
+    } catch (error) {
+      if (!(error instanceof library.PaddingMismatch)) throw error;
+    }
+  }
+}
 
 // Exports that give answers which others give: contexts without tables, and from one buffer to another.
 const isOther = (name) => /_init_quiet$|_(encrypt|decrypt)_(ecb|cbc)_to$/.test(name);
