@@ -5,3 +5,13 @@ pub mod CheckDigits
 pub mod KeyVerdicts
 pub mod AlikeStreams
 pub mod AlikeFaults
+pub mod ObjectIdentifiers
+pub mod PemLines
+pub mod DerivationTexts
+pub mod SaltHeadings
+pub mod PasswordRuns
+pub mod KeyPlains
+pub mod OptionalLines
+pub mod ProtectionSizes
+pub mod WrapFaults
+pub mod UnwrapFaults

@@ -12,18 +12,25 @@ use Rattle.des_payment.specs.declared.cvv_error.CvvError.TheVariants.{AccountLen
 use Rattle.des_payment.specs.Translation.{name_of as name_of_translation_error}
 use Rattle.des_payment.specs.PinVerification.{name_of as name_of_verification_error}
 use Rattle.des_payment.specs.CardCryptograms.{name_of as name_of_emv_error}
+use Rattle.des_payment.specs.KeyBlockFaults.{name_of as name_of_key_block_error}
 use Rattle.des_payment.specs.declared.translation_error.TranslationError.{TranslationError}
 use Rattle.des_payment.specs.declared.translation_error.TranslationError.TheVariants.{KeyLength as TranslatedKeyLength, Formats, AccountLength as TranslatedAccountLength, AccountDigit as TranslatedAccountDigit, Fill as TranslatedFill, Block}
 use Rattle.des_payment.specs.declared.verification_error.VerificationError.{VerificationError}
 use Rattle.des_payment.specs.declared.verification_error.VerificationError.TheVariants.{AccountLength as PairAccountLength, AccountDigit as PairAccountDigit, KeyIndex, KeyLength as PinKeyLength, PinLength as NaturalLength, TableLength, TableDigit, TableVariety, WrongPin}
 use Rattle.des_payment.specs.declared.emv_error.EmvError.{EmvError}
 use Rattle.des_payment.specs.declared.emv_error.EmvError.TheVariants.{AccountLength as EmvAccountLength, AccountDigit as EmvAccountDigit, SequenceLength, SequenceDigit, DataLength}
+use Rattle.des_payment.specs.declared.key_block_error.KeyBlockError.{KeyBlockError}
+use Rattle.des_payment.specs.declared.key_block_error.KeyBlockError.TheVariants.{ProtectionKeyLength, Length as KeyBlockLength, Version, Header, OptionalBlock, DataLength as SealedLength, Digit, Mac, KeyLength as WrappedKeyLength, PaddingLength}
 use Rattle.cukvashe.specs.declared.fault.Reason.{Reason}
 use Rattle.cukvashe.specs.declared.fault.Reason.TheVariants.{NotFound, Permission, IsFolder, NotFolder, Loop, Name, Exists, Full, TooLarge, ReadOnly, Closed, Other}
 use Rattle.cukvashe.specs.declared.fault.Misuse.{Misuse}
-use Rattle.cukvashe.specs.declared.fault.Misuse.TheVariants.{KeySource, ToKeySource, StandardInputTwice, VectorNeeded, VectorOfEcb, RandomToDecrypt, FirstBlockToEncrypt, PartToEncrypt, Terminal, PaddingOfCmac, PaddingNeeded, Account, Arguments, Components as PartsOrCount, Fill as FillOptions, Session, NoText}
+use Rattle.cukvashe.specs.declared.fault.Misuse.TheVariants.{KeySource, ToKeySource, StandardInputTwice, VectorNeeded, VectorOfEcb, RandomToDecrypt, FirstBlockToEncrypt, PartToEncrypt, Terminal, PaddingOfCmac, PaddingNeeded, Account, Arguments, Components as PartsOrCount, Fill as FillOptions, Session, ProtectionKeySource, PasswordSource, PasswordNeeded, VectorOfPassword, Derivation, DerivationNeeded, DerivationToEncrypt, Count, NoText}
+use Rattle.cukvashe.specs.declared.fault.FileFault.{FileFault}
+use Rattle.cukvashe.specs.declared.fault.FileFault.TheVariants.{Salted, NotSalted, SaltCut, Base64, Begin, End, NotEncrypted, NoDekInfo, Cipher as OtherCipher, DekVector, EmptyLine, Structure, Algorithm as OtherAlgorithm, KeyDerivation, Iterations, KeySize, Prf, KeyPadding, Password as OtherPassword}
+use Rattle.cukvashe.specs.declared.fault.Field.{Field}
+use Rattle.cukvashe.specs.declared.fault.Field.TheVariants.{Usage as UsageField, Algorithm as AlgorithmField, Mode as ModeField, KeyVersion as KeyVersionField, Exportability as ExportabilityField}
 use Rattle.cukvashe.specs.declared.fault.Kind.{Kind}
-use Rattle.cukvashe.specs.declared.fault.Kind.TheVariants.{Usage, Source, Variable, InputLength, KeyLength, KeyText, ToKeyLength, ToKeyText, WeakKey, Components, Vector, Tag, Value, Offset, Validation, Counter, Cryptogram, Code, Status, Data, DataText, BlockLength, BlockText, SerialLength, SerialText, SerialCounter, FillLength, FillText, CheckDigit, Pin, Card, Translation, Verification, Emv, Memory, Read, Write, Length, Start, Padding}
+use Rattle.cukvashe.specs.declared.fault.Kind.TheVariants.{Usage, Source, Variable, InputLength, KeyLength, KeyText, ToKeyLength, ToKeyText, WeakKey, Components, Vector, Tag, Value, Offset, Validation, Counter, Cryptogram, Code, Status, Data, DataText, BlockLength, BlockText, SerialLength, SerialText, SerialCounter, FillLength, FillText, CheckDigit, Pin, Card, Translation, Verification, Emv, Field as FieldFault, KeyBlock, File, EmptyPassword, Memory, Read, Write, Length, Start, Padding}
 
 -- what is said of a file, a pipe or a descriptor
 abbrev pub reason_words : Reason → List ℕ
@@ -58,6 +65,16 @@ misuse_words Arguments = codes "the command doesn't take these words (see --help
 misuse_words PartsOrCount = codes "give --part-file twice or more, or --count and one source of all"
 misuse_words FillOptions = codes "the format takes other options (see --help)"
 misuse_words Session = codes "give one of --counter and --cryptogram"
+misuse_words ProtectionKeySource =
+    codes "give one of --protection-key-file, --protection-key-fd and --protection-key-env"
+misuse_words PasswordSource = codes "give one of --password-file, --password-fd and --password-env, and no key"
+misuse_words PasswordNeeded = codes "--derive, --any-count, --no-salt and --base64 are for a password"
+misuse_words VectorOfPassword = codes "a password gives the vector too: leave out --iv"
+misuse_words Derivation = codes "md5, sha1, sha256, pbkdf2-sha1:COUNT or pbkdf2-sha256:COUNT is needed"
+misuse_words DerivationNeeded =
+    codes "decryption needs --derive md5, sha1, sha256, pbkdf2-sha1:COUNT or pbkdf2-sha256:COUNT"
+misuse_words DerivationToEncrypt = codes "encryption takes pbkdf2-sha256:COUNT alone"
+misuse_words Count = codes "more than 10000000 iterations need --any-count"
 misuse_words NoText = codes "an argument is no text"
 
 -- what is said of a key whose bytes are of a number, or of one of three
@@ -115,6 +132,70 @@ emv_words SequenceLength = codes "a sequence number has 2 digits"
 emv_words SequenceDigit = codes "the sequence number has a character that is no digit"
 emv_words DataLength = codes "at most 16 hexadecimal digits are needed, two for each byte"
 
+-- what is said of a field of a key block's header
+abbrev pub field_words : Field → List ℕ
+field_words UsageField = codes "two letters or digits are needed"
+field_words AlgorithmField = codes "a letter or digit is needed"
+field_words ModeField = codes "a letter or digit is needed"
+field_words KeyVersionField = codes "two letters or digits are needed"
+field_words ExportabilityField = codes "a letter or digit is needed"
+
+-- what is said of a key block
+abbrev pub key_block_words : KeyBlockError → List ℕ
+key_block_words ProtectionKeyLength = codes "a key of 32 or 48 hexadecimal digits is needed"
+key_block_words KeyBlockLength = codes "the block is not as long as its header says, or has more than 9999 characters"
+key_block_words Version = codes "the block is of another version than A, B and C"
+key_block_words Header = codes "characters 13 to 16 are not the number of optional blocks and two zeros"
+key_block_words OptionalBlock = codes "the optional blocks are not the standard's"
+key_block_words SealedLength = codes "the encrypted key and the MAC are too short or too long"
+key_block_words Digit = codes "the encrypted key or the MAC has a character that is no hexadecimal digit"
+key_block_words Mac = codes "the MAC is wrong: the block was changed, or is under another protection key"
+key_block_words WrappedKeyLength = codes "the block's key does not have 8, 16 or 24 bytes"
+key_block_words PaddingLength = codes "the padding does not fill the block"
+
+-- the name of a fault of a file under a password, and what is said of it
+abbrev pub file_name : FileFault → List ℕ
+file_name Salted = codes "Salted"
+file_name NotSalted = codes "NotSalted"
+file_name SaltCut = codes "SaltCut"
+file_name Base64 = codes "Base64"
+file_name Begin = codes "Begin"
+file_name End = codes "End"
+file_name NotEncrypted = codes "NotEncrypted"
+file_name NoDekInfo = codes "NoDekInfo"
+file_name OtherCipher = codes "Cipher"
+file_name DekVector = codes "DekVector"
+file_name EmptyLine = codes "EmptyLine"
+file_name Structure = codes "Structure"
+file_name OtherAlgorithm = codes "Algorithm"
+file_name KeyDerivation = codes "KeyDerivation"
+file_name Iterations = codes "Iterations"
+file_name KeySize = codes "KeySize"
+file_name Prf = codes "Prf"
+file_name KeyPadding = codes "Padding"
+file_name OtherPassword = codes "Password"
+
+abbrev pub file_words : FileFault → List ℕ
+file_words Salted = codes "the input begins with Salted__: it is under a password (see --password-file)"
+file_words NotSalted = codes "the input does not begin with Salted__ (see --no-salt and --base64)"
+file_words SaltCut = codes "the input ends within the salt"
+file_words Base64 = codes "it is no Base64 in lines of 64 characters at most"
+file_words Begin = codes "no line begins an encrypted private key"
+file_words End = codes "no line ends the key as it begins"
+file_words NotEncrypted = codes "the key is not encrypted"
+file_words NoDekInfo = codes "no DEK-Info follows Proc-Type"
+file_words OtherCipher = codes "the cipher is neither DES-EDE3-CBC nor, of DEK-Info, DES-CBC"
+file_words DekVector = codes "the vector of DEK-Info does not have 16 hexadecimal digits"
+file_words EmptyLine = codes "no empty line follows DEK-Info"
+file_words Structure = codes "it is not the DER of an encrypted private key"
+file_words OtherAlgorithm = codes "the algorithm is neither PBES2 nor pbeWithMD5AndDES-CBC"
+file_words KeyDerivation = codes "the key is not derived by PBKDF2"
+file_words Iterations = codes "there are no iterations, or more than 10000000 (see --any-count)"
+file_words KeySize = codes "the key of the cipher does not have 24 bytes"
+file_words Prf = codes "PBKDF2 is neither with HMAC-SHA-1 nor with HMAC-SHA-256"
+file_words KeyPadding = codes "the key's padding is another: so is the password"
+file_words OtherPassword = codes "what is decrypted is no private key: the password is another"
+
 -- the name of a fault
 abbrev pub name_of : Kind → List ℕ
 name_of (Usage _) = codes "Usage"
@@ -151,6 +232,10 @@ name_of (Card error) = name_of_card_error error
 name_of (Translation error) = name_of_translation_error error
 name_of (Verification error) = name_of_verification_error error
 name_of (Emv error) = name_of_emv_error error
+name_of (FieldFault field) = codes "Field"
+name_of (KeyBlock error) = name_of_key_block_error error
+name_of (File fault) = file_name fault
+name_of EmptyPassword = codes "EmptyPassword"
 name_of Memory = codes "Memory"
 name_of (Read _) = codes "Read"
 name_of (Write _) = codes "Write"
@@ -196,6 +281,10 @@ words_of (Card error) = card_words error
 words_of (Translation error) = translation_words error
 words_of (Verification error) = verification_words error
 words_of (Emv error) = emv_words error
+words_of (FieldFault field) = field_words field
+words_of (KeyBlock error) = key_block_words error
+words_of (File fault) = file_words fault
+words_of EmptyPassword = codes "the password is empty"
 words_of Memory = codes "a request for memory was refused"
 words_of Length = codes "the input ends within a block of 8 bytes"
 words_of Start = codes "the input ends before the part begins"
@@ -232,6 +321,7 @@ status_of (Write reason) = 4
 status_of Length = 5
 status_of Start = 5
 status_of Padding = 5
+status_of (File fault) = 5
 status_of _ = 2
 
 -- the fault of an error of a stream

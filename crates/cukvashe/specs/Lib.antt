@@ -18,3 +18,9 @@ pub mod JobFaults
 pub mod StreamArguments
 pub mod Parities
 pub mod Runs
+pub mod KeyBlockLines
+pub mod KeyBlockRuns
+pub mod PasswordArguments
+pub mod PasswordStreams
+pub mod KeyFiles
+pub mod DecryptedKeys

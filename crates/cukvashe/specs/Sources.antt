@@ -31,15 +31,12 @@ name_of_source (File path) = shown_path path.now
 name_of_source (Descriptor number) = codes "--key-fd"
 name_of_source (Variable name) = codes "--key-env"
 
--- all was read, no more than the longest input, and the text is what is written in it
-pub record IsTextOf (longest : ℕ) (text : List ℕ) (read_from read_to : Option (List ℕ)) : Type 0 where
-  pub bytes : List ℕ
-  pub read : Consumes read_from read_to bytes
-  pub end : IsAtEnd read_to
-  pub within : length bytes ≤ longest
-  pub written : text ≡ written_in bytes
+-- all was read, no more than the longest input
+abbrev pub IsAllOf : ℕ → List ℕ → Option (List ℕ) → Option (List ℕ) → Type 0
+IsAllOf longest bytes read_from read_to =
+    Consumes read_from read_to bytes × IsAtEnd read_to × (length bytes ≤ longest)
 
--- no text is given: the input is longer, the source can't be read, or memory was refused
+-- nothing is given: the input is longer, the source can't be read, or memory was refused
 abbrev pub FailsToGive : ℕ → Option (List ℕ) → Option (List ℕ) → Kind → Type 0
 FailsToGive longest read_from read_to kind =
     ((kind ≡ InputLength) × ((bytes : List ℕ) × Consumes read_from read_to bytes × (longest < length bytes)))

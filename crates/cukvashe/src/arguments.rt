@@ -2,6 +2,10 @@
 
 mod forms;
 mod grammar;
+mod key_block_forms;
+mod key_blocks;
+mod password_forms;
+mod passwords;
 mod payment;
 mod payment_forms;
 mod stream_forms;
@@ -21,6 +25,8 @@ use crate::source::Source;
 use clap::ArgMatches;
 use des_payment::dukpt::Message;
 pub use grammar::{names_of, parse};
+use key_blocks::key_block_request;
+use passwords::{key_file_request, names_password, password_request, refuse_options};
 use payment::{emv_request, offset_request, pin_request, pvv_request};
 use streams::{input_of, stream_request};
 use typed::{count_of, is_given, is_set, number_of, place_of, text_of, texts_of};
@@ -258,6 +264,10 @@ fn cvv_request<'a>(matches: &ArgMatches<'a>) -> Result<Request<'a>, Fault<'a>> {
 // ---- streams
 
 fn streams_task<'a>(encrypts: bool, matches: &ArgMatches<'a>) -> Result<Request<'a>, Fault<'a>> {
+    if names_password(matches) {
+        return password_request(encrypts, matches);
+    }
+    refuse_options(encrypts, matches)?;
     let request = stream_request(encrypts, matches)?;
     Ok(without_account(Task::Stream(request), request.key))
 }
@@ -267,6 +277,7 @@ pub fn request_of<'a>(matches: &ArgMatches<'a>) -> Result<Request<'a>, Fault<'a>
     match matches.subcommand() {
         Some(("encrypt", matches)) => streams_task(true, matches),
         Some(("decrypt", matches)) => streams_task(false, matches),
+        Some(("decrypt-pem", matches)) => key_file_request(matches),
         Some(("mac", matches)) => mac_request(matches),
         Some(("check-value", matches)) => check_request(matches),
         Some(("parity", matches)) => key_request(Task::Line(Form::Parity), matches),
@@ -277,6 +288,7 @@ pub fn request_of<'a>(matches: &ArgMatches<'a>) -> Result<Request<'a>, Fault<'a>
         Some(("pvv", matches)) => pvv_request(matches),
         Some(("offset", matches)) => offset_request(matches),
         Some(("emv", matches)) => emv_request(matches),
+        Some(("key-block", matches)) => key_block_request(matches),
         Some((_, matches)) => pin_request(matches),
         None => Err(misuse(Misuse::Arguments, "")),
     }

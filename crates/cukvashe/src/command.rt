@@ -1,6 +1,7 @@
 //! What is asked of the program.
 
 use des_payment::dukpt::Message;
+use des_payment::key_block_header::Version;
 use des_payment::translation::Format;
 
 /// What is read beside the input: texts of digits, of which one that a command does not take is
@@ -152,4 +153,27 @@ pub enum CardCommand<'a> {
         status: &'a str,
         issued: &'a str,
     },
+}
+
+/// The header of a key block that is made, and its optional blocks, as texts.
+#[derive(Clone, Copy)]
+pub struct Wrapping<'a> {
+    pub version: Version,
+    pub usage: &'a str,
+    pub algorithm: &'a str,
+    pub mode: &'a str,
+    pub key_version: &'a str,
+    pub exportability: &'a str,
+    pub optional: &'a str,
+}
+
+/// A command on key blocks. The input is the block, but for `Wrap`.
+#[derive(Clone, Copy)]
+pub enum KeyBlockCommand<'a> {
+    /// The fields of the header.
+    Header,
+    /// The fields of the header and the check value of the key; or the key.
+    Unwrap { shows_key: bool },
+    /// The block of a key, which is the input.
+    Wrap(Wrapping<'a>),
 }

@@ -2,11 +2,12 @@
 
 ghost use Rattle.std.specs.Prelude.{◌≡◌};
 ghost use Rattle.cukvashe.specs.Faults.{name_of, status_of, words_of, reason_words, misuse_words, key_words, pin_words, card_words};
-ghost use Rattle.cukvashe.specs.Faults.{translation_words, verification_words, emv_words};
+ghost use Rattle.cukvashe.specs.Faults.{translation_words, verification_words, emv_words, field_words, key_block_words, file_name, file_words};
 
 use des::WeakKeyError;
 use des_io::StreamError;
 use des_payment::emv_error::{self, EmvError};
+use des_payment::key_block_error::{self, KeyBlockError};
 use des_payment::{
     CvvError, PinError, TranslationError, VerificationError, cvv_error, pin_error,
     translation_error, verification_error,
@@ -50,7 +51,68 @@ pub enum Misuse {
     Components,
     Fill,
     Session,
+    ProtectionKeySource,
+    PasswordSource,
+    PasswordNeeded,
+    VectorOfPassword,
+    Derivation,
+    DerivationNeeded,
+    DerivationToEncrypt,
+    Count,
     NoText,
+}
+
+/// A field of a key block's header, which an option gives.
+#[derive(Clone, Copy)]
+pub enum Field {
+    Usage,
+    Algorithm,
+    Mode,
+    KeyVersion,
+    Exportability,
+}
+
+/// What is wrong with a file under a password.
+#[derive(Clone, Copy, PartialEq, Eq)]
+pub enum FileFault {
+    /// The input begins with `Salted__`, and is decrypted by a key.
+    Salted,
+    /// The input does not begin with `Salted__`.
+    NotSalted,
+    /// The input ends within the salt.
+    SaltCut,
+    /// A line is no Base64.
+    Base64,
+    /// No line begins an encrypted private key.
+    Begin,
+    /// No line ends the key as it begins.
+    End,
+    /// The key has no header `Proc-Type: 4,ENCRYPTED`.
+    NotEncrypted,
+    /// No header `DEK-Info` follows that.
+    NoDekInfo,
+    /// The cipher is another than `DES-EDE3-CBC`, or of `DEK-Info` than `DES-CBC` too.
+    Cipher,
+    /// The vector of `DEK-Info` does not have 16 hexadecimal digits.
+    DekVector,
+    /// No empty line follows `DEK-Info`.
+    EmptyLine,
+    /// The bytes are not the DER of an encrypted private key.
+    Structure,
+    /// The algorithm is neither PBES2 nor pbeWithMD5AndDES-CBC.
+    Algorithm,
+    /// The key is not derived by PBKDF2.
+    KeyDerivation,
+    /// There are no iterations, or more than are allowed.
+    Iterations,
+    /// The key does not have 24 bytes.
+    KeySize,
+    /// PBKDF2 is neither with HMAC-SHA-1 nor with HMAC-SHA-256.
+    Prf,
+    /// What is decrypted does not end with its padding.
+    KeyPadding,
+    /// What is decrypted is no DER of a private key.
+    Password,
 }
 
 /// What is at fault. Each has a name, under which the documents list it, and words.
@@ -124,6 +186,14 @@ pub enum Kind {
     Verification(VerificationError),
     /// A fault of a card's keys and cryptograms.
     Emv(EmvError),
+    /// A field of a key block's header is not its number of letters and digits.
+    Field(Field),
+    /// A fault of a key block.
+    KeyBlock(KeyBlockError),
+    /// A fault of a file under a password.
+    File(FileFault),
+    /// The password of what is to be encrypted is empty.
+    EmptyPassword,
     /// A request for memory was refused.
     Memory,
     /// The input can't be read.
@@ -217,7 +287,77 @@ impl Misuse {
                 "give --part-file twice or more, or --count and one source of all",
             Misuse::Fill => "the format takes other options (see --help)",
             Misuse::Session => "give one of --counter and --cryptogram",
+            Misuse::ProtectionKeySource =>
+                "give one of --protection-key-file, --protection-key-fd and --protection-key-env",
+            Misuse::PasswordSource =>
+                "give one of --password-file, --password-fd and --password-env, and no key",
+            Misuse::PasswordNeeded =>
+                "--derive, --any-count, --no-salt and --base64 are for a password",
+            Misuse::VectorOfPassword => "a password gives the vector too: leave out --iv",
+            Misuse::Derivation =>
+                "md5, sha1, sha256, pbkdf2-sha1:COUNT or pbkdf2-sha256:COUNT is needed",
+            Misuse::DerivationNeeded =>
+                "decryption needs --derive md5, sha1, sha256, pbkdf2-sha1:COUNT or pbkdf2-sha256:COUNT",
+            Misuse::DerivationToEncrypt => "encryption takes pbkdf2-sha256:COUNT alone",
+            Misuse::Count => "more than 10000000 iterations need --any-count",
             Misuse::NoText => "an argument is no text",
+        }
+    }
+}
+
+impl FileFault {
+    fn name(self) -> &'static str
+        ensures { result.now ≡ file_name self }
+    {
+        match self {
+            FileFault::Salted => "Salted",
+            FileFault::NotSalted => "NotSalted",
+            FileFault::SaltCut => "SaltCut",
+            FileFault::Base64 => "Base64",
+            FileFault::Begin => "Begin",
+            FileFault::End => "End",
+            FileFault::NotEncrypted => "NotEncrypted",
+            FileFault::NoDekInfo => "NoDekInfo",
+            FileFault::Cipher => "Cipher",
+            FileFault::DekVector => "DekVector",
+            FileFault::EmptyLine => "EmptyLine",
+            FileFault::Structure => "Structure",
+            FileFault::Algorithm => "Algorithm",
+            FileFault::KeyDerivation => "KeyDerivation",
+            FileFault::Iterations => "Iterations",
+            FileFault::KeySize => "KeySize",
+            FileFault::Prf => "Prf",
+            FileFault::KeyPadding => "Padding",
+            FileFault::Password => "Password",
+        }
+    }
+
+    fn words(self) -> &'static str
+        ensures { result.now ≡ file_words self }
+    {
+        match self {
+            FileFault::Salted =>
+                "the input begins with Salted__: it is under a password (see --password-file)",
+            FileFault::NotSalted =>
+                "the input does not begin with Salted__ (see --no-salt and --base64)",
+            FileFault::SaltCut => "the input ends within the salt",
+            FileFault::Base64 => "it is no Base64 in lines of 64 characters at most",
+            FileFault::Begin => "no line begins an encrypted private key",
+            FileFault::End => "no line ends the key as it begins",
+            FileFault::NotEncrypted => "the key is not encrypted",
+            FileFault::NoDekInfo => "no DEK-Info follows Proc-Type",
+            FileFault::Cipher => "the cipher is neither DES-EDE3-CBC nor, of DEK-Info, DES-CBC",
+            FileFault::DekVector => "the vector of DEK-Info does not have 16 hexadecimal digits",
+            FileFault::EmptyLine => "no empty line follows DEK-Info",
+            FileFault::Structure => "it is not the DER of an encrypted private key",
+            FileFault::Algorithm => "the algorithm is neither PBES2 nor pbeWithMD5AndDES-CBC",
+            FileFault::KeyDerivation => "the key is not derived by PBKDF2",
+            FileFault::Iterations =>
+                "there are no iterations, or more than 10000000 (see --any-count)",
+            FileFault::KeySize => "the key of the cipher does not have 24 bytes",
+            FileFault::Prf => "PBKDF2 is neither with HMAC-SHA-1 nor with HMAC-SHA-256",
+            FileFault::KeyPadding => "the key's padding is another: so is the password",
+            FileFault::Password => "what is decrypted is no private key: the password is another",
         }
     }
 }
@@ -275,6 +415,10 @@ impl Kind {
             Kind::Translation(error) => translation_error::name(error),
             Kind::Verification(error) => verification_error::name(error),
             Kind::Emv(error) => emv_error::name(error),
+            Kind::Field(_) => "Field",
+            Kind::KeyBlock(error) => key_block_error::name(error),
+            Kind::File(fault) => fault.name(),
+            Kind::EmptyPassword => "EmptyPassword",
             Kind::Memory => "Memory",
             Kind::Read(_) => "Read",
             Kind::Write(_) => "Write",
@@ -325,6 +469,10 @@ impl Kind {
             Kind::Translation(error) => translation_words(error),
             Kind::Verification(error) => verification_words(error),
             Kind::Emv(error) => emv_words(error),
+            Kind::Field(field) => field_words(field),
+            Kind::KeyBlock(error) => key_block_words(error),
+            Kind::File(fault) => fault.words(),
+            Kind::EmptyPassword => "the password is empty",
             Kind::Memory => "a request for memory was refused",
             Kind::Length => "the input ends within a block of 8 bytes",
             Kind::Start => "the input ends before the part begins",
@@ -339,7 +487,7 @@ impl Kind {
         match self {
             Kind::Memory => MEMORY_REFUSED,
             Kind::Read(_) | Kind::Write(_) => NOT_READ_OR_WRITTEN,
-            Kind::Length | Kind::Start | Kind::Padding => INPUT_AT_FAULT,
+            Kind::Length | Kind::Start | Kind::Padding | Kind::File(_) => INPUT_AT_FAULT,
             _ => ARGUMENTS_AT_FAULT,
         }
     }
@@ -420,6 +568,38 @@ fn emv_words(error: EmvError) -> &'static str
     }
 }
 
+// What is said of a field of a key block's header.
+fn field_words(field: Field) -> &'static str
+    ensures { result.now ≡ field_words field }
+{
+    match field {
+        Field::Usage | Field::KeyVersion => "two letters or digits are needed",
+        Field::Algorithm | Field::Mode | Field::Exportability => "a letter or digit is needed",
+    }
+}
+
+// What is said of a key block.
+fn key_block_words(error: KeyBlockError) -> &'static str
+    ensures { result.now ≡ key_block_words error }
+{
+    match error {
+        KeyBlockError::ProtectionKeyLength => "a key of 32 or 48 hexadecimal digits is needed",
+        KeyBlockError::Length =>
+            "the block is not as long as its header says, or has more than 9999 characters",
+        KeyBlockError::Version => "the block is of another version than A, B and C",
+        KeyBlockError::Header =>
+            "characters 13 to 16 are not the number of optional blocks and two zeros",
+        KeyBlockError::OptionalBlock => "the optional blocks are not the standard's",
+        KeyBlockError::DataLength => "the encrypted key and the MAC are too short or too long",
+        KeyBlockError::Digit =>
+            "the encrypted key or the MAC has a character that is no hexadecimal digit",
+        KeyBlockError::Mac =>
+            "the MAC is wrong: the block was changed, or is under another protection key",
+        KeyBlockError::KeyLength => "the block's key does not have 8, 16 or 24 bytes",
+        KeyBlockError::PaddingLength => "the padding does not fill the block",
+    }
+}
+
 impl From<StreamError> for Kind {
     ghost use Rattle.std.specs.Prelude.{◌≡◌};
     ghost use Rattle.cukvashe.specs.Faults.{IsOfStream};
@@ -489,6 +669,17 @@ impl From<EmvError> for Kind {
 
     fn from(error: EmvError) -> Kind {
         Kind::Emv(error)
+    }
+}
+
+impl From<KeyBlockError> for Kind {
+    ghost use Rattle.std.specs.Prelude.{◌≡◌};
+    ghost use Rattle.cukvashe.specs.declared.fault.Kind.TheVariants.{KeyBlock};
+
+    ghost from_gives = { λ error kind. kind ≡ KeyBlock error };
+
+    fn from(error: KeyBlockError) -> Kind {
+        Kind::KeyBlock(error)
     }
 }
 

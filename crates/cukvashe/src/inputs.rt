@@ -1,6 +1,6 @@
 //! Inputs: files that are opened, the places where they are read from, and random bytes.
 
-ghost use Rattle.std.specs.Prelude.{◌≡◌, ◌⊎◌, IfOk, IfErr};
+ghost use Rattle.std.specs.Prelude.{◌≡◌, ◌≤◌, ◌⊎◌, IfOk, IfErr};
 ghost use Rattle.std.specs.Io.KnownBytes.{Consumes};
 ghost use Rattle.cukvashe.specs.Inputs.{bytes_to_read as bytes_by, name_in_stream as name_by};
 
@@ -99,22 +99,25 @@ fn bytes_to_read(length: u64, place: u64, skipped: u64, blocks: Option<u64>) -> 
     }
 }
 
-/// The next eight bytes of a source of random bytes. The fault is `Source`.
-pub fn random_bytes<R: Read>(source: &mut R) -> Result<[u8; 8], Kind>
+/// The next bytes of a source of random bytes. The fault is `Source`.
+pub fn random_bytes<R: Read, const N: usize>(source: &mut R) -> Result<[u8; N], Kind>
+    requires { N ≤ 1000 }
     ensures bytes { IfOk result (λ bytes.
         Consumes (R.remaining source.old) (R.remaining source.new) bytes) }
     ensures fault { IfErr result (λ kind. (reason : Reason) × (kind ≡ Kind.Source reason)) }
 {
-    let mut bytes = [0u8; 8];
+    let mut bytes = [0u8; N];
     match fill(source, &mut bytes) {
-        Ok(8) => Ok(bytes),
+        Ok(n) if n == N => Ok(bytes),
         Err(StreamError::Read(error)) => Err(Kind::Source(Reason::of(&error))),
         _ => Err(Kind::Source(Reason::Other)),
     }
 }
 
-/// Eight random bytes of the system. The fault is `Source` or `Memory`.
-pub fn system_random(rt: &HostRuntime) -> Result<[u8; 8], Kind> {
+/// Random bytes of the system. The fault is `Source` or `Memory`.
+pub fn system_random<const N: usize>(rt: &HostRuntime) -> Result<[u8; N], Kind>
+    requires { N ≤ 1000 }
+{
     match File::open(rt, RANDOM_SOURCE) {
         Ok(file) => {
             let mut source = file;

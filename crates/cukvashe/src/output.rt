@@ -47,8 +47,8 @@ pub enum Target {
     Replaced(PrivateFile),
 }
 
-// The fault of an error that says why an output can't be written.
-fn write_fault(error: io::Error) -> Kind
+/// The fault of an error that says why an output can't be written.
+pub fn write_fault(error: io::Error) -> Kind
     ensures { (result ≡ Kind.Memory) ⊎ ((reason : Reason) × (result ≡ Kind.Write reason)) }
 {
     match error.kind() {

@@ -11,14 +11,16 @@ use crate::command::Beside;
 use crate::digits::LONGEST_TEXT;
 use crate::fault::{Fault, Kind, Misuse};
 use crate::inputs::{self, read_fault};
+use crate::key_block_program::key_block_status;
+use crate::key_file_program::key_file_status;
 use crate::keys::{is_weak, key_of_digits};
 use crate::line::{LineRequest, run_line};
 use crate::mac::{Method, tag_of};
 use crate::report::show;
 use crate::request::{Account, Form, Names, Question, Request, Task};
 use crate::source::{Source, text_of};
-use crate::stream_request::StreamRequest;
-use crate::streams_program::{refuse_terminal, run_stream};
+use crate::stream_request::{Password, StreamRequest};
+use crate::streams_program::{refuse_terminal, run_password, run_stream};
 use crate::usage::show_usage;
 use clap::ArgMatches;
 use std::env;
@@ -299,6 +301,19 @@ fn stream_answer<'a>(rt: &HostRuntime, request: &StreamRequest<'a>) -> Result<An
     run_stream(rt, request, key.as_slice())
 }
 
+// What `encrypt` and `decrypt` by a password end with.
+fn password_status<'a>(
+    rt: &HostRuntime,
+    request: &StreamRequest<'a>,
+    by: Password,
+) -> Result<u8, Fault<'a>> {
+    refuse_terminal(rt, request.output).map_err(|kind| about(kind, ""))?;
+    match run_password(rt, request, by)? {
+        0 => Ok(show_on(rt, Ok(Vec::new(rt.alloc())))),
+        status => Ok(status),
+    }
+}
+
 // ---- the program
 
 // Writes a text or the line of a fault, and gives the status.
@@ -336,6 +351,9 @@ fn status_to<'a>(
             let answer = stream_answer(rt, &request)?;
             Ok(show_answer(rt, answer))
         }
+        Task::Password(stream, by) => password_status(rt, &stream, by),
+        Task::KeyFile(request) => key_file_status(rt, &request),
+        Task::KeyBlock(command) => key_block_status(rt, request, command),
     }
 }
 

@@ -4,11 +4,13 @@ ghost use Rattle.std.specs.Prelude.{◌≡◌};
 ghost use Rattle.cukvashe.specs.Requests.{encoding_of as encoding_by, decoding_of as decoding_by, command_of as command_by, about_of as about_by};
 ghost use Rattle.cukvashe.specs.Requests.{about_of_verification as about_by_verification, about_of_card as about_by_card};
 
-use crate::command::{Beside, CardCommand, Command, Decoding, Encoding, PinCommand, Purpose};
+use crate::command::{
+    Beside, CardCommand, Command, Decoding, Encoding, KeyBlockCommand, PinCommand, Purpose,
+};
 use crate::fault::Kind;
 use crate::mac::Method;
 use crate::source::Source;
-use crate::stream_request::StreamRequest;
+use crate::stream_request::{KeyFileRequest, Password, StreamRequest};
 use des_payment::emv_error::EmvError;
 use des_payment::translation::Format;
 use des_payment::{CvvError, PinError, TranslationError, VerificationError};
@@ -64,6 +66,12 @@ pub enum Task<'a> {
     },
     /// Bytes are encrypted or decrypted.
     Stream(StreamRequest<'a>),
+    /// Bytes are encrypted or decrypted by a password, of which the request names the source.
+    Password(StreamRequest<'a>, Password),
+    /// A private key under a password is decrypted.
+    KeyFile(KeyFileRequest<'a>),
+    /// A key block is read or made.
+    KeyBlock(KeyBlockCommand<'a>),
 }
 
 /// What a command line asks for.

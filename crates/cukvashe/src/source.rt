@@ -5,7 +5,7 @@ ghost use Rattle.std.specs.Char.{is_ascii_digit, is_ascii_hexdigit};
 ghost use Rattle.std.specs.Io.KnownBytes.{Consumes, IsAtEnd};
 ghost use Rattle.std.specs.List.{list_all};
 ghost use Rattle.cukvashe.specs.Texts.{written_in};
-ghost use Rattle.cukvashe.specs.Sources.{IsTextOf, FailsToGive, shown_path, name_of_source, may_be_secret as may_be_secret_of};
+ghost use Rattle.cukvashe.specs.Sources.{IsAllOf, FailsToGive, shown_path, name_of_source, may_be_secret as may_be_secret_of};
 
 use crate::digits::{is_space, strip};
 use crate::fault::{Kind, Reason};
@@ -101,34 +101,34 @@ fn source_fault(error: StreamError) -> Kind
     }
 }
 
-/// All that a reader has, without its white space. The fault is `InputLength` where that is more
-/// than `longest` bytes, `Source` where the reader failed, or `Memory`.
-pub fn text_of_reader<R: Read>(
+/// All that a reader has. The fault is `InputLength` where that is more than `longest` bytes,
+/// `Source` where the reader failed, or `Memory`.
+pub fn bytes_of_reader<R: Read>(
     alloc: Global,
     reader: &mut R,
     longest: usize,
 ) -> Result<Vec<u8>, Kind>
     requires { longest < 100000 }
-    ensures text { IfOk result (λ text.
-        IsTextOf longest text.items (R.remaining reader.old) (R.remaining reader.new)) }
-    ensures bound { IfOk result (λ text. length text.items ≤ longest) }
+    ensures all { IfOk result (λ bytes.
+        IsAllOf longest bytes.items (R.remaining reader.old) (R.remaining reader.new)) }
+    ensures bound { IfOk result (λ bytes. length bytes.items ≤ longest) }
     ensures fault { IfErr result (FailsToGive longest (R.remaining reader.old) (R.remaining reader.new)) }
 {
-    let mut text = vec![in alloc; 0u8; longest + 1]?;
-    let n = fill(reader, &mut text).map_err(source_fault)?;
+    let mut bytes = vec![in alloc; 0u8; longest + 1]?;
+    let n = fill(reader, &mut bytes).map_err(source_fault)?;
     if n > longest {
         return Err(Kind::InputLength);
     }
-    text.truncate(n);
-    strip(&mut text);
-    Ok(text)
+    bytes.truncate(n);
+    Ok(bytes)
 }
 
-fn text_of_file(rt: &HostRuntime, path: &str) -> Result<Vec<u8>, Kind>
-    ensures { IfOk result (λ text. length text.items ≤ LONGEST_TEXT) }
+fn bytes_of_file(rt: &HostRuntime, path: &str, longest: usize) -> Result<Vec<u8>, Kind>
+    requires { longest < 100000 }
+    ensures { IfOk result (λ bytes. length bytes.items ≤ longest) }
 {
     let mut input = inputs::open(rt, path).map_err(refused)?;
-    text_of_reader(rt.alloc(), &mut input.file, LONGEST_TEXT)
+    bytes_of_reader(rt.alloc(), &mut input.file, longest)
 }
 
 // The system refused a source.
@@ -140,45 +140,55 @@ fn refused(error: io::Error) -> Kind {
 }
 
 // A descriptor is opened by its name, and read from where it stands.
-fn text_of_descriptor(rt: &HostRuntime, number: u64) -> Result<Vec<u8>, Kind>
-    ensures { IfOk result (λ text. length text.items ≤ LONGEST_TEXT) }
+fn bytes_of_descriptor(rt: &HostRuntime, number: u64, longest: usize) -> Result<Vec<u8>, Kind>
+    requires { longest < 100000 }
+    ensures { IfOk result (λ bytes. length bytes.items ≤ longest) }
 {
     let path = format!(in rt.alloc(); "/dev/fd/{number}")?;
-    text_of_file(rt, path.as_str())
+    bytes_of_file(rt, path.as_str(), longest)
 }
 
-// The text of a value, without its white space.
-fn text_of_bytes(alloc: Global, bytes: &[u8]) -> Result<Vec<u8>, Kind>
-    ensures text { IfOk result (λ text. text.items ≡ written_in bytes.now) }
-    ensures bound { IfOk result (λ text. length text.items ≤ LONGEST_TEXT) }
+// The bytes of a value.
+fn bytes_of_value(alloc: Global, value: &[u8], longest: usize) -> Result<Vec<u8>, Kind>
+    ensures bytes { IfOk result (λ bytes. bytes.items ≡ value.now) }
+    ensures bound { IfOk result (λ bytes. length bytes.items ≤ longest) }
 {
-    if bytes.len() > LONGEST_TEXT {
+    if value.len() > longest {
         return Err(Kind::InputLength);
     }
-    let mut text = Vec::from_slice(alloc, bytes)?;
-    strip(&mut text);
-    Ok(text)
+    Ok(Vec::from_slice(alloc, value)?)
 }
 
-fn text_of_variable(rt: &HostRuntime, name: &str) -> Result<Vec<u8>, Kind>
-    ensures { IfOk result (λ text. length text.items ≤ LONGEST_TEXT) }
+fn bytes_of_variable(rt: &HostRuntime, name: &str, longest: usize) -> Result<Vec<u8>, Kind>
+    ensures { IfOk result (λ bytes. length bytes.items ≤ longest) }
 {
     match env::var(rt, name) {
-        Ok(value) => text_of_bytes(rt.alloc(), value.as_bytes()),
+        Ok(value) => bytes_of_value(rt.alloc(), value.as_bytes(), longest),
         Err(VarError::OutOfMemory) => Err(Kind::Memory),
         Err(_) => Err(Kind::Variable),
     }
 }
 
-/// The text of a source, without its white space, of `LONGEST_TEXT` bytes at most. The fault is
-/// `InputLength` where there is more, `Source` where the system refused it, `Variable` or `Memory`.
+/// The bytes of a source, at most `longest`. The fault is `InputLength` where there are more,
+/// `Source` where the system refused it, `Variable` or `Memory`.
+pub fn bytes_of(rt: &HostRuntime, source: Source, longest: usize) -> Result<Vec<u8>, Kind>
+    requires { longest < 100000 }
+    ensures { IfOk result (λ bytes. length bytes.items ≤ longest) }
+{
+    match source {
+        Source::StandardInput => bytes_of_reader(rt.alloc(), &mut rt.stdin(), longest),
+        Source::File(path) => bytes_of_file(rt, path, longest),
+        Source::Descriptor(number) => bytes_of_descriptor(rt, number, longest),
+        Source::Variable(name) => bytes_of_variable(rt, name, longest),
+    }
+}
+
+/// The text of a source, without its white space, of `LONGEST_TEXT` bytes at most. The faults are
+/// those of `bytes_of`.
 pub fn text_of(rt: &HostRuntime, source: Source) -> Result<Vec<u8>, Kind>
     ensures { IfOk result (λ text. length text.items ≤ LONGEST_TEXT) }
 {
-    match source {
-        Source::StandardInput => text_of_reader(rt.alloc(), &mut rt.stdin(), LONGEST_TEXT),
-        Source::File(path) => text_of_file(rt, path),
-        Source::Descriptor(number) => text_of_descriptor(rt, number),
-        Source::Variable(name) => text_of_variable(rt, name),
-    }
+    let mut text = bytes_of(rt, source, LONGEST_TEXT)?;
+    strip(&mut text);
+    Ok(text)
 }

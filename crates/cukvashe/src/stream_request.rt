@@ -6,6 +6,7 @@ ghost use Rattle.cukvashe.specs.Jobs.{key_size_of, blocks_before as blocks_befor
 
 use crate::source::Source;
 use des_io::Padding;
+use des_records::Derivation;
 
 /// The ciphers.
 #[derive(Clone, Copy)]
@@ -104,4 +105,34 @@ pub fn blocks_before(request: &StreamRequest) -> u64
         Vector::FirstBlock => from.saturating_add(1),
         _ => from,
     }
+}
+
+/// How a password gives the key and the vector, and how the file under it is written.
+#[derive(Clone, Copy)]
+pub struct Password {
+    pub derivation: Derivation,
+    /// The file begins with `Salted__` and the salt.
+    pub is_salted: bool,
+    /// The file is Base64 in lines.
+    pub is_base64: bool,
+}
+
+/// The form of a private key that is written.
+#[derive(Clone, Copy)]
+pub enum KeyForm {
+    /// That of the input.
+    AsRead,
+    Pem,
+    Der,
+}
+
+/// What a command line asks of a private key under a password.
+#[derive(Clone, Copy)]
+pub struct KeyFileRequest<'a> {
+    pub password: Source<'a>,
+    pub input: Source<'a>,
+    pub output: Output<'a>,
+    pub form: KeyForm,
+    /// More iterations are a fault.
+    pub most_iterations: u32,
 }

@@ -1,21 +1,26 @@
-//! The run of `encrypt` and `decrypt`: the key, the random vector, the input, and the output.
+//! The run of `encrypt` and `decrypt`: the key or the password, random bytes, the input, and the
+//! output.
 
 ghost use Rattle.std.specs.Prelude.{length};
 ghost use Rattle.cukvashe.specs.Keys.{IsKeySize};
 
 use crate::answer::Answer;
-use crate::fault::{Fault, Kind, Misuse};
-use crate::inputs::{self, name_in_stream, read_fault, system_random};
+use crate::fault::{Fault, FileFault, Kind, Misuse};
+use crate::inputs::{self, Input, name_in_stream, read_fault, system_random};
 use crate::notices::accept_key;
-use crate::output::{self, Target};
-use crate::source::{Source, shown};
-use crate::stream_request::{Output, Part, StreamRequest, Vector, blocks_before};
+use crate::output::{self, Target, write_fault};
+use crate::password_streams::{PREFIX, PasswordJob, check_password, first_line, run_by_password};
+use crate::report::{send, tell};
+use crate::source::{LONGEST_TEXT, Source, bytes_of, shown};
+use crate::stream_request::{Output, Part, Password, StreamRequest, Vector, blocks_before};
 use crate::streams::{self, Job};
 use crate::watched::{Watch, Watched};
-use std::io::{IsTerminal, Read};
+use des_io::pieces::fill;
+use des_records::{Base64Error, decode_base64};
+use std::io::{IsTerminal, Read, Write};
 
-// What a fault of the output is about.
-fn output_name<'a>(output: Output<'a>) -> &'a str {
+/// What a fault of the output is about.
+pub fn output_name<'a>(output: Output<'a>) -> &'a str {
     match output {
         Output::File(path) => shown(path),
         _ => "standard output",
@@ -43,22 +48,54 @@ fn watch_of(request: &StreamRequest, total: Option<u64>) -> Watch {
     }
 }
 
+// What is done with what is read.
+#[derive(Clone, Copy)]
+enum Work<'a> {
+    // By a key.
+    Key(&'a Job<'a>),
+    // By a password.
+    Password(&'a PasswordJob<'a>),
+}
+
+impl<'a> Work<'a> {
+    fn request(self) -> &'a StreamRequest<'a> {
+        match self {
+            Work::Key(job) => job.request,
+            Work::Password(job) => job.request,
+        }
+    }
+
+    fn run<R: Read, W: Write>(
+        self,
+        rt: &HostRuntime,
+        reader: &mut R,
+        writer: &mut W,
+    ) -> Result<(), Kind> {
+        match self {
+            Work::Key(job) => streams::run(rt.alloc(), job, reader, writer),
+            Work::Password(job) => {
+                run_by_password(rt.alloc(), job, reader, writer, &mut rt.stderr())
+            }
+        }
+    }
+}
+
 // Writes to a file, or what else has the path.
 fn run_to_path<R: Read>(
     rt: &HostRuntime,
-    job: &Job,
+    work: Work,
     reader: &mut R,
     path: &str,
 ) -> Result<(), Kind> {
     match output::open(rt, path)? {
-        Target::StandardOutput => streams::run(rt.alloc(), job, reader, &mut rt.stdout()),
+        Target::StandardOutput => work.run(rt, reader, &mut rt.stdout()),
         Target::AsItIs(file) => {
             let mut file = file;
-            streams::run(rt.alloc(), job, reader, &mut file)
+            work.run(rt, reader, &mut file)
         }
         Target::Replaced(file) => {
             let mut file = file;
-            let outcome = streams::run(rt.alloc(), job, reader, &mut file.file);
+            let outcome = work.run(rt, reader, &mut file.file);
             file.end(rt, outcome)
         }
     }
@@ -67,17 +104,48 @@ fn run_to_path<R: Read>(
 // Reads from a reader, and writes where the request says.
 fn run_reader<R: Read + Drop>(
     rt: &HostRuntime,
+    work: Work,
+    reader: R,
+    total: Option<u64>,
+) -> Result<(), Kind> {
+    let request = work.request();
+    let mut reader = Watched::new(rt, reader, watch_of(request, total));
+    let outcome = match request.output {
+        Output::File(path) => run_to_path(rt, work, &mut reader, path),
+        _ => work.run(rt, &mut reader, &mut rt.stdout()),
+    };
+    reader.end();
+    outcome
+}
+
+// Decrypts by a key what does not begin as what is under a password does.
+fn run_unsalted<R: Read + Drop>(
+    rt: &HostRuntime,
     job: &Job,
     reader: R,
     total: Option<u64>,
 ) -> Result<(), Kind> {
-    let mut reader = Watched::new(rt, reader, watch_of(job.request, total));
-    let outcome = match job.request.output {
-        Output::File(path) => run_to_path(rt, job, &mut reader, path),
-        _ => streams::run(rt.alloc(), job, &mut reader, &mut rt.stdout()),
-    };
-    reader.end();
-    outcome
+    let mut reader = reader;
+    let mut first = [0; 8];
+    let count = fill(&mut reader, &mut first)?;
+    if first == PREFIX {
+        return Err(Kind::File(FileFault::Salted));
+    }
+    run_reader(rt, Work::Key(job), (&first[..count]).chain(reader), total)
+}
+
+// Reads from a reader by a key. Where it was sought to a part, its beginning is not looked at.
+fn run_by_key<R: Read + Drop>(
+    rt: &HostRuntime,
+    job: &Job,
+    reader: R,
+    total: Option<u64>,
+) -> Result<(), Kind> {
+    if job.request.encrypts || job.skipped != blocks_before(job.request) {
+        run_reader(rt, Work::Key(job), reader, total)
+    } else {
+        run_unsalted(rt, job, reader, total)
+    }
 }
 
 // The number of a part's blocks, where it has an end.
@@ -102,7 +170,7 @@ fn run_file(
         random,
         skipped,
     };
-    run_reader(rt, &job, input.file, total)
+    run_by_key(rt, &job, input.file, total)
 }
 
 // Reads the input.
@@ -117,7 +185,7 @@ fn run_input(rt: &HostRuntime, request: &StreamRequest, key: &[u8]) -> Result<()
         random,
         skipped: blocks_before(request),
     };
-    run_reader(rt, &job, rt.stdin(), None)
+    run_by_key(rt, &job, rt.stdin(), None)
 }
 
 /// Encrypts or decrypts by a key of the cipher's size, and writes where the request says. The weak
@@ -150,6 +218,172 @@ pub fn run_stream<'a>(
         text: Vec::new(rt.alloc()),
         is_no: false,
     })
+}
+
+// ---- passwords
+
+/// What a fault of a password is about: a file, or its option.
+pub fn password_name<'a>(source: Source<'a>) -> &'a str {
+    match source {
+        Source::Descriptor(_) => "--password-fd",
+        Source::Variable(_) => "--password-env",
+        _ => source.name(),
+    }
+}
+
+/// The password in a source: the first line of a file, or the value of a variable.
+pub fn password_in<'a>(rt: &HostRuntime, source: Source<'a>) -> Result<Vec<u8>, Fault<'a>> {
+    let mut text = bytes_of(rt, source, LONGEST_TEXT).map_err(|kind| Fault {
+        kind,
+        about: match kind {
+            Kind::Memory => "",
+            _ => password_name(source),
+        },
+    })?;
+    if let Source::Variable(_) = source {
+        return Ok(text);
+    }
+    let size = first_line(text.as_slice()).len();
+    text.truncate(size);
+    Ok(text)
+}
+
+// All that a reader has.
+fn all_of<R: Read>(rt: &HostRuntime, reader: &mut R) -> Result<Vec<u8>, Kind> {
+    let mut bytes = Vec::new(rt.alloc());
+    reader.read_to_end(&mut bytes).map_err(read_fault)?;
+    Ok(bytes)
+}
+
+// The text of an input.
+fn text_of_input(rt: &HostRuntime, source: Source) -> Result<Vec<u8>, Kind> {
+    match source {
+        Source::File(path) => {
+            let mut input: Input = inputs::open(rt, path).map_err(read_fault)?;
+            all_of(rt, &mut input.file)
+        }
+        _ => all_of(rt, &mut rt.stdin()),
+    }
+}
+
+// Reads the input, and does the work of a password.
+fn run_password_input(rt: &HostRuntime, job: &PasswordJob) -> Result<(), Kind> {
+    let work = Work::Password(job);
+    match job.request.input {
+        Source::File(path) => {
+            let input = inputs::open(rt, path).map_err(read_fault)?;
+            let total = input.total(blocks_before(job.request), count_of(job.request.part));
+            run_reader(rt, work, input.file, total)
+        }
+        _ => run_reader(rt, work, rt.stdin(), None),
+    }
+}
+
+/// Tells a fault of a line of an input, and gives its status.
+pub fn tell_line(rt: &HostRuntime, kind: Kind, input: &str, line: usize) -> Result<u8, Kind> {
+    let about = format!(in rt.alloc(); "{input}: line {line}")?;
+    let fault = Fault {
+        kind,
+        about: about.as_str(),
+    };
+    Ok(tell(fault, &mut rt.stderr()))
+}
+
+// Reads Base64, and does the work of a password with its bytes.
+fn run_base64(rt: &HostRuntime, job: &PasswordJob) -> Result<u8, Kind> {
+    let source = job.request.input;
+    let text = text_of_input(rt, source)?;
+    match decode_base64(rt.alloc(), text.as_slice()) {
+        Ok(bytes) => {
+            run_reader(
+                rt,
+                Work::Password(job),
+                bytes.as_slice(),
+                Some(bytes.len() as u64),
+            )?;
+            Ok(0)
+        }
+        Err(Base64Error::Line(line)) => {
+            tell_line(rt, Kind::File(FileFault::Base64), source.name(), line)
+        }
+        Err(Base64Error::OutOfMemory) => Err(Kind::Memory),
+    }
+}
+
+// The salt of what is encrypted.
+fn salt_for(rt: &HostRuntime, encrypts: bool) -> Result<[u8; 8], Kind> {
+    if encrypts {
+        system_random(rt)
+    } else {
+        Ok([0; 8])
+    }
+}
+
+// Does what a request asks for by a password.
+fn run_with(
+    rt: &HostRuntime,
+    request: &StreamRequest,
+    by: Password,
+    password: &[u8],
+) -> Result<u8, Kind> {
+    check_password(request.encrypts, password)?;
+    let job = PasswordJob {
+        request,
+        by,
+        password,
+        random: salt_for(rt, request.encrypts)?,
+        name: password_name(request.key),
+    };
+    if by.is_base64 {
+        return run_base64(rt, &job);
+    }
+    run_password_input(rt, &job)?;
+    Ok(0)
+}
+
+// What a fault of a stream under a password is about.
+fn name_by_password<'a>(kind: Kind, request: &StreamRequest<'a>) -> &'a str {
+    match kind {
+        Kind::WeakKey | Kind::EmptyPassword => password_name(request.key),
+        _ => name_in_stream(kind, request.input.name(), output_name(request.output)),
+    }
+}
+
+/// Encrypts or decrypts by a password, of which the request names the source, and writes where the
+/// request says. Gives 0, or the status of a fault that was told.
+pub fn run_password<'a>(
+    rt: &HostRuntime,
+    request: &StreamRequest<'a>,
+    by: Password,
+) -> Result<u8, Fault<'a>> {
+    let password = password_in(rt, request.key)?;
+    run_with(rt, request, by, password.as_slice()).map_err(|kind| Fault {
+        kind,
+        about: name_by_password(kind, request),
+    })
+}
+
+/// Writes bytes to an output. A file is replaced when all of them are written.
+pub fn write_to(rt: &HostRuntime, output: Output, bytes: &[u8]) -> Result<(), Kind> {
+    match output {
+        Output::File(path) => write_to_path(rt, path, bytes),
+        _ => send(&mut rt.stdout(), bytes).map_err(write_fault),
+    }
+}
+
+fn write_to_path(rt: &HostRuntime, path: &str, bytes: &[u8]) -> Result<(), Kind> {
+    match output::open(rt, path)? {
+        Target::StandardOutput => send(&mut rt.stdout(), bytes).map_err(write_fault),
+        Target::AsItIs(file) => {
+            let mut file = file;
+            send(&mut file, bytes).map_err(write_fault)
+        }
+        Target::Replaced(file) => {
+            let mut file = file;
+            let outcome = send(&mut file.file, bytes).map_err(write_fault);
+            file.end(rt, outcome)
+        }
+    }
 }
 
 /// The fault of a stream whose bytes would go to a terminal that is not asked for: `Terminal`. The

@@ -42,6 +42,18 @@ pub enum Shared {
     KeyAndAccount,
     /// Both, and where another key is.
     TwoKeysAndAccount,
+    /// Where a key that protects key blocks is.
+    ProtectionKey,
+    /// Where a key and one that protects it are.
+    KeyAndProtectionKey,
+    /// Where a password is.
+    Password,
+    /// Where a key or a password is, to encrypt.
+    KeyOrPassword,
+    /// The same to decrypt.
+    KeyOrPasswordOfFile,
+    /// Nothing.
+    Nothing,
 }
 
 /// A command: its name, what the help says of it, an example, the arguments that it alone takes, and

@@ -3,6 +3,8 @@
 use super::forms::{
     ACCOUNT_LINES, Form, Group, KEY_FORMS, KEY_LINES, Line, STATUSES, Shared, TO_KEY_LINES, Takes,
 };
+use super::key_block_forms::{KEY_BLOCK_FORMS, PROTECTION_KEY_LINES};
+use super::password_forms::{DERIVATION_LINES, KEY_FILE_FORMS, PASSWORD_LINES, SALT_LINES};
 use super::payment_forms::{EMV_FORMS, GROUPS, OFFSET_FORMS, PIN_FORMS, PVV_FORMS};
 use super::stream_forms::STREAM_FORMS;
 use clap::{Arg, ArgAction, ArgMatches, Command, Error, value_parser};
@@ -97,6 +99,15 @@ fn with_both<'a>(alloc: Global, command: Command<'a>) -> Result<Command<'a>, All
     with_key(alloc, command)
 }
 
+fn with_key_or_password<'a>(
+    alloc: Global,
+    command: Command<'a>,
+) -> Result<Command<'a>, AllocError> {
+    let command = with_key(alloc, command)?;
+    let command = with_lines(alloc, command, PASSWORD_LINES.as_slice())?;
+    with_lines(alloc, command, DERIVATION_LINES.as_slice())
+}
+
 // The command with the arguments that it shares with others.
 fn with_shared<'a>(
     alloc: Global,
@@ -111,6 +122,18 @@ fn with_shared<'a>(
             let command = with_both(alloc, command)?;
             with_lines(alloc, command, TO_KEY_LINES.as_slice())
         }
+        Shared::ProtectionKey => with_lines(alloc, command, PROTECTION_KEY_LINES.as_slice()),
+        Shared::KeyAndProtectionKey => {
+            let command = with_key(alloc, command)?;
+            with_lines(alloc, command, PROTECTION_KEY_LINES.as_slice())
+        }
+        Shared::Password => with_lines(alloc, command, PASSWORD_LINES.as_slice()),
+        Shared::KeyOrPassword => with_key_or_password(alloc, command),
+        Shared::KeyOrPasswordOfFile => {
+            let command = with_key_or_password(alloc, command)?;
+            with_lines(alloc, command, SALT_LINES.as_slice())
+        }
+        Shared::Nothing => Ok(command),
     }
 }
 
@@ -153,6 +176,7 @@ fn forms_in<'a>(name: &str) -> &'a [Form<'a>] {
         "pvv" => PVV_FORMS.as_slice(),
         "offset" => OFFSET_FORMS.as_slice(),
         "emv" => EMV_FORMS.as_slice(),
+        "key-block" => KEY_BLOCK_FORMS.as_slice(),
         _ => &[],
     }
 }
@@ -172,6 +196,7 @@ fn program<'a>(alloc: Global) -> Command<'a> {
 // The program's command.
 fn command<'a>(alloc: Global) -> Result<Command<'a>, AllocError> {
     let command = with_forms(alloc, program(alloc), STREAM_FORMS.as_slice())?;
+    let command = with_forms(alloc, command, KEY_FILE_FORMS.as_slice())?;
     let mut command = with_forms(alloc, command, KEY_FORMS.as_slice())?;
     for group in GROUPS.as_slice() {
         command = with_command(command, group_of(alloc, group)?)?;
@@ -200,10 +225,13 @@ fn names_by(word: &str, second: &str) -> (&'static str, &'static str) {
             return (group.name, name_in(forms_in(group.name), second));
         }
     }
-    match name_in(STREAM_FORMS.as_slice(), word) {
-        "" => (name_in(KEY_FORMS.as_slice(), word), ""),
-        name => (name, ""),
+    for forms in [STREAM_FORMS.as_slice(), KEY_FILE_FORMS.as_slice()] {
+        match name_in(forms, word) {
+            "" => {}
+            name => return (name, ""),
+        }
     }
+    (name_in(KEY_FORMS.as_slice(), word), "")
 }
 
 // The name of a command of these that a word is; nothing of another word.

@@ -105,7 +105,7 @@ fn account_source<'a>(account: Account<'a>) -> Source<'a> {
 }
 
 // The request with a key beside its input, and with another one where there is that.
-fn with_keys<'a>(
+pub(super) fn with_keys<'a>(
     request: Request<'a>,
     to_key: Option<Source<'a>>,
     matches: &ArgMatches<'a>,

@@ -273,7 +273,7 @@ pub static EMV_FORMS: [Form<'static>; 5] = [
 ];
 
 /// The commands that have commands of their own, in the help's order.
-pub static GROUPS: [Group<'static>; 4] = [
+pub static GROUPS: [Group<'static>; 5] = [
     Group {
         name: "pin",
         about: "Print the block of a PIN, the PIN of a block, or a block under another key",
@@ -289,5 +289,9 @@ pub static GROUPS: [Group<'static>; 4] = [
     Group {
         name: "emv",
         about: "Print keys and cryptograms of a card (EMV 4.3, Book 2)",
+    },
+    Group {
+        name: "key-block",
+        about: "Print a key block, what it says of its key, or the key (ANSI X9.143, TR-31)",
     },
 ];

@@ -77,7 +77,7 @@ Example:
             OUTPUT,
             PROGRESS,
         ],
-        shared: Shared::Key,
+        shared: Shared::KeyOrPassword,
     },
     Form {
         name: "decrypt",
@@ -120,6 +120,6 @@ Example:
             OUTPUT,
             PROGRESS,
         ],
-        shared: Shared::Key,
+        shared: Shared::KeyOrPasswordOfFile,
     },
 ];

@@ -206,21 +206,26 @@ pub fn request_of_words<'a>(words: &StreamWords<'a>) -> Result<StreamRequest<'a>
     })
 }
 
-// The words of `encrypt` or `decrypt`.
-fn words_of<'a>(encrypts: bool, matches: &ArgMatches<'a>) -> Result<StreamWords<'a>, Fault<'a>> {
-    Ok(StreamWords {
+// The words of `encrypt` or `decrypt`, with the place of the key or password, and with the vector.
+pub(super) fn words_of<'a>(
+    encrypts: bool,
+    key: Source<'a>,
+    iv: Option<&'a str>,
+    matches: &ArgMatches<'a>,
+) -> StreamWords<'a> {
+    StreamWords {
         encrypts,
         cipher: place_of(matches, "cipher"),
-        iv: text_of(matches, "iv"),
+        iv,
         padding: text_of(matches, "padding"),
         weak_keys: text_of(matches, "weak-keys"),
         from: number_of(matches, "from"),
         count: number_of(matches, "blocks"),
-        key: key_of(matches)?,
+        key,
         input: text_of(matches, "in"),
         output: text_of(matches, "out"),
         shows_progress: is_set(matches, "progress"),
-    })
+    }
 }
 
 /// What the words of `encrypt` or `decrypt` ask for; a fault where they don't go together.
@@ -228,6 +233,6 @@ pub fn stream_request<'a>(
     encrypts: bool,
     matches: &ArgMatches<'a>,
 ) -> Result<StreamRequest<'a>, Fault<'a>> {
-    let words = words_of(encrypts, matches)?;
-    request_of_words(&words)
+    let key = key_of(matches)?;
+    request_of_words(&words_of(encrypts, key, text_of(matches, "iv"), matches))
 }

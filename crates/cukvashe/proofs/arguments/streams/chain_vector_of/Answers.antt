@@ -1,4 +1,4 @@
-use Rattle.std.proofs.Common.{rules, ◌≡◌, ◌≢◌, codes, inr, refl, ◌∙◌}
+use Rattle.std.proofs.Common.{rules, ◌≡◌, ◌≢◌, codes, inr, refl}
 use Rattle.std.proofs.lemmas.Result.{err_from_is_err_and}
 use Rattle.cukvashe.specs.declared.fault.Kind.TheVariants.{Vector as WrongVector}
 use Rattle.cukvashe.specs.Texts.{digits_fault}
