@@ -202,7 +202,7 @@ const char *cukvashe_strerror(int status) {
       [CUKVASHE_ERR_HASH] = "no hash function that the call takes has this number",
       [CUKVASHE_ERR_ITERATIONS] = "the number of iterations is 0, or above 2^32 - 1",
       [CUKVASHE_ERR_NOT_SALTED] = "the bytes do not begin with Salted__",
-      [CUKVASHE_ERR_SALT_LENGTH] = "the bytes end within the salt",
+      [CUKVASHE_ERR_SALT_LENGTH] = "the bytes end within the salt, or it does not have 0 or 8 bytes",
   };
   const size_t place = (size_t)status; /* of a negative number, beyond all */
   return place < sizeof texts / sizeof *texts ? texts[place] : "there is no status of this number";

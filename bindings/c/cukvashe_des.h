@@ -126,7 +126,7 @@ extern "C" {
 #define CUKVASHE_ERR_HASH 40                     /* no hash function that the call takes has this number */
 #define CUKVASHE_ERR_ITERATIONS 41               /* the number of iterations is 0, or above 2^32 - 1 */
 #define CUKVASHE_ERR_NOT_SALTED 42               /* the bytes do not begin with Salted__ */
-#define CUKVASHE_ERR_SALT_LENGTH 43              /* the bytes end within the salt */
+#define CUKVASHE_ERR_SALT_LENGTH 43              /* the bytes end within the salt, or it does not have 0 or 8 bytes */
 
 /* Sizes, in bytes. */
 #define CUKVASHE_BLOCK_SIZE 8
@@ -847,7 +847,8 @@ CUKVASHE_CHECK int cukvashe_emv_response_2(const uint8_t session[16], const uint
  * hexadecimal digits in upper case, as KS1800604B120F9292800000, and its content; one that is longer than 255 characters
  * has 0002 and four digits in their place. They are written in this order, each with the shorter form of its length. If
  * they end at no multiple of eight characters, a block `PB` of zeros is added: leave out that of a block that was read.
- * That their characters are printable is not tested.
+ * The characters of names and contents are not tested. Take printable ASCII alone, 0x20 to 0x7E: a line end or a zero byte
+ * is written as it is.
  *
  * `padding` are random bytes of yours, after the key. CUKVASHE_KEY_DATA_SIZE - 2 - key_length of them hide how long the
  * key is. Do not give the same bytes each time.
@@ -894,14 +895,17 @@ CUKVASHE_CHECK int cukvashe_key_block_optional_block(const char *block, size_t b
  *
  * To read what others wrote. MD5 and SHA-1 are broken as hashes, and bytes_to_key makes a password quick to guess. `hash`
  * is CUKVASHE_SHA1 or CUKVASHE_SHA256, and without PBKDF2 also CUKVASHE_MD5. Another number is CUKVASHE_ERR_HASH, also
- * one of OpenSSL's or libgcrypt's.
+ * one of OpenSSL's or libgcrypt's. -1 is no length: OpenSSL's PKCS5_PBKDF2_HMAC takes it for the strlen of the password;
+ * here it is SIZE_MAX, and the call reads past the password.
  *
  * pbkdf2 writes the key of a password and a salt by PBKDF2 (RFC 8018, 5.2) with HMAC over the hash function.
  * CUKVASHE_ERR_ITERATIONS if `iterations` is 0 or above 2^32 - 1, CUKVASHE_ERR_KEY_LENGTH if the key is longer than
  * 2^32 - 1 digests.
  *
  * bytes_to_key writes the key, and after it the vector, that OpenSSL's EVP_BytesToKey makes with one iteration. Ask for
- * both together: 32 bytes for a key of 24 bytes and a vector.
+ * both together: 32 bytes for a key of 24 bytes and a vector. The password stands before the salt: EVP_BytesToKey takes
+ * the salt first, and then the password, its data. The salt has 8 bytes, without Salted__ before them, or none (`-nosalt`).
+ * CUKVASHE_ERR_SALT_LENGTH if it has another length, before CUKVASHE_ERR_HASH: EVP_BytesToKey reads 8 bytes of any salt.
  *
  * int cukvashe_NAME_open_salted(int hash, size_t iterations, const uint8_t *password, size_t password_length,
  *                               const uint8_t *bytes, size_t length, uint8_t *plain, size_t room, size_t *plain_length)

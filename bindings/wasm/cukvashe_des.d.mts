@@ -105,7 +105,11 @@ export class KeyBlockLength extends CukvasheError {}
 export class KeyBlockVersion extends CukvasheError {}
 /** A key block's number of optional blocks is not two digits and two zeros, or a field is not letters and digits. */
 export class KeyBlockField extends CukvasheError {}
-/** The optional blocks of a key block can't be read, do not end at a multiple of eight characters, or are more than 99. */
+/**
+ * The optional blocks of a key block can't be read, do not end at a multiple of eight characters, or are more than 99; or
+ * one of a block that is to be made is a PB, or has a name that is not two ASCII characters or a content that is not
+ * printable ASCII.
+ */
 export class OptionalBlock extends CukvasheError {}
 /** The encrypted key of a key block does not have a length that it can have. */
 export class KeyDataLength extends CukvasheError {}
@@ -121,7 +125,7 @@ export class HashName extends CukvasheError {}
 export class IterationCount extends CukvasheError {}
 /** Data do not begin with Salted__. */
 export class NotSalted extends CukvasheError {}
-/** Data end within the salt. */
+/** Data end within the salt, or the salt of bytesToKey does not have 0 or 8 bytes. */
 export class SaltLength extends CukvasheError {}
 
 // ---- Ciphers and MACs
@@ -337,8 +341,9 @@ export function unwrapKeyBlock(
   protection: Uint8Array, block: string | Uint8Array,
 ): { header: KeyBlockHeader; key: Uint8Array };
 /**
- * The padding is random where it is not given; an option of another name is a TypeError. KeyBlockVersion, KeyBlockField,
- * OptionalBlock, ProtectionKeyLength, KeyLength, PaddingLength, KeyBlockLength.
+ * The padding is random where it is not given; an option of another name is a TypeError. The content of an optional block
+ * is printable ASCII. A block PB is added where one is needed, and none is taken: leave out that of a block that was read.
+ * KeyBlockVersion, KeyBlockField, OptionalBlock, ProtectionKeyLength, KeyLength, PaddingLength, KeyBlockLength.
  */
 export function wrapKeyBlock(
   protection: Uint8Array, header: KeyBlockHeader, key: Uint8Array,
@@ -354,6 +359,10 @@ export function keyBlockOptionalBlocks(block: string | Uint8Array): [name: strin
 export function pbkdf2(
   hashName: "sha1" | "sha256", password: Uint8Array, salt: Uint8Array, iterations: number, length: number,
 ): Uint8Array;
+/**
+ * The password stands before the salt, as of pbkdf2; EVP_BytesToKey takes the salt first. `salt` has 8 bytes, without
+ * Salted__ before them, or none. SaltLength.
+ */
 export function bytesToKey(
   hashName: "md5" | "sha1" | "sha256", password: Uint8Array, salt: Uint8Array, length: number,
 ): Uint8Array;

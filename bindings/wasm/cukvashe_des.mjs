@@ -92,6 +92,7 @@ const BLOCKS = 2;
 const WEAK_KEY = 3;
 const PADDING = 17;
 const NO_OPTIONAL_BLOCK = 39;
+const SALT = 43;
 const FAULTS = new Map([
   [1, [KeyLength, "a key has 8, 16 or 24 bytes"]],
   [7, [Format, "the PIN block is of another format"]],
@@ -126,7 +127,7 @@ const FAULTS = new Map([
   [40, [HashName, 'the hash function of PBKDF2 is "sha1" or "sha256"']],
   [41, [IterationCount, "the iterations are 1 at least, and at most 2^32 - 1"]],
   [42, [NotSalted, "the data do not begin with Salted__"]],
-  [43, [SaltLength, "the data end within the salt"]],
+  [SALT, [SaltLength, "the data end within the salt"]],
 ]);
 
 /** Throws the error of a status of the payment calls. */
@@ -1157,6 +1158,7 @@ const MORE_CHARACTERS = 128;
 const TOO_MANY_CHARACTERS = 10000;
 
 const isAscii = (text) => /^[\0-\x7f]*$/.test(text);
+const isPrintable = (text) => /^[ -~]*$/.test(text);
 
 /** The bytes of a text of ASCII characters. Another character becomes one that no field of a header has. */
 const asciiOf = (text) => Uint8Array.from(text, (character) => (isAscii(character) ? character.charCodeAt(0) : 63));
@@ -1191,23 +1193,29 @@ function fieldsOf(header) {
   return asciiOf(`${version}${usage}\0${algorithm}${mode}${keyVersion}\0${exportability}`);
 }
 
-/** Optional blocks, one after the other. The library writes each in its shortest form. */
+/** An optional block. The library writes it in its shortest form. */
+function optionalText(pair) {
+  if (!Array.isArray(pair) || pair.length !== 2 || pair.some((part) => typeof part !== "string")) {
+    throw new TypeError("an optional block: a pair of its name and its content, two strings, is needed");
+  }
+  const [name, content] = pair;
+  if (name.length !== 2 || !isAscii(name)) {
+    throw new OptionalBlock("the name of an optional block has two characters, both ASCII");
+  }
+  if (name === "PB") {
+    throw new OptionalBlock("a block PB is added where one is needed: leave out that of a block that was read");
+  }
+  if (!isPrintable(content)) throw new OptionalBlock("the content of an optional block is printable ASCII alone");
+  if (content.length > TOO_MANY_CHARACTERS) throw new KeyBlockLength("a key block has at most 9999 characters");
+  return `${name}0002${(content.length + 10).toString(16).toUpperCase().padStart(4, "0")}${content}`;
+}
+
+/** Optional blocks, one after the other. */
 function optionalOf(optional) {
   if (typeof optional !== "object" || typeof optional?.[Symbol.iterator] !== "function") {
     throw new TypeError("optional blocks: an array of pairs of a name and its content is needed");
   }
-  const texts = Array.from(optional, (pair) => {
-    if (!Array.isArray(pair) || pair.length !== 2 || pair.some((part) => typeof part !== "string")) {
-      throw new TypeError("an optional block: a pair of its name and its content, two strings, is needed");
-    }
-    const [name, content] = pair;
-    if (name.length !== 2 || !isAscii(name) || !isAscii(content)) {
-      throw new OptionalBlock("an optional block has a name of two characters and a content, all ASCII");
-    }
-    if (content.length > TOO_MANY_CHARACTERS) throw new KeyBlockLength("a key block has at most 9999 characters");
-    return `${name}0002${(content.length + 10).toString(16).toUpperCase().padStart(4, "0")}${content}`;
-  });
-  return asciiOf(texts.join(""));
+  return asciiOf(Array.from(optional, optionalText).join(""));
 }
 
 /**
@@ -1229,9 +1237,9 @@ export function unwrapKeyBlock(protection, block) {
 /**
  * The key block, a string, of a key of 8, 16 or 24 bytes under a protection key of 16 or 24 bytes, of version B or C.
  * `header` has the fields that unwrapKeyBlock gives; no call compares them with the key's length. Options are `optional`,
- * pairs of a name of two characters and its content, after which a block PB is added where they do not end at a multiple
- * of eight characters; and `padding`, random bytes that hide how long the key is, 6, 14 or 22: without it they come from
- * the engine. An option of another name is a TypeError.
+ * pairs of a name of two characters and its content, printable ASCII, after which a block PB is added where they do not
+ * end at a multiple of eight characters, and none is taken: OptionalBlock; and `padding`, random bytes that hide how long
+ * the key is, 6, 14 or 22: without it they come from the engine. An option of another name is a TypeError.
  */
 export function wrapKeyBlock(protection, header, key, options = {}) {
   const { optional = [], padding } = optionsOf(options, "optional", "padding");
@@ -1306,7 +1314,10 @@ function derived(name, hash, password, salt, words, length) {
   const [secret, grains] = [bytesOf(password, "a password"), bytesOf(salt, "a salt")];
   return inside((memory) => {
     const at = memory.room(length);
-    check(memory.call(name, hash, ...memory.list(secret), ...memory.list(grains), ...words, at, BigInt(length)));
+    const laid = [...memory.list(secret), ...memory.list(grains), ...words, at, BigInt(length)];
+    const status = memory.call(name, hash, ...laid);
+    if (status === SALT) throw new SaltLength(`the salt of bytesToKey has 0 or 8 bytes, not ${grains.length}`);
+    check(status);
     return memory.taken(at, length);
   });
 }
@@ -1318,7 +1329,7 @@ export function pbkdf2(hashName, password, salt, iterations, length) {
 
 /**
  * The key, and after it the vector, of so many bytes together that OpenSSL's EVP_BytesToKey makes of a password and a
- * salt with one iteration. A password is quick to guess by it: take it to read what others wrote.
+ * salt of 8 bytes, or of none, with one iteration. A password is quick to guess by it: take it to read what others wrote.
  */
 export function bytesToKey(hashName, password, salt, length) {
   return derived("bytes_to_key", hashOf(hashName), password, salt, [], derivedLengthOf(length));

@@ -36,7 +36,7 @@ static const struct {
      {'C', "D0", 'T', 'B', "00", 'N'}},
 };
 
-enum { KNOWN = sizeof known / sizeof *known, TAKEN = 3 };
+enum { KNOWN = sizeof known / sizeof *known };
 
 /* The bytes of digits, and how many they are. */
 struct bytes {
@@ -95,6 +95,23 @@ static int optional_is(int block, size_t place, const char *name, const char *co
   size_t offset, length;
   CHECK(cukvashe_key_block_optional_block(TEXT(known[block].block), place, read_name, &offset, &length) == CUKVASHE_OK);
   return length == strlen(content) && strcmp(read_name, name) == 0 && memcmp(known[block].block + offset, content, length) == 0;
+}
+
+/* A content of no characters has a place too: where the next block, or the key, begins. */
+static void finds_empty_contents(void) {
+  static const char block[] = "B0088P0TE00E0200KS04PB04" "94B420079CC80BA3461F86FE26EFC4A3B8E4FA4C5F5341176EED7B727B8A248E";
+  static const struct {
+    const char *name;
+    size_t offset;
+  } empty[] = {{"KS", 20}, {"PB", 24}};
+  for (size_t place = 0; place < 2; place++) {
+    char name[3];
+    size_t offset, length;
+    memset(&offset, PAINTED, sizeof offset);
+    memset(&length, PAINTED, sizeof length);
+    CHECK(cukvashe_key_block_optional_block(TEXT(block), place, name, &offset, &length) == CUKVASHE_OK);
+    CHECK(strcmp(name, empty[place].name) == 0 && offset == empty[place].offset && length == 0);
+  }
 }
 
 static void refuses_optional(const char *block, size_t length, size_t place, int status) {
@@ -364,6 +381,7 @@ static void makes_long_blocks(void) {
 int main(void) {
   opens_known_blocks();
   reads_optional_blocks();
+  finds_empty_contents();
   refuses_blocks();
   refuses_protection_keys();
   makes_known_blocks();

@@ -74,6 +74,29 @@ static void answers_as_openssl_enc(void) {
   }
 }
 
+/* The same that it prints for `-nosalt`, in the place of the salt. */
+static const struct {
+  int hash;
+  const char *key_and_vector;
+} printed_without_salt[] = {
+    {CUKVASHE_MD5, "5ebe2294ecd0e0f08eab7690d2a6ee6926ae5cc854e36b6bdfca366848dea6bb"},
+    {CUKVASHE_SHA1, "e5e9fa1ba31ecd1ae84f75caaa474f3a663f05f412028f81da65d26ee56424b2"},
+    {CUKVASHE_SHA256, "2bb80d537b1da3e38bd30361aa855686bde0eacd7162fef6a25fe97bf527a25b"},
+};
+
+static void answers_as_openssl_enc_without_salt(void) {
+  const uint8_t *password = (const uint8_t *)"secret";
+  uint8_t key[80];
+  for (size_t i = 0; i < sizeof printed_without_salt / sizeof *printed_without_salt; i++) {
+    const uint8_t *const salts[] = {NULL, password};
+    for (size_t salt = 0; salt < 2; salt++) {
+      memset(key, PAINTED, sizeof key);
+      CHECK(cukvashe_bytes_to_key(printed_without_salt[i].hash, password, 6, salts[salt], 0, key, 32) == CUKVASHE_OK);
+      CHECK(is_key(key, sizeof key, printed_without_salt[i].key_and_vector));
+    }
+  }
+}
+
 typedef int open_salted(int hash, size_t iterations, const uint8_t *password, size_t password_length, const uint8_t *bytes,
                         size_t length, uint8_t *plain, size_t room, size_t *plain_length);
 
@@ -210,6 +233,22 @@ static void refuses_derivations(void) {
   CHECK(cukvashe_bytes_to_key(CUKVASHE_MD5, NULL, 0, NULL, 0, NULL, 0) == CUKVASHE_OK);
 }
 
+/* Each length of a salt that EVP_BytesToKey does not have, also that of Salted__ and a salt together, which stands before a number of
+   no hash function. PBKDF2 takes each. */
+static void refuses_salts(void) {
+  static const int hashes[] = {CUKVASHE_MD5, CUKVASHE_SHA1, CUKVASHE_SHA256, 0, -1, CUKVASHE_PKCS7};
+  uint8_t key[32], salt[17] = "Salted__saltsalt";
+  memset(key, PAINTED, sizeof key);
+  for (size_t i = 0; i < sizeof hashes / sizeof *hashes; i++)
+    for (size_t length = 1; length <= sizeof salt; length++) {
+      if (length == 8) continue;
+      CHECK(cukvashe_bytes_to_key(hashes[i], salt, 6, salt, length, key, 32) == CUKVASHE_ERR_SALT_LENGTH && is_kept(key, 32));
+    }
+  CHECK(cukvashe_bytes_to_key(CUKVASHE_MD5, salt, 6, salt, 7, NULL, 0) == CUKVASHE_ERR_SALT_LENGTH);
+  for (size_t length = 0; length <= sizeof salt; length++)
+    CHECK(cukvashe_pbkdf2(CUKVASHE_SHA1, salt, 6, salt, length, 1, key, 32) == CUKVASHE_OK);
+}
+
 static size_t read_file(const char *name, uint8_t *bytes, size_t room) {
   FILE *file = fopen(name, "rb");
   CHECK(file != NULL);
@@ -241,10 +280,12 @@ int main(int count, char **words) {
   CHECK(count == 1);
   answers_published_keys();
   answers_as_openssl_enc();
+  answers_as_openssl_enc_without_salt();
   opens_files();
   refuses_files();
   refuses_most_passwords();
   refuses_derivations();
+  refuses_salts();
   printf("passwords: %d files of `openssl enc`, keys of each hash function, and each fault\n", (int)FILES);
   return 0;
 }

@@ -221,7 +221,7 @@ static const char *const words[] = {
     "protection key does not have", "key block is not as long as its header says", "version of the key block", "number of optional blocks",
     "optional blocks can't be read", "encrypted key data do not have", "0 to 9 or A to F", "MAC is not that of the key block",
     "padding of the key", "no optional block at this place", "no hash function", "number of iterations", "do not begin with Salted__",
-    "end within the salt",
+    "end within the salt, or it does not have 0 or 8 bytes",
 };
 
 /* Every status was returned by some call, and has a sentence of its own; other numbers have one sentence. */

@@ -218,7 +218,10 @@ static void of_password(const struct work *work) {
   memcpy(file, "Salted__", 8);
   switch (work->call) {
     case 0: returned = cukvashe_pbkdf2(CUKVASHE_SHA256, others, 100, blocks, 100, 2, key, 24); break;
-    case 1: returned = cukvashe_bytes_to_key(CUKVASHE_SHA256, others, 100, blocks, 100, key, 24); break;
+    case 1:
+      returned = cukvashe_bytes_to_key(CUKVASHE_SHA256, others, 100, blocks, 8, key, 24);
+      CHECK(returned == CUKVASHE_OK);
+      break;
     case 2: returned = cukvashe_des_open_salted(CUKVASHE_SHA1, 1, others, 100, file, size, plain, size, &length); break;
     case 3: returned = cukvashe_tdes_ede2_open_salted(CUKVASHE_MD5, 0, others, 100, file, size, plain, size, &length); break;
     default:

@@ -5,6 +5,7 @@ from __future__ import annotations
 import contextlib
 import ctypes
 import re
+from itertools import takewhile
 from typing import TYPE_CHECKING, Any, Iterator, NoReturn, Optional, Tuple, Type, TypeVar, Union
 
 from ._faults import BlockLength, Closed, KeyLength, VectorLength
@@ -113,10 +114,22 @@ def wiped_room(size: int) -> Iterator[Any]:
         wipe(made, size)
 
 
-def bytes_from(made: Any) -> bytes:
-    """The bytes that a call wrote; the memory that it wrote is wiped."""
-    answer = bytes(made)
-    wipe(made, len(answer))
+def _first_of(made: Any, length: int) -> Any:
+    """The first bytes of memory, where they stand: a copy of all of it could not be wiped."""
+    return (ctypes.c_uint8 * length).from_buffer(made)
+
+
+def bytes_from(made: Any, length: Optional[int] = None) -> bytes:
+    """The bytes that a call wrote, all or the first ones; the memory that it wrote is wiped."""
+    answer = bytes(_first_of(made, len(made) if length is None else length))
+    wipe(made, len(made))
+    return answer
+
+
+def text_from(made: Any) -> str:
+    """The text that a call wrote, up to its zero byte; the memory that it wrote is wiped."""
+    answer = str(_first_of(made, sum(1 for _ in takewhile(bool, made))), "ascii")
+    wipe(made, len(made))
     return answer
 
 

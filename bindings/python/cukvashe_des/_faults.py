@@ -158,7 +158,8 @@ class KeyBlockField(ValueError):
 
 class OptionalBlock(ValueError):
     """The optional blocks of a key block can't be read, or do not end at a multiple of eight characters; or those of a block that is
-    to be made have other names or contents than ASCII characters, are more than 99, or one is a PB."""
+    to be made have a name that is not two ASCII characters or a content that is not printable ASCII, are more than 99, or one is a
+    PB."""
 
 
 class KeyDataLength(ValueError):
@@ -190,7 +191,7 @@ class NotSalted(ValueError):
 
 
 class SaltLength(ValueError):
-    """Data end within the salt."""
+    """Data end within the salt, or the salt of bytes_to_key does not have 0 or 8 bytes."""
 
 
 _FAULTS: Dict[int, Tuple[Type[ValueError], str]] = {

@@ -91,10 +91,12 @@ def _optional_text(pair: Tuple[str, str]) -> str:
     if not isinstance(pair, (tuple, list)) or [type(part) for part in pair] != [str, str]:
         raise TypeError("an optional block is a pair of its name and its content, two texts")
     name, content = pair
-    if len(name) != 2 or not name.isascii() or not content.isascii():
-        raise OptionalBlock("an optional block has a name of two characters and a content, all ASCII")
+    if len(name) != 2 or not name.isascii():
+        raise OptionalBlock("the name of an optional block has two characters, both ASCII")
     if name == "PB":
         raise OptionalBlock("a block PB is added where one is needed: leave out that of a block that was read")
+    if not content.isascii() or not content.isprintable():
+        raise OptionalBlock("the content of an optional block is printable ASCII alone")
     if len(content) > _TOO_MANY:
         raise KeyBlockLength("a key block has at most 9999 characters")
     return f"{name}0002{len(content) + 10:04X}{content}"
@@ -115,7 +117,7 @@ def unwrap_key_block(protection: ReadableBuffer, block: _Text) -> Tuple[KeyBlock
     text, fields, key, length = _block_of(block), room(_FIELDS_SIZE), room(_KEY_SIZE), SIZE()
     with secret_of(protection) as held:
         check(_unwrap(*held, text, len(text), fields, key, ctypes.byref(length)))
-    return _header_from(fields), bytes_from(key)[: length.value]
+    return _header_from(fields), bytes_from(key, length.value)
 
 
 def wrap_key_block(
@@ -127,9 +129,9 @@ def wrap_key_block(
     padding: Optional[ReadableBuffer] = None,
 ) -> str:
     """The key block of a key of 8, 16 or 24 bytes under a protection key of 16 or 24 bytes, of version B or C. Optional blocks are
-    pairs of a name of two characters and its content, without a length. A block PB is added where they do not end at a multiple of
-    eight characters, and none is taken: OptionalBlock. The padding is random bytes that hide how long the key is, or those that are
-    given: 6, 14 or 22, with the key at most 30."""
+    pairs of a name of two characters and its content, printable ASCII without a length. A block PB is added where they do not end at
+    a multiple of eight characters, and none is taken: OptionalBlock. The padding is random bytes that hide how long the key is, or
+    those that are given: 6, 14 or 22, with the key at most 30."""
     fields, more = _fields_of(header), _optional_of(optional)
     block, length = room(len(more) + _MORE), SIZE()
     with secret_of(protection) as held, secret_of(key) as bare:

@@ -7,8 +7,8 @@ from typing import TYPE_CHECKING, Optional, Type
 
 from ._ciphers import Cipher, class_of
 from ._data import bytes_from, bytes_of, room, secret_of
-from ._faults import BlockLength, HashName, IterationCount, KeyLength, PaddingMismatch, check
-from ._library import BLOCKS, INT, PADDING, POINTER, SIZE, function
+from ._faults import BlockLength, HashName, IterationCount, KeyLength, PaddingMismatch, SaltLength, check
+from ._library import BLOCKS, INT, PADDING, POINTER, SALT_LENGTH, SIZE, function
 
 if TYPE_CHECKING:
     from _typeshed import ReadableBuffer
@@ -67,10 +67,16 @@ def pbkdf2(hash_name: str, password: ReadableBuffer, salt: ReadableBuffer, itera
 
 def bytes_to_key(hash_name: str, password: ReadableBuffer, salt: ReadableBuffer, length: int) -> bytes:
     """The key, and after it the vector, of so many bytes together that OpenSSL's EVP_BytesToKey makes of a password and a salt with
-    one iteration over "md5", "sha1" or "sha256". A password is quick to guess by it: take it to read what others wrote."""
+    one iteration over "md5", "sha1" or "sha256". A password is quick to guess by it: take it to read what others wrote.
+
+    The password stands before the salt, as of pbkdf2; EVP_BytesToKey takes the salt first, and then the password, its data. The salt
+    has 8 bytes, without Salted__ before them, or none (-nosalt): SaltLength, since EVP_BytesToKey reads 8 bytes of any salt."""
     number, key, grains = _hash_of(hash_name), room(_length_of(length)), bytes_of(salt)
     with secret_of(password) as held:
-        check(_bytes_to_key(number, *held, grains, len(grains), key, len(key)))
+        status = _bytes_to_key(number, *held, grains, len(grains), key, len(key))
+    if status == SALT_LENGTH:
+        raise SaltLength(f"the salt of bytes_to_key has 0 or 8 bytes, not {len(grains)}")
+    check(status)
     return bytes_from(key)
 
 
@@ -98,4 +104,4 @@ def open_salted(
     if status == PADDING:
         raise PaddingMismatch("the data do not end with the padding")
     check(status)
-    return bytes_from(plain)[: length.value]
+    return bytes_from(plain, length.value)

@@ -4,7 +4,7 @@ from __future__ import annotations
 
 from typing import TYPE_CHECKING, Any, Callable, Union
 
-from ._data import BLOCK_SIZE, block_of, bytes_from, bytes_of, key_of, number_of, room, text_of
+from ._data import BLOCK_SIZE, block_of, bytes_from, bytes_of, key_of, number_of, room, text_from, text_of
 from ._faults import FillLength, check
 from ._keys import KEY_SIZES
 from ._library import INT, POINTER, SIZE, function
@@ -43,11 +43,6 @@ def _encoded(call: Callable[..., Any], *arguments: Any) -> bytes:
     block = room(BLOCK_SIZE)
     check(call(*arguments, block))
     return bytes_from(block)
-
-
-def text_from(made: Any) -> str:
-    """The text that a call wrote, up to its zero byte."""
-    return bytes_from(made).partition(b"\0")[0].decode("ascii")
 
 
 def _decoded(call: Callable[..., Any], block: ReadableBuffer, *account: Any) -> str:

@@ -4,11 +4,10 @@ from __future__ import annotations
 
 from typing import TYPE_CHECKING, Any, Union
 
-from ._data import BLOCK_SIZE, data_of, key_of, number_of, room, text_of
+from ._data import BLOCK_SIZE, data_of, key_of, number_of, room, text_from, text_of
 from ._faults import BlockLength, check
 from ._keys import KEY_SIZES
 from ._library import INT, POINTER, SIZE, function
-from ._payment import text_from
 
 if TYPE_CHECKING:
     from _typeshed import ReadableBuffer

@@ -21,9 +21,28 @@ from cukvashe_des import (
     _data,
     _library,
     combine,
+    open_salted,
+    pin_decode_2,
+    unwrap_key_block,
+    wrap_key_block,
 )
 
-from .values import ANSWERS, CALLS, CMACS, FUNCTIONS, IV, KEY, MESSAGE, OBJECTS, PADDED_MACS, TEXT
+from .values import (
+    ANSWERS,
+    BLOCK_HEADER,
+    CALLS,
+    CMACS,
+    FUNCTIONS,
+    IV,
+    KEY,
+    MESSAGE,
+    OBJECTS,
+    PADDED_MACS,
+    PROTECTION,
+    SALTED,
+    SALTED_TEXT,
+    TEXT,
+)
 
 
 def views(value):
@@ -424,6 +443,21 @@ class Wiped(WatchesWiping):
             elif name.startswith("dukpt_"):
                 sizes[name] = [16, len(answer)]
             self.assertEqual(sorted(self.wiped), sizes[name], name)
+
+    def test_no_other_copies(self):
+        """Of the memory that a call wrote the bytes of the answer are made, and no more, which could not be wiped; of a text none."""
+        short, made = wrap_key_block(PROTECTION, BLOCK_HEADER, KEY[:8]), []
+
+        def noting(data):
+            made.append(bytes(data))
+            return made[-1]
+
+        with mock.patch.object(_data, "bytes", noting, create=True):
+            _, key = unwrap_key_block(PROTECTION, short)
+            plain = open_salted(TdesEde3, b"secret", SALTED)
+            self.assertEqual(pin_decode_2(bytes.fromhex("241234ffffffffff")), "1234")
+        self.assertEqual(made, [key, plain])
+        self.assertEqual(made, [KEY[:8], SALTED_TEXT])
 
     def test_while_a_call_runs(self):
         """Where another thread closes a cipher, its context stays until the call is done."""

@@ -128,6 +128,12 @@ class KeyBlocks(unittest.TestCase):
             self.assertEqual(unwrap_key_block(protection, again), (other, key))
             self.assertEqual(key_block_optional_blocks(again), key_block_optional_blocks(block))
 
+    def test_printable_contents(self):
+        """Each character that a content may have."""
+        optional = [("KS", "".join(map(chr, range(0x20, 0x7F))))]
+        block = wrap_key_block(PROTECTION, BLOCK_HEADER, BLOCK_KEY, optional=optional)
+        self.assertEqual(key_block_optional_blocks(block)[:1], optional)
+
     def test_long_optional_blocks(self):
         for length in (0, 1, 7, 250, 251, 252, 600, 9800):
             content = "x" * length
@@ -186,6 +192,10 @@ class KeyBlocks(unittest.TestCase):
                          [("KS", "")] * 99, [("PB", "")], [("KV", "ABCDEF"), ("PB", "00")], {"PB": "0000", "KS": ""}):
             with self.assertRaises(cukvashe_des.OptionalBlock):
                 wrap_key_block(PROTECTION, BLOCK_HEADER, BLOCK_KEY, optional=optional)
+        for wrong in ("\n", "\0", "\x1f", "\x7f", "\xe9", "\uff10"):
+            for content in (wrong, wrong + "00", "00" + wrong, "0" + wrong + "0"):
+                with self.assertRaisesRegex(cukvashe_des.OptionalBlock, "^the content of an optional block is printable ASCII alone$"):
+                    wrap_key_block(PROTECTION, BLOCK_HEADER, BLOCK_KEY, optional=[("KV", "ABCDEF"), ("KS", content)])
         for name in ("pb", "Pb", "BP", "PA"):
             block = wrap_key_block(PROTECTION, BLOCK_HEADER, BLOCK_KEY, optional=[(name, "")])
             self.assertEqual(key_block_optional_blocks(block), [(name, ""), ("PB", "")])

@@ -37,6 +37,22 @@ class Keys(unittest.TestCase):
                 for length in (1, 16, 24, 32, 33, 100):
                     self.assertEqual(bytes_to_key(name, bytearray(password), memoryview(SALT), length), made[:length])
 
+    def test_salts(self):
+        """Of EVP_BytesToKey a salt has 8 bytes or none: a salt behind Salted__ and one in the password's place are refused. PBKDF2
+        takes any."""
+        for name in ("md5", "sha1", "sha256"):
+            key = bytes_to_key(name, b"secret", b"", 16)
+            self.assertEqual(key, hashlib.new(name, b"secret").digest()[:16])
+            self.assertEqual(len(bytes_to_key(name, b"secret", SALT, 16)), 16)
+            for salt in (b"x", SALT[:7], SALT + b"x", b"Salted__" + SALT, b"secret"):
+                words = f"^the salt of bytes_to_key has 0 or 8 bytes, not {len(salt)}$"
+                with self.assertRaisesRegex(cukvashe_des.SaltLength, words):
+                    bytes_to_key(name, b"secret", salt, 16)
+                with self.assertRaisesRegex(cukvashe_des.SaltLength, words):
+                    bytes_to_key(name, SALT, bytearray(salt), 24)
+                if name != "md5":
+                    self.assertEqual(pbkdf2(name, b"secret", salt, 2, 24), hashlib.pbkdf2_hmac(name, b"secret", salt, 2, 24))
+
     def test_refused(self):
         for name in ("md5", "sha512", "", "SHA1", "sha-1"):
             self.assertRaises(cukvashe_des.HashName, pbkdf2, name, b"secret", SALT, 1, 24)

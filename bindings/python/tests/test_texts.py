@@ -60,7 +60,8 @@ SENTENCES = {
     ("NoSerial", "the terminal has had its last transaction"),
     ("NotSalted", "the data do not begin with Salted__"),
     ("OptionalBlock", "a block PB is added where one is needed: leave out that of a block that was read"),
-    ("OptionalBlock", "an optional block has a name of two characters and a content, all ASCII"),
+    ("OptionalBlock", "the content of an optional block is printable ASCII alone"),
+    ("OptionalBlock", "the name of an optional block has two characters, both ASCII"),
     ("OptionalBlock", "the optional blocks can't be read: a wrong length, an end off a multiple of eight, or more than 99"),
     ("PaddingLength", "the padding has 6, 14 or 22 bytes, with the key at most 30"),
     ("PaddingMethod", "padding is by method 1 or 2"),
@@ -71,6 +72,7 @@ SENTENCES = {
     ("PinLength", "a PIN has 4 to 12 digits"),
     ("ProtectionKeyLength", "a protection key has 16 or 24 bytes"),
     ("SaltLength", "the data end within the salt"),
+    ("SaltLength", "the salt of bytes_to_key has 0 or 8 bytes, not #"),
     ("SequenceDigit", "a sequence number has digits alone"),
     ("SequenceLength", "a sequence number has two digits"),
     ("SerialLength", "a key serial number has 10 bytes, not #"),
@@ -191,7 +193,7 @@ class Texts(unittest.TestCase):
         for place, character in ((0, b"C"), (12, b"x"), (13, b"1"), (20, b"x")):
             names |= self.faults(cukvashe_des.unwrap_key_block, KEY, BLOCK[:place] + character + BLOCK[place + 1 :])
         for header, optional in ((BLOCK_HEADER, [("K", "")]), (BLOCK_HEADER, [("PB", "")]), (BLOCK_HEADER, [("KS", "x" * 10001)]),
-                                 (BLOCK_HEADER, ["KS"]),
+                                 (BLOCK_HEADER, ["KS"]), (BLOCK_HEADER, [("KS", "\n")]),
                                  (BLOCK_HEADER, "KS04"), (KeyBlockHeader("BB", "P0", "T", "E", "00", "E"), ()),
                                  (KeyBlockHeader("B", "P", "T", "E", "00", "E"), ()), (KeyBlockHeader("B", "P0", "T", "E", 0, "E"), ()),
                                  (KeyBlockHeader("B", "P0", "T", "E", "  ", "E"), ())):

@@ -36,18 +36,21 @@ pub enum Derivation {
     Pbkdf2Sha256(u32),
 }
 
-/// The number of iterations is 0, or the key is longer than there are blocks for it.
+/// Why no key is derived.
 #[derive(Clone, Copy, Debug, PartialEq, Eq)]
 pub enum DeriveError {
     /// There has to be one iteration at least.
     NoIteration,
     /// A key has at most 2^32 - 1 digests.
     KeyLength,
+    /// Without PBKDF2 the salt has 8 bytes, or none: `EVP_BytesToKey` reads 8 bytes of any salt.
+    SaltLength,
 }
 
 sentences!(DeriveError:
     DeriveError::NoIteration => "the number of iterations is 0",
     DeriveError::KeyLength => "the key is longer than 2^32 - 1 digests",
+    DeriveError::SaltLength => "the salt does not have 0 or 8 bytes",
 );
 
 /// Why a file is not opened. The first of them is reported, in this order. Tell nobody who sends you files which fault they have.
@@ -91,6 +94,9 @@ impl Derivation {
 
     /// Writes key and vector, one after the other and together as long as the list that you give. After an error the list stays as it
     /// was.
+    ///
+    /// The password stands before the salt: `EVP_BytesToKey` takes the salt first, and then the password, its data. The salt is without
+    /// `Salted__`. With no PBKDF2 it has 8 bytes, or none (`-nosalt`).
     pub fn write_bytes(self, password: &[u8], salt: &[u8], bytes: &mut [u8]) -> Result<(), DeriveError> {
         let (hash, count) = self.numbers();
         let (secret, secret_length, grains, grains_length) =
@@ -116,6 +122,7 @@ impl Derivation {
             OK => Ok(()),
             ITERATIONS => Err(DeriveError::NoIteration),
             KEY_LENGTH => Err(DeriveError::KeyLength),
+            SALT_LENGTH => Err(DeriveError::SaltLength),
             _ => unreachable!("the hash function is one that the call takes"),
         }
     }

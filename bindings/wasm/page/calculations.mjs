@@ -1,7 +1,7 @@
 // The table of calculations. The page has what stands here, in this order, and nothing that depends on which they are.
 import * as library from "../cukvashe_des.mjs";
 import { FieldFault, anyBytes, bytes, decimal, digitsOf, lines, tenDigits, utf8, wholeBlocks } from "./fields.mjs";
-import { keyBlock, optionalBlocks, shortText } from "./fields.mjs";
+import { keyBlock, optionalBlocks, shortCode } from "./fields.mjs";
 
 const CIPHERS = { 8: library.Des, 16: library.TdesEde2, 24: library.TdesEde3 };
 const CIPHER_NAMES = { 8: "DES", 16: "triple DES (EDE) with two keys", 24: "triple DES (EDE) with three keys" };
@@ -130,6 +130,10 @@ const headerAnswers = (block, { version, usage, algorithm, mode, keyVersion, exp
   remark("Version of the key", keyVersion === "00" ? "00: none" : keyVersion),
   ...library.keyBlockOptionalBlocks(block).map(([name, content]) => value(`Optional block ${name}`, content)),
 ];
+
+/** The key of a block, with its check value where it is one of DES or triple DES. */
+const keyAnswer = ({ algorithm }, key) =>
+  ALGORITHMS.some(([code]) => code === algorithm) ? keyed("Key", key) : value("Key", key);
 
 const NOT_LONG = "The block has another number of characters than it says (characters 2 to 5), or is too short.";
 
@@ -613,7 +617,7 @@ export const calculations = [
       const header = library.keyBlockHeader(block);
       const answers = headerAnswers(block, header);
       try {
-        return [keyed("Key", library.unwrapKeyBlock(held, block).key), ...answers];
+        return [keyAnswer(header, library.unwrapKeyBlock(held, block).key), ...answers];
       } catch (error) {
         error.answers = answers.map((it) => ({ ...it, label: `${it.label}, not authenticated` }));
         throw error;
@@ -633,12 +637,12 @@ export const calculations = [
         name: "otherUsage",
         label: "Code of the usage",
         hint: "Two letters or digits.",
-        read: shortText(2),
+        read: shortCode(2),
         shown: ({ usage }) => usage === "other",
       },
       { name: "algorithm", label: "Algorithm", options: coded(ALGORITHMS) },
       { name: "mode", label: "Mode of use", options: coded(MODES) },
-      { name: "keyVersion", label: "Version of the key", hint: "Two characters; 00 where it has none.", read: shortText(2) },
+      { name: "keyVersion", label: "Version of the key", hint: "Two letters or digits; 00 where it has none.", read: shortCode(2) },
       { name: "exportability", label: "Exportability", options: coded(EXPORTABILITIES) },
       {
         name: "optional",
@@ -671,8 +675,11 @@ export const calculations = [
     // A published block, whose padding OpenSSL decrypts.
     published: { "Key block": "B0080P0TE00E000094B420079CC80BA3461F86FE26EFC4A3B8E4FA4C5F5341176EED7B727B8A248E" },
     faults: {
-      KeyBlockField: { field: "keyVersion", words: "The codes of the header are letters and digits alone." },
-      OptionalBlock: { field: "optional", words: "An optional block has a name of two characters and a content, all ASCII; there are 99 at most." },
+      OptionalBlock: {
+        field: "optional",
+        words: "An optional block has a name of two ASCII characters and a content of printable ones alone; there are 99 at most. Leave out "
+          + "a block PB: one is added where it is needed.",
+      },
       KeyBlockLength: { field: "optional", words: "The optional blocks are too long: a key block has at most 9999 characters." },
       PaddingLength: { field: "padding", words: "With two bytes and the key the padding fills 8, 16, 24 or 32 bytes." },
     },

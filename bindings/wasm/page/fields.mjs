@@ -68,11 +68,14 @@ export function keyBlock(text) {
   return joined !== "" && Number(joined.slice(1, 5)) === joined.length ? joined : filled(text);
 }
 
-/** Reads a text of so many characters, or none. */
-export const shortText = (size) => (text) => {
+/** Reads a code of so many letters and digits. */
+export const shortCode = (size) => (text) => {
   const taken = filled(text);
-  if ([...taken].length === size) return taken;
-  throw new Refused(`${size} characters are needed, and here are ${[...taken].length}.`);
+  if ([...taken].length !== size) throw new Refused(`${size} characters are needed, and here are ${[...taken].length}.`);
+  const at = taken.search(/[^0-9A-Za-z]/);
+  if (at < 0) return taken;
+  const [character] = taken.slice(at);
+  throw new Refused(`Character ${at + 1}, “${character}”, is no letter (A to Z, a to z) and no digit.`);
 };
 
 // The number of a text of hexadecimal digits; NaN of any other.

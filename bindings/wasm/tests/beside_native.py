@@ -48,6 +48,11 @@ def snake(name):
     return name if name.islower() else re.sub("[A-Z]|(?<=[a-z])[0-9]", lambda it: "_" + it[0].lower(), name)
 
 
+def words_of(error):
+    """The text of an error, in which a call has its name in JavaScript."""
+    return re.sub("(?<=[a-z])_([a-z])", lambda it: it[1].upper(), str(error))
+
+
 def accepts(call, tag):
     try:
         call(tag)
@@ -84,7 +89,7 @@ for line in sys.stdin:
         # What verifies is true here, and says nothing in Python.
         here = {"answer": True if said["call"][0] in ("pvvVerify", "pinOffsetVerify") else answer}
     except ValueError as error:
-        here = {"error": [type(error).__name__, str(error)]}
+        here = {"error": [type(error).__name__, words_of(error)]}
         errors[type(error).__name__] += 1
     there = {key: value for key, value in said.items() if key != "call"}
     if here != there:

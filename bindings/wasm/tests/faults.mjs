@@ -420,8 +420,30 @@ for (const [name, texts] of Object.entries(FIELDS)) {
   for (const text of texts) throwsFault(() => wraps({ [name]: text }), "KeyBlockField");
   for (const wrong of [undefined, null, 0, 5n, unhex("5030")]) throwsType(() => wraps({ [name]: wrong }), name);
 }
-for (const optional of [[["K", ""]], [["KSX", ""]], [["K\u00e9", ""]], [["KS", "\uff10"]], Array(100).fill(["KS", ""])]) {
-  throwsFault(() => wraps({}, PAIR, { optional }), "OptionalBlock");
+for (const name of ["", "K", "KSX", "K\u00e9", "\u{1f600}"]) {
+  const text = "the name of an optional block has two characters, both ASCII";
+  throwsFault(() => wraps({}, PAIR, { optional: [[name, ""]] }), "OptionalBlock", text);
+}
+throwsFault(() => wraps({}, PAIR, { optional: Array(100).fill(["KS", ""]) }), "OptionalBlock");
+// A PB, also that of a block that was read, which would be right; names that are alike are taken.
+for (const optional of [[["PB", "00"]], [["PB", ""]], [["KV", "ABCDEF"], ["PB", "00"]], new Map([["PB", "0000"]])]) {
+  const text = "a block PB is added where one is needed: leave out that of a block that was read";
+  throwsFault(() => wraps({}, PAIR, { optional }), "OptionalBlock", text);
+}
+for (const name of ["pb", "Pb", "BP", "P0"]) {
+  assert.deepEqual(library.keyBlockOptionalBlocks(wraps({}, PAIR, { optional: [[name, "0123"]] })), [[name, "0123"]]);
+}
+const CODES = Array.from({ length: 256 }, (_, code) => code);
+for (const character of [...CODES.map((code) => String.fromCharCode(code)), "\uff10", "\u{1f600}"]) {
+  const text = "the content of an optional block is printable ASCII alone";
+  const optional = [["KS", `01${character}3`]];
+  if (character >= " " && character <= "~") {
+    assert.deepEqual(library.keyBlockOptionalBlocks(wraps({}, PAIR, { optional })), optional);
+  } else {
+    for (const content of [`01${character}3`, character, `0123${character}`]) {
+      throwsFault(() => wraps({}, PAIR, { optional: [["KV", ""], ["KS", content]] }), "OptionalBlock", text);
+    }
+  }
 }
 for (const length of [9900, 10001, 70000]) {
   throwsFault(() => wraps({}, PAIR, { optional: [["CT", "x".repeat(length)]] }), "KeyBlockLength");
@@ -458,6 +480,13 @@ for (const iterations of [0, -1, 1.5, NaN, 2 ** 32, 2 ** 32 + 1, 2 ** 64, Infini
 for (const length of [0, -1, 1.5, NaN, 2 ** 32, 2 ** 64]) {
   throwsFault(() => library.pbkdf2("sha1", SECRET, IV, 1, length), "KeyLength");
   throwsFault(() => library.bytesToKey("sha1", SECRET, IV, length), "KeyLength");
+}
+// OpenSSL's function reads eight bytes of salt, or none; PBKDF2 takes any number.
+for (const length of LENGTHS) {
+  const call = () => library.bytesToKey("md5", SECRET, of(length), 24);
+  if (length === 0 || length === 8) assert.equal(call().length, 24);
+  else throwsFault(call, "SaltLength", `the salt of bytesToKey has 0 or 8 bytes, not ${length}`);
+  assert.equal(library.pbkdf2("sha1", SECRET, of(length), 1, 24).length, 24);
 }
 for (const wrong of [null, 5n, "1", true]) throwsType(() => opens(SALTED, { iterations: wrong }), "iterations");
 for (const wrong of [null, 22, SECRET]) throwsType(() => opens(SALTED, { hashName: wrong }), "a hash function");

@@ -325,9 +325,11 @@ for (const [protection, block, key, optional] of KEY_BLOCKS) {
     assert.deepEqual(library.keyBlockOptionalBlocks(form), optional);
   }
   if (version === "A") continue;
+  const options = { optional: optional.filter(([name]) => name !== "PB") };
   for (let size = 8; size <= 24; size += 8) {
-    const made = library.wrapKeyBlock(unhex(protection), of, unhex(key).subarray(0, size), { optional });
-    const again = library.wrapKeyBlock(unhex(protection), of, unhex(key).subarray(0, size), { optional });
+    const made = library.wrapKeyBlock(unhex(protection), of, unhex(key).subarray(0, size), options);
+    const again = library.wrapKeyBlock(unhex(protection), of, unhex(key).subarray(0, size), options);
+    assert.deepEqual(library.keyBlockOptionalBlocks(made), optional);
     assert.notEqual(made, again, "the padding is random");
     assert.equal(made.length, again.length, "the length of the key is hidden");
     is(library.unwrapKeyBlock(unhex(protection), made).key, key.slice(0, 2 * size));
@@ -338,18 +340,18 @@ const [longKey, longBlock, threeParts] = KEY_BLOCKS[4];
 const headerOfBlock = (block) => library.keyBlockHeader(block);
 const padding = unhex("1c2965473ce2");
 assert.equal(library.wrapKeyBlock(unhex(pairKey), headerOfBlock(published), unhex(publishedKey), { padding }), published);
-for (const optional of [[["KV", "ABCDEF"]], new Map([["KV", "ABCDEF"]]), [["KV", "ABCDEF"], ["PB", "00"]]]) {
+for (const optional of [[["KV", "ABCDEF"]], new Map([["KV", "ABCDEF"]])]) {
   const options = { optional, padding: new Uint8Array(6).fill(0xa1) };
   assert.equal(library.wrapKeyBlock(unhex(longKey), headerOfBlock(longBlock), unhex(threeParts), options), longBlock);
 }
 for (const length of [0, 1, 250, 251, 252, 9800]) {
-  const content = "x".repeat(length);
+  const content = " ~x".repeat(length).slice(0, length);
   const made = library.wrapKeyBlock(unhex(pairKey), headerOfBlock(published), unhex(publishedKey), { optional: [["CT", content]] });
   assert.deepEqual(library.keyBlockOptionalBlocks(made)[0], ["CT", content]);
   is(library.unwrapKeyBlock(unhex(pairKey), made).key, publishedKey);
 }
 
-// ---- Keys from passwords: RFC 6070 and RFC 7914, what `openssl enc -P` prints, and files of `openssl enc`
+// ---- Keys from passwords: RFC 6070 and RFC 7914, what `openssl enc -P` prints, also by -nosalt, and files of `openssl enc`
 
 const [SECRET, SALT] = [Buffer.from("secret"), unhex("0123456789abcdef")];
 is(library.pbkdf2("sha1", Buffer.from("password"), Buffer.from("salt"), 4096, 20), "4b007901b765489abead49d926f721d065a429c1");
@@ -358,6 +360,10 @@ is(library.pbkdf2("sha256", Buffer.from("passwd"), Buffer.from("salt"), 1, 32),
 is(library.bytesToKey("md5", SECRET, SALT, 32), "5f772a83139a8d48ba45597c721ab6f2d37975c93f36a944cef01de4be7eb5d4");
 is(library.bytesToKey("sha1", SECRET, SALT, 32), "0367227b84a1c14afa3d9ac56823f56a3d7b9eb46392577deeb7c0acae589260");
 is(library.bytesToKey("sha256", SECRET, SALT, 32), "f153ef81cbc7ffbf834e5616495d710219caf9d13cbe822dae2ca8dcccae62fa");
+const NONE = new Uint8Array();
+is(library.bytesToKey("md5", SECRET, NONE, 32), "5ebe2294ecd0e0f08eab7690d2a6ee6926ae5cc854e36b6bdfca366848dea6bb");
+is(library.bytesToKey("sha1", SECRET, NONE, 32), "e5e9fa1ba31ecd1ae84f75caaa474f3a663f05f412028f81da65d26ee56424b2");
+is(library.bytesToKey("sha256", SECRET, NONE, 32), "2bb80d537b1da3e38bd30361aa855686bde0eacd7162fef6a25fe97bf527a25b");
 is(library.pbkdf2("sha1", SECRET, SALT, 1, 32), "cb6fabc3f3fd2ec1e2e8c6b9022dc86e74202a7e41b146ff9899e68f6b6ca213");
 is(library.pbkdf2("sha1", SECRET, SALT, 10000, 32), "1d1eb78f529e49042062cdd9e9f4b4aad23e6fd1e4cc2060cb799b75c523e1df");
 is(library.pbkdf2("sha256", SECRET, SALT, 1, 32), "935825f530da89bd49e67570aa3e55a7e0bed1359f84f0ca859b183afe5c3cc1");

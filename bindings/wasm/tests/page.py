@@ -287,6 +287,13 @@ def key_blocks(browser):
              "000102030405060708090A0B0C0D0E0F1011121314151617")):
         fill(browser, "unwrap", protection=protection, block=block)
         same(answers(browser, "unwrap").get("Key", "").partition(" KCV ")[0], key, f"the key of {block} ({faults(browser)})")
+    # Keys for other algorithms than DES and triple DES have no check value by these; the values are OpenSSL's.
+    for block, algorithm, key in (
+            (PUBLISHED, "T: triple DES", f"{WRAPPED} KCV 57C409"),
+            ("B0064D0DB00E0000153D63BEEBA1BECFB281B2B84B161093484393BE1F0EF9A4", "D: DES", f"{WRAPPED[:16]} KCV C3967D"),
+            ("B0080D0AB00E0000E4591C1AE78651DF4CAE39F642627B4E9F6A5CB63B52701426FA76A7FFDEB16A", "A: a code of its own", WRAPPED),
+            ("B0080M7HC00E000003BAF4E1C02C4AEF78DF4C0F8B066071D41F051C7B40753DD3662FF5AFB8FBC4", "H: a code of its own", WRAPPED)):
+        is_answer(browser, "unwrap", {"Key": key, "Algorithm": algorithm}, protection=PROTECTION, block=block)
     choose(browser, "wrap")
     made = []
     for key in (WRAPPED[:16], WRAPPED, BASE + WRAPPED[:16]):
@@ -433,8 +440,14 @@ def each_fault(browser):
     choose(browser, "wrap")
     refuses("wrap", {"protection": EMPTY, "key": EMPTY, "keyVersion": EMPTY})
     refuses("wrap", {"keyVersion": "2 characters are needed, and here are 3."}, protection=PROTECTION, key=WRAPPED, keyVersion="000")
-    refuses("wrap", {"keyVersion": "letters and digits"}, keyVersion="0-")
+    refuses("wrap", {"keyVersion": "Character 2, “-”, is no letter"}, keyVersion="0-")
     refuses("wrap", {"otherUsage": EMPTY}, usage="other", keyVersion="00")
+    for code, words in (("P-", "Character 2, “-”, is no letter"), ("\u00e90", "Character 1, “\u00e9”, is no letter"),
+                        ("\U0001f600P", "Character 1, “\U0001f600”, is no letter"), ("P", "2 characters are needed, and here are 1."),
+                        ("P00", "2 characters are needed, and here are 3.")):
+        refuses("wrap", {"otherUsage": words}, otherUsage=code)
+    refuses("wrap", {"otherUsage": "is no letter", "keyVersion": "is no letter"}, otherUsage="--", keyVersion="0\uff10")
+    fill(browser, "wrap", otherUsage="", keyVersion="00")
     refuses("wrap", {"padding": "8, 16, 24 or 32 bytes"}, usage="P0", padding="00")
     refuses("wrap", {"padding": "even number"}, padding="0")
     # An optional block with its length, by habit, and what is neither that nor a name and a content.
@@ -444,7 +457,11 @@ def each_fault(browser):
         refuses("wrap", {"optional": f"Line {line} is neither an optional block as it stands in a key block"}, padding="", optional=text)
     for text in ("KS 1800604B120F9292800000", "KS 18 00604B120F9292800000", "KS\t0cABCDEFGH", "KS 04", "KS 0002000CAB", "ID 0Aa test"):
         refuses("wrap", {"optional": "Line 1: the content begins with the length of the block."}, optional=text)
-    refuses("wrap", {"optional": "all ASCII"}, optional="KS \u00e9")
+    for text in ("KS \u00e9", "KS a\u007fb", "KS a\u0000b", "KS08a\tbc"):
+        refuses("wrap", {"optional": "a content of printable ones alone"}, optional=text)
+    for text in ("PB 00", "PB0600", "KS 0123\nPB080000"):
+        refuses("wrap", {"optional": "Leave out a block PB"}, optional=text)
+    refuses("wrap", {"optional": "99 at most"}, optional="KS 0123\n" * 100)
     refuses("wrap", {"optional": "at most 9999 characters"}, optional="KS " + "x" * 9990)
     choose(browser, "blocks")
     refuses("blocks", {"key": EMPTY, "data": EMPTY})

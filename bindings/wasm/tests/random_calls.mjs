@@ -37,7 +37,7 @@ const message = () => bytes(one([0, 8, 16, random(64), random(400)]));
 const padding = () => often(() => 1 + random(2), () => random(4));
 const method = () => often(() => one(["pkcs7", "iso7816"]), () => "pkcs5");
 
-const ODD_CHARACTERS = ["x", " ", "/", ":", "\u0000", "\u00b2", "\uff14", "\u{1f600}"];
+const ODD_CHARACTERS = ["x", " ", "/", ":", "~", "\u0000", "\u001f", "\u007f", "\u00b2", "\uff14", "\u{1f600}"];
 const digits = (least, most) => times(least + random(most - least + 1), () => String(random(10))).join("");
 const oddDigits = (least, most) => digits(least, most).replace(/.$/, () => one(ODD_CHARACTERS));
 const text = (least, most) => often(() => digits(least, most), () => one([digits(0, 24), oddDigits(least, most)]));
@@ -197,7 +197,7 @@ function offsetVerify() {
 }
 
 // A key block: a header is written by its fields, and a block that is read is one that was made, or nearly one.
-const letter = () => one(["A", "B", "D", "E", "N", "S", "T", "0", "5", "x"]);
+const letter = () => one(["A", "B", "D", "E", "N", "P", "S", "T", "0", "5", "x"]);
 const header = () => ({
   version: often(() => one(["B", "C"]), () => one(["A", "D", ""])),
   usage: letter() + letter(),
@@ -207,12 +207,17 @@ const header = () => ({
   exportability: letter(),
 });
 const optionalBlocks = () => times(random(3), () => [
-  often(() => letter() + letter(), letter), often(() => digits(0, one([9, 260])), () => oddDigits(1, 5)),
+  often(() => letter() + letter(), () => one([letter(), "PB"])), often(() => digits(0, one([9, 260])), () => oddDigits(1, 5)),
 ]);
+// A name that a block is made with: any but that of the block which is added.
+const rightName = () => {
+  const name = letter() + letter();
+  return name === "PB" ? "KS" : name;
+};
 const rightBlock = (protection) => {
   const padding_ = bytes(one([6, 14]));
   const of = { ...header(), version: one(["B", "C"]), mode: letter() };
-  const optional = times(random(3), () => [letter() + letter(), digits(0, one([9, 260]))]);
+  const optional = times(random(3), () => [rightName(), digits(0, one([9, 260]))]);
   return library.wrapKeyBlock(protection, of, bytes(one([8, 16])), { optional, padding: padding_ });
 };
 const changedText = (text_) => {
@@ -235,6 +240,8 @@ function wrapKeyBlock() {
   return ["wrapKeyBlock", key(one([16, 24])), header(), held, options];
 }
 
+// OpenSSL's function takes eight bytes of salt, or none.
+const salt = () => often(() => bytes(one([0, 8, 8, 8])), () => bytes(random(20)));
 const hashName = () => often(() => one(["sha1", "sha256"]), () => one(["md5", "sha512"]));
 const iterations = () => often(() => 1 + random(20), () => one([0, -1, 2 ** 32]));
 
@@ -248,8 +255,8 @@ function openSalted() {
 
 const KINDS = [
   ...[keyBlock, wrapKeyBlock, openSalted],
-  () => ["pbkdf2", hashName(), bytes(random(70)), bytes(8), iterations(), often(() => 1 + random(70), () => 0)],
-  () => ["bytesToKey", often(() => one(["md5", "sha1", "sha256"]), () => "md4"), bytes(random(70)), bytes(8), 1 + random(70)],
+  () => ["pbkdf2", hashName(), bytes(random(70)), bytes(random(40)), iterations(), often(() => 1 + random(70), () => 0)],
+  () => ["bytesToKey", often(() => one(["md5", "sha1", "sha256"]), () => "md4"), bytes(random(70)), salt(), 1 + random(70)],
   ...[translate, pvvVerify, offsetVerify],
   () => [one(["keyCheckValue", "shortKeyCheckValue"]), anyKey()],
   () => ["dukptDataVariant", key(16), random(2) === 0],

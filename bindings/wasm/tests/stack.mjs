@@ -102,7 +102,7 @@ for (const optional of [[], Array(98).fill(["KS", ""]), [["CT", "x".repeat(9800)
   library.keyBlockOptionalBlocks(block);
 }
 library.pbkdf2("sha256", of(100), of(100), 2, 100);
-library.bytesToKey("sha256", of(100), of(100), 100);
+library.bytesToKey("sha256", of(100), of(8), 100);
 const file = Uint8Array.from([...Buffer.from("Salted__"), ...of(8 * 300)]);
 for (const Cipher of [library.Des, library.TdesEde2, library.TdesEde3]) {
   // One password in 256 fits, and then the whole file is decrypted.

@@ -1,5 +1,5 @@
 -- Keys from passwords by the numbers of hash functions, and what is opened by them.
-use Rattle.std.specs.Prelude.{◌≡◌, ◌≢◌, ◌⊎◌, ◌<◌, ◌≤◌, ℕ, ℤ, ◌+◌, ◌*◌, ◌==◌, if◌then◌else◌, nat_le, nat_lt, List, ◌++◌, length, take, codes, Option, Some, None}
+use Rattle.std.specs.Prelude.{◌≡◌, ◌≢◌, ◌⊎◌, ◌<◌, ◌≤◌, ℕ, ℤ, ◌+◌, ◌*◌, ◌==◌, ◌||◌, Bool, if◌then◌else◌, nat_le, nat_lt, List, ◌++◌, length, take, codes, Option, Some, None}
 use Rattle.des.specs.Blocks.{IsBlock}
 use Rattle.des.specs.Cbc.{Chains}
 use Rattle.des.specs.Relations.{IsTheOne}
@@ -56,6 +56,15 @@ derive_status (Some Sha1) length = OK
 derive_status (Some Sha256) length = OK
 derive_status (Some (Pbkdf2Sha1 count)) length = pbkdf2_status count 20 length
 derive_status (Some (Pbkdf2Sha256 count)) length = pbkdf2_status count 32 length
+
+-- OpenSSL's function reads 8 bytes of salt, or has none
+abbrev pub is_salt_length : ℕ → Bool
+is_salt_length salt = (salt == 0) || (salt == 8)
+
+-- without PBKDF2, of a salt and a key of so many bytes
+abbrev pub bytes_to_key_status : ℕ → ℕ → ℕ → ℤ
+bytes_to_key_status hash salt length =
+    if is_salt_length salt then derive_status (with_no_pbkdf2 hash) length else ERR_SALT_LENGTH
 
 abbrev pub salted_status : SaltedError → ℤ
 salted_status NotSalted = ERR_NOT_SALTED

@@ -6,7 +6,7 @@ ghost use Rattle.des.specs.Triple.{EnciphersEde2, EnciphersEde3};
 ghost use Rattle.des.specs.Enciphering.{Enciphers};
 ghost use Rattle.des_context.specs.Bytes.{AreWhole, blocks_of};
 ghost use Rattle.des_records.specs.Derivations.{derived};
-ghost use Rattle.des_c.specs.Passwords.{count_of as count_of_number, with_no_pbkdf2, with_pbkdf2, derivation_by, derive_status, salted_status as salted_status_of, IsPartsFault, IsOpened, IsOpeningFault, IsSaltedFault, IsUnder, HoldsPlain, TakesOneToEach};
+ghost use Rattle.des_c.specs.Passwords.{count_of as count_of_number, with_no_pbkdf2, with_pbkdf2, derivation_by, derive_status, is_salt_length as is_salt_length_of, bytes_to_key_status, salted_status as salted_status_of, IsPartsFault, IsOpened, IsOpeningFault, IsSaltedFault, IsUnder, HoldsPlain, TakesOneToEach};
 
 use des::cbc::next_vector;
 use des::cipher::{KeyInit, Relating, are_bytes};
@@ -101,8 +101,16 @@ pub extern "C" fn cukvashe_pbkdf2(
     write_key(by_pbkdf2(hash, iterations), password, salt, key)
 }
 
+// Whether `EVP_BytesToKey` takes all of a salt: it reads 8 bytes, or has none.
+fn is_salt_length(length: usize) -> bool
+    ensures { result ≡ is_salt_length_of length }
+{
+    length == 0 || length == 8
+}
+
 /// Writes the key of a password and a salt as `EVP_BytesToKey` does with one iteration over `MD5`,
-/// `SHA1` or `SHA256`. The status is `ERR_HASH` for another number, and then `key` stays.
+/// `SHA1` or `SHA256`. The salt has 8 bytes or none. The status is `ERR_SALT_LENGTH` for another, and
+/// `ERR_HASH` for another number; and then `key` stays.
 #[unsafe(no_mangle)]
 pub extern "C" fn cukvashe_bytes_to_key(
     hash: u32,
@@ -110,11 +118,14 @@ pub extern "C" fn cukvashe_bytes_to_key(
     salt: &[u8],
     key: &mut [u8],
 ) -> i32
-    ensures status { result ≡ derive_status (with_no_pbkdf2 hash) (length key.old) }
+    ensures status { result ≡ bytes_to_key_status hash (length salt.now) (length key.old) }
     ensures key { result ≡ OK → (by : Derivation) → with_no_pbkdf2 hash ≡ Some by
         → key.new ≡ derived by password.now salt.now (length key.old) }
     ensures kept { result ≢ OK → key.new ≡ key.old }
 {
+    if !is_salt_length(salt.len()) {
+        return ERR_SALT_LENGTH;
+    }
     write_key(by_bytes_to_key(hash), password, salt, key)
 }
 

@@ -38,7 +38,7 @@ pub enum KeyBlockError {
     /// characters than letters and digits.
     Header,
     /// The optional blocks of a block can't be read, or do not end at a multiple of eight characters; or those of a block that is
-    /// to be made are more than 99, or one of them is a `PB`.
+    /// to be made are more than 99, or one of them is a `PB`, or has a content that is not printable ASCII alone.
     OptionalBlock,
     /// What stands after the header and the optional blocks is not as long as encrypted key data and a MAC are.
     DataLength,
@@ -60,7 +60,8 @@ sentences!(KeyBlockError:
     KeyBlockError::Header =>
         "the number of optional blocks is not two digits and two zeros, or a field to be written is not letters and digits",
     KeyBlockError::OptionalBlock =>
-        "the optional blocks can't be read: a wrong length, an end off a multiple of eight, or more than 99; or one is a PB",
+        "the optional blocks can't be read: a wrong length, an end off a multiple of eight, or more than 99; \
+         or one is a PB, or its content is not printable ASCII",
     KeyBlockError::DataLength => "the encrypted key data do not have a length that they can have",
     KeyBlockError::Digit => "a character of the encrypted key data or the MAC is not 0 to 9 or A to F",
     KeyBlockError::Mac => "the MAC is not that of the key block",
@@ -134,7 +135,7 @@ impl From<&Header> for ffi::KeyBlockFields {
     }
 }
 
-/// An optional block: its name, two characters, and its content, ASCII characters.
+/// An optional block: its name, two characters, and its content, printable ASCII characters.
 #[derive(Clone, Copy, Debug, PartialEq, Eq)]
 pub struct OptionalBlock<'a> {
     /// The name, as `KS` or `KV`.
@@ -220,9 +221,15 @@ const MOST_BLOCKS: usize = 99;
 /// More characters than as many optional blocks can have in a key block, each with a length of four digits.
 const MOST_OPTIONAL: usize = MOST + 6 * MOST_BLOCKS;
 
+/// Whether an optional block can be written: it is no `PB`, which the library adds, and its content is printable ASCII, since others take
+/// a line end or a zero byte for the end of the block.
+fn is_writable(block: &OptionalBlock<'_>) -> bool {
+    block.name != *b"PB" && block.content.iter().all(|character| (b' '..=b'~').contains(character))
+}
+
 /// Writes optional blocks one after the other, and gives how many characters they have. The library writes each in its shortest form.
 fn write_blocks(blocks: &[OptionalBlock<'_>], text: &mut [u8; MOST_OPTIONAL]) -> Result<usize, KeyBlockError> {
-    if blocks.len() > MOST_BLOCKS || blocks.iter().any(|block| block.name == *b"PB") {
+    if blocks.len() > MOST_BLOCKS || !blocks.iter().all(is_writable) {
         return Err(KeyBlockError::OptionalBlock);
     }
     let mut at = 0;
@@ -247,13 +254,13 @@ fn write_blocks(blocks: &[OptionalBlock<'_>], text: &mut [u8; MOST_OPTIONAL]) ->
 /// The padding stands after two bytes of length and the key, and ends at a multiple of eight bytes: 22, 14 or 6 bytes of it hide how
 /// long a key of 8, 16 or 24 bytes is. They have to be random: take them from the system. Where the optional blocks do not end at a
 /// multiple of eight characters, a block `PB` of zeros is added, so none is taken from you: leave out that of a block that was read.
-/// That the characters of optional blocks are printable is not tested.
+/// The content of an optional block is printable ASCII alone, from space to `~`; the characters of names are not tested.
 ///
-/// The first fault is reported, in this order: `OptionalBlock`, where there are more than 99, or one is a `PB`; `Version`, where it is
-/// neither `B` nor `C`; `Header`, where a field has other characters than letters and digits; `ProtectionKeyLength`; `KeyLength`;
-/// `PaddingLength`; `OptionalBlock`, where with `PB` there are more than 99; and `Length`, where the block has more than 9999
-/// characters, or is longer than `text`. Of optional blocks that are too long `Length` may come before all but the first of these.
-/// After a fault `text` stays as it was.
+/// The first fault is reported, in this order: `OptionalBlock`, where there are more than 99, or one is a `PB` or has a content of
+/// other characters; `Version`, where it is neither `B` nor `C`; `Header`, where a field has other characters than letters and digits;
+/// `ProtectionKeyLength`; `KeyLength`; `PaddingLength`; `OptionalBlock`, where with `PB` there are more than 99; and `Length`, where
+/// the block has more than 9999 characters, or is longer than `text`. Of optional blocks that are too long `Length` may come before
+/// all but the first of these. After a fault `text` stays as it was.
 pub fn wrap(
     protection: &[u8],
     header: &Header,

@@ -221,3 +221,21 @@ fn parts_are_refused() {
         assert_eq!(wrap_fault(&PIN, &[], 16, 16, length), fault.filter(|_| ![6, 14].contains(&length)));
     }
 }
+
+/// A content of each character, at each place, in the first block and a later one: line end, zero byte and é are refused.
+#[test]
+fn contents_are_printable() {
+    let none = OptionalBlock { name: *b"KS", content: b"" };
+    for character in 0..=255 {
+        let fault = Some(KeyBlockError::OptionalBlock).filter(|_| !(0x20..0x7f).contains(&character));
+        for content in [[character, b'0', b'0'], [b'0', character, b'0'], [b'0', b'0', character]] {
+            let block = OptionalBlock { content: &content, ..none };
+            assert_eq!(wrap_fault(&PIN, &[block, none], 16, 16, 14), fault);
+            assert_eq!(wrap_fault(&PIN, &[none, block], 16, 16, 14), fault);
+        }
+    }
+    // It stands before all faults that the library finds.
+    let block = OptionalBlock { content: "é".as_bytes(), ..none };
+    let header = Header { version: b'A', ..PIN };
+    assert_eq!(wrap_fault(&header, &[block], 0, 0, 0), Some(KeyBlockError::OptionalBlock));
+}

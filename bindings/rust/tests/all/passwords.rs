@@ -42,6 +42,29 @@ fn keys_are_those_of_openssl() {
     assert_eq!(Derivation::Pbkdf2Sha256(0).write_bytes(b"", b"", &mut []), Err(DeriveError::NoIteration));
 }
 
+/// Without PBKDF2 a salt has 8 bytes, or none, for which the keys are those that `openssl enc -des3 -P -nosalt` prints. One behind
+/// `Salted__` is refused, and then nothing is written.
+#[test]
+fn salts_have_eight_bytes_or_none() {
+    let salt = b"Salted__\x01\x23\x45\x67\x89\xab\xcd\xef";
+    for (derivation, printed) in [
+        (Derivation::Md5, "5ebe2294ecd0e0f08eab7690d2a6ee6926ae5cc854e36b6bdfca366848dea6bb"),
+        (Derivation::Sha1, "e5e9fa1ba31ecd1ae84f75caaa474f3a663f05f412028f81da65d26ee56424b2"),
+        (Derivation::Sha256, "2bb80d537b1da3e38bd30361aa855686bde0eacd7162fef6a25fe97bf527a25b"),
+    ] {
+        assert_eq!(written(derivation, b"secret", b"", 32), bytes_of(printed));
+        assert_eq!(derivation.write_bytes(b"secret", &SALT, &mut [0; 32]), Ok(()));
+        for length in [1, 7, 9, 16] {
+            let mut bytes = [0x77; 32];
+            assert_eq!(derivation.write_bytes(b"secret", &salt[..length], &mut bytes), Err(DeriveError::SaltLength));
+            assert_eq!(bytes, [0x77; 32]);
+        }
+    }
+    for length in 0..=salt.len() {
+        assert_eq!(Derivation::Pbkdf2Sha256(1).write_bytes(b"secret", &salt[..length], &mut [0; 32]), Ok(()));
+    }
+}
+
 /// The call of a cipher.
 type Opens = fn(Derivation, &[u8], &[u8], &mut [u8]) -> Result<usize, OpenError>;
 

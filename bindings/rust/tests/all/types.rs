@@ -210,6 +210,7 @@ fn errors_are_sentences() {
         (Box::new(EmvError::DataLength), "the issuer's data have more than 8 bytes"),
         (Box::new(DeriveError::NoIteration), "the number of iterations is 0"),
         (Box::new(DeriveError::KeyLength), "the key is longer than 2^32 - 1 digests"),
+        (Box::new(DeriveError::SaltLength), "the salt does not have 0 or 8 bytes"),
         (Box::new(OpenError::NotSalted), "the bytes do not begin with Salted__"),
         (Box::new(OpenError::SaltCut), "the bytes end within the salt"),
         (Box::new(OpenError::NoIteration), "the number of iterations is 0"),
@@ -228,7 +229,8 @@ fn errors_are_sentences() {
         ),
         (
             Box::new(KeyBlockError::OptionalBlock),
-            "the optional blocks can't be read: a wrong length, an end off a multiple of eight, or more than 99; or one is a PB",
+            "the optional blocks can't be read: a wrong length, an end off a multiple of eight, or more than 99; \
+             or one is a PB, or its content is not printable ASCII",
         ),
         (Box::new(KeyBlockError::DataLength), "the encrypted key data do not have a length that they can have"),
         (Box::new(KeyBlockError::Digit), "a character of the encrypted key data or the MAC is not 0 to 9 or A to F"),
