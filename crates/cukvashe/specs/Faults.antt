@@ -176,7 +176,7 @@ file_name KeyPadding = codes "Padding"
 file_name OtherPassword = codes "Password"
 
 abbrev pub file_words : FileFault → List ℕ
-file_words Salted = codes "the input begins with Salted__: it is under a password (see --password-file)"
+file_words Salted = codes "the input begins with Salted__: it is under a password, with a salt (see --password-file and --no-salt)"
 file_words NotSalted = codes "the input does not begin with Salted__ (see --no-salt and --base64)"
 file_words SaltCut = codes "the input ends within the salt"
 file_words Base64 = codes "it is no Base64 in lines of 64 characters at most"

@@ -161,6 +161,8 @@ pub struct Wrapping<'a> {
     pub version: Version,
     pub usage: &'a str,
     pub algorithm: &'a str,
+    /// Whether the algorithm was typed. Where it was not, the key's length decides.
+    pub names_algorithm: bool,
     pub mode: &'a str,
     pub key_version: &'a str,
     pub exportability: &'a str,

@@ -75,7 +75,7 @@ pub enum Field {
 /// What is wrong with a file under a password.
 #[derive(Clone, Copy, PartialEq, Eq)]
 pub enum FileFault {
-    /// The input begins with `Salted__`, and is decrypted by a key.
+    /// The input begins with `Salted__`, and is decrypted by a key, or with `--no-salt`.
     Salted,
     /// The input does not begin with `Salted__`.
     NotSalted,
@@ -337,7 +337,7 @@ impl FileFault {
     {
         match self {
             FileFault::Salted =>
-                "the input begins with Salted__: it is under a password (see --password-file)",
+                "the input begins with Salted__: it is under a password, with a salt (see --password-file and --no-salt)",
             FileFault::NotSalted =>
                 "the input does not begin with Salted__ (see --no-salt and --base64)",
             FileFault::SaltCut => "the input ends within the salt",

@@ -3,7 +3,7 @@
 ghost use Rattle.std.specs.Prelude.{◌≡◌};
 ghost use Rattle.cukvashe.specs.KeyBlockRuns.{about_of_wrap_error as about_by_wrap_error, about_of_read_error as about_by_read_error, about_of_error as about_by_error, option_of as option_by, about_of as about_by, IsFaultOf, IsOutcome, IsKeyBlockRun};
 
-use crate::command::KeyBlockCommand;
+use crate::command::{KeyBlockCommand, Wrapping};
 use crate::fault::{Fault, Field, Kind};
 use crate::inputs::{RANDOM_SOURCE, system_random};
 use crate::key_block_lines::{RANDOM, key_block_lines};
@@ -182,6 +182,19 @@ fn input_in(rt: &HostRuntime, command: KeyBlockCommand, source: Source) -> Resul
     }
 }
 
+// The command for the digits of a key: 16 are a key of DES, where no algorithm was typed.
+fn command_for<'a>(command: KeyBlockCommand<'a>, digits: &[u8]) -> KeyBlockCommand<'a> {
+    match command {
+        KeyBlockCommand::Wrap(wrapping) if !wrapping.names_algorithm && digits.len() == 16 => {
+            KeyBlockCommand::Wrap(Wrapping {
+                algorithm: "D",
+                ..wrapping
+            })
+        }
+        command => command,
+    }
+}
+
 // The random bytes of a block that is made. The others take none.
 fn random_for(rt: &HostRuntime, command: KeyBlockCommand) -> Result<[u8; RANDOM], Kind> {
     match command {
@@ -211,11 +224,13 @@ pub fn key_block_status<'a>(
     let protection = protection_in(rt, request).map_err(|kind| about(kind, names.key))?;
     let input = input_in(rt, command, request.input).map_err(|kind| about(kind, names.input))?;
     let random = random_for(rt, command).map_err(|kind| about(kind, RANDOM_SOURCE))?;
+    let text = input.as_slice().trim_ascii();
+    let command = command_for(command, text);
     Ok(run_key_block(
         rt.alloc(),
         KeyBlockRequest { command, names },
         protection.as_slice(),
-        input.as_slice().trim_ascii(),
+        text,
         &random,
         &mut rt.stdout(),
         &mut rt.stderr(),

@@ -6,7 +6,7 @@ use crate::key_files::{decrypted_key, is_der, object_identifier, pem_text};
 use crate::report::tell;
 use crate::source::bytes_of;
 use crate::stream_request::{KeyFileRequest, KeyForm};
-use crate::streams_program::{output_name, password_in, refuse_terminal, tell_line, write_to};
+use crate::streams_program::{output_name, password_in, refuse_terminal, tell_line, write_secret};
 use des_records::{
     EncryptedKey, KeyAndVector, KeyFileError, Label, PemError, PemKey, read_encrypted_key_of_many,
     read_pem,
@@ -103,9 +103,9 @@ fn write_key(
     };
     if is_pem {
         let text = pem_text(rt.alloc(), label, key.as_slice())?;
-        write_to(rt, job.request.output, text.as_slice())?;
+        write_secret(rt, job.request.output, text.as_slice())?;
     } else {
-        write_to(rt, job.request.output, key.as_slice())?;
+        write_secret(rt, job.request.output, key.as_slice())?;
     }
     Ok(0)
 }

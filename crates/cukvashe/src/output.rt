@@ -36,6 +36,15 @@ pub struct PrivateFile {
     pub file: File,
 }
 
+/// Who may read a file that was not there before.
+#[derive(Clone, Copy)]
+pub enum NewFile {
+    /// Whom the umask lets.
+    ByUmask,
+    /// Its owner alone.
+    Private,
+}
+
 /// What the path of an output names.
 #[derive(Drop)]
 pub enum Target {
@@ -59,14 +68,14 @@ pub fn write_fault(error: io::Error) -> Kind
 
 /// Opens the output that a path names. The fault is `Write`, `Memory`, or `Source` where the system
 /// gives no random bytes for a name.
-pub fn open(rt: &HostRuntime, path: &str) -> Result<Target, Kind> {
+pub fn open(rt: &HostRuntime, path: &str, new: NewFile) -> Result<Target, Kind> {
     let name = target_of(rt, path).map_err(write_fault)?;
     if let Some(number) = descriptor_of(name.as_str()) {
         return open_descriptor(rt, number).map_err(write_fault);
     }
     match fs::metadata(rt, name.as_str()) {
         Ok(old) => open_old(rt, name, &old),
-        Err(error) if error.kind() == ErrorKind::NotFound => open_new(rt, name),
+        Err(error) if error.kind() == ErrorKind::NotFound => open_new(rt, name, new),
         Err(error) => Err(write_fault(error)),
     }
 }
@@ -88,20 +97,26 @@ fn open_old(rt: &HostRuntime, name: String, old: &Metadata) -> Result<Target, Ki
     Ok(Target::AsItIs(file))
 }
 
-// A new file takes the permissions that the umask leaves. A name that ends with a slash, and an
-// empty one, are no file's.
-fn open_new(rt: &HostRuntime, name: String) -> Result<Target, Kind> {
+// The permissions of a new file.
+fn mode_of(rt: &HostRuntime, new: NewFile) -> u32 {
+    match new {
+        NewFile::Private => MODE_IN_WRITING,
+        NewFile::ByUmask => match umask(rt) {
+            Some(mask) => MODE_OF_NEW_FILES & !mask,
+            None => MODE_IN_WRITING,
+        },
+    }
+}
+
+// A name that ends with a slash, and an empty one, are no file's.
+fn open_new(rt: &HostRuntime, name: String, new: NewFile) -> Result<Target, Kind> {
     if name.is_empty() {
         return Err(Kind::Write(Reason::NotFound));
     }
     if name.as_str().ends_with("/") {
         return Err(Kind::Write(Reason::NotFolder));
     }
-    let mode = match umask(rt) {
-        Some(mask) => MODE_OF_NEW_FILES & !mask,
-        None => MODE_IN_WRITING,
-    };
-    Ok(Target::Replaced(create_beside(rt, name, mode)?))
+    Ok(Target::Replaced(create_beside(rt, name, mode_of(rt, new))?))
 }
 
 // ---- descriptors and links

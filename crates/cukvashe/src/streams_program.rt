@@ -8,7 +8,7 @@ use crate::answer::Answer;
 use crate::fault::{Fault, FileFault, Kind, Misuse};
 use crate::inputs::{self, Input, name_in_stream, read_fault, system_random};
 use crate::notices::accept_key;
-use crate::output::{self, Target, write_fault};
+use crate::output::{self, NewFile, Target, write_fault};
 use crate::password_streams::{PREFIX, PasswordJob, check_password, first_line, run_by_password};
 use crate::report::{send, tell};
 use crate::source::{LONGEST_TEXT, Source, bytes_of, shown};
@@ -87,7 +87,7 @@ fn run_to_path<R: Read>(
     reader: &mut R,
     path: &str,
 ) -> Result<(), Kind> {
-    match output::open(rt, path)? {
+    match output::open(rt, path, NewFile::ByUmask)? {
         Target::StandardOutput => work.run(rt, reader, &mut rt.stdout()),
         Target::AsItIs(file) => {
             let mut file = file;
@@ -118,10 +118,10 @@ fn run_reader<R: Read + Drop>(
     outcome
 }
 
-// Decrypts by a key what does not begin as what is under a password does.
+// Decrypts what does not begin with `Salted__` and a salt.
 fn run_unsalted<R: Read + Drop>(
     rt: &HostRuntime,
-    job: &Job,
+    work: Work,
     reader: R,
     total: Option<u64>,
 ) -> Result<(), Kind> {
@@ -131,7 +131,7 @@ fn run_unsalted<R: Read + Drop>(
     if first == PREFIX {
         return Err(Kind::File(FileFault::Salted));
     }
-    run_reader(rt, Work::Key(job), (&first[..count]).chain(reader), total)
+    run_reader(rt, work, (&first[..count]).chain(reader), total)
 }
 
 // Reads from a reader by a key. Where it was sought to a part, its beginning is not looked at.
@@ -141,10 +141,11 @@ fn run_by_key<R: Read + Drop>(
     reader: R,
     total: Option<u64>,
 ) -> Result<(), Kind> {
+    let work = Work::Key(job);
     if job.request.encrypts || job.skipped != blocks_before(job.request) {
-        run_reader(rt, Work::Key(job), reader, total)
+        run_reader(rt, work, reader, total)
     } else {
-        run_unsalted(rt, job, reader, total)
+        run_unsalted(rt, work, reader, total)
     }
 }
 
@@ -222,9 +223,11 @@ pub fn run_stream<'a>(
 
 // ---- passwords
 
-/// What a fault of a password is about: a file, or its option.
+/// What a fault of a password is about: its option, or standard input. The name of a file is not
+/// told, since somebody may have typed the password there.
 pub fn password_name<'a>(source: Source<'a>) -> &'a str {
     match source {
+        Source::File(_) => "--password-file",
         Source::Descriptor(_) => "--password-fd",
         Source::Variable(_) => "--password-env",
         _ => source.name(),
@@ -266,16 +269,31 @@ fn text_of_input(rt: &HostRuntime, source: Source) -> Result<Vec<u8>, Kind> {
     }
 }
 
+// Reads from a reader, and does the work of a password. What is said to have no salt must not begin
+// with one.
+fn run_by_password_from<R: Read + Drop>(
+    rt: &HostRuntime,
+    job: &PasswordJob,
+    reader: R,
+    total: Option<u64>,
+) -> Result<(), Kind> {
+    let work = Work::Password(job);
+    if job.request.encrypts || job.by.is_salted {
+        run_reader(rt, work, reader, total)
+    } else {
+        run_unsalted(rt, work, reader, total)
+    }
+}
+
 // Reads the input, and does the work of a password.
 fn run_password_input(rt: &HostRuntime, job: &PasswordJob) -> Result<(), Kind> {
-    let work = Work::Password(job);
     match job.request.input {
         Source::File(path) => {
             let input = inputs::open(rt, path).map_err(read_fault)?;
             let total = input.total(blocks_before(job.request), count_of(job.request.part));
-            run_reader(rt, work, input.file, total)
+            run_by_password_from(rt, job, input.file, total)
         }
-        _ => run_reader(rt, work, rt.stdin(), None),
+        _ => run_by_password_from(rt, job, rt.stdin(), None),
     }
 }
 
@@ -295,12 +313,7 @@ fn run_base64(rt: &HostRuntime, job: &PasswordJob) -> Result<u8, Kind> {
     let text = text_of_input(rt, source)?;
     match decode_base64(rt.alloc(), text.as_slice()) {
         Ok(bytes) => {
-            run_reader(
-                rt,
-                Work::Password(job),
-                bytes.as_slice(),
-                Some(bytes.len() as u64),
-            )?;
+            run_by_password_from(rt, job, bytes.as_slice(), Some(bytes.len() as u64))?;
             Ok(0)
         }
         Err(Base64Error::Line(line)) => {
@@ -363,16 +376,17 @@ pub fn run_password<'a>(
     })
 }
 
-/// Writes bytes to an output. A file is replaced when all of them are written.
-pub fn write_to(rt: &HostRuntime, output: Output, bytes: &[u8]) -> Result<(), Kind> {
+/// Writes a secret to an output. A file is replaced when all of it is written, and a new one is its
+/// owner's alone.
+pub fn write_secret(rt: &HostRuntime, output: Output, bytes: &[u8]) -> Result<(), Kind> {
     match output {
-        Output::File(path) => write_to_path(rt, path, bytes),
+        Output::File(path) => write_secret_to_path(rt, path, bytes),
         _ => send(&mut rt.stdout(), bytes).map_err(write_fault),
     }
 }
 
-fn write_to_path(rt: &HostRuntime, path: &str, bytes: &[u8]) -> Result<(), Kind> {
-    match output::open(rt, path)? {
+fn write_secret_to_path(rt: &HostRuntime, path: &str, bytes: &[u8]) -> Result<(), Kind> {
+    match output::open(rt, path, NewFile::Private)? {
         Target::StandardOutput => send(&mut rt.stdout(), bytes).map_err(write_fault),
         Target::AsItIs(file) => {
             let mut file = file;

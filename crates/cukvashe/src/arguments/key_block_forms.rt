@@ -75,7 +75,7 @@ pub static KEY_BLOCK_FORMS: [Form<'static>; 3] = [
             Line(
                 "algorithm",
                 Takes::Text("ALGORITHM"),
-                "The algorithm of the key: T for triple DES, D for DES [default: T]",
+                "The algorithm of the key: T for triple DES, D for DES [default: by the key's length]",
             ),
             Line(
                 "mode",

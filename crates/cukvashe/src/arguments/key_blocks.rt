@@ -47,10 +47,12 @@ fn version_of(word: Option<&str>) -> Version {
 }
 
 fn wrapping_of<'a>(matches: &ArgMatches<'a>) -> Wrapping<'a> {
+    let algorithm = text_of(matches, "algorithm");
     Wrapping {
         version: version_of(text_of(matches, "version")),
         usage: place_of(matches, "usage"),
-        algorithm: text_of(matches, "algorithm").unwrap_or("T"),
+        algorithm: algorithm.unwrap_or("T"),
+        names_algorithm: algorithm.is_some(),
         mode: place_of(matches, "mode"),
         key_version: text_of(matches, "key-version").unwrap_or("00"),
         exportability: text_of(matches, "exportability").unwrap_or("N"),
