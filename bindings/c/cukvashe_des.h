@@ -40,8 +40,8 @@
  * Calls with a quick context, one that init made, read tables at addresses that depend on the key and the data, where
  * this header says so. Calls with a quiet one, made by init_quiet, answer alike and read none. They take about three
  * times as long for a single block, CBC encryption and MACs, and up to five times for CBC decryption of 3 to 10 blocks;
- * ECB and CBC decryption of 32 blocks and more take at most as much longer as another 32 blocks would. Take quiet ones if
- * programs of others run on the processor, which could learn the addresses. A copy of a context is of its kind.
+ * ECB and CBC decryption of 32 blocks and more take at most the time of 32 blocks more. Take quiet ones if programs of
+ * others run on the processor, which could learn the addresses. A copy of a context is of its kind.
  *
  * Nothing is claimed about time. The calls that can read tables at addresses that depend on secrets, or branch on
  * secrets, say so below. On x86-64 it is tested with valgrind that init, pad, the calls of lists, ECB and CBC decryption
@@ -54,10 +54,10 @@
  * Each call is proved safe, and proved to answer as this header says, if you uphold the above: ciphers as FIPS 46-3
  * defines, CBC as FIPS 81, and others by the standards named beside them. No standard defines cukvashe_weak_key_test,
  * cukvashe_set_odd_parity, cukvashe_equal_but_parity, check values, components, PIN verification and card verification
- * values: their rules are the words below. Tested and not proved are the few lines of C in the library: they choose the
- * width of the vectors, hand the arguments of some calls to proved ones in another order, make of the length of a list
- * its number of blocks, and of a part of a key block its place, and are cukvashe_wipe, cukvashe_strerror and
- * cukvashe_version.
+ * values: their rules are the words below. cukvashe_bytes_to_key and cukvashe_NAME_open_salted follow OpenSSL. Tested and
+ * not proved are the few lines of C in the library: they choose the width of the vectors, hand the arguments of some
+ * calls to proved ones in another order, make of the length of a list its number of blocks, and of a part of a key block
+ * its place, and are cukvashe_wipe, cukvashe_strerror and cukvashe_version.
  */
 #ifndef CUKVASHE_DES_H
 #define CUKVASHE_DES_H
@@ -866,8 +866,8 @@ CUKVASHE_CHECK int cukvashe_emv_response_2(const uint8_t session[16], const uint
  * _KEY_DATA_LENGTH; of optional_block then CUKVASHE_ERR_NO_OPTIONAL_BLOCK, if there is none at this place.
  *
  * These calls branch on what is no secret: lengths, the block, its header. unwrap compares all bytes of the MAC, branches
- * on whether it is right, and then on the key's length. Nothing else of a key decides a branch or an address. What unwrap
- * does after a right MAC is said by the source, and not tested.
+ * on whether it is right, and then on the key's length. Nothing else of a key decides a branch or an address. That is
+ * tested with valgrind on x86-64.
  */
 typedef struct {
   char version;        /* A, B or C */

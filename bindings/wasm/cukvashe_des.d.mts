@@ -49,7 +49,7 @@ export class CountMismatch extends CukvasheError {}
 export class WeakKey extends CukvasheError {}
 /** A tag is not that of the message, or has fewer than 4 or more than 8 bytes. */
 export class TagMismatch extends CukvasheError {}
-/** The cipher or MAC was closed, so that its key is gone. */
+/** The cipher, MAC or terminal was closed, so that its key is gone. */
 export class Closed extends CukvasheError {}
 /** The first digit of a PIN block is not that of the format. */
 export class Format extends CukvasheError {}

@@ -1127,7 +1127,10 @@ export function emvResponse1(session, cryptogram, code) {
   return written(BLOCK_SIZE, "emv_response_1", (memory) => [memory.put(key), memory.put(request), memory.put(word)]);
 }
 
-/** The issuer's response by method 2, 4 bytes, with a card status update of four bytes and at most eight of its own. */
+/**
+ * The issuer's response by method 2, 4 bytes, with a card status update of four bytes and at most eight bytes of the
+ * issuer's.
+ */
 export function emvResponse2(session, cryptogram, status, data = new Uint8Array()) {
   const request = cryptogramOf(cryptogram);
   const word = dataOf(status, 4, "a card status update", "has", DataLength);

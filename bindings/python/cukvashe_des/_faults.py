@@ -52,7 +52,7 @@ class TagMismatch(ValueError):
 
 
 class Closed(ValueError):
-    """The cipher or MAC was closed, so that its key is gone."""
+    """The cipher, MAC or terminal was closed, so that its key is gone."""
 
 
 class Format(ValueError):

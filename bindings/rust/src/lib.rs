@@ -13,9 +13,9 @@
 //! ```
 //!
 //! Ciphers take whole blocks of 8 bytes, as slices of bytes or of [`Block`]s: [`padding`] makes them of other data, [`mac`]
-//! authenticates messages, and [`payment`] has check values, keys of components and of transactions, PIN blocks and card
-//! verification values. [`KeyForEach`] takes lists in which each block has a key of its own, and [`passwords`] opens files of
-//! `openssl enc`.
+//! authenticates messages, and [`payment`] has check values, keys of components and of transactions, PIN blocks, their translation
+//! and PIN verification, key blocks, card cryptograms and card verification values. [`KeyForEach`] takes lists in which each block
+//! has a key of its own, and [`passwords`] opens files of `openssl enc`.
 //!
 //! `new_quiet` of each cipher and MAC makes one whose calls read no table at an index that depends on the key or the data, which
 //! other programs on the processor could learn. That is tested on x86-64; on aarch64 nothing is claimed of indexes.
