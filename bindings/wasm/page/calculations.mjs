@@ -145,7 +145,7 @@ const ACCOUNT = "4012345678909";
 
 /**
  * Of each calculation: `id`, which is the page's #id; `title`; `note`; `fields`, of which `read` makes a value of the
- * text; `compute`, which makes answers of the values; `example`, the texts of all fields; `published`, answers to it by
+ * text; `compute`, which makes answers of the values; `example`, the texts of all fields; `known`, answers to it by
  * their labels, which are computed before the page offers anything; and `faults`, where an error of the library is about
  * another field than its name says, or wants other words. One more calculation is one more entry: the page needs nothing
  * else.
@@ -174,7 +174,7 @@ export const calculations = [
     ],
     example: { from: "base", base: BASE, initial: "", serial: SERIAL },
     // ANSI X9.24-1:2009, A.4.
-    published: {
+    known: {
       "PIN key": "042666B49184CF5C68DE9628D0397B36",
       "MAC key, request": "042666B4918430A368DE9628D03984C9",
       "Data key, request": "448D3F076D8304036A55A3D7E0055A78",
@@ -231,7 +231,7 @@ export const calculations = [
       key: "",
     },
     // ANSI X9.24-1:2009, A.4.
-    published: { "Encrypted block": "1B9C1845EB993A7A", "Block in clear": "041274EDCBA9876F" },
+    known: { "Encrypted block": "1B9C1845EB993A7A", "Block in clear": "041274EDCBA9876F" },
     compute(values) {
       const { pin, account: number, fill } = values;
       const encoders = {
@@ -267,7 +267,7 @@ export const calculations = [
       key: "",
     },
     // ANSI X9.24-1:2009, A.4.
-    published: { PIN: "1234", "Block in clear": "041274EDCBA9876F" },
+    known: { PIN: "1234", "Block in clear": "041274EDCBA9876F" },
     faults: {
       Format: {
         field: "block",
@@ -343,7 +343,7 @@ export const calculations = [
       fill: "",
     },
     // The block in clear, which ANSI X9.24-1:2009 publishes, encrypted by OpenSSL's des-ede.
-    published: { "Translated block": "C03D21CDBCB0C58B" },
+    known: { "Translated block": "C03D21CDBCB0C58B" },
     faults: {
       PinBlock: {
         field: "block",
@@ -379,7 +379,7 @@ export const calculations = [
     ],
     example: { key: BASE, index: "1", account: "4123456789012345", pin: "1234" },
     // By OpenSSL's des-ede of 5678901234511234.
-    published: { "PIN verification value": "1894" },
+    known: { "PIN verification value": "1894" },
     compute({ key, index, account: number, pin }) {
       return [value("PIN verification value", library.pvv(key, number, Number(index), pin))];
     },
@@ -401,7 +401,7 @@ export const calculations = [
     ],
     example: { key: BASE, validation: "4123456789012345", table: "0123456789012345", pin: "9519" },
     // By OpenSSL's des-ede of the validation data, whose first digits are A62A; 9519 less 0620 is 9999.
-    published: { Offset: "9999", "Natural PIN": "0620" },
+    known: { Offset: "9999", "Natural PIN": "0620" },
     compute({ key, validation, table: digits, pin }) {
       const table = new library.DecimalTable(digits);
       const offset = library.pinOffset(key, table, validation, pin);
@@ -447,7 +447,7 @@ export const calculations = [
       code: "3030",
     },
     // A published card key; the others are by OpenSSL.
-    published: {
+    known: {
       "Application cryptogram (ARQC)": "AC06A6DF7A7D00E8",
       "Response by method 1 (ARPC)": "F94A6571647B89F7",
       "Session key": "38324E73F063EFDD5CA88C322476A45B",
@@ -502,7 +502,7 @@ export const calculations = [
     ],
     example: { kind: "retail", padding: "1", key: BASE, form: "text", message: "Now is the time for it" },
     // ISO/IEC 9797-1, annex B.
-    published: { MAC: "2E2B1428CC78254F", "First four bytes": "2E2B1428" },
+    known: { MAC: "2E2B1428CC78254F", "First four bytes": "2E2B1428" },
     compute({ kind, padding, key, message }) {
       const Mac = MACS[kind][key.length];
       const mac = kind === "cmac" ? new Mac(key, message) : new Mac(key, Number(padding), message);
@@ -539,7 +539,7 @@ export const calculations = [
     ],
     example: { key: BASE, account: "4123456789012345", expiry: "8701", service: "101" },
     // An example that many documents have.
-    published: { "Card verification value": "561" },
+    known: { "Card verification value": "561" },
     compute: ({ key, account: number, expiry, service }) =>
       [value("Card verification value", library.cvv(key, number, expiry, service))],
   },
@@ -550,7 +550,7 @@ export const calculations = [
     fields: [{ name: "key", label: "Key", hint: KEY_HINT, read: bytes(...SIZES) }],
     example: { key: BASE },
     // An example that many documents have.
-    published: { "Check value (KCV)": "08D7B4" },
+    known: { "Check value (KCV)": "08D7B4" },
     compute({ key }) {
       const odd = library.withOddParity(key);
       const isOdd = digitsOf(odd) === digitsOf(key);
@@ -580,7 +580,7 @@ export const calculations = [
     ],
     example: { components: "10101010101010101010101010101010\n1133557799BBDDFFEECCAA8866442200" },
     // By hand: the second component is the key with the fourth bit of each byte turned.
-    published: { Key: BASE },
+    known: { Key: BASE },
     faults: {
       WeakKey: { field: "components", words: "The key of these components is weak, or two of its parts are the same." },
     },
@@ -602,7 +602,7 @@ export const calculations = [
       block: "B0104B0TX12S0100KS1800604B120F9292800000BB68BE8680A400D9191AD4ECE45B6E6C0D21C4738A52190E248719E24B433627",
     },
     // ASC X9 TR-31.
-    published: { Key: "E8BC63E5479455E26577F715D587FE68", "Optional block KS": "00604B120F9292800000" },
+    known: { Key: "E8BC63E5479455E26577F715D587FE68", "Optional block KS": "00604B120F9292800000" },
     faults: {
       KeyBlockLength: { field: "block", words: NOT_LONG },
       KeyBlockVersion: { field: "block", words: "The block begins with none of A, B and C, the versions of triple DES." },
@@ -673,7 +673,7 @@ export const calculations = [
       padding: "1C2965473CE2",
     },
     // A published block, whose padding OpenSSL decrypts.
-    published: { "Key block": "B0080P0TE00E000094B420079CC80BA3461F86FE26EFC4A3B8E4FA4C5F5341176EED7B727B8A248E" },
+    known: { "Key block": "B0080P0TE00E000094B420079CC80BA3461F86FE26EFC4A3B8E4FA4C5F5341176EED7B727B8A248E" },
     faults: {
       OptionalBlock: {
         field: "optional",
@@ -726,7 +726,7 @@ export const calculations = [
       data: "54686520717566636B2062726F776E20666F78206A756D70",
     },
     // NIST SP 800-67, appendix B.
-    published: { Ciphertext: "A826FD8CE53B855FCCE21C8112256FE668D5C05DD9B6B900" },
+    known: { Ciphertext: "A826FD8CE53B855FCCE21C8112256FE668D5C05DD9B6B900" },
     compute({ way, mode, key, iv, data }) {
       const cipher = cipherOf(key);
       const calls = {

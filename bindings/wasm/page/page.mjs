@@ -184,13 +184,13 @@ function sectionOf(calculation) {
   return make("section", attributes, heading, make("p", { class: "note" }, note), form.element, form.answer);
 }
 
-/** How many published values the calculations give. One that is another ends the page. */
-function publishedCount() {
+/** How many known values the calculations give. One that is another ends the page. */
+function knownCount() {
   let count = 0;
-  for (const { title, fields, example, published, compute } of calculations) {
+  for (const { title, fields, example, known, compute } of calculations) {
     const { values, faults } = readAll(fields, example);
     const answers = faults.length > 0 ? [] : compute(values);
-    for (const [label, wanted] of Object.entries(published)) {
+    for (const [label, wanted] of Object.entries(known)) {
       const answer = answers.find((it) => it.label === label);
       if (answer?.value !== wanted) throw new Error(`“${title}” gives a wrong ${label}`);
       count += 1;
@@ -226,7 +226,7 @@ async function start() {
     return;
   }
   await load(await moduleBytes());
-  const count = publishedCount();
+  const count = knownCount();
   for (const calculation of calculations) {
     byId("list").append(make("li", {}, make("a", { href: `#${calculation.id}` }, calculation.title)));
     byId("main").append(sectionOf(calculation));
@@ -238,7 +238,7 @@ async function start() {
     byId("state").textContent = "Every field is empty.";
   });
   byId("clear").hidden = false;
-  byId("state").textContent = `Ready: the library in this page computed ${count} published values, and all are right.`;
+  byId("state").textContent = `Ready: the library in this page computed ${count} known values, and all are right.`;
 }
 
 /** Says why the page offers nothing. */

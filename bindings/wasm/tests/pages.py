@@ -42,7 +42,7 @@ def damaged(page):
 
 
 def patched(page):
-    """The module is another one, and its sum was put right: the published values show it."""
+    """The module is another one, and its sum was put right: the known values show it."""
     module = _module_of(page)
     # The masks of DUKPT stand among the module's data as C0 C0 C0 C0 00 00 00 00, and the page has no other hold on them.
     for name, other in wrong_modules(module):
