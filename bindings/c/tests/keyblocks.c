@@ -114,6 +114,17 @@ static void finds_empty_contents(void) {
   }
 }
 
+/* A content whose place has more than eight bits. */
+static void finds_far_contents(void) {
+  char block[368], name[3];
+  size_t offset, length;
+  memset(block, '0', sizeof block);
+  memcpy(block, "B0368P0TE00E0200KS00020108", 26);
+  memcpy(block + 280, "KV08ABCD", 8);
+  CHECK(cukvashe_key_block_optional_block(block, sizeof block, 1, name, &offset, &length) == CUKVASHE_OK);
+  CHECK(strcmp(name, "KV") == 0 && offset == 284 && length == 4);
+}
+
 static void refuses_optional(const char *block, size_t length, size_t place, int status) {
   char name[3];
   size_t written[2];
@@ -382,6 +393,7 @@ int main(void) {
   opens_known_blocks();
   reads_optional_blocks();
   finds_empty_contents();
+  finds_far_contents();
   refuses_blocks();
   refuses_protection_keys();
   makes_known_blocks();

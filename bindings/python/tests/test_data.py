@@ -22,6 +22,7 @@ from cukvashe_des import (
     _library,
     combine,
     open_salted,
+    pbkdf2,
     pin_decode_2,
     unwrap_key_block,
     wrap_key_block,
@@ -29,6 +30,7 @@ from cukvashe_des import (
 
 from .values import (
     ANSWERS,
+    BLOCK,
     BLOCK_HEADER,
     CALLS,
     CMACS,
@@ -444,15 +446,29 @@ class Wiped(WatchesWiping):
                 sizes[name] = [16, len(answer)]
             self.assertEqual(sorted(self.wiped), sizes[name], name)
 
+    def test_refused_secrets(self):
+        """Secrets of a call that is refused are wiped too."""
+        for call, arguments, sizes in ((unwrap_key_block, (KEY[:16], BLOCK), [16]), (pbkdf2, ("md5", b"secret", IV, 1, 24), [6]),
+                                       (wrap_key_block, (PROTECTION, BLOCK_HEADER, KEY[:9]), [9, 16]),
+                                       (open_salted, (TdesEde3, b"Secret", SALTED), [6])):
+            self.wiped.clear()
+            self.assertRaises(ValueError, call, *arguments)
+            self.assertEqual(sorted(self.wiped), sizes, call.__name__)
+
     def test_no_other_copies(self):
         """Of the memory that a call wrote the bytes of the answer are made, and no more, which could not be wiped; of a text none."""
         short, made = wrap_key_block(PROTECTION, BLOCK_HEADER, KEY[:8]), []
 
         def noting(data):
+            self.assertIsInstance(data, ctypes.Array)
             made.append(bytes(data))
             return made[-1]
 
-        with mock.patch.object(_data, "bytes", noting, create=True):
+        def of_arguments(data):
+            self.assertNotIsInstance(data, ctypes.Array)
+            return bytearray(data)
+
+        with mock.patch.multiple(_data, bytes=noting, bytearray=of_arguments, create=True):
             _, key = unwrap_key_block(PROTECTION, short)
             plain = open_salted(TdesEde3, b"secret", SALTED)
             self.assertEqual(pin_decode_2(bytes.fromhex("241234ffffffffff")), "1234")

@@ -130,7 +130,7 @@ class KeyBlocks(unittest.TestCase):
 
     def test_printable_contents(self):
         """Each character that a content may have."""
-        optional = [("KS", "".join(map(chr, range(0x20, 0x7F))))]
+        optional = [("KS", "".join(map(chr, range(0x20, 0x7F))) + " ")]
         block = wrap_key_block(PROTECTION, BLOCK_HEADER, BLOCK_KEY, optional=optional)
         self.assertEqual(key_block_optional_blocks(block)[:1], optional)
 
@@ -144,6 +144,12 @@ class KeyBlocks(unittest.TestCase):
             with self.assertRaises(cukvashe_des.KeyBlockLength):
                 wrap_key_block(PROTECTION, BLOCK_HEADER, BLOCK_KEY, optional=[("CT", "x" * length)])
 
+    def test_each_filling(self):
+        """Optional blocks of both forms that end at each place within eight characters: PB has each of its lengths."""
+        for length in (*range(8), *range(248, 264)):
+            block = wrap_key_block(PROTECTION, BLOCK_HEADER, BLOCK_KEY, optional=[("CT", "x" * length)])
+            self.assertEqual(key_block_optional_blocks(block)[0], ("CT", "x" * length))
+
     def test_blocks_refused(self):
         block = BLOCK.decode()
         for place, character, fault in CHANGES:
@@ -155,9 +161,10 @@ class KeyBlocks(unittest.TestCase):
                 self.assertRaises(getattr(cukvashe_des, fault), key_block_optional_blocks, wrong)
         for wrong in NO_KEYS:
             self.assertRaises(cukvashe_des.KeyLength, unwrap_key_block, PROTECTION, wrong)
-        for wrong in (block + "\n", block + "\0", " " + block, block[:-1], "", b""):
+        for wrong in (block + "\n", block + "\0", " " + block, block[:-1], ""):
             for call in (lambda text: unwrap_key_block(PROTECTION, text), key_block_header, key_block_optional_blocks):
                 self.assertRaises(cukvashe_des.KeyBlockLength, call, wrong)
+                self.assertRaises(cukvashe_des.KeyBlockLength, call, wrong.encode())
         for wrong in (block[:-1] + "\uff15", "\u0391" + block[1:], block[:5] + "\xe9" + block[6:]):
             for call in (lambda text: unwrap_key_block(PROTECTION, text), key_block_header, key_block_optional_blocks):
                 self.assertRaises(cukvashe_des.KeyBlockDigit, call, wrong)

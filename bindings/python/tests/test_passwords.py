@@ -81,6 +81,13 @@ class Files(unittest.TestCase):
             self.assertEqual(open_salted(TdesEde3, b"secret", data), SALTED_TEXT)
             self.assertEqual(open_salted(TdesEde3, bytearray(b"secret"), data, hash_name="sha256", iterations=None), SALTED_TEXT)
 
+    def test_other_files(self):
+        """One of -des3 -pbkdf2, for which the hash function is \"sha256\" too where none is given; and one of no bytes, -md md5."""
+        data = b"Salted__" + SALT + bytes.fromhex("e9d6420dfde6f76f72e14ac6c0546f83")
+        self.assertEqual(open_salted(TdesEde3, b"secret", data, iterations=10000), b"Now is the time")
+        data = b"Salted__" + SALT + bytes.fromhex("7ab89c16c5e3c8d4")
+        self.assertEqual(open_salted(TdesEde3, b"secret", data, hash_name="md5"), b"")
+
     def test_refused(self):
         for cut in range(len(SALTED)):
             fault = ("NotSalted" if cut < 8 else "SaltLength" if cut < 16 else "BlockLength" if cut % 8 else "PaddingMismatch")

@@ -385,7 +385,9 @@ const OF_BLOCKS = {
   KeyDataLength: ["the encrypted key does not have a length that it can have", changed(0, "A"), changed(0, "C")],
 };
 for (const [name, [text, ...blocks]] of Object.entries(OF_BLOCKS)) {
-  for (const block of blocks) for (const call of BLOCK_CALLS) throwsFault(() => call(block), name, text);
+  for (const form of blocks.flatMap((block) => [block, Buffer.from(block)])) {
+    for (const call of BLOCK_CALLS) throwsFault(() => call(form), name, text);
+  }
 }
 for (const block of [changed(79, "\uff15"), changed(5, "\u00e9"), changed(0, "\u{1f600}")]) {
   for (const call of BLOCK_CALLS) throwsFault(() => call(block), "KeyBlockDigit", "a key block has ASCII characters alone");

@@ -344,6 +344,11 @@ for (const optional of [[["KV", "ABCDEF"]], new Map([["KV", "ABCDEF"]])]) {
   const options = { optional, padding: new Uint8Array(6).fill(0xa1) };
   assert.equal(library.wrapKeyBlock(unhex(longKey), headerOfBlock(longBlock), unhex(threeParts), options), longBlock);
 }
+// The padding is the engine's.
+crypto.getRandomValues = (bytes) => bytes.fill(0xa1);
+const withRandom = library.wrapKeyBlock(unhex(longKey), headerOfBlock(longBlock), unhex(threeParts), { optional: [["KV", "ABCDEF"]] });
+delete crypto.getRandomValues;
+assert.equal(withRandom, longBlock);
 for (const length of [0, 1, 250, 251, 252, 9800]) {
   const content = " ~x".repeat(length).slice(0, length);
   const made = library.wrapKeyBlock(unhex(pairKey), headerOfBlock(published), unhex(publishedKey), { optional: [["CT", content]] });
@@ -394,6 +399,10 @@ for (const [Cipher, hashName, iterations, length, encrypted] of [
   is(library.openSalted(Cipher, SECRET, file, options), hex(text));
 }
 
+// The hash function where none is given is the same with iterations.
+const byDefault = Buffer.concat([Buffer.from("Salted__"), SALT, unhex("e9d6420dfde6f76f72e14ac6c0546f83")]);
+is(library.openSalted(library.TdesEde3, SECRET, byDefault, { iterations: 10000 }), hex(Buffer.from("Now is the time")));
+
 // ---- A long list, for which the memory grows; and nothing stays.
 
 const LONG = 1 << 20;
@@ -405,5 +414,8 @@ assert.equal(hex(cipher.decryptEcb(answer)), hex(long));
 assert(memory.buffer.byteLength > LONG);
 assert(new Uint8Array(memory.buffer, 0, 131072).every((byte) => byte === 0), "the stack is wiped");
 assert(new Uint8Array(memory.buffer, startOfArguments).every((byte) => byte === 0), "the arguments are wiped");
+assert.throws(() => library.unwrapKeyBlock(unhex(longKey), published), { name: "KeyBlockMac" });
+assert(new Uint8Array(memory.buffer, 0, 131072).every((byte) => byte === 0), "the stack is wiped after an error");
+assert(new Uint8Array(memory.buffer, startOfArguments).every((byte) => byte === 0), "the arguments are wiped after an error");
 assert.equal(data(), dataAtFirst, "the module's own data stay");
 console.log(`JavaScript: ${lists} known ciphertexts and ${rows.length} tags, payment formats, nothing left in memory`);

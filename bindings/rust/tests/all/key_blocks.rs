@@ -101,7 +101,7 @@ fn known_blocks_are_made() {
 /// With contents of each length about those that change the form of an optional block, and the longest.
 #[test]
 fn blocks_are_read_again() {
-    let (content, key, mut text) = ([b'7'; 9900], [0x5b; 24], vec![0; 10000]);
+    let (content, key, mut text) = ([b'7'; 70000], [0x5b; 24], vec![0; 10000]);
     for size in [0, 1, 2, 3, 4, 5, 6, 7, 8, 9, 250, 251, 252, 600, 9800] {
         for (version, length) in [(b'B', 8), (b'B', 16), (b'C', 16), (b'C', 24)] {
             let of = Header { version, ..header_of(b'B', b"K1DQc1S") };
@@ -113,11 +113,21 @@ fn blocks_are_read_again() {
             assert_eq!(optional_block(&text[..count], 0), Ok(Some(optional[0])));
         }
     }
-    for size in [9896, 9900] {
+    for size in [9896, 9900, 10583, 10584, 70000] {
         let optional = [OptionalBlock { name: *b"KS", content: &content[..size] }];
         let fault = wrap(&[0x31; 24], &PIN, &optional, &key, &[0xaa; 6], &mut text);
         assert_eq!(fault, Err(KeyBlockError::Length));
     }
+}
+
+/// 99 of them that need no `PB`, which have more than 9,999 characters with a length of four digits, and fewer in the block.
+#[test]
+fn most_optional_blocks_are_made() {
+    let (block, mut text) = (OptionalBlock { name: *b"KS", content: &[b'7'; 92] }, [0; 10000]);
+    let count = wrap(&[0x31; 16], &PIN, &[block; 99], &[0x5b; 16], &[0xaa; 14], &mut text);
+    assert_eq!(count, Ok(16 + 99 * 96 + 80));
+    assert_eq!(optional_block(&text[..9600], 98), Ok(Some(block)));
+    assert_eq!(optional_block(&text[..9600], 99), Ok(None));
 }
 
 /// The fault of the published block with a character changed.

@@ -33,6 +33,7 @@ fn keys_are_those_of_openssl() {
         (Derivation::Sha256, "f153ef81cbc7ffbf834e5616495d710219caf9d13cbe822dae2ca8dcccae62fa"),
         (Derivation::Pbkdf2Sha1(1), "cb6fabc3f3fd2ec1e2e8c6b9022dc86e74202a7e41b146ff9899e68f6b6ca213"),
         (Derivation::Pbkdf2Sha1(10000), "1d1eb78f529e49042062cdd9e9f4b4aad23e6fd1e4cc2060cb799b75c523e1df"),
+        (Derivation::Pbkdf2Sha1(65546), "6515edc7bee769a2bf43c186234a351a6de14aa01fd833242874f9e4e12c7ecd"),
         (Derivation::Pbkdf2Sha256(1), "935825f530da89bd49e67570aa3e55a7e0bed1359f84f0ca859b183afe5c3cc1"),
         (Derivation::Pbkdf2Sha256(10000), "041771e1fc3357af9abf70057fcc8609982411bea5d63e036a0850b7c6c27437"),
     ] {
@@ -95,6 +96,7 @@ fn files_are_opened() {
         (Derivation::Sha1, 7, ["05d041900411a87f", "ba3c62b93e33f275", "b690bc2ca698d190"]),
         (Derivation::Sha256, 8, ["6e025eb2d48753b41ed1f6bd139057c3", "7acb011cc3310a03ceeecfd486d193a7", "ad295497d9157ea3743a7672497e8b5b"]),
         (Derivation::Pbkdf2Sha1(10), 23, ["48c0d01ce855b9f14ea7e97d430b7c4af948b98a17870803", "e343c11c7b758cb7db2cf5437ce24996fded4959a349ec94", "59b2273678be21f77d761d7f788e025c18d3ecda56906ea9"]),
+        (Derivation::Pbkdf2Sha1(65546), 7, ["884d7a2145fc2d7a", "60c2b60252a3fd60", "283b8523c945f433"]),
         (Derivation::Pbkdf2Sha256(10000), 51, ["574e0786560fedd80cf8d6b242ce05a4e2f279f608e624ed6cb88816ccd6d32bb80d288e1064009191cff5244a6f257e24b30263f5653b06", "8432a96600858ac7cbe9df3b2d95f7e8d100285f2e2b8c9a4ac6ff01994651884e0abbd21a22a75892c8ad7a890a2a5fe1c755d3d1130dac", "e9d6420dfde6f76f5525aeb07fae131c14079b19c0aeaf97c48e8da2f131be1a9b8d44c026b2f2c6206066867f0c8ac93628f139cc769a0d"]),
     ] {
         let wanted = Ok(text[..length].to_vec());
