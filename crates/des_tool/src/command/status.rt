@@ -10,9 +10,6 @@ use super::fault::Fault;
 use std::io::{self, Error, ErrorKind, Write};
 use std::process::ExitCode;
 
-#[cfg(test)]
-mod tests;
-
 // The statuses that the program ends with.
 const ANSWER_WRITTEN: u8 = 0;
 
