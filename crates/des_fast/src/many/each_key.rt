@@ -61,26 +61,6 @@ pub trait KeyForEach: KeyedCipher {
         answer_equal::<S, Self>(keys, blocks, true)
     }
 
-    /// Encrypts each block of 8 bytes in place under the key at its place, 128 blocks at a time.
-    final fn encrypt_each(keys: &[Self::Key], blocks: &mut [[u8; 8]]) -> Result<(), NotEqualError>
-        ensures accepted { IsOk result ↔ (length keys.now ≡ length blocks.old) }
-        ensures ok { OnOk result (blocks.new
-            ≡ zip2 Self.encryption (map Self.Key.bytes_of keys.now) blocks.old) }
-        ensures err { OnErr result (blocks.new ≡ blocks.old) }
-    {
-        Self::encrypt_each_by::<u64x2>(keys, blocks)
-    }
-
-    /// Decrypts each block of 8 bytes in place under the key at its place, 128 blocks at a time.
-    final fn decrypt_each(keys: &[Self::Key], blocks: &mut [[u8; 8]]) -> Result<(), NotEqualError>
-        ensures accepted { IsOk result ↔ (length keys.now ≡ length blocks.old) }
-        ensures ok { OnOk result (blocks.new
-            ≡ zip2 Self.decryption (map Self.Key.bytes_of keys.now) blocks.old) }
-        ensures err { OnErr result (blocks.new ≡ blocks.old) }
-    {
-        Self::decrypt_each_by::<u64x2>(keys, blocks)
-    }
-
     /// Makes each block the end of the chain from it through the list at its place, all under one
     /// key, as `chain_ends_each_by` under many. Where the numbers of blocks and lists differ, the
     /// answer is `NotEqualError`, and the blocks stay as they were.
@@ -125,22 +105,6 @@ pub trait KeyForEach: KeyedCipher {
         }
         ends::end_each::<S, Self, L>(keys, chains, lists);
         Ok(())
-    }
-
-    /// The same over vectors of two words, 128 chains at a time.
-    final fn chain_ends_each<L: BlockLists>(
-        keys: &[Self::Key],
-        chains: &mut [[u8; 8]],
-        lists: &L,
-    ) -> Result<(), NotEqualError>
-        ensures accepted { IsOk result ↔ ((length keys.now ≡ length chains.old)
-            × (length chains.old ≡ L.list_count lists.now)) }
-        ensures ok { OnOk result (AreEnds
-            (under_key Self.encryption (map Self.Key.bytes_of keys.now))
-            (L.block_of lists.now) (L.count_of lists.now) chains.old chains.new) }
-        ensures err { OnErr result (chains.new ≡ chains.old) }
-    {
-        Self::chain_ends_each_by::<u64x2, L>(keys, chains, lists)
     }
 
     /// Encrypts records in place by CBC, in step, each under the key at its place: `sizes[k]`

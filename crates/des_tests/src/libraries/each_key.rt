@@ -47,13 +47,13 @@ fn refuses<C: KeyForEach>(keys: &[C::Key]) -> bool {
     let (Some(few), Some(blocks)) = (keys.get(..2), list.get_mut(..3)) else {
         return false;
     };
-    if C::encrypt_each(few, blocks) != Err(NotEqualError) {
+    if C::encrypt_each_by::<u64x2>(few, blocks) != Err(NotEqualError) {
         return false;
     }
     let Some(blocks) = list.get_mut(..1) else {
         return false;
     };
-    C::decrypt_each(few, blocks) == Err(NotEqualError) && list == plain
+    C::decrypt_each_by::<u64x4>(few, blocks) == Err(NotEqualError) && list == plain
 }
 
 // All of it over both widths.
