@@ -7,11 +7,12 @@ use des::cbc;
 use des::cipher::{BlockCipherEncrypt, KeyBytes, KeyInit};
 use des_fast::many::{KeyForEach, ListKeys, Slice, SpreadKeys};
 use des_fast::quiet::SideBySide;
-use des_mac::many::{cbc_macs, cbc_macs_each};
+use des_mac::many::{cbc_macs_by, cbc_macs_each_by};
 use des_mac::{CbcMac, Mac, Method1};
 use des_payment::dukpt::{initial_key, transaction_key};
 use des_payment::transaction_lists::transaction_keys_by;
 use std::marker::PhantomData;
+use std::simd::prelude::*;
 
 /// How many blocks a record of a run has.
 pub const RECORD: usize = 8;
@@ -137,7 +138,7 @@ impl<C: BlockCipherEncrypt> Run<Blocks> for EncryptBlocks<'_, C> {
     }
 }
 
-/// `cbc_macs`, under one key.
+/// `cbc_macs_by`, under one key.
 #[derive(Drop)]
 pub struct Macs<'a, 'm, C, K> {
     pub key: &'a K,
@@ -147,13 +148,14 @@ pub struct Macs<'a, 'm, C, K> {
 
 impl<C: KeyForEach + Drop> Run<Blocks> for Macs<'_, '_, C, C::Key> {
     fn run(&self, tags: &mut Blocks) {
-        let Ok(()) = cbc_macs::<C, Method1>(self.key, self.messages, tags.as_mut_slice()) else {
+        let Ok(()) = cbc_macs_by::<u64x2, C, Method1>(self.key, self.messages, tags.as_mut_slice())
+        else {
             return;
         };
     }
 }
 
-/// `cbc_macs_each`, each message under the key at its place.
+/// `cbc_macs_each_by`, each message under the key at its place.
 #[derive(Drop)]
 pub struct MacsEach<'a, 'm, C, K> {
     pub keys: &'a [K],
@@ -164,7 +166,7 @@ pub struct MacsEach<'a, 'm, C, K> {
 impl<C: KeyForEach + Drop> Run<Blocks> for MacsEach<'_, '_, C, C::Key> {
     fn run(&self, tags: &mut Blocks) {
         let tags = tags.as_mut_slice();
-        let Ok(()) = cbc_macs_each::<C, Method1>(self.keys, self.messages, tags) else {
+        let Ok(()) = cbc_macs_each_by::<u64x2, C, Method1>(self.keys, self.messages, tags) else {
             return;
         };
     }

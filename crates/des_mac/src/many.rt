@@ -19,9 +19,8 @@ use crate::padding::Padding;
 use crate::{CbcMac, RetailMac};
 use des::cipher::{KeyBytes, KeyInit, KeyedCipher, NotEqualError};
 use des_fast::many::{BlockLists, KeyForEach, ManyBlocks, Slice};
-pub use masked::{cmacs, cmacs_by, cmacs_each, cmacs_each_by};
+pub use masked::{cmacs_by, cmacs_each_by};
 use std::marker::PhantomData;
-use std::simd::prelude::*;
 
 // How many of n bytes stand in the last block.
 fn count_in_last(n: usize) -> usize
@@ -241,67 +240,6 @@ pub fn retail_macs_each_by<S: Slice, C: KeyForEach + Drop, P: Padding>(
     cbc_macs_each_by::<S, C, P>(first, messages, tags)?;
     C::decrypt_each_by::<S>(second, tags)?;
     C::encrypt_each_by::<S>(first, tags)
-}
-
-/// The tags of `cbc_macs_by` over vectors of two words, 128 messages at a time.
-pub fn cbc_macs<C: KeyForEach + Drop, P: Padding>(
-    key: &C::Key,
-    messages: &[&[u8]],
-    tags: &mut [[u8; 8]],
-) -> Result<(), NotEqualError>
-    ensures accepted { IsOk result ↔ (length tags.old ≡ length messages.now) }
-    ensures ok { OnOk result (tags.new ≡ map
-        (⟦<CbcMac<C, P> as Mac>⟧.tag_of (C.Key.bytes_of key.now)) (texts messages.now)) }
-    ensures err { OnErr result (tags.new ≡ tags.old) }
-{
-    cbc_macs_by::<u64x2, C, P>(key, messages, tags)
-}
-
-/// The tags of `cbc_macs_each_by` over vectors of two words, 128 messages at a time.
-pub fn cbc_macs_each<C: KeyForEach + Drop, P: Padding>(
-    keys: &[C::Key],
-    messages: &[&[u8]],
-    tags: &mut [[u8; 8]],
-) -> Result<(), NotEqualError>
-    ensures accepted { IsOk result ↔ ((length keys.now ≡ length tags.old)
-        × (length tags.old ≡ length messages.now)) }
-    ensures ok { OnOk result (tags.new ≡ zip2 (⟦<CbcMac<C, P> as Mac>⟧.tag_of)
-        (map C.Key.bytes_of keys.now) (texts messages.now)) }
-    ensures err { OnErr result (tags.new ≡ tags.old) }
-{
-    cbc_macs_each_by::<u64x2, C, P>(keys, messages, tags)
-}
-
-/// The tags of `retail_macs_by` over vectors of two words, 128 messages at a time.
-pub fn retail_macs<C: KeyForEach + ManyBlocks + Drop, P: Padding>(
-    first: &C::Key,
-    second: &C::Key,
-    messages: &[&[u8]],
-    tags: &mut [[u8; 8]],
-) -> Result<(), NotEqualError>
-    ensures accepted { IsOk result ↔ (length tags.old ≡ length messages.now) }
-    ensures ok { OnOk result (tags.new ≡ map (⟦<RetailMac<C, P> as Mac>⟧.tag_of
-        (C.Key.bytes_of first.now ++ C.Key.bytes_of second.now)) (texts messages.now)) }
-    ensures err { OnErr result (tags.new ≡ tags.old) }
-{
-    retail_macs_by::<u64x2, C, P>(first, second, messages, tags)
-}
-
-/// The tags of `retail_macs_each_by` over vectors of two words, 128 messages at a time.
-pub fn retail_macs_each<C: KeyForEach + Drop, P: Padding>(
-    first: &[C::Key],
-    second: &[C::Key],
-    messages: &[&[u8]],
-    tags: &mut [[u8; 8]],
-) -> Result<(), NotEqualError>
-    ensures accepted { IsOk result ↔ ((length first.now ≡ length tags.old)
-        × (length second.now ≡ length tags.old) × (length tags.old ≡ length messages.now)) }
-    ensures ok { OnOk result (tags.new ≡ zip2 (⟦<RetailMac<C, P> as Mac>⟧.tag_of)
-        (zip2 (λ key more. key ++ more) (map C.Key.bytes_of first.now)
-        (map C.Key.bytes_of second.now)) (texts messages.now)) }
-    ensures err { OnErr result (tags.new ≡ tags.old) }
-{
-    retail_macs_each_by::<u64x2, C, P>(first, second, messages, tags)
 }
 
 /// Which tags are those of their messages: `right` says of each whether it is the one at its place

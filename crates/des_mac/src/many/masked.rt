@@ -16,7 +16,6 @@ use crate::padding::{Method2, Padding};
 use des::cbc::xor;
 use des::cipher::NotEqualError;
 use des_fast::many::{BlockLists, KeyForEach, Slice};
-use std::simd::prelude::*;
 
 // The most messages with keys of their own that are treated together.
 const GROUP: usize = 256;
@@ -227,33 +226,4 @@ pub fn cmacs_each_by<S: Slice, C: KeyForEach + Drop>(
         from = end;
     }
     Ok(())
-}
-
-/// The tags of `cmacs_by` over vectors of two words, 128 messages at a time.
-pub fn cmacs<C: KeyForEach + Drop>(
-    key: &C::Key,
-    messages: &[&[u8]],
-    tags: &mut [[u8; 8]],
-) -> Result<(), NotEqualError>
-    ensures accepted { IsOk result ↔ (length tags.old ≡ length messages.now) }
-    ensures ok { OnOk result (tags.new ≡ map
-        (⟦<Cmac<C> as Mac>⟧.tag_of (C.Key.bytes_of key.now)) (texts messages.now)) }
-    ensures err { OnErr result (tags.new ≡ tags.old) }
-{
-    cmacs_by::<u64x2, C>(key, messages, tags)
-}
-
-/// The tags of `cmacs_each_by` over vectors of two words, 128 messages at a time.
-pub fn cmacs_each<C: KeyForEach + Drop>(
-    keys: &[C::Key],
-    messages: &[&[u8]],
-    tags: &mut [[u8; 8]],
-) -> Result<(), NotEqualError>
-    ensures accepted { IsOk result ↔ ((length keys.now ≡ length tags.old)
-        × (length tags.old ≡ length messages.now)) }
-    ensures ok { OnOk result (tags.new ≡ zip2 (⟦<Cmac<C> as Mac>⟧.tag_of)
-        (map C.Key.bytes_of keys.now) (texts messages.now)) }
-    ensures err { OnErr result (tags.new ≡ tags.old) }
-{
-    cmacs_each_by::<u64x2, C>(keys, messages, tags)
 }

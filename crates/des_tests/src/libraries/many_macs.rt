@@ -5,7 +5,7 @@ use crate::libraries::known::keys;
 use des::cipher::NotEqualError;
 use des_fast::many::{KeyForEach, Slice};
 use des_fast::{Des, TdesEde2, TdesEde3};
-use des_mac::many::{cmacs, cmacs_by, cmacs_each, cmacs_each_by, retail_macs, retail_macs_by};
+use des_mac::many::{cmacs_by, cmacs_each_by, retail_macs_by};
 use des_mac::{Cmac, Method1, Method2, Padding, RetailMac};
 use std::simd::prelude::*;
 
@@ -77,10 +77,12 @@ fn published_tags(rt: HostRuntime) {
         *b"\x33\xe6\xb1\x09\x24\x00\xea\xe5",
     ];
     let mut tags = [[0; 8]; 4];
-    assert!(rt; cmacs::<TdesEde3>(&key, &messages, &mut tags).is_ok() && tags == expected);
+    assert!(rt; cmacs_by::<u64x2, TdesEde3>(&key, &messages, &mut tags).is_ok());
+    assert!(rt; tags == expected);
     tags = [[0; 8]; 4];
     let keys = [key; 4];
-    assert!(rt; cmacs_each::<TdesEde3>(&keys, &messages, &mut tags).is_ok() && tags == expected);
+    assert!(rt; cmacs_each_by::<u64x2, TdesEde3>(&keys, &messages, &mut tags).is_ok());
+    assert!(rt; tags == expected);
 }
 
 // Whether lists that are not as long are refused, and the tags stay.
@@ -90,15 +92,15 @@ fn refuses<C: KeyForEach + Drop>(key: &C::Key, keys: &[C::Key]) -> bool {
     let Some(two) = keys.get(..2) else {
         return false;
     };
-    if cmacs::<C>(key, &messages, &mut tags) != Err(NotEqualError)
-        || cmacs_each::<C>(two, &messages, &mut tags) != Err(NotEqualError)
+    if cmacs_by::<u64x2, C>(key, &messages, &mut tags) != Err(NotEqualError)
+        || cmacs_each_by::<u64x2, C>(two, &messages, &mut tags) != Err(NotEqualError)
     {
         return false;
     }
     let Some(some) = tags.get_mut(..2) else {
         return false;
     };
-    cmacs_each::<C>(keys, &messages, some) == Err(NotEqualError) && tags == [[7; 8]; 3]
+    cmacs_each_by::<u64x2, C>(keys, &messages, some) == Err(NotEqualError) && tags == [[7; 8]; 3]
 }
 
 #[test]
@@ -108,6 +110,6 @@ fn lists_of_other_lengths_are_refused(rt: HostRuntime) {
     assert!(rt; refuses::<Des>(&first, &[first, second, first]));
     let messages: [&[u8]; 2] = [b"one", b"two"];
     let mut tags = [[7; 8]; 3];
-    let refused = retail_macs::<Des, Method1>(&first, &second, &messages, &mut tags);
+    let refused = retail_macs_by::<u64x2, Des, Method1>(&first, &second, &messages, &mut tags);
     assert!(rt; refused == Err(NotEqualError) && tags == [[7; 8]; 3]);
 }
