@@ -20,10 +20,6 @@ pub mod ChosenBytes
 pub mod MappedParts
 pub mod Lanes
 pub mod CounterPlaces
-pub mod CardAnswers
-pub mod Answered
-pub mod ZippedGroups
-pub mod MadeBlocks
 pub mod PlaceNumbers
 pub mod FutureKeys
 pub mod FutureSteps

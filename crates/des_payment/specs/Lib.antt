@@ -1,14 +1,11 @@
 pub mod Components
 pub mod Digits
-pub mod Faults
 pub mod Texts
 pub mod PinBlocks
 pub mod Dukpt
 pub mod Terminals
 pub mod CardVerification
 pub mod CardCryptograms
-pub mod CardLists
-pub mod PinBlockLists
 pub mod KeyLengths
 pub mod PinVerification
 pub mod Translation

@@ -17,7 +17,7 @@ use crate::xor::xored;
 use des::tdes::key_part;
 
 // The data of a card: the first fault, if they have one.
-pub(crate) fn check_card(account: &[u8], expiry: &[u8], service: &[u8]) -> Result<(), CvvError>
+fn check_card(account: &[u8], expiry: &[u8], service: &[u8]) -> Result<(), CvvError>
     ensures fault { result_err result ≡ card_fault account.now expiry.now service.now }
     ensures account { OnOk result (IsNumber 13 19 account.now) }
     ensures expiry { OnOk result (IsNumber 4 4 expiry.now) }
@@ -41,7 +41,7 @@ pub(crate) fn check_card(account: &[u8], expiry: &[u8], service: &[u8]) -> Resul
 }
 
 // The data of a card, filled with zeros to 32 digits.
-pub(crate) fn card_text(account: &[u8], expiry: &[u8], service: &[u8]) -> [u8; 32]
+fn card_text(account: &[u8], expiry: &[u8], service: &[u8]) -> [u8; 32]
     requires account { IsNumber 13 19 account.now }
     requires expiry { IsNumber 4 4 expiry.now }
     requires service { IsNumber 3 3 service.now }
@@ -59,7 +59,7 @@ pub(crate) fn card_text(account: &[u8], expiry: &[u8], service: &[u8]) -> [u8; 3
 }
 
 // The first of the two blocks of the data.
-pub(crate) fn first_block(text: &[u8; 32]) -> [u8; 8]
+fn first_block(text: &[u8; 32]) -> [u8; 8]
     requires { IsTrue (are_digits_of text.now) }
     ensures { result ≡ first_block_of text.now }
 {
@@ -69,7 +69,7 @@ pub(crate) fn first_block(text: &[u8; 32]) -> [u8; 8]
 }
 
 // The second of them.
-pub(crate) fn second_block(text: &[u8; 32]) -> [u8; 8]
+fn second_block(text: &[u8; 32]) -> [u8; 8]
     requires { IsTrue (are_digits_of text.now) }
     ensures { result ≡ second_block_of text.now }
 {
@@ -89,7 +89,7 @@ fn card_block(key: &[u8; 16], text: &[u8; 32]) -> [u8; 8]
 }
 
 // The value that is taken from a block's digits.
-pub(crate) fn value_of(block: &[u8; 8]) -> [u8; 3]
+fn value_of(block: &[u8; 8]) -> [u8; 3]
     ensures { result ≡ text_of (take 3 (decimals_first (digits_in block.now))) }
 {
     let mut value = first_decimals(&digits_of(block));

@@ -7,7 +7,6 @@ use crate::check_values::first_bytes;
 use crate::passes::{GROUP, encrypt_each_of, next_count};
 use des::cipher::NotEqualError;
 use des_fast::many::{KeyForEach, Slice};
-use std::simd::prelude::*;
 
 // Makes the values the first bytes of blocks.
 fn write_values(values: &mut [[u8; 3]], blocks: &[[u8; 8]])
@@ -55,17 +54,4 @@ pub fn check_values_by<S: Slice, C: KeyForEach>(
         from += count;
     }
     Ok(())
-}
-
-/// Writes the check value of each key at its place, 128 keys at a time.
-pub fn check_values<C: KeyForEach>(
-    keys: &[C::Key],
-    values: &mut [[u8; 3]],
-) -> Result<(), NotEqualError>
-    ensures accepted { IsOk result ↔ (length keys.now ≡ length values.old) }
-    ensures ok { OnOk result (values.new ≡ map
-        (λ key. take 3 (C.encryption (C.Key.bytes_of key) (replicate 8 0))) keys.now) }
-    ensures err { OnErr result (values.new ≡ values.old) }
-{
-    check_values_by::<u64x2, C>(keys, values)
 }

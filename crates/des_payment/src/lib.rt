@@ -1,8 +1,7 @@
 //! Payment formats above the ciphers of `des` and `des_fast`: check values, keys of components, PIN
 //! blocks (ISO 9564-1), the keys of a transaction (DUKPT, ANSI X9.24-1:2009) at the host and in the
-//! terminal, card verification values, and card cryptograms (EMV 4.3, Book 2). `check_value_lists`,
-//! `transaction_lists`, `card_lists` and `pin_block_lists` make those of many keys, of many
-//! transactions and of many cards at once.
+//! terminal, card verification values, and card cryptograms (EMV 4.3, Book 2). `check_value_lists`
+//! and `transaction_lists` make those of many keys and of many transactions at once.
 //!
 //! Digits that a person reads (PINs, account numbers, dates) are texts, slices of ASCII digits. No
 //! call takes memory or panics, and no `Debug` text or error tells a key, a PIN or an account
@@ -11,7 +10,6 @@
 //! made on the time that a call takes.
 #![tactic(auto)]
 
-pub mod card_lists;
 pub mod card_verification;
 pub mod check_value_lists;
 pub mod check_values;
@@ -33,7 +31,6 @@ mod masks;
 pub mod optional_blocks;
 mod passes;
 pub mod pin;
-pub mod pin_block_lists;
 pub mod pin_blocks;
 pub mod pin_error;
 pub mod pin_verification;

@@ -27,7 +27,6 @@ use des::cipher::{NotEqualError, are_bytes};
 use des::tdes::key_part;
 use des_fast::many::Slice;
 use des_fast::{Des, TdesEde2};
-use std::simd::prelude::*;
 
 // The register at a place: the last eight bytes of the serial number with the bits below cleared.
 fn register_at(serial: &[u8; 10], place: u32) -> u64
@@ -206,10 +205,9 @@ fn derive_group<S: Slice>(serials: &[[u8; 10]], keys: &mut [[u8; 16]])
     }
 }
 
-/// Makes each initial key the key of the transaction of the serial number at its place, as
-/// `transaction_key` does. Groups of at most 256 are treated together, `S::BATCH` at a time. Where
-/// the two lists differ in length, the answer is `NotEqualError`, and the keys stay as they were.
-pub fn derive_keys_by<S: Slice>(
+// Makes each initial key the key of the transaction of the serial number at its place, as
+// `transaction_key` does. Groups of at most 256 are treated together, `S::BATCH` at a time.
+fn derive_keys_by<S: Slice>(
     serials: &[[u8; 10]],
     keys: &mut [[u8; 16]],
 ) -> Result<(), NotEqualError>
@@ -228,17 +226,6 @@ pub fn derive_keys_by<S: Slice>(
         from += count;
     }
     Ok(())
-}
-
-/// Makes each initial key the key of the transaction of the serial number at its place, 128 at a
-/// time.
-pub fn derive_keys(serials: &[[u8; 10]], keys: &mut [[u8; 16]]) -> Result<(), NotEqualError>
-    ensures accepted { IsOk result ↔ (length serials.now ≡ length keys.old) }
-    ensures ok { OnOk result (keys.new
-        ≡ zip2 (λ serial key. transaction_key_of key serial) serials.now keys.old) }
-    ensures err { OnErr result (keys.new ≡ keys.old) }
-{
-    derive_keys_by::<u64x2>(serials, keys)
 }
 
 // The first bytes of serial numbers.
@@ -287,11 +274,9 @@ fn initial_group<S: Slice>(base: &[u8; 16], serials: &[[u8; 10]], keys: &mut [[u
     join_halves(keys, &left, &right);
 }
 
-/// Writes the initial key of the terminal of each serial number at its place, as `initial_key`
-/// gives it from the base derivation key. Groups of at most 256 are treated together, `S::BATCH` at
-/// a time. Where the two lists differ in length, the answer is `NotEqualError`, and the keys stay
-/// as they were.
-pub fn initial_keys_by<S: Slice>(
+// Writes the initial key of the terminal of each serial number at its place, as `initial_key` gives
+// it from the base derivation key. Groups of at most 256 are treated together, `S::BATCH` at a time.
+fn initial_keys_by<S: Slice>(
     base: &[u8; 16],
     serials: &[[u8; 10]],
     keys: &mut [[u8; 16]],
@@ -316,19 +301,6 @@ pub fn initial_keys_by<S: Slice>(
     Ok(())
 }
 
-/// Writes the initial key of the terminal of each serial number at its place, 128 at a time.
-pub fn initial_keys(
-    base: &[u8; 16],
-    serials: &[[u8; 10]],
-    keys: &mut [[u8; 16]],
-) -> Result<(), NotEqualError>
-    ensures accepted { IsOk result ↔ (length serials.now ≡ length keys.old) }
-    ensures ok { OnOk result (keys.new ≡ map (initial_key_of base.now) serials.now) }
-    ensures err { OnErr result (keys.new ≡ keys.old) }
-{
-    initial_keys_by::<u64x2>(base, serials, keys)
-}
-
 /// Writes the key of the transaction of each serial number at its place, from the base derivation
 /// key: as `transaction_key` gives it from `initial_key`. The terminals may be different ones.
 /// Groups of at most 256 are treated together, `S::BATCH` at a time. Where the two lists differ in
@@ -345,19 +317,4 @@ pub fn transaction_keys_by<S: Slice>(
 {
     initial_keys_by::<S>(base, serials, keys)?;
     derive_keys_by::<S>(serials, keys)
-}
-
-/// Writes the key of the transaction of each serial number at its place, from the base derivation
-/// key, 128 at a time.
-pub fn transaction_keys(
-    base: &[u8; 16],
-    serials: &[[u8; 10]],
-    keys: &mut [[u8; 16]],
-) -> Result<(), NotEqualError>
-    ensures accepted { IsOk result ↔ (length serials.now ≡ length keys.old) }
-    ensures ok { OnOk result (keys.new ≡ map
-        (λ serial. transaction_key_of (initial_key_of base.now serial) serial) serials.now) }
-    ensures err { OnErr result (keys.new ≡ keys.old) }
-{
-    transaction_keys_by::<u64x2>(base, serials, keys)
 }

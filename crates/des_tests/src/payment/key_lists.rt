@@ -8,11 +8,9 @@ ghost use Rattle.des_payment.specs.Dukpt.{initial_key as initial_key_of, transac
 use des::cipher::NotEqualError;
 use des_fast::{Des, TdesEde2, TdesEde3};
 use des_payment::check_value;
-use des_payment::check_value_lists::{check_values, check_values_by};
+use des_payment::check_value_lists::check_values_by;
 use des_payment::dukpt::{initial_key, transaction_key};
-use des_payment::transaction_lists::{
-    derive_keys, initial_keys, transaction_keys, transaction_keys_by,
-};
+use des_payment::transaction_lists::transaction_keys_by;
 use std::simd::prelude::*;
 
 // The keys of the transactions of many terminals, as a host needs them.
@@ -34,7 +32,7 @@ fn check_values_of_ede3(keys: &[[u8; 24]], values: &mut [[u8; 3]]) -> Result<(),
     ensures values { OnOk result (values.new ≡ map
         (λ key. take 3 (ede3_encryption key (replicate 8 0))) keys.now) }
 {
-    check_values::<TdesEde3>(keys, values)
+    check_values_by::<u64x2, TdesEde3>(keys, values)
 }
 
 const BASE: [u8; 16] = [
@@ -91,7 +89,7 @@ fn agrees(count: usize, place: usize) -> bool {
         return false;
     };
     keys_of_host(&BASE, serials, wide).is_ok()
-        && transaction_keys(&BASE, serials, keys).is_ok()
+        && transaction_keys_by::<u64x2>(&BASE, serials, keys).is_ok()
         && are_of_one(serials, keys, wide, place)
 }
 
@@ -164,10 +162,13 @@ fn checks_keys_of_lists(rt: HostRuntime) {
 fn refuses_lists_of_different_lengths(rt: HostRuntime) {
     let mut keys = [[7; 16]; 3];
     let mut values = [[7; 3]; 3];
-    assert!(rt; transaction_keys(&BASE, &[[0; 10]; 2], &mut keys) == Err(NotEqualError));
-    assert!(rt; initial_keys(&BASE, &[[0; 10]; 4], &mut keys) == Err(NotEqualError));
-    assert!(rt; derive_keys(&[[0; 10]; 4], &mut keys) == Err(NotEqualError));
-    assert!(rt; check_values::<Des>(&[[0; 8]; 2], &mut values) == Err(NotEqualError));
+    assert!(rt;
+        transaction_keys_by::<u64x2>(&BASE, &[[0; 10]; 2], &mut keys) == Err(NotEqualError)
+    );
+    assert!(rt;
+        transaction_keys_by::<u64x4>(&BASE, &[[0; 10]; 4], &mut keys) == Err(NotEqualError)
+    );
+    assert!(rt; check_values_by::<u64x2, Des>(&[[0; 8]; 2], &mut values) == Err(NotEqualError));
     assert!(rt;
         check_values_by::<u64x4, TdesEde2>(&[[0; 16]; 4], &mut values) == Err(NotEqualError)
     );
