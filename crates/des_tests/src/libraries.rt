@@ -1,17 +1,15 @@
-//! What is known of the ciphers of `des` and `des_fast` from publications and by OpenSSL, and what
-//! they do with input that does not fit, where no built program shows it.
+//! What is known from publications and by OpenSSL of calls that have no export for C and that no
+//! program makes, and what such calls print and ask for. `bindings/test` and the tests of the
+//! programs show all else.
 
-mod blocks;
 mod ciphers;
+mod clones;
 mod each_key;
+mod hmac;
 mod known;
-mod lengths;
 mod lists;
-mod many_macs;
-mod prefixes;
+mod macs;
 mod records;
-mod short_lists;
-mod side_by_side;
-mod steps;
+mod streams;
 mod texts;
 mod weak_keys;

@@ -1,23 +1,21 @@
-//! Records of 0 to 5 blocks and longer ones, chained by CBC in step, under one key and each under
-//! its own, beside one record after another.
+//! Records chained by CBC in step, by the calls that have no export for C: under keys of their own,
+//! and of as many blocks each, beside one record after another.
 
-use crate::libraries::known::{
-    DES, EDE2, EDE3, EEE2, EEE3, Known, LIST_PARTS, STEP, keys, multiples,
-};
+use crate::libraries::known::{STEP, THREE, keys, multiples};
 use des::cbc;
-use des::cipher::{BlockCipher, KeySizeUser, KeyedCipher, NotEqualError};
+use des::cipher::{BlockCipher, KeyInit};
+use des_fast::TdesEee3;
 use des_fast::many::{KeyForEach, ListKeys, Slice, SpreadOnce};
-use std::process::Abort;
 use std::simd::prelude::*;
 
 // More records than the widest batch has.
 const MOST: usize = 300;
 
 // Numbers of records about the ends of the batches.
-const COUNTS: [usize; 8] = [0, 1, 2, 127, 128, 129, 256, 257];
+const COUNTS: [usize; 8] = [0, 1, 2, 127, 128, 129, 256, MOST];
 
-// Records of which some go through several batches.
-const LONG: [usize; 5] = [200, 0, 0, 301, 1];
+// How many blocks records of one length have.
+const SIZE: usize = 3;
 
 // Vectors, and blocks of records of at most five blocks.
 #[derive(Clone, Copy, PartialEq)]
@@ -35,32 +33,30 @@ impl Records {
     }
 
     // Chains record k, which begins at a block, and makes its vector the one that it goes on from.
-    fn chain_one<P: BlockCipher>(&mut self, port: &P, k: usize, from: usize, size: usize) {
+    fn chain_one<C: BlockCipher>(&mut self, cipher: &C, k: usize, from: usize, size: usize) {
         let (Some(vector), Some(record)) = (
             self.vectors.get_mut(k),
             self.blocks.get_mut(from..from.saturating_add(size)),
         ) else {
             return;
         };
-        cbc::encrypt(port, vector, record);
+        cbc::encrypt(cipher, vector, record);
         *vector = cbc::next_vector(vector, record);
     }
 
-    // The records chained one after another.
-    fn chain<P: BlockCipher>(&mut self, port: &P, sizes: &[usize]) {
+    // The records, one after another, each under its key.
+    fn chain_each<C: KeyForEach + Drop>(&mut self, keys: &[C::Key], sizes: &[usize]) {
         let mut from: usize = 0;
-        for (k, size) in sizes.iter().enumerate() {
-            self.chain_one(port, k, from, *size);
+        for (k, (key, size)) in keys.iter().zip(sizes).enumerate() {
+            self.chain_one(&C::new(key), k, from, *size);
             from = from.saturating_add(*size);
         }
     }
 
-    // The same, each under its key.
-    fn chain_each<P: KeyedCipher + Drop>(&mut self, keys: &[P::Key], sizes: &[usize]) {
-        let mut from: usize = 0;
-        for (k, (key, size)) in keys.iter().zip(sizes).enumerate() {
-            self.chain_one(&P::new(key), k, from, *size);
-            from = from.saturating_add(*size);
+    // Records of one length, under one key.
+    fn chain<C: BlockCipher>(&mut self, cipher: &C, count: usize) {
+        for k in 0..count {
+            self.chain_one(cipher, k, k.saturating_mul(SIZE), SIZE);
         }
     }
 }
@@ -83,275 +79,130 @@ fn sum(sizes: &[usize]) -> usize {
     all
 }
 
-// Whether the first records are chained as one after another, and read back.
-fn chains<K: ListKeys, P: BlockCipher>(keys: &K, port: &P, sizes: &[usize]) -> bool {
-    let count = sizes.len();
-    let all = sum(sizes);
-    let plain = Records::new();
-    let mut expected = plain;
-    expected.chain(port, sizes);
-    let mut list = plain;
-    let (Some(vectors), Some(blocks)) = (list.vectors.get_mut(..count), list.blocks.get_mut(..all))
-    else {
-        return false;
-    };
-    if keys.encrypt_cbc_records(vectors, sizes, blocks).is_err() || list != expected {
-        return false;
-    }
-    let mut read = Records {
-        vectors: plain.vectors,
-        blocks: list.blocks,
-    };
-    let (Some(vectors), Some(blocks)) = (read.vectors.get_mut(..count), read.blocks.get_mut(..all))
-    else {
-        return false;
-    };
-    keys.decrypt_cbc_records(vectors, sizes, blocks).is_ok()
-        && read.blocks == plain.blocks
-        && read.vectors == expected.vectors
+// The vectors of so many records, and their blocks.
+type Parts<'a> = (&'a mut [[u8; 8]], &'a mut [[u8; 8]]);
+
+fn parts(list: &mut Records, count: usize, blocks: usize) -> Option<Parts<'_>> {
+    Some((
+        list.vectors.get_mut(..count)?,
+        list.blocks.get_mut(..blocks)?,
+    ))
 }
 
-// Whether the same holds of records of as many blocks each.
-fn chains_equal<K: ListKeys, P: BlockCipher>(
-    keys: &K,
-    port: &P,
-    count: usize,
-    size: usize,
+fn encrypt_each<S: Slice, C: KeyForEach>(
+    keys: &[C::Key],
+    list: &mut Records,
+    sizes: &[usize],
 ) -> bool {
-    let sizes = [size; MOST];
-    let plain = Records::new();
-    let mut expected = plain;
-    expected.chain(port, sizes.get(..count).unwrap_or(&[]));
-    let mut list = plain;
-    let all = count.saturating_mul(size);
-    let (Some(vectors), Some(blocks)) = (list.vectors.get_mut(..count), list.blocks.get_mut(..all))
-    else {
+    let Some((vectors, blocks)) = parts(list, sizes.len(), sum(sizes)) else {
         return false;
     };
-    if keys
-        .encrypt_cbc_equal_records(vectors, size, blocks)
-        .is_err()
-        || list != expected
-    {
-        return false;
-    }
-    let mut read = Records {
-        vectors: plain.vectors,
-        blocks: list.blocks,
-    };
-    let (Some(vectors), Some(blocks)) = (read.vectors.get_mut(..count), read.blocks.get_mut(..all))
-    else {
-        return false;
-    };
-    keys.decrypt_cbc_equal_records(vectors, size, blocks)
-        .is_ok()
-        && read.blocks == plain.blocks
-        && read.vectors == expected.vectors
+    C::encrypt_cbc_records_each_by::<S>(keys, vectors, sizes, blocks).is_ok()
 }
 
-// Whether sizes that do not fit are refused, and nothing changes.
-fn refuses<K: ListKeys>(keys: &K) -> bool {
+fn decrypt_each<S: Slice, C: KeyForEach>(
+    keys: &[C::Key],
+    list: &mut Records,
+    sizes: &[usize],
+) -> bool {
+    let Some((vectors, blocks)) = parts(list, sizes.len(), sum(sizes)) else {
+        return false;
+    };
+    C::decrypt_cbc_records_each_by::<S>(keys, vectors, sizes, blocks).is_ok()
+}
+
+// Whether the list, whose vectors go on after encryption, has the blocks of the plain one again, and
+// vectors that go on so after decryption too.
+fn are_read(list: &Records, chained: &Records) -> bool {
+    list.blocks == Records::new().blocks && list.vectors == chained.vectors
+}
+
+// Whether records, each under its key, are chained as one after another, and read back.
+fn chains_each<S: Slice, C: KeyForEach + Drop>(keys: &[C::Key], sizes: &[usize]) -> bool {
+    let mut chained = Records::new();
+    chained.chain_each::<C>(keys, sizes);
     let mut list = Records::new();
-    let sizes: [&[usize]; 4] = [&[1], &[1, 2, 3], &[2, 2], &[usize::MAX, 4]];
-    for sizes in sizes {
-        let blocks = &mut list.blocks[..3];
-        if keys.encrypt_cbc_records(&mut list.vectors[..2], sizes, blocks) != Err(NotEqualError)
-            || keys.decrypt_cbc_records(&mut list.vectors[..2], sizes, blocks)
-                != Err(NotEqualError)
-        {
-            return false;
-        }
+    if !encrypt_each::<S, C>(keys, &mut list, sizes) || list != chained {
+        return false;
     }
-    keys.encrypt_cbc_equal_records(&mut list.vectors[..2], 2, &mut list.blocks[..3])
-        == Err(NotEqualError)
-        && keys.decrypt_cbc_equal_records(&mut list.vectors[..2], 2, &mut list.blocks[..3])
-            == Err(NotEqualError)
-        && list == Records::new()
+    list.vectors = Records::new().vectors;
+    decrypt_each::<S, C>(keys, &mut list, sizes) && are_read(&list, &chained)
 }
 
-// All of it over one width.
-fn keys_pass<K: ListKeys, P: BlockCipher>(keys: &K, port: &P) -> bool {
+// Whether prefixes of the records are, over slices of a width.
+fn prefixes_pass<S: Slice, C: KeyForEach + Drop>(keys: &[C::Key]) -> bool {
     let sizes = mixed();
     for count in COUNTS {
-        let Some(some) = sizes.get(..count) else {
+        let (Some(keys), Some(sizes)) = (keys.get(..count), sizes.get(..count)) else {
             return false;
         };
-        if !chains(keys, port, some) || !chains_equal(keys, port, count, 3) {
+        if !chains_each::<S, C>(keys, sizes) {
             return false;
         }
     }
-    refuses(keys)
+    true
 }
 
-fn passes<C, P>(rt: &impl Abort, known: &Known)
-where
-    C: KeyedCipher + SpreadOnce + Drop,
-    P: KeyedCipher + Drop,
-{
-    let name = known.name;
-    let cipher = C::new_from_slice(known.key(&LIST_PARTS)).expect(rt, name);
-    let port = P::new_from_slice(known.key(&LIST_PARTS)).expect(rt, name);
-    let all = keys_pass(&cipher.spread_keys::<u64x2>(), &port)
-        && keys_pass(&cipher.spread_keys::<u64x4>(), &port);
-    assert!(rt; all, "{name}");
-}
+// Records of which some go through several batches.
+const LONG: [usize; 5] = [200, 0, 0, 301, 1];
 
-#[test]
-fn records_are_chained_as_one_after_another(rt: HostRuntime) {
-    passes::<des_fast::Des, des::Des>(&rt, &DES);
-    passes::<des_fast::TdesEde3, des::TdesEde3>(&rt, &EDE3);
-    passes::<des_fast::TdesEee3, des::TdesEee3>(&rt, &EEE3);
-    passes::<des_fast::TdesEde2, des::TdesEde2>(&rt, &EDE2);
-    passes::<des_fast::TdesEee2, des::TdesEee2>(&rt, &EEE2);
-}
-
-// Encrypts the first records, each under its key, as records of `size` blocks each where that is
-// given.
-fn encrypt<S: Slice, C: KeyForEach>(
-    keys: &[C::Key],
-    list: &mut Records,
-    sizes: &[usize],
-    size: Option<usize>,
-) -> bool {
-    let (Some(vectors), Some(blocks)) = (
-        list.vectors.get_mut(..sizes.len()),
-        list.blocks.get_mut(..sum(sizes)),
-    ) else {
-        return false;
-    };
-    match size {
-        Some(size) => {
-            C::encrypt_cbc_equal_records_each_by::<S>(keys, vectors, size, blocks).is_ok()
-        }
-        None => C::encrypt_cbc_records_each_by::<S>(keys, vectors, sizes, blocks).is_ok(),
-    }
-}
-
-// Decrypts them.
-fn decrypt<S: Slice, C: KeyForEach>(
-    keys: &[C::Key],
-    list: &mut Records,
-    sizes: &[usize],
-    size: Option<usize>,
-) -> bool {
-    let (Some(vectors), Some(blocks)) = (
-        list.vectors.get_mut(..sizes.len()),
-        list.blocks.get_mut(..sum(sizes)),
-    ) else {
-        return false;
-    };
-    match size {
-        Some(size) => {
-            C::decrypt_cbc_equal_records_each_by::<S>(keys, vectors, size, blocks).is_ok()
-        }
-        None => C::decrypt_cbc_records_each_by::<S>(keys, vectors, sizes, blocks).is_ok(),
-    }
-}
-
-// Whether the first records, each under its key, are chained as one after another, and read back.
-fn chains_each<S, C, P>(keys: &[C::Key], sizes: &[usize], size: Option<usize>) -> bool
-where
-    S: Slice,
-    C: KeyForEach,
-    P: KeyedCipher + KeySizeUser<Key = C::Key> + Drop,
-{
-    let Some(keys) = keys.get(..sizes.len()) else {
-        return false;
-    };
-    let plain = Records::new();
-    let mut expected = plain;
-    expected.chain_each::<P>(keys, sizes);
-    let mut list = plain;
-    if !encrypt::<S, C>(keys, &mut list, sizes, size) || list != expected {
-        return false;
-    }
-    list.vectors = plain.vectors;
-    decrypt::<S, C>(keys, &mut list, sizes, size)
-        && list.blocks == plain.blocks
-        && list.vectors == expected.vectors
-}
-
-// All of it over one width, of these numbers of records.
-fn each_passes<S, C, P>(keys: &[C::Key], counts: &[usize]) -> bool
-where
-    S: Slice,
-    C: KeyForEach,
-    P: KeyedCipher + KeySizeUser<Key = C::Key> + Drop,
-{
-    let sizes = mixed();
-    for count in counts {
-        let Some(some) = sizes.get(..*count) else {
-            return false;
-        };
-        if !chains_each::<S, C, P>(keys, some, None) {
-            return false;
-        }
-    }
-    chains_each::<S, C, P>(keys, &LONG, None) && chains_each::<S, C, P>(keys, &[2; 129], Some(2))
-}
-
-// Whether records are refused, of which keys or sizes do not fit.
-fn refuses_records<C: KeyForEach>(
-    keys: &[C::Key],
-    vectors: &mut [[u8; 8]],
-    sizes: &[usize],
-    blocks: &mut [[u8; 8]],
-) -> bool {
-    C::encrypt_cbc_records_each(keys, vectors, sizes, blocks) == Err(NotEqualError)
-        && C::decrypt_cbc_records_each(keys, vectors, sizes, blocks) == Err(NotEqualError)
-}
-
-// The same of records of `size` blocks each.
-fn refuses_equal<C: KeyForEach>(
-    keys: &[C::Key],
-    vectors: &mut [[u8; 8]],
-    size: usize,
-    blocks: &mut [[u8; 8]],
-) -> bool {
-    C::encrypt_cbc_equal_records_each(keys, vectors, size, blocks) == Err(NotEqualError)
-        && C::decrypt_cbc_equal_records_each(keys, vectors, size, blocks) == Err(NotEqualError)
-}
-
-// Whether keys and sizes that do not fit are refused, and nothing changes.
-fn refuses_each<C: KeyForEach>(keys: &[C::Key]) -> bool {
-    let (Some(one), Some(two), Some(three)) = (keys.get(..1), keys.get(..2), keys.get(..3)) else {
-        return false;
-    };
-    let mut list = Records::new();
-    let sizes: [&[usize]; 4] = [&[1], &[1, 2, 3], &[2, 2], &[usize::MAX, 4]];
-    for sizes in sizes {
-        let blocks = &mut list.blocks[..3];
-        if !refuses_records::<C>(two, &mut list.vectors[..2], sizes, blocks) {
-            return false;
-        }
-    }
-    for keys in [one, three] {
-        let vectors = &mut list.vectors[..2];
-        if !refuses_records::<C>(keys, vectors, &[1, 2], &mut list.blocks[..3])
-            || !refuses_equal::<C>(keys, vectors, 2, &mut list.blocks[..4])
-        {
-            return false;
-        }
-    }
-    refuses_equal::<C>(two, &mut list.vectors[..2], 1, &mut list.blocks[..4])
-        && list == Records::new()
-}
-
-fn keyed_passes<C, P>(keys: &[C::Key]) -> bool
-where
-    C: KeyForEach,
-    P: KeyedCipher + KeySizeUser<Key = C::Key> + Drop,
-{
-    each_passes::<u64x2, C, P>(keys, &[0, 1, 129])
-        && each_passes::<u64x4, C, P>(keys, &[2, 300])
-        && refuses_each::<C>(keys)
+fn records_with_keys_pass() -> bool {
+    let keys = keys::<24, MOST>(15);
+    prefixes_pass::<u64x2, TdesEee3>(&keys)
+        && prefixes_pass::<u64x4, TdesEee3>(&keys)
+        && chains_each::<u64x4, TdesEee3>(&keys[..5], &LONG)
 }
 
 #[test]
 fn records_are_chained_under_keys_of_their_own(rt: HostRuntime) {
-    assert!(rt; keyed_passes::<des_fast::Des, des::Des>(&keys::<8, MOST>(7)));
-    assert!(rt; keyed_passes::<des_fast::TdesEde2, des::TdesEde2>(&keys::<16, MOST>(9)));
-    assert!(rt; keyed_passes::<des_fast::TdesEde3, des::TdesEde3>(&keys::<24, MOST>(11)));
-    assert!(rt; keyed_passes::<des_fast::TdesEee2, des::TdesEee2>(&keys::<16, MOST>(13)));
-    assert!(rt; keyed_passes::<des_fast::TdesEee3, des::TdesEee3>(&keys::<24, MOST>(15)));
+    assert!(rt; records_with_keys_pass());
+}
+
+fn encrypt_equal<K: ListKeys>(keys: &K, list: &mut Records, count: usize) -> bool {
+    let Some((vectors, blocks)) = parts(list, count, count.saturating_mul(SIZE)) else {
+        return false;
+    };
+    keys.encrypt_cbc_equal_records(vectors, SIZE, blocks)
+        .is_ok()
+}
+
+fn decrypt_equal<K: ListKeys>(keys: &K, list: &mut Records, count: usize) -> bool {
+    let Some((vectors, blocks)) = parts(list, count, count.saturating_mul(SIZE)) else {
+        return false;
+    };
+    keys.decrypt_cbc_equal_records(vectors, SIZE, blocks)
+        .is_ok()
+}
+
+// Whether records of one length are chained by keys as by the cipher one after another, and read
+// back.
+fn chains_equal<K: ListKeys, C: BlockCipher>(keys: &K, cipher: &C, count: usize) -> bool {
+    let mut chained = Records::new();
+    chained.chain(cipher, count);
+    let mut list = Records::new();
+    if !encrypt_equal(keys, &mut list, count) || list != chained {
+        return false;
+    }
+    list.vectors = Records::new().vectors;
+    decrypt_equal(keys, &mut list, count) && are_read(&list, &chained)
+}
+
+fn equal_records_pass<K: ListKeys, C: BlockCipher>(keys: &K, cipher: &C) -> bool {
+    for count in COUNTS {
+        if !chains_equal(keys, cipher, count) {
+            return false;
+        }
+    }
+    true
+}
+
+fn equal_records_of_both_widths_pass() -> bool {
+    let cipher = TdesEee3::new(&THREE);
+    equal_records_pass(&cipher.spread_keys::<u64x2>(), &cipher)
+        && equal_records_pass(&cipher.spread_keys::<u64x4>(), &cipher)
+}
+
+#[test]
+fn records_of_one_length_are_chained(rt: HostRuntime) {
+    assert!(rt; equal_records_of_both_widths_pass());
 }

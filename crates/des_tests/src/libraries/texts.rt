@@ -1,9 +1,11 @@
-//! The texts of ciphers and errors, whatever options are set, and where the writer refuses.
+//! The texts of ciphers, PINs and errors, whatever options are set, and where the writer refuses.
 
 ghost use Rattle.std.specs.Prelude.{◌≤◌};
 
-use des::cipher::{InvalidLength, NotEqualError};
+use des::cipher::{InvalidLength, KeyInit, NotEqualError};
 use des::weak_key::WeakKeyError;
+use des_fast::quiet;
+use des_payment::{CvvError, Pin, PinError};
 use std::fmt;
 use std::fmt::Write;
 
@@ -33,24 +35,6 @@ fn write_debug<D: fmt::Debug>(page: &mut Page, value: &D, options: usize) -> fmt
         6 => write!(page, "{value:*^+#30.3?}"),
         _ => write!(page, "{value:030?}"),
     }
-}
-
-// Whether the value displays the text, whatever options are set.
-fn is_displayed_as<D: fmt::Display>(value: &D, text: &str) -> bool {
-    (0..8usize).all(|options| {
-        let mut page = Page::new(ENOUGH, false);
-        write_display(&mut page, value, options).is_ok() && page.has(text)
-    })
-}
-
-#[test]
-fn errors_write_their_texts(rt: HostRuntime) {
-    assert!(rt; is_displayed_as(&InvalidLength, "InvalidLength"));
-    assert!(rt; is_displayed_as(&NotEqualError, "NotEqualError"));
-    assert!(rt; is_displayed_as(&WeakKeyError, "WeakKey"));
-    assert!(rt; shows_alone(&InvalidLength, "InvalidLength", 0));
-    assert!(rt; shows_alone(&NotEqualError, "NotEqualError", 0));
-    assert!(rt; shows_alone(&WeakKeyError, "WeakKeyError", 0));
 }
 
 // More writes than a text takes, so that none is refused.
@@ -138,11 +122,72 @@ fn shows_alone<D: fmt::Debug>(value: &D, text: &str, options: usize) -> bool {
 }
 
 // Whether it does so whatever options are set.
-pub fn show_alone<D: fmt::Debug>(value: &D, text: &str) -> bool {
+fn show_alone<D: fmt::Debug>(value: &D, text: &str) -> bool {
     for options in 0..8usize {
         if !shows_alone(value, text, options) {
             return false;
         }
     }
     true
+}
+
+// Whether the value displays the text, whatever options are set.
+fn is_displayed_as<D: fmt::Display>(value: &D, text: &str) -> bool {
+    for options in 0..8usize {
+        let mut page = Page::new(ENOUGH, false);
+        if write_display(&mut page, value, options).is_err() || !page.has(text) {
+            return false;
+        }
+    }
+    true
+}
+
+fn errors_are_displayed() -> bool {
+    is_displayed_as(&InvalidLength, "InvalidLength")
+        && is_displayed_as(&NotEqualError, "NotEqualError")
+        && is_displayed_as(&WeakKeyError, "WeakKey")
+}
+
+fn errors_show_their_names() -> bool {
+    shows_alone(&InvalidLength, "InvalidLength", 0)
+        && shows_alone(&NotEqualError, "NotEqualError", 0)
+        && shows_alone(&WeakKeyError, "WeakKeyError", 0)
+        && shows_alone(&PinError::PinDigit, "PinDigit", 0)
+        && shows_alone(&CvvError::ExpiryDigit, "ExpiryDigit", 0)
+}
+
+#[test]
+fn errors_write_their_texts(rt: HostRuntime) {
+    assert!(rt; errors_are_displayed() && errors_show_their_names());
+}
+
+const TWO: [u8; 16] = *b"0123456789abcdef";
+
+const THREE: [u8; 24] = *b"0123456789abcdefghijklmn";
+
+fn single_ciphers_show_no_key() -> bool {
+    let key = *b"01234567";
+    show_alone(&des::Des::new(&key), "Des { ... }")
+        && show_alone(&des_fast::Des::new(&key), "Des { ... }")
+        && show_alone(&quiet::Des::new(&key), "Des { ... }")
+}
+
+fn triple_ciphers_show_no_key() -> bool {
+    show_alone(&des::TdesEde3::new(&THREE), "TdesEde3 { ... }")
+        && show_alone(&des_fast::TdesEee3::new(&THREE), "TdesEee3 { ... }")
+        && show_alone(&quiet::TdesEde2::new(&TWO), "TdesEde2 { ... }")
+        && show_alone(&des::TdesEee2::new(&TWO), "TdesEee2 { ... }")
+}
+
+fn pins_show_no_digit() -> bool {
+    match Pin::new(b"1234") {
+        Ok(pin) => show_alone(&pin, "Pin { ... }"),
+        Err(_) => false,
+    }
+}
+
+#[test]
+fn secrets_are_not_shown(rt: HostRuntime) {
+    assert!(rt; single_ciphers_show_no_key() && triple_ciphers_show_no_key());
+    assert!(rt; pins_show_no_digit());
 }

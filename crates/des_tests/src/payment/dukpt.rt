@@ -56,27 +56,31 @@ fn encrypted_pin(
     Ok(block)
 }
 
-// Whether PIN 1234 has this block in the transaction.
-fn is_encrypted(last: u32, block: u64) -> bool {
-    encrypted_pin(&BASE, &serial(last), b"1234", b"4012345678909") == Ok(block.to_be_bytes())
+// Whether PIN 1234 has its block in each transaction.
+fn pins_are_encrypted() -> bool {
+    for (last, block) in TRANSACTIONS {
+        let made = encrypted_pin(&BASE, &serial(last), b"1234", b"4012345678909");
+        if made != Ok(block.to_be_bytes()) {
+            return false;
+        }
+    }
+    true
 }
 
 #[test]
 fn encrypts_pins(rt: HostRuntime) {
-    assert!(rt;
-        TRANSACTIONS
-            .iter()
-            .all(|&(last, block)| is_encrypted(last, block))
-    );
+    assert!(rt; pins_are_encrypted());
 }
 
 // A counter of a transaction is not 0, and has at most ten one bits (ANSI X9.24-1:2009, Annex A).
+fn transactions_alone_have_keys() -> bool {
+    let initial = initial_key(&BASE, &serial(0x10e00000));
+    key_of_transaction(&initial, &serial(0x10fff800)).is_some()
+        && key_of_transaction(&initial, &serial(0x10e00000)).is_none()
+        && key_of_transaction(&initial, &serial(0x10fffc00)).is_none()
+}
+
 #[test]
 fn refuses_serial_numbers_of_no_transaction(rt: HostRuntime) {
-    let initial = initial_key(&BASE, &serial(0x10e00000));
-    let is_refused = |last: u32| key_of_transaction(&initial, &serial(last)).is_none();
-    assert!(rt; TRANSACTIONS.iter().all(|&(last, _)| !is_refused(last)));
-    assert!(rt; !is_refused(0x10fff800));
-    assert!(rt; is_refused(0x10e00000));
-    assert!(rt; is_refused(0x10fffc00));
+    assert!(rt; transactions_alone_have_keys());
 }

@@ -1,10 +1,9 @@
-//! A terminal's keys beside the host's: its first transactions, and its last; and that each is the
-//! host's, by the clauses of `Terminal`.
+//! That a terminal's keys are the host's, by the clauses of `Terminal`, at a published key.
 
 ghost use Rattle.std.specs.Prelude.{◌≡◌, IfSome};
 ghost use Rattle.des_payment.specs.Dukpt.{transaction_key as transaction_key_of};
 
-use des_payment::dukpt::{initial_key, transaction_key};
+use des_payment::dukpt::initial_key;
 use des_payment::terminal::Terminal;
 
 const BASE: [u8; 16] = [
@@ -31,62 +30,10 @@ fn serial(counter: u32) -> [u8; 10] {
     serial
 }
 
-// The state after the transaction of a counter, by the host's keys: for each bit that is zero, the
-// key of the counter with a one there and zeros below.
-fn terminal_after(counter: u32) -> Terminal {
-    let initial = initial_key(&BASE, &serial(0));
-    let mut keys = [[0; 16]; 21];
-    for (place, key) in keys.iter_mut().enumerate() {
-        let above = counter >> place;
-        if above & 1 == 0 {
-            *key = transaction_key(&initial, &serial((above | 1) << place));
-        }
-    }
-    Terminal {
-        serial: serial(counter),
-        keys,
-    }
-}
-
-// Whether the next transactions have the host's keys.
-fn agrees(terminal: &mut Terminal, transactions: u32) -> bool {
-    let initial = initial_key(&BASE, &serial(0));
-    for _ in 0..transactions {
-        match terminal.next_key() {
-            Some(key) if key == transaction_key(&initial, &terminal.serial) => {}
-            _ => return false,
-        }
-    }
-    true
-}
-
+// The fourth (ANSI X9.24-1:2009, Annex A.4).
 #[test]
-fn gives_the_keys_of_the_first_transactions(rt: HostRuntime) {
-    let mut terminal = Terminal::new(&initial_key(&BASE, &serial(0)), &serial(0x1abcde));
-    assert!(rt; terminal.serial == serial(0));
-    assert!(rt; agrees(&mut terminal, 300));
-    assert!(rt; terminal.serial == serial(300));
+fn gives_the_key_of_a_transaction(rt: HostRuntime) {
     let initial = initial_key(&BASE, &serial(0));
-    let first = (transaction_key(&initial, &serial(1)), serial(1));
-    assert!(rt; key_after(&initial, &serial(0), 0) == Some(first));
-}
-
-// Above counter 1fc000 there are 14 counters with one bit more, 91 with two and 364 with three.
-#[test]
-fn gives_the_keys_of_the_last_transactions(rt: HostRuntime) {
-    let mut terminal = terminal_after(0x1fc000);
-    assert!(rt; agrees(&mut terminal, 469));
-    assert!(rt; terminal.serial == serial(0x1ff800));
-    assert!(rt; terminal.next_key().is_none());
-    assert!(rt; terminal.serial == serial(0x1ff800));
-}
-
-// The key of a transaction is in no register when it has been given.
-#[test]
-fn forgets_keys(rt: HostRuntime) {
-    let mut terminal = terminal_after(0x1fc000);
-    for _ in 0..20 {
-        let key = terminal.next_key();
-        assert!(rt; terminal.keys.iter().all(|register| Some(*register) != key));
-    }
+    let key = 0x279c0f6aeed0be652b2c733e1383ae91_u128.to_be_bytes();
+    assert!(rt; key_after(&initial, &serial(0), 3) == Some((key, serial(4))));
 }
