@@ -129,9 +129,13 @@ static const OSSL_PARAM *gettable_ctx_params(void *context, void *provider) {
   return known;
 }
 
-/* A random key of odd parity. The core gives no size, or one that has room. */
+/*
+ * A random key of odd parity. The core gives no size, or one that has room. A parameter of another type may have no more
+ * than a number or a pointer behind it.
+ */
 static bool put_random_key(OSSL_PARAM *param, size_t length) {
-  if (param->data == NULL || (param->data_size != 0 && param->data_size < length)) return false;
+  if (param->data_type != OSSL_PARAM_OCTET_STRING || param->data == NULL) return false;
+  if (param->data_size != 0 && param->data_size < length) return false;
   if (getrandom(param->data, length, 0) != (ssize_t)length) return false;
   cukvashe_set_odd_parity(param->data, length);
   param->return_size = length;

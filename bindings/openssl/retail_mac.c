@@ -1,10 +1,13 @@
 /*
- * RETAIL-MAC, by EVP_MAC: ISO/IEC 9797-1:2011, MAC algorithm 3 over DES, a key of 16 bytes and a tag of 8. The padding
- * method, the number 1 or 2, is the parameter "padding". It has no default, since the sender has chosen it.
+ * RETAIL-MAC, by EVP_MAC: ISO/IEC 9797-1:2011, MAC algorithm 3 over DES, a key of 16 bytes and a tag of 8, or by the
+ * parameter "size" its first 4 to 7 bytes. The padding method, the number 1 or 2, is the parameter "padding". It has no
+ * default, since the sender has chosen it.
  */
 #include "internal.h"
 
 #define PARAM_PADDING "padding"
+
+enum { LEAST_TAG_SIZE = 4 }; /* that of the library's `verify` */
 
 /* A message under a key. The key is kept, for messages after it. */
 struct context {
@@ -12,12 +15,15 @@ struct context {
   cukvashe_retail_mac_des state;
   uint8_t key[CUKVASHE_RETAIL_MAC_DES_KEY_SIZE];
   int method; /* 0 until it is set */
+  uint32_t tag_size;
   bool has_key, has_begun;
 };
 
 static void *new_context(void *provider) {
   struct context *context = new_memory(provider, sizeof *context);
-  if (context != NULL) context->provider = provider;
+  if (context == NULL) return NULL;
+  context->provider = provider;
+  context->tag_size = CUKVASHE_TAG_SIZE;
   return context;
 }
 
@@ -49,6 +55,15 @@ static int set_method(struct context *context, const OSSL_PARAM *param) {
   return 1;
 }
 
+static int set_tag_size(struct context *context, const OSSL_PARAM *param) {
+  uint32_t size;
+  if (!take_number(param, &size)) return REFUSE(context->provider, PROV_R_FAILED_TO_GET_PARAMETER, NULL);
+  if (size < LEAST_TAG_SIZE || size > CUKVASHE_TAG_SIZE)
+    return REFUSE(context->provider, PROV_R_INVALID_OUTPUT_LENGTH, "size is 4 to 8");
+  context->tag_size = size;
+  return 1;
+}
+
 /* A message that has begun ends where its key or its padding changes: `init` begins the next. */
 static int set_ctx_params(void *given, const OSSL_PARAM params[]) {
   struct context *context = given;
@@ -61,6 +76,8 @@ static int set_ctx_params(void *given, const OSSL_PARAM params[]) {
     } else if (is_named(param, PARAM_PADDING)) {
       context->has_begun = false;
       if (!set_method(context, param)) return 0;
+    } else if (is_named(param, OSSL_MAC_PARAM_SIZE) && !set_tag_size(context, param)) {
+      return 0;
     }
   }
   return 1;
@@ -92,10 +109,13 @@ static int update(void *given, const unsigned char *message, size_t length) {
 
 static int final(void *given, unsigned char *tag, size_t *tag_length, size_t size) {
   struct context *context = given;
+  uint8_t whole[CUKVASHE_TAG_SIZE];
   if (!context->has_begun) return REFUSE(context->provider, PROV_R_NO_KEY_SET, "no message has begun");
-  if (size < CUKVASHE_TAG_SIZE) return REFUSE(context->provider, PROV_R_OUTPUT_BUFFER_TOO_SMALL, NULL);
-  cukvashe_retail_mac_des_final(&context->state, tag);
-  *tag_length = CUKVASHE_TAG_SIZE;
+  if (size < context->tag_size) return REFUSE(context->provider, PROV_R_OUTPUT_BUFFER_TOO_SMALL, NULL);
+  cukvashe_retail_mac_des_final(&context->state, whole);
+  memcpy(tag, whole, context->tag_size);
+  cukvashe_wipe(whole, sizeof whole);
+  *tag_length = context->tag_size;
   return 1;
 }
 
@@ -108,15 +128,16 @@ static const OSSL_PARAM *gettable_ctx_params(void *context, void *provider) {
 }
 
 static int get_ctx_params(void *given, OSSL_PARAM params[]) {
-  static const struct number numbers[] = {{OSSL_MAC_PARAM_SIZE, CUKVASHE_TAG_SIZE}, {OSSL_MAC_PARAM_BLOCK_SIZE, BLOCK}};
   const struct context *context = given;
+  const struct number numbers[] = {{OSSL_MAC_PARAM_SIZE, context->tag_size}, {OSSL_MAC_PARAM_BLOCK_SIZE, BLOCK}};
   if (put_numbers(params, numbers, sizeof numbers / sizeof *numbers)) return 1;
   return REFUSE(context->provider, PROV_R_FAILED_TO_SET_PARAMETER, NULL);
 }
 
 static const OSSL_PARAM *settable_ctx_params(void *context, void *provider) {
   static const OSSL_PARAM known[] = {OSSL_PARAM_octet_string(OSSL_MAC_PARAM_KEY, NULL, 0),
-                                     OSSL_PARAM_uint(PARAM_PADDING, NULL), OSSL_PARAM_END};
+                                     OSSL_PARAM_uint(PARAM_PADDING, NULL), OSSL_PARAM_size_t(OSSL_MAC_PARAM_SIZE, NULL),
+                                     OSSL_PARAM_END};
   (void)context;
   (void)provider;
   return known;

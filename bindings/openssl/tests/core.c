@@ -214,6 +214,7 @@ static OSSL_FUNC_cipher_decrypt_init_fn *decrypt_init;
 static OSSL_FUNC_cipher_update_fn *update;
 static OSSL_FUNC_cipher_final_fn *final;
 static OSSL_FUNC_cipher_cipher_fn *run_alone;
+static OSSL_FUNC_cipher_get_ctx_params_fn *get_ctx_params;
 static OSSL_FUNC_cipher_set_ctx_params_fn *set_ctx_params;
 static size_t key_length, vector_length;
 
@@ -229,6 +230,7 @@ static void take_cipher(const OSSL_ALGORITHM *cipher) {
   update = (OSSL_FUNC_cipher_update_fn *)function_of(list, OSSL_FUNC_CIPHER_UPDATE);
   final = (OSSL_FUNC_cipher_final_fn *)function_of(list, OSSL_FUNC_CIPHER_FINAL);
   run_alone = (OSSL_FUNC_cipher_cipher_fn *)function_of(list, OSSL_FUNC_CIPHER_CIPHER);
+  get_ctx_params = (OSSL_FUNC_cipher_get_ctx_params_fn *)function_of(list, OSSL_FUNC_CIPHER_GET_CTX_PARAMS);
   set_ctx_params = (OSSL_FUNC_cipher_set_ctx_params_fn *)function_of(list, OSSL_FUNC_CIPHER_SET_CTX_PARAMS);
   CHECK(((OSSL_FUNC_cipher_get_params_fn *)function_of(list, OSSL_FUNC_CIPHER_GET_PARAMS))(params) == 1);
 }
@@ -301,6 +303,34 @@ static void refuses_other_arguments(void) {
   free_context(context);
 }
 
+static bool is_zeros(const uint8_t *bytes, size_t length) {
+  for (size_t i = 0; i < length; i++)
+    if (bytes[i] != 0) return false;
+  return true;
+}
+
+/* A random key is bytes. Behind a parameter of another type there may be no more than a number or a pointer, whatever its size says. */
+static void puts_a_random_key_into_bytes_alone(void) {
+  static const unsigned types[] = {OSSL_PARAM_INTEGER,     OSSL_PARAM_UNSIGNED_INTEGER, OSSL_PARAM_REAL,
+                                   OSSL_PARAM_UTF8_STRING, OSSL_PARAM_UTF8_PTR,         OSSL_PARAM_OCTET_PTR,
+                                   OSSL_PARAM_OCTET_STRING};
+  void *context = new_context(provider);
+  for (size_t i = 0; i < sizeof types / sizeof *types; i++)
+    for (size_t room = 0; room <= 40; room++) {
+      uint8_t made[40] = {0};
+      OSSL_PARAM params[] = {OSSL_PARAM_DEFN(OSSL_CIPHER_PARAM_RANDOM_KEY, types[i], made, room), OSSL_PARAM_END};
+      if (types[i] == OSSL_PARAM_OCTET_STRING && (room == 0 || room >= key_length)) {
+        CHECK(get_ctx_params(context, params) == 1 && params[0].return_size == key_length);
+        CHECK(!is_zeros(made, key_length) && is_zeros(made + key_length, sizeof made - key_length));
+        for (size_t byte = 0; byte < key_length; byte++) CHECK(__builtin_parity(made[byte]) == 1);
+      } else {
+        CHECK(get_ctx_params(context, params) == 0 && was_refused(PROV_R_FAILED_TO_GENERATE_KEY, ""));
+        CHECK(is_zeros(made, sizeof made));
+      }
+    }
+  free_context(context);
+}
+
 static void lives_with_refused_memory(void) {
   void *context;
   refused_request = requests;
@@ -358,6 +388,7 @@ static void try_ciphers(void) {
     refuses_room(encrypt_init);
     refuses_room(decrypt_init);
     refuses_other_arguments();
+    puts_a_random_key_into_bytes_alone();
     lives_with_refused_memory();
   }
   unload();

@@ -123,6 +123,38 @@ static size_t answers_as_known(const char *file) {
   return lines;
 }
 
+/* ---- Tags that are cut ---- */
+
+static int set_size(EVP_MAC_CTX *context, size_t size) {
+  OSSL_PARAM params[] = {OSSL_PARAM_construct_size_t(OSSL_MAC_PARAM_SIZE, &size), OSSL_PARAM_construct_end()};
+  return EVP_MAC_CTX_set_params(context, params);
+}
+
+/* ISO/IEC 9797-1:2011, truncation: the leftmost bytes. A copy has the size too, and so has the next message. */
+static void cuts_from_the_left(void) {
+  static const uint8_t message[11] = "a message";
+  uint8_t key[KEY], tag[TAG];
+  random_bytes(key, sizeof key);
+  expected(key, 2, message, sizeof message, tag);
+  for (size_t size = 4; size <= TAG; size++) {
+    EVP_MAC_CTX *context = begun(key, 2), *copy;
+    CHECK(EVP_MAC_update(context, message, 5) == 1 && set_size(context, size) == 1 && EVP_MAC_CTX_get_mac_size(context) == size);
+    CHECK(EVP_MAC_update(context, message + 5, 6) == 1 && (copy = EVP_MAC_CTX_dup(context)) != NULL);
+    for (int again = 0; again < 3; again++) {
+      EVP_MAC_CTX *taken = again == 1 ? copy : context;
+      uint8_t made[TAG + 1] = {0};
+      size_t length = 0;
+      if (again == 2) CHECK(EVP_MAC_init(context, NULL, 0, NULL) == 1 && EVP_MAC_update(context, message, sizeof message) == 1);
+      CHECK(EVP_MAC_final(taken, made, &length, size - 1) == 0);
+      CHECK(EVP_MAC_final(taken, made, &length, size) == 1 && length == size && memcmp(made, tag, size) == 0);
+      for (size_t i = size; i < sizeof made; i++) CHECK(made[i] == 0);
+    }
+    EVP_MAC_CTX_free(context);
+    EVP_MAC_CTX_free(copy);
+  }
+  ERR_clear_error();
+}
+
 /* ---- What is refused ---- */
 
 static void refused_by(int status, int reason) {
@@ -157,6 +189,9 @@ static void refuses(void) {
     refused_by(EVP_MAC_init(context, key, size, NULL), PROV_R_INVALID_KEY_LENGTH);
     refused_by(set_key(context, key, size), PROV_R_INVALID_KEY_LENGTH);
   }
+  for (size_t size = 0; size < 300; size++)
+    if (size < 4 || size > TAG) refused_by(set_size(context, size), PROV_R_INVALID_OUTPUT_LENGTH);
+  CHECK(EVP_MAC_CTX_get_mac_size(context) == TAG);
   /* A key and a padding from before, and a message that ends where one of them changes. */
   CHECK(EVP_MAC_init(context, NULL, 0, NULL) == 1 && EVP_MAC_update(context, NULL, 0) == 1);
   CHECK(set_padding(context, 2) == 1);
@@ -186,6 +221,7 @@ int main(int count, char **words) {
     for (size_t length = 0; length <= 200; length++) compare(length, method);
     for (int i = 0; i < 50; i++) compare(below(LONGEST), method);
   }
+  cuts_from_the_left();
   refuses();
   EVP_MAC_free(mac);
   drop_libraries(ours, own);
