@@ -13,7 +13,7 @@ use Rattle.des.specs.Laws.BitLists.{bits_of-number_of}
 abbrev pub has : ℕ → ℕ → Bool
 has byte bit = top 7 (cond (bit_and byte bit == bit) 255 0)
 
-top-cond : (b : Bool) → top 7 (cond b 255 0) ≡ b
+pub top-cond : (b : Bool) → top 7 (cond b 255 0) ≡ b
 top-cond true = refl
 top-cond false = refl
 

@@ -1,7 +1,10 @@
 -- The entry of a box as a sum of terms, those that the six bits of a group choose.
-use Rattle.std.proofs.Common.{◌≡◌, ℕ, zero, suc, ◌+◌, ◌/◌, ◌%◌, ◌^◌, ◌<◌, ◌==◌, cond, Bool, true, length, slice_index_or, bit_and, bit_xor, subst, refl, sym, ap, ◌∙◌, arith}
+use Rattle.std.proofs.Common.{◌≡◌, ℕ, zero, suc, ◌+◌, ◌-◌, ◌*◌, ◌/◌, ◌%◌, ◌^◌, ◌<◌, ◌==◌, List, Bool, true, length, nat_lt, replicate, slice_index_or, subst, refl, sym, ap, ◌∙◌, arith}
 use Rattle.std.specs.Int.{w64, to_be_bytes}
-use Rattle.std.proofs.lemmas.Bool.{eqb-true, agree_below, agree_below_at}
+use Rattle.std.specs.Simd.Lanes.{digits_l, number_l, Each1}
+use Rattle.std.proofs.lemmas.List.{get_or-replicate}
+use Rattle.std.proofs.lemmas.Simd.{get_or_narrower, Each1-replicate}
+use Rattle.std.proofs.lemmas.Bool.{eqb-true, ltb-true, agree_below, agree_below_at}
 use Rattle.des.specs.Bits.{bits_of, number_of, select}
 use Rattle.des.specs.CipherFunction.{box_entry}
 use Rattle.des.specs.Laws.BitLists.{bits_of-number_of}
@@ -9,28 +12,9 @@ use Rattle.des.specs.Laws.Selections.{length-select}
 use Rattle.des_fast.specs.declared.quiet.fours.TheConstants.{TERMS}
 use Rattle.des_fast.specs.Groups.{IsOfGroups}
 use Rattle.des_fast.specs.GroupBytes.{box_of_byte}
+use Rattle.des_fast.specs.ChosenTerms.{choice, term, AreSums, AreChoices}
 use Rattle.des_fast.specs.JoinedEntries.{entry_order, entry_bits}
-use Rattle.des_fast.proofs.ByteTests.{has}
 use Rattle.des_fast.proofs.GroupBytes.{bytes-lt}
-
--- all ones where the byte has this bit, else 0
-abbrev mask : ℕ → ℕ → ℕ
-mask byte bit = cond (has byte bit) 255 0
-
--- the sum of 2 ^ n terms, those that the last n bits of a byte choose
-abbrev sum : ℕ → (ℕ → ℕ) → ℕ → ℕ
-sum zero value byte = value 0
-sum (suc n) value byte =
-    bit_xor (sum n value byte) (bit_and (mask byte (2 ^ n)) (sum n (λ k. value (2 ^ n + k)) byte))
-
--- what the code holds in byte i of term k
-abbrev term : ℕ → ℕ → ℕ
-term i k = slice_index_or (to_be_bytes w64 (slice_index_or TERMS k 0)) i 0
-
--- what a group makes of them
-abbrev pub choice : ℕ → ℕ → ℕ
-choice i byte =
-    bit_xor (sum 5 (term i) byte) (bit_and (mask byte 32) (sum 5 (term i) byte / 2 ^ 4))
 
 -- an entry has four bits
 length-entry_bits : (i byte : ℕ) → i < 8 → length (entry_bits i byte) ≡ 4
@@ -40,28 +24,76 @@ length-entry_bits i byte within =
 
 -- the entry of the box of that byte, in the order that is kept
 choice-entry : (i byte : ℕ) → i < 8 → byte < 64
-    → entry_bits i (choice i byte) ≡ bits_of 4 (box_entry (box_of_byte i) (bits_of 6 byte))
+    → entry_bits i (choice (term TERMS i) byte) ≡ bits_of 4 (box_entry (box_of_byte i) (bits_of 6 byte))
 unfolding bits_of number_of select box_entry
 choice-entry i byte within below =
     let agrees : ℕ → ℕ → Bool =
-    λ n x. number_of (entry_bits n (choice n x)) == box_entry (box_of_byte n) (bits_of 6 x) in
+    λ n x. number_of (entry_bits n (choice (term TERMS n) x)) == box_entry (box_of_byte n) (bits_of 6 x) in
     let each : agree_below (agrees i) (λ x. true) 64 ≡ true =
     agree_below_at (λ n. agree_below (agrees n) (λ x. true) 64) (λ n. true) 8 i refl within in
-    let same : number_of (entry_bits i (choice i byte)) ≡ box_entry (box_of_byte i) (bits_of 6 byte) =
+    let same : number_of (entry_bits i (choice (term TERMS i) byte)) ≡ box_entry (box_of_byte i) (bits_of 6 byte) =
     eqb-true _ _ (agree_below_at (agrees i) (λ x. true) 64 byte each below) in
-    subst (λ (n : ℕ). entry_bits i (choice i byte) ≡ bits_of n (box_entry (box_of_byte i) (bits_of 6 byte)))
-    (length-entry_bits i (choice i byte) within)
-    (sym (bits_of-number_of (entry_bits i (choice i byte)))
-    ∙ ap (bits_of (length (entry_bits i (choice i byte)))) same)
+    subst (λ (n : ℕ). entry_bits i (choice (term TERMS i) byte) ≡ bits_of n (box_entry (box_of_byte i) (bits_of 6 byte)))
+    (length-entry_bits i (choice (term TERMS i) byte) within)
+    (sym (bits_of-number_of (entry_bits i (choice (term TERMS i) byte)))
+    ∙ ap (bits_of (length (entry_bits i (choice (term TERMS i) byte)))) same)
 
--- so where the byte is that of a word of groups
-pub choice-at : (word byte i : ℕ) → IsOfGroups word → i < 8 → byte ≡ slice_index_or (to_be_bytes w64 word) i 0
-    → entry_bits i (choice i byte)
-    ≡ bits_of 4 (box_entry (box_of_byte i) (bits_of 6 (slice_index_or (to_be_bytes w64 word) i 0)))
-choice-at word byte i of_groups within same =
-    ap (λ (b : ℕ). entry_bits i (choice i b)) same
-    ∙ choice-entry i (slice_index_or (to_be_bytes w64 word) i 0) within (bytes-lt word of_groups i 0 within)
+-- ---- bytes of vectors
 
--- the last byte of a word
-pub last-byte : (word : ℕ) → word / 256 ^ 0 % 256 ≡ word % 256
-last-byte word = omega arith
+-- a word's bytes, the last one first
+byte-at : (word i : ℕ) → i < 8 → word / 256 ^ (7 - i) % 256 ≡ slice_index_or (to_be_bytes w64 word) i 0
+byte-at word zero below = refl
+byte-at word (suc zero) below = refl
+byte-at word (suc (suc zero)) below = refl
+byte-at word (suc (suc (suc zero))) below = refl
+byte-at word (suc (suc (suc (suc zero)))) below = refl
+byte-at word (suc (suc (suc (suc (suc zero))))) below = refl
+byte-at word (suc (suc (suc (suc (suc (suc zero)))))) below = refl
+byte-at word (suc (suc (suc (suc (suc (suc (suc zero))))))) below = omega arith
+byte-at word (suc (suc (suc (suc (suc (suc (suc (suc i)))))))) below = absurd (omega arith)
+
+-- byte i of word q of four stands at index 8 * q + 7 - i
+pub vector_byte-at : (words : List ℕ) (q i j : ℕ) → Each1 (λ x. x < 2 ^ 64) words → q < 4 → i < 8 → j + i ≡ 8 * q + 7
+    → slice_index_or (digits_l 256 32 (number_l (2 ^ 64) words)) j 0
+    ≡ slice_index_or (to_be_bytes w64 (slice_index_or words q 0)) i 0
+vector_byte-at words q i j below word within place =
+    let index : j ≡ 8 * q + (7 - i) = omega arith in
+    ap (λ n. slice_index_or (digits_l 256 32 (number_l (2 ^ 64) words)) n 0) index
+    ∙ get_or_narrower (2 ^ 64) 8 256 32 words q (7 - i) refl below (omega arith) (omega arith)
+    ∙ byte-at (slice_index_or words q 0) i within
+
+-- terms are words
+term-lt : (k : ℕ) → k < 32 → slice_index_or TERMS k 0 < 2 ^ 64
+term-lt k within =
+    let test : ℕ → Bool = λ n. nat_lt (slice_index_or TERMS n 0) (2 ^ 64) in
+    ltb-true (slice_index_or TERMS k 0) (2 ^ 64) (agree_below_at test (λ n. true) 32 k refl within)
+
+-- a term in each of four words
+pub splat_term : (k : ℕ) (bytes : List ℕ) → k < 32
+    → AreSums 0 TERMS k bytes (digits_l 256 32 (number_l (2 ^ 64) (replicate 4 (slice_index_or TERMS k 0))))
+splat_term k bytes within =
+    let word : ℕ = slice_index_or TERMS k 0 in
+    let words : List ℕ = replicate 4 word in
+    record {
+      count = refl;
+      each = λ j below.
+          vector_byte-at words (j / 8) (7 - j % 8) j
+          (Each1-replicate (λ x. x < 2 ^ 64) 4 word (term-lt k within)) (omega arith) (omega arith) (omega arith)
+          ∙ ap (λ (w : ℕ). slice_index_or (to_be_bytes w64 w) (7 - j % 8) 0)
+          (get_or-replicate 4 (j / 8) word 0 (omega arith));
+    }
+
+-- the entry of the box of that byte, where the word is of groups
+pub choice-at : (words choices : List ℕ) (q i j : ℕ) → Each1 (λ x. x < 2 ^ 64) words → q < 4 → i < 8
+    → j + i ≡ 8 * q + 7 → IsOfGroups (slice_index_or words q 0)
+    → AreChoices TERMS (digits_l 256 32 (number_l (2 ^ 64) words)) choices
+    → entry_bits i (slice_index_or choices j 0)
+    ≡ bits_of 4 (box_entry (box_of_byte i) (bits_of 6 (slice_index_or (to_be_bytes w64 (slice_index_or words q 0)) i 0)))
+choice-at words choices q i j below word within place of_groups are =
+    let box : 7 - j % 8 ≡ i = omega arith in
+    ap (entry_bits i)
+    (are.each j (omega arith)
+    ∙ ap (λ n. choice (term TERMS n) (slice_index_or (digits_l 256 32 (number_l (2 ^ 64) words)) j 0)) box
+    ∙ ap (choice (term TERMS i)) (vector_byte-at words q i j below word within place))
+    ∙ choice-entry i (slice_index_or (to_be_bytes w64 (slice_index_or words q 0)) i 0) within
+    (bytes-lt (slice_index_or words q 0) of_groups i 0 within)

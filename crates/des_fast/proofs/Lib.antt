@@ -46,6 +46,7 @@ pub mod WrittenRecords
 pub mod ChainedRecords
 pub mod UnchainedRecords
 pub mod JoinedEntries
+pub mod EachByte
 pub mod ChosenTerms
 pub mod ExpandedEntries
 pub mod FourAnswers

@@ -21,3 +21,4 @@ pub mod QuietDes
 pub mod Threes
 pub mod JoinedEntries
 pub mod KeyedPasses
+pub mod ChosenTerms

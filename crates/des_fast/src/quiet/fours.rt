@@ -5,7 +5,7 @@
 //! An entry is a sum modulo 2 of terms, one for each choice among the last five bits of its group,
 //! where all bits of the choice are set.
 
-ghost use Rattle.std.specs.Prelude.{◌≡◌, ◌<◌, ◌+◌, ◌-◌, ◌*◌, ◌++◌, ℕ, length, slice_index, slice_index_or};
+ghost use Rattle.std.specs.Prelude.{◌≡◌, ◌<◌, ◌≤◌, ◌+◌, ◌-◌, ◌*◌, ◌^◌, ◌++◌, ℕ, suc, List, length, slice_index, slice_index_or};
 ghost use Rattle.std.specs.Int.{w64, to_be_bytes};
 ghost use Rattle.des.specs.Bits.{bits_of, bits_of_word, select};
 ghost use Rattle.des.specs.Tables.{expansion, permutation};
@@ -13,6 +13,7 @@ ghost use Rattle.des.specs.CipherFunction.{box_entry, substitute};
 ghost use Rattle.des_fast.specs.Slices.{InEachBlock};
 ghost use Rattle.des_fast.specs.Groups.{IsOfGroups, IsExpansion, bits_of_groups, half_of, positions_in_word};
 ghost use Rattle.des_fast.specs.GroupBytes.{box_of_byte};
+ghost use Rattle.des_fast.specs.ChosenTerms.{AreMasks, AreSums, AreChoices};
 ghost use Rattle.des_fast.specs.JoinedEntries.{entry_order, entry_bits, joined_bits, first_entries, second_entries};
 
 use std::simd::prelude::*;
@@ -65,68 +66,100 @@ fn chosen(first: u64, second: u64, third: u64, fourth: u64) -> u8x32
         ≡ bits_of 4 (box_entry (box_of_byte i) (bits_of 6 (slice_index (to_be_bytes w64 fourth) i))) }
 {
     let bytes: u8x32 = u64x4::from_array([first, second, third, fourth]).to_le_bytes();
-    let sixth = (bytes & u8x32::splat(1))
-        .simd_eq(u8x32::splat(1))
-        .select(u8x32::splat(255), u8x32::splat(0));
-    let fifth = (bytes & u8x32::splat(2))
-        .simd_eq(u8x32::splat(2))
-        .select(u8x32::splat(255), u8x32::splat(0));
-    let fourth = (bytes & u8x32::splat(4))
-        .simd_eq(u8x32::splat(4))
-        .select(u8x32::splat(255), u8x32::splat(0));
-    let third = (bytes & u8x32::splat(8))
-        .simd_eq(u8x32::splat(8))
-        .select(u8x32::splat(255), u8x32::splat(0));
-    let second = (bytes & u8x32::splat(16))
-        .simd_eq(u8x32::splat(16))
-        .select(u8x32::splat(255), u8x32::splat(0));
-    let first = (bytes & u8x32::splat(32))
-        .simd_eq(u8x32::splat(32))
-        .select(u8x32::splat(255), u8x32::splat(0));
-    // Of 32 terms sixteen sums are left, then eight, four, two and one.
-    let a0 = u64x4::splat(TERMS[0]).to_le_bytes() ^ (sixth & u64x4::splat(TERMS[1]).to_le_bytes());
-    let a1 = u64x4::splat(TERMS[2]).to_le_bytes() ^ (sixth & u64x4::splat(TERMS[3]).to_le_bytes());
-    let a2 = u64x4::splat(TERMS[4]).to_le_bytes() ^ (sixth & u64x4::splat(TERMS[5]).to_le_bytes());
-    let a3 = u64x4::splat(TERMS[6]).to_le_bytes() ^ (sixth & u64x4::splat(TERMS[7]).to_le_bytes());
-    let a4 = u64x4::splat(TERMS[8]).to_le_bytes() ^ (sixth & u64x4::splat(TERMS[9]).to_le_bytes());
-    let a5 = u64x4::splat(TERMS[10]).to_le_bytes()
-        ^ (sixth & u64x4::splat(TERMS[11]).to_le_bytes());
-    let a6 = u64x4::splat(TERMS[12]).to_le_bytes()
-        ^ (sixth & u64x4::splat(TERMS[13]).to_le_bytes());
-    let a7 = u64x4::splat(TERMS[14]).to_le_bytes()
-        ^ (sixth & u64x4::splat(TERMS[15]).to_le_bytes());
-    let a8 = u64x4::splat(TERMS[16]).to_le_bytes()
-        ^ (sixth & u64x4::splat(TERMS[17]).to_le_bytes());
-    let a9 = u64x4::splat(TERMS[18]).to_le_bytes()
-        ^ (sixth & u64x4::splat(TERMS[19]).to_le_bytes());
-    let a10 = u64x4::splat(TERMS[20]).to_le_bytes()
-        ^ (sixth & u64x4::splat(TERMS[21]).to_le_bytes());
-    let a11 = u64x4::splat(TERMS[22]).to_le_bytes()
-        ^ (sixth & u64x4::splat(TERMS[23]).to_le_bytes());
-    let a12 = u64x4::splat(TERMS[24]).to_le_bytes()
-        ^ (sixth & u64x4::splat(TERMS[25]).to_le_bytes());
-    let a13 = u64x4::splat(TERMS[26]).to_le_bytes()
-        ^ (sixth & u64x4::splat(TERMS[27]).to_le_bytes());
-    let a14 = u64x4::splat(TERMS[28]).to_le_bytes()
-        ^ (sixth & u64x4::splat(TERMS[29]).to_le_bytes());
-    let a15 = u64x4::splat(TERMS[30]).to_le_bytes()
-        ^ (sixth & u64x4::splat(TERMS[31]).to_le_bytes());
-    let b0 = a0 ^ (fifth & a1);
-    let b1 = a2 ^ (fifth & a3);
-    let b2 = a4 ^ (fifth & a5);
-    let b3 = a6 ^ (fifth & a7);
-    let b4 = a8 ^ (fifth & a9);
-    let b5 = a10 ^ (fifth & a11);
-    let b6 = a12 ^ (fifth & a13);
-    let b7 = a14 ^ (fifth & a15);
-    let c0 = b0 ^ (fourth & b1);
-    let c1 = b2 ^ (fourth & b3);
-    let c2 = b4 ^ (fourth & b5);
-    let c3 = b6 ^ (fourth & b7);
-    let d0 = c0 ^ (third & c1);
-    let d1 = c2 ^ (third & c3);
-    let both = d0 ^ (second & d1);
-    both ^ (first & (both >> 4))
+    let first = mask(bytes, 32);
+    let second = mask(bytes, 16);
+    let third = mask(bytes, 8);
+    let fourth = mask(bytes, 4);
+    let fifth = mask(bytes, 2);
+    let sixth = mask(bytes, 1);
+    let with_last = sum_of_sixteen(0, third, fourth, fifth, sixth);
+    let with_first = sum_of_sixteen(16, third, fourth, fifth, sixth);
+    in_half(sum(with_last, second, with_first), first)
+}
+
+// All ones in each byte that has this bit, else 0.
+#[inline(always)]
+fn mask(bytes: u8x32, bit: u8) -> u8x32
+    ensures { AreMasks bit bytes result }
+{
+    let bits = u8x32::splat(bit);
+    (bytes & bits)
+        .simd_eq(bits)
+        .select(u8x32::splat(255), u8x32::splat(0))
+}
+
+// Terms, and as many more added where the bit before those that chose among them is set.
+#[inline(always)]
+fn sum(terms: u8x32, mask: u8x32, more: u8x32) -> u8x32
+    ensures { (n from : ℕ) (bytes : List ℕ) → AreSums n TERMS from bytes terms
+        → AreMasks (2 ^ n) bytes mask → AreSums n TERMS (from + 2 ^ n) bytes more
+        → AreSums (suc n) TERMS from bytes result }
+{
+    terms ^ (mask & more)
+}
+
+// A term for each of four words.
+#[inline(always)]
+fn term(k: usize) -> u8x32
+    requires { k < 32 }
+    ensures { (bytes : List ℕ) → AreSums 0 TERMS k bytes result }
+{
+    u64x4::splat(TERMS[k]).to_le_bytes()
+}
+
+// The sum of two terms from one on. The next three add four, eight and sixteen.
+#[inline(always)]
+fn sum_of_two(from: usize, sixth: u8x32) -> u8x32
+    requires { from + 2 ≤ 32 }
+    ensures { (bytes : List ℕ) → AreMasks 1 bytes sixth → AreSums 1 TERMS from bytes result }
+{
+    sum(term(from), sixth, term(from + 1))
+}
+
+#[inline(always)]
+fn sum_of_four(from: usize, fifth: u8x32, sixth: u8x32) -> u8x32
+    requires { from + 4 ≤ 32 }
+    ensures { (bytes : List ℕ) → AreMasks 1 bytes sixth → AreMasks 2 bytes fifth
+        → AreSums 2 TERMS from bytes result }
+{
+    sum(sum_of_two(from, sixth), fifth, sum_of_two(from + 2, sixth))
+}
+
+#[inline(always)]
+fn sum_of_eight(from: usize, fourth: u8x32, fifth: u8x32, sixth: u8x32) -> u8x32
+    requires { from + 8 ≤ 32 }
+    ensures { (bytes : List ℕ) → AreMasks 1 bytes sixth → AreMasks 2 bytes fifth
+        → AreMasks 4 bytes fourth → AreSums 3 TERMS from bytes result }
+{
+    sum(
+        sum_of_four(from, fifth, sixth),
+        fourth,
+        sum_of_four(from + 4, fifth, sixth),
+    )
+}
+
+#[inline(always)]
+fn sum_of_sixteen(from: usize, third: u8x32, fourth: u8x32, fifth: u8x32, sixth: u8x32) -> u8x32
+    requires { from + 16 ≤ 32 }
+    ensures { (bytes : List ℕ) → AreMasks 1 bytes sixth → AreMasks 2 bytes fifth
+        → AreMasks 4 bytes fourth → AreMasks 8 bytes third
+        → AreSums 4 TERMS from bytes result }
+{
+    sum(
+        sum_of_eight(from, fourth, fifth, sixth),
+        third,
+        sum_of_eight(from + 8, fourth, fifth, sixth),
+    )
+}
+
+// The entries in the second half of each byte: where the first bit of the group is set, the first
+// half is added.
+#[inline(always)]
+fn in_half(sums: u8x32, first: u8x32) -> u8x32
+    ensures { (bytes : List ℕ) → AreSums 5 TERMS 0 bytes sums → AreMasks 32 bytes first
+        → AreChoices TERMS bytes result }
+{
+    sums ^ (first & (sums >> 4))
 }
 
 // The entries of the first and the third block in one word, and those of the second and the fourth
