@@ -7,8 +7,6 @@
 
 mod rows;
 mod runs;
-mod short_rows;
-mod short_runs;
 mod stopwatch;
 mod table;
 mod text;

@@ -2,14 +2,17 @@
 //! which all that was answered is joined, so that no compiler can leave a timed call out.
 
 use crate::runs::{
-    BLOCKS, Blocks, Decrypt, DecryptCbc, DecryptMany, Encrypt, EncryptBySpread, EncryptMany,
-    EncryptManyByFour, KEYS, Key, Keys, MakeCiphers, SPREADINGS, Spread, Tag, TestOnePart,
-    TestThreeParts, TestTwoParts, cipher_of_key,
+    BLOCKS, Blocks, Decrypt, Encrypt, EncryptBySpread, EncryptMany, EncryptRecordsEach,
+    EncryptRecordsEachAlone, EncryptSideBySide, KEYS, Key, Keys, MakeCiphers, RECORD, Records,
+    SPREADINGS, Spread, Tag, TestKeys, cipher_of_key,
 };
 use crate::stopwatch::{Run, tenths_of_call};
 use crate::text::{write_length_row, write_row};
-use des::cipher::{AlgorithmName, BlockCipherDecrypt, BlockCipherEncrypt, KeyInit, KeyedCipher};
-use des_fast::many::{ListKeys, ManyBlocks, SpreadOnce};
+use des::cipher::{
+    AlgorithmName, BlockCipherDecrypt, BlockCipherEncrypt, KeyBytes, KeyInit, KeyedCipher,
+};
+use des_fast::many::{KeyForEach, ManyBlocks, SpreadOnce};
+use des_fast::quiet::SideBySide;
 use des_mac::{CbcMac, Cmac, Mac, Method2, RetailMac};
 use std::alloc::AllocGlobal;
 use std::io;
@@ -18,11 +21,10 @@ use std::marker::PhantomData;
 use std::simd::prelude::*;
 use std::time::{Clock, CpuClock};
 
-// How many blocks a batch has over vectors of two words.
+// How many blocks a batch has over vectors of two words, and over vectors of four.
 const BATCH: usize = 128;
 
-// The lengths of lists that have a row.
-const LENGTHS: [usize; 8] = [1, 16, 64, 127, 128, 255, 1024, 65536];
+const WIDE_BATCH: usize = 256;
 
 /// Writes the row of a cipher, one block at a time.
 pub fn write_cipher<C: KeyInit + BlockCipherEncrypt + BlockCipherDecrypt + AlgorithmName + Drop>(
@@ -39,53 +41,27 @@ pub fn write_cipher<C: KeyInit + BlockCipherEncrypt + BlockCipherDecrypt + Algor
     Ok(answer ^ joined(&blocks))
 }
 
-/// Writes the row of a cipher whose calls take many blocks at a time.
-pub fn write_lists<C: KeyInit + AlgorithmName + ManyBlocks + Drop>(
+/// Writes the row of a list of few blocks: the time of a block one by one, by the cipher of `quiet`
+/// four side by side, and by `encrypt_many`, which takes a batch where there are more than eight.
+pub fn write_few<C: KeyInit + ManyBlocks + Drop, Q: KeyInit + SideBySide + Drop>(
     rt: &(impl AllocGlobal + Clock + CpuClock),
     keys: &Keys,
-    out: &mut impl Write,
-) -> io::Result<u64> {
-    let cipher: C = cipher_of(&keys[0])?;
-    let mut blocks = zero_blocks(rt, BLOCKS)?;
-    let encrypt = tenths_of_call(rt, BLOCKS, &EncryptMany(&cipher), &mut blocks)?;
-    let decrypt = tenths_of_call(rt, BLOCKS, &DecryptMany(&cipher), &mut blocks)?;
-    let cbc = tenths_of_call(rt, BLOCKS, &DecryptCbc(&cipher), &mut blocks)?;
-    write_row(out, C::NAME, &[encrypt, decrypt, cbc])?;
-    Ok(joined(&blocks))
-}
-
-/// Writes the rows of a cipher for lists of some lengths.
-pub fn write_lengths<C: KeyInit + ManyBlocks + Drop>(
-    rt: &(impl AllocGlobal + Clock + CpuClock),
-    keys: &Keys,
-    out: &mut impl Write,
-) -> io::Result<u64> {
-    let cipher: C = cipher_of(&keys[0])?;
-    let mut sum = 0;
-    for length in LENGTHS {
-        sum ^= write_length(rt, &cipher, length, out)?;
-    }
-    Ok(sum)
-}
-
-// Writes the row of lists of one length: the time of a block, encrypted over vectors of two and of
-// four words, and decrypted by CBC over two.
-fn write_length<C: ManyBlocks>(
-    rt: &(impl AllocGlobal + Clock + CpuClock),
-    cipher: &C,
     length: usize,
     out: &mut impl Write,
 ) -> io::Result<u64> {
+    let cipher: C = cipher_of(&keys[0])?;
+    let quiet: Q = cipher_of(&keys[0])?;
     let mut blocks = zero_blocks(rt, length)?;
-    let two = tenths_of_call(rt, length, &EncryptMany(cipher), &mut blocks)?;
-    let four = tenths_of_call(rt, length, &EncryptManyByFour(cipher), &mut blocks)?;
-    let cbc = tenths_of_call(rt, length, &DecryptCbc(cipher), &mut blocks)?;
-    write_length_row(out, length, &[two, four, cbc])?;
+    let tables = tenths_of_call(rt, length, &Encrypt(&cipher), &mut blocks)?;
+    let quiet = tenths_of_call(rt, length, &EncryptSideBySide(&quiet), &mut blocks)?;
+    let many = tenths_of_call(rt, length, &EncryptMany(&cipher), &mut blocks)?;
+    write_length_row(out, length, &[tables, quiet, many])?;
     Ok(joined(&blocks))
 }
 
 /// Writes the row of a cipher whose round keys are spread once: the time of a spreading over
-/// vectors of two and of four words, and that of a block in one batch under the spread keys.
+/// vectors of two words, and that of a block in one batch under the spread keys, over vectors of two
+/// and of four.
 pub fn write_spreading<C: KeyInit + AlgorithmName + SpreadOnce + Drop>(
     rt: &(impl AllocGlobal + Clock + CpuClock),
     keys: &Keys,
@@ -93,14 +69,47 @@ pub fn write_spreading<C: KeyInit + AlgorithmName + SpreadOnce + Drop>(
 ) -> io::Result<u64> {
     let cipher: C = cipher_of(&keys[0])?;
     let mut blocks = zero_blocks(rt, BATCH)?;
+    let mut more = zero_blocks(rt, WIDE_BATCH)?;
     let mut two = cipher.spread_keys::<u64x2>();
-    let mut four = cipher.spread_keys::<u64x4>();
-    let over_two = tenths_of_call(rt, SPREADINGS, &Spread(&cipher), &mut two)?;
-    let over_four = tenths_of_call(rt, SPREADINGS, &Spread(&cipher), &mut four)?;
-    four.encrypt_many(blocks.as_mut_slice());
-    let batch = tenths_of_call(rt, BATCH, &EncryptBySpread(&two), &mut blocks)?;
-    write_row(out, C::NAME, &[over_two, over_four, batch])?;
-    Ok(joined(&blocks))
+    let four = cipher.spread_keys::<u64x4>();
+    let spreading = tenths_of_call(rt, SPREADINGS, &Spread(&cipher), &mut two)?;
+    let two = tenths_of_call(rt, BATCH, &EncryptBySpread(&two), &mut blocks)?;
+    let four = tenths_of_call(rt, WIDE_BATCH, &EncryptBySpread(&four), &mut more)?;
+    write_row(out, C::NAME, &[spreading, two, four])?;
+    Ok(joined(&blocks) ^ joined(&more))
+}
+
+/// Writes the row of a cipher over records of `RECORD` blocks, each under a key of its own, over
+/// vectors of two and of four words, and one after another: the time of a block.
+pub fn write_keyed_records<C: KeyForEach + AlgorithmName + Drop>(
+    rt: &(impl AllocGlobal + Clock + CpuClock),
+    keys: &Keys,
+    out: &mut impl Write,
+) -> io::Result<u64> {
+    let own = keys_of::<C>(rt, keys)?;
+    let keys = own.as_slice();
+    let count = KEYS * RECORD;
+    let mut records = Records {
+        vectors: zero_blocks(rt, KEYS)?,
+        blocks: zero_blocks(rt, count)?,
+    };
+    let two: EncryptRecordsEach<C, u64x2, C::Key> = EncryptRecordsEach {
+        keys,
+        by: PhantomData,
+    };
+    let four: EncryptRecordsEach<C, u64x4, C::Key> = EncryptRecordsEach {
+        keys,
+        by: PhantomData,
+    };
+    let alone: EncryptRecordsEachAlone<C, C::Key> = EncryptRecordsEachAlone {
+        keys,
+        by: PhantomData,
+    };
+    let two = tenths_of_call(rt, count, &two, &mut records)?;
+    let four = tenths_of_call(rt, count, &four, &mut records)?;
+    let alone = tenths_of_call(rt, count, &alone, &mut records)?;
+    write_row(out, C::NAME, &[two, four, alone])?;
+    Ok(joined(&records.blocks))
 }
 
 /// Writes the row of the MACs over a cipher.
@@ -129,9 +138,9 @@ pub fn write_weak_key_test(
     out: &mut impl Write,
 ) -> io::Result<u64> {
     let mut passed = 0;
-    let one = tenths_of_call(rt, KEYS, &TestOnePart(keys), &mut passed)?;
-    let two = tenths_of_call(rt, KEYS, &TestTwoParts(keys), &mut passed)?;
-    let three = tenths_of_call(rt, KEYS, &TestThreeParts(keys), &mut passed)?;
+    let one = tenths_of_call(rt, KEYS, &TestKeys { keys, size: 8 }, &mut passed)?;
+    let two = tenths_of_call(rt, KEYS, &TestKeys { keys, size: 16 }, &mut passed)?;
+    let three = tenths_of_call(rt, KEYS, &TestKeys { keys, size: 24 }, &mut passed)?;
     write_row(out, "weak_key_test", &[one, two, three])?;
     Ok(passed)
 }
@@ -190,4 +199,14 @@ pub fn joined(blocks: &Blocks) -> u64 {
         sum ^= u64::from_be_bytes(*block);
     }
     sum
+}
+
+// The keys of a cipher, each of the first bytes of one of the table.
+fn keys_of<C: KeyForEach + Drop>(rt: &impl AllocGlobal, keys: &Keys) -> io::Result<Vec<C::Key>> {
+    let mut own = Vec::with_capacity(rt.alloc(), KEYS)?;
+    for key in keys {
+        let bytes = key.get(..C::KEY_SIZE).ok_or(too_long())?;
+        own.push(C::Key::from_bytes(bytes).ok_or(too_long())?)?;
+    }
+    Ok(own)
 }

@@ -3,15 +3,13 @@
 //! A list shorter than a batch takes the time of a batch, and each call of a cipher spreads the
 //! round keys. A run of blocks begins with what the run before it made of them.
 
-ghost use Rattle.std.specs.Prelude.{◌≡◌, ◌⊎◌};
-
 use crate::stopwatch::Run;
 use des::cipher::{BlockCipherDecrypt, BlockCipherEncrypt, KeyInit};
-use des::weak_key_test;
-use des_fast::many::{ListKeys, ManyBlocks, Slice, SpreadKeys, SpreadOnce};
+use des::{cbc, weak_key_test};
+use des_fast::many::{KeyForEach, ListKeys, ManyBlocks, Slice, SpreadKeys, SpreadOnce};
+use des_fast::quiet::SideBySide;
 use des_mac::Mac;
 use std::marker::PhantomData;
-use std::simd::prelude::*;
 
 /// A key of which each cipher takes the first bytes, as many as it has.
 pub type Key = [u8; 24];
@@ -24,6 +22,9 @@ pub const KEYS: usize = 256;
 
 /// The keys of a run.
 pub type Keys = [Key; KEYS];
+
+/// How many blocks a record of a run has.
+pub const RECORD: usize = 8;
 
 /// How often a run spreads the round keys.
 pub const SPREADINGS: usize = 16;
@@ -74,33 +75,13 @@ impl<C: ManyBlocks> Run<Blocks> for EncryptMany<'_, C> {
     }
 }
 
-/// `encrypt_many_by`, over vectors of four words.
+/// `encrypt_side_by_side`.
 #[derive(Drop)]
-pub struct EncryptManyByFour<'a, C>(pub &'a C);
+pub struct EncryptSideBySide<'a, C>(pub &'a C);
 
-impl<C: ManyBlocks> Run<Blocks> for EncryptManyByFour<'_, C> {
+impl<C: SideBySide> Run<Blocks> for EncryptSideBySide<'_, C> {
     fn run(&self, blocks: &mut Blocks) {
-        self.0.encrypt_many_by::<u64x4>(blocks.as_mut_slice());
-    }
-}
-
-/// `decrypt_many`, over vectors of two words.
-#[derive(Drop)]
-pub struct DecryptMany<'a, C>(pub &'a C);
-
-impl<C: ManyBlocks> Run<Blocks> for DecryptMany<'_, C> {
-    fn run(&self, blocks: &mut Blocks) {
-        self.0.decrypt_many(blocks.as_mut_slice());
-    }
-}
-
-/// `decrypt_cbc`, over vectors of two words.
-#[derive(Drop)]
-pub struct DecryptCbc<'a, C>(pub &'a C);
-
-impl<C: ManyBlocks> Run<Blocks> for DecryptCbc<'_, C> {
-    fn run(&self, blocks: &mut Blocks) {
-        self.0.decrypt_cbc(&[0; 8], blocks.as_mut_slice());
+        self.0.encrypt_side_by_side(blocks.as_mut_slice());
     }
 }
 
@@ -155,45 +136,62 @@ impl<M: Mac> Run<Message> for Tag<'_, M> {
     }
 }
 
-/// `weak_key_test` of the first 8 bytes of each key. The number changes by how many pass.
+/// `weak_key_test` of the first `size` bytes of each key. The number changes by how many pass.
 #[derive(Drop)]
-pub struct TestOnePart<'a>(pub &'a Keys);
-
-impl Run<u64> for TestOnePart<'_> {
-    fn run(&self, passed: &mut u64) {
-        *passed ^= count_passed(self.0, 8);
-    }
+pub struct TestKeys<'a> {
+    pub keys: &'a Keys,
+    pub size: usize,
 }
 
-/// `weak_key_test` of the first 16 bytes of each key. The number changes by how many pass.
-#[derive(Drop)]
-pub struct TestTwoParts<'a>(pub &'a Keys);
-
-impl Run<u64> for TestTwoParts<'_> {
+impl Run<u64> for TestKeys<'_> {
     fn run(&self, passed: &mut u64) {
-        *passed ^= count_passed(self.0, 16);
-    }
-}
-
-/// `weak_key_test` of the 24 bytes of each key. The number changes by how many pass.
-#[derive(Drop)]
-pub struct TestThreeParts<'a>(pub &'a Keys);
-
-impl Run<u64> for TestThreeParts<'_> {
-    fn run(&self, passed: &mut u64) {
-        *passed ^= count_passed(self.0, 24);
-    }
-}
-
-// How many of the keys, each cut to its first `size` bytes, the weak key test lets pass.
-fn count_passed(keys: &Keys, size: usize) -> u64
-    requires { (size ≡ 8) ⊎ (size ≡ 16) ⊎ (size ≡ 24) }
-{
-    let mut passed: u64 = 0;
-    for key in keys {
-        if weak_key_test(&key[..size]).is_ok() {
-            passed = passed.wrapping_add(1);
+        for key in self.keys {
+            if let Some(bytes) = key.get(..self.size) {
+                *passed = passed.wrapping_add(u64::from(weak_key_test(bytes).is_ok()));
+            }
         }
     }
-    passed
+}
+
+/// Records of `RECORD` blocks each, and the vectors with which their chains go on.
+#[derive(Drop)]
+pub struct Records {
+    pub vectors: Blocks,
+    pub blocks: Blocks,
+}
+
+/// `encrypt_cbc_equal_records_each_by`, each record under the key at its place.
+#[derive(Drop)]
+pub struct EncryptRecordsEach<'a, C, S, K> {
+    pub keys: &'a [K],
+    pub by: PhantomData<(C, S)>,
+}
+
+impl<C: KeyForEach, S: Slice> Run<Records> for EncryptRecordsEach<'_, C, S, C::Key> {
+    fn run(&self, records: &mut Records) {
+        let vectors = records.vectors.as_mut_slice();
+        let blocks = records.blocks.as_mut_slice();
+        let Ok(()) = C::encrypt_cbc_equal_records_each_by::<S>(self.keys, vectors, RECORD, blocks)
+        else {
+            return;
+        };
+    }
+}
+
+/// `new` and `cbc::encrypt`, record by record.
+#[derive(Drop)]
+pub struct EncryptRecordsEachAlone<'a, C, K> {
+    pub keys: &'a [K],
+    pub by: PhantomData<C>,
+}
+
+impl<C: KeyInit + BlockCipherEncrypt + Drop> Run<Records>
+    for EncryptRecordsEachAlone<'_, C, C::Key> {
+    fn run(&self, records: &mut Records) {
+        let parts = records.blocks.as_mut_slice().chunks_mut(RECORD);
+        for ((record, vector), key) in parts.zip(records.vectors.iter_mut()).zip(self.keys) {
+            cbc::encrypt(&C::new(key), vector, record);
+            *vector = cbc::next_vector(vector, record);
+        }
+    }
 }

@@ -6,8 +6,8 @@ use std::time::{Clock, CpuClock, Duration, Instant};
 // The most runs of which a figure is the least.
 const MOST_RUNS: u32 = 1000;
 
-// The time by the clock after which no further run begins: the 213 figures of the table then take
-// some eleven seconds at most, with fewer runs on a machine that is slow or busy.
+// The time by the clock after which no further run begins: the 51 figures of the table then take
+// some three seconds at most, with fewer runs on a machine that is slow or busy.
 const SHARE_MILLIS: u64 = 50;
 
 /// Calls of one kind that write to an `A`.

@@ -1,6 +1,7 @@
 //! Clones of each cipher, also where memory is refused (`tests/run`).
 
 use des::cipher::{BlockCipherEncrypt, KeyInit};
+use des_fast::{TdesEde2, TdesEde3, TdesEee2, TdesEee3};
 
 // NIST Special Publication 800-67, appendix B: the first block, and what it is under the first part
 // of the key, and under that part three times in the EEE forms: OpenSSL's answers, of `des-ecb` and
@@ -28,30 +29,26 @@ fn is_cloned<C: BlockCipherEncrypt + Clone + Drop>(cipher: &C, answer: [u8; 8]) 
     block == answer
 }
 
-fn ciphers_are_cloned() -> bool {
-    is_cloned(&des::Des::new(&ONE), DES)
-        && is_cloned(&des::TdesEde3::new(&THREE), DES)
-        && is_cloned(&des::TdesEee3::new(&THREE), EEE)
-        && is_cloned(&des::TdesEde2::new(&TWO), DES)
-        && is_cloned(&des::TdesEee2::new(&TWO), EEE)
+// The triple ciphers of both libraries have one body, over their single DES.
+fn single_ciphers_are_cloned() -> bool {
+    is_cloned(&des::Des::new(&ONE), DES) && is_cloned(&des_fast::Des::new(&ONE), DES)
 }
 
-fn fast_ciphers_are_cloned() -> bool {
-    is_cloned(&des_fast::Des::new(&ONE), DES)
-        && is_cloned(&des_fast::TdesEde3::new(&THREE), DES)
-        && is_cloned(&des_fast::TdesEee3::new(&THREE), EEE)
-        && is_cloned(&des_fast::TdesEde2::new(&TWO), DES)
-        && is_cloned(&des_fast::TdesEee2::new(&TWO), EEE)
+fn triple_ciphers_are_cloned() -> bool {
+    is_cloned(&TdesEde3::new(&THREE), DES)
+        && is_cloned(&TdesEee3::new(&THREE), EEE)
+        && is_cloned(&TdesEde2::new(&TWO), DES)
+        && is_cloned(&TdesEee2::new(&TWO), EEE)
 }
 
 // These tests ask for no memory but in `clone`, so they hold whichever request is refused only if a
 // clone asks for none.
 #[test]
 fn clones_without_memory(rt: HostRuntime) {
-    assert!(rt; ciphers_are_cloned());
+    assert!(rt; single_ciphers_are_cloned());
 }
 
 #[test]
-fn fast_clones_without_memory(rt: HostRuntime) {
-    assert!(rt; fast_ciphers_are_cloned());
+fn triple_clones_without_memory(rt: HostRuntime) {
+    assert!(rt; triple_ciphers_are_cloned());
 }

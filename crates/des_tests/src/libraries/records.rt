@@ -24,12 +24,16 @@ struct Records {
     blocks: [[u8; 8]; 5 * MOST],
 }
 
+// The vectors before any record is chained.
+fn first_vectors() -> [[u8; 8]; MOST] {
+    multiples(0x0fedcba987654321)
+}
+
 impl Records {
     fn new() -> Records {
-        Records {
-            vectors: multiples(0x0fedcba987654321),
-            blocks: multiples(STEP),
-        }
+        let vectors = first_vectors();
+        let blocks = multiples(STEP);
+        Records { vectors, blocks }
     }
 
     // Chains record k, which begins at a block, and makes its vector the one that it goes on from.
@@ -79,22 +83,15 @@ fn sum(sizes: &[usize]) -> usize {
     all
 }
 
-// The vectors of so many records, and their blocks.
-type Parts<'a> = (&'a mut [[u8; 8]], &'a mut [[u8; 8]]);
-
-fn parts(list: &mut Records, count: usize, blocks: usize) -> Option<Parts<'_>> {
-    Some((
-        list.vectors.get_mut(..count)?,
-        list.blocks.get_mut(..blocks)?,
-    ))
-}
-
 fn encrypt_each<S: Slice, C: KeyForEach>(
     keys: &[C::Key],
     list: &mut Records,
     sizes: &[usize],
 ) -> bool {
-    let Some((vectors, blocks)) = parts(list, sizes.len(), sum(sizes)) else {
+    let (Some(vectors), Some(blocks)) = (
+        list.vectors.get_mut(..sizes.len()),
+        list.blocks.get_mut(..sum(sizes)),
+    ) else {
         return false;
     };
     C::encrypt_cbc_records_each_by::<S>(keys, vectors, sizes, blocks).is_ok()
@@ -105,7 +102,10 @@ fn decrypt_each<S: Slice, C: KeyForEach>(
     list: &mut Records,
     sizes: &[usize],
 ) -> bool {
-    let Some((vectors, blocks)) = parts(list, sizes.len(), sum(sizes)) else {
+    let (Some(vectors), Some(blocks)) = (
+        list.vectors.get_mut(..sizes.len()),
+        list.blocks.get_mut(..sum(sizes)),
+    ) else {
         return false;
     };
     C::decrypt_cbc_records_each_by::<S>(keys, vectors, sizes, blocks).is_ok()
@@ -125,7 +125,8 @@ fn chains_each<S: Slice, C: KeyForEach + Drop>(keys: &[C::Key], sizes: &[usize])
     if !encrypt_each::<S, C>(keys, &mut list, sizes) || list != chained {
         return false;
     }
-    list.vectors = Records::new().vectors;
+    let vectors = first_vectors();
+    list.vectors = vectors;
     decrypt_each::<S, C>(keys, &mut list, sizes) && are_read(&list, &chained)
 }
 
@@ -159,7 +160,10 @@ fn records_are_chained_under_keys_of_their_own(rt: HostRuntime) {
 }
 
 fn encrypt_equal<K: ListKeys>(keys: &K, list: &mut Records, count: usize) -> bool {
-    let Some((vectors, blocks)) = parts(list, count, count.saturating_mul(SIZE)) else {
+    let (Some(vectors), Some(blocks)) = (
+        list.vectors.get_mut(..count),
+        list.blocks.get_mut(..count.saturating_mul(SIZE)),
+    ) else {
         return false;
     };
     keys.encrypt_cbc_equal_records(vectors, SIZE, blocks)
@@ -167,7 +171,10 @@ fn encrypt_equal<K: ListKeys>(keys: &K, list: &mut Records, count: usize) -> boo
 }
 
 fn decrypt_equal<K: ListKeys>(keys: &K, list: &mut Records, count: usize) -> bool {
-    let Some((vectors, blocks)) = parts(list, count, count.saturating_mul(SIZE)) else {
+    let (Some(vectors), Some(blocks)) = (
+        list.vectors.get_mut(..count),
+        list.blocks.get_mut(..count.saturating_mul(SIZE)),
+    ) else {
         return false;
     };
     keys.decrypt_cbc_equal_records(vectors, SIZE, blocks)
@@ -183,7 +190,8 @@ fn chains_equal<K: ListKeys, C: BlockCipher>(keys: &K, cipher: &C, count: usize)
     if !encrypt_equal(keys, &mut list, count) || list != chained {
         return false;
     }
-    list.vectors = Records::new().vectors;
+    let vectors = first_vectors();
+    list.vectors = vectors;
     decrypt_equal(keys, &mut list, count) && are_read(&list, &chained)
 }
 

@@ -1,6 +1,6 @@
 //! Key blocks that no test for C, Python or JavaScript has: optional blocks and lengths that are
-//! wrong though the MAC is right, by the `cryptography` package for Python, and each other byte in
-//! published blocks.
+//! wrong though the MAC is right, by the `cryptography` package for Python, and each bit of published
+//! blocks turned.
 
 use des_payment::key_block_error::KeyBlockError;
 use des_payment::key_blocks::{header, optional_block, unwrap};
@@ -127,30 +127,28 @@ fn tells_lengths_of_data(rt: HostRuntime) {
     assert!(rt; have_fault(&NO_KEYS, KeyBlockError::KeyLength));
 }
 
-// Whether each block with another byte in the place of one of a block's has a fault.
-fn are_refused(protection: &[u8], block: &[u8]) -> bool {
-    if block.len() > 112 {
-        return false;
-    }
+// Whether a block has a fault with any of its bits turned.
+fn is_refused_turned(protection: &[u8], block: &[u8]) -> bool {
     let mut bytes = [0; 112];
-    let changed = &mut bytes[..block.len()];
-    changed.copy_from_slice(block);
-    for (place, right) in block.iter().enumerate() {
-        for character in 0..=255 {
-            changed[place] = character;
-            if character != *right && unwrap(protection, changed).is_ok() {
+    let Some(turned) = bytes.get_mut(..block.len()) else {
+        return false;
+    };
+    turned.copy_from_slice(block);
+    for place in 0..turned.len() {
+        for bit in 0..8u32 {
+            turned[place] ^= 1 << bit;
+            if unwrap(protection, turned).is_ok() {
                 return false;
             }
+            turned[place] ^= 1 << bit;
         }
-        changed[place] = *right;
     }
     true
 }
 
-// 69,360 blocks in all.
-fn changed_blocks_are_refused() -> bool {
+fn turned_blocks_are_refused() -> bool {
     for (protection, block) in PUBLISHED {
-        if !are_refused(&protection.to_be_bytes(), block) {
+        if !is_refused_turned(&protection.to_be_bytes(), block) {
             return false;
         }
     }
@@ -158,6 +156,6 @@ fn changed_blocks_are_refused() -> bool {
 }
 
 #[test]
-fn refuses_changed_characters(rt: HostRuntime) {
-    assert!(rt; changed_blocks_are_refused());
+fn refuses_turned_bits(rt: HostRuntime) {
+    assert!(rt; turned_blocks_are_refused());
 }
