@@ -12,4 +12,3 @@ mod macs;
 mod records;
 mod streams;
 mod texts;
-mod weak_keys;

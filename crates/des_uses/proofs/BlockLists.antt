@@ -1,24 +1,9 @@
--- Lists of blocks that a function answers block by block, and that another one brings back.
-use Rattle.std.proofs.Common.{◌≡◌, ℕ, List, [], ◌∷◌, map, refl, ◌∙◌, suc, arith}
+-- Two functions that answer each block of a list alike.
+use Rattle.std.proofs.Common.{◌≡◌, ℕ, List, [], ◌∷◌, map, refl, suc, arith}
 use Rattle.std.specs.List.{All}
-use Rattle.std.proofs.lemmas.Simd.{map-map}
-use Rattle.std.proofs.lemmas.List.Folds.{map_fixed}
-use Rattle.des.specs.Blocks.{IsBlock, AnswersEach}
+use Rattle.des.specs.Blocks.{IsBlock}
 
--- what a function makes of each block answers it
-pub AnswersEach-map : (f : List ℕ → List ℕ) (blocks : List (List ℕ))
-    → AnswersEach (λ block answer. answer ≡ f block) blocks (map f blocks)
-AnswersEach-map f [] = tt
-AnswersEach-map f (block ∷ blocks) = (refl, AnswersEach-map f blocks)
-
--- a function that undoes another on blocks brings back a list of blocks
-pub map-undone : (f g : List ℕ → List ℕ) (blocks : List (List ℕ))
-    → ((block : List ℕ) → IsBlock block → g (f block) ≡ block)
-    → All IsBlock blocks → map g (map f blocks) ≡ blocks
-map-undone f g blocks undoes are_blocks =
-    map-map g f blocks ∙ map_fixed (λ block. g (f block)) blocks (λ i d within. undoes _ (are_blocks i d within))
-
--- two functions that answer each block alike make one list of a list of blocks
+-- they make one list of a list of blocks
 pub map-alike : (f g : List ℕ → List ℕ) (blocks : List (List ℕ))
     → ((block : List ℕ) → IsBlock block → f block ≡ g block)
     → All IsBlock blocks → map f blocks ≡ map g blocks

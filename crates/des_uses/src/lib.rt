@@ -1,11 +1,10 @@
 //! What stands above the ciphers of `des` and `des_fast`, the MACs and the streams: callers that
-//! rest on their contracts and laws alone, two ciphers that hide nothing, and a single DES of one's
-//! own. Nothing here is part of the product.
+//! rest on their contracts and laws alone, and a single DES of one's own. Nothing here is part of
+//! the product.
 #![tactic(auto)]
 
 pub mod both_libraries;
 pub mod by_relation;
-pub mod chaining;
 pub mod clones;
 pub mod complements;
 pub mod each_key;
@@ -17,7 +16,6 @@ pub mod macs;
 pub mod macs_by_relation;
 pub mod macs_by_type;
 pub mod many_macs;
-pub mod odd_ciphers;
 pub mod own_des;
 pub mod partners;
 pub mod records;
@@ -27,5 +25,4 @@ pub mod sizes;
 pub mod spread_lists;
 pub mod spread_records;
 pub mod streams;
-pub mod there_and_back;
 pub mod verdicts;

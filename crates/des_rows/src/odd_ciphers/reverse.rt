@@ -2,7 +2,7 @@
 
 ghost use Rattle.std.specs.Prelude.{reverse, refl};
 ghost use Rattle.std.proofs.lemmas.List.{reverse-reverse};
-ghost use Rattle.des_uses.specs.OddCiphers.{IsBlock-reverse};
+ghost use Rattle.des_rows.specs.OddCiphers.{IsBlock-reverse};
 
 use des::cipher::{BlockCipher, BlockCipherDecrypt, BlockCipherEncrypt, BlockSizeUser};
 

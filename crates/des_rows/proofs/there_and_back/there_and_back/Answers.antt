@@ -1,6 +1,6 @@
 use Rattle.std.proofs.Common.{rules}
-use Rattle.des_uses.proofs.BlockLists.{AnswersEach-map, map-undone}
-use Rattle.des_uses.proofs.there_and_back.there_and_back.Goals as goal
+use Rattle.des_rows.proofs.AnsweredLists.{AnswersEach-map, map-undone}
+use Rattle.des_rows.proofs.there_and_back.there_and_back.Goals as goal
 
 -- the list call makes the answers by a map
 pub returns-clause-encrypted : goal.returns-clause-encrypted

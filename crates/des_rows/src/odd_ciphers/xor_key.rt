@@ -1,14 +1,12 @@
 //! The cipher `XorKey`.
 
 ghost use Rattle.std.specs.Prelude.{◌≡◌, refl};
-ghost use Rattle.des_uses.specs.OddCiphers.{xored, IsBlock-xored, xored-xored};
+ghost use Rattle.des_rows.specs.OddCiphers.{xored, IsBlock-xored, xored-xored};
 
-use des::cbc;
 use des::cipher::{
     BlockCipher, BlockCipherDecrypt, BlockCipherEncrypt, BlockSizeUser, KeyInit, KeySizeUser,
     KeyedCipher,
 };
-use des_fast::many::{ManyBlocks, Slice};
 
 /// The cipher that answers a block with the block xor the key, in each direction.
 #[derive(Drop)]
@@ -89,21 +87,4 @@ impl KeyedCipher for XorKey {
     ghost encrypts_by_key = { λ cipher key block _ made _. ap (λ bytes. xored bytes block) made };
 
     ghost decrypts_by_key = { λ cipher key block _ made _. ap (λ bytes. xored bytes block) made };
-}
-
-impl ManyBlocks for XorKey {
-    /// Encrypts blocks one by one, whichever the width.
-    fn encrypt_many_by<S: Slice>(&self, blocks: &mut [[u8; 8]]) {
-        self.encrypt_blocks(blocks);
-    }
-
-    /// Decrypts blocks one by one, whichever the width.
-    fn decrypt_many_by<S: Slice>(&self, blocks: &mut [[u8; 8]]) {
-        self.decrypt_blocks(blocks);
-    }
-
-    /// Decrypts chained blocks one by one, whichever the width.
-    fn decrypt_cbc_by<S: Slice>(&self, iv: &[u8; 8], blocks: &mut [[u8; 8]]) {
-        cbc::decrypt(self, iv, blocks);
-    }
 }

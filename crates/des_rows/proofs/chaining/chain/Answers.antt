@@ -2,7 +2,7 @@ use Rattle.std.proofs.Common.{ℕ, List, ◌<◌}
 use Rattle.std.proofs.lemmas.List.Elements.{All-from_get_or}
 use Rattle.des.specs.Blocks.{IsBlock}
 use Rattle.des.proofs.ChainedBlocks.{Unchains-from_Cbc}
-use Rattle.des_uses.proofs.chaining.chain.Goals as goal
+use Rattle.des_rows.proofs.chaining.chain.Goals as goal
 
 -- decryption undoes encryption on each block, and the xor cancels
 pub returns : goal.returns

@@ -2,7 +2,7 @@ use Rattle.std.proofs.Common.{ℕ, List, ◌<◌}
 use Rattle.std.proofs.lemmas.List.Elements.{All-from_get_or}
 use Rattle.des.specs.Blocks.{IsBlock}
 use Rattle.des.proofs.ChainedBlocks.{Cbc-from_Unchains}
-use Rattle.des_uses.proofs.chaining.unchain.Goals as goal
+use Rattle.des_rows.proofs.chaining.unchain.Goals as goal
 
 -- the xor cancels, and encryption undoes decryption on each block
 pub returns : goal.returns

@@ -1,0 +1,9 @@
+//! Beside `des`, and no part of the product: two ciphers that keep the laws and hide nothing, generic
+//! callers that rest on the laws alone, and the tests of `des` over several of its modules.
+#![tactic(auto)]
+
+pub mod chaining;
+pub mod odd_ciphers;
+#[cfg(test)]
+mod tests;
+pub mod there_and_back;

@@ -1,0 +1,10 @@
+//! Tests of `des` over several of its modules, and of the ciphers and callers here.
+
+mod blocks;
+mod ciphers;
+mod generic;
+mod known;
+mod lengths;
+mod lists;
+mod steps;
+mod weak_keys;

@@ -1,0 +1,136 @@
+//! Lists there and back and in chains by the generic callers, over each cipher and over two that hide
+//! nothing.
+
+ghost use Rattle.std.specs.Prelude.{◌≤◌};
+
+use crate::chaining::{chain, unchain};
+use crate::odd_ciphers::{Reverse, XorKey};
+use crate::tests::known::{IV, Known, PLAINTEXT, blocks};
+use crate::there_and_back::{block_there_and_back, decrypt_into, encrypt_into, there_and_back};
+use des::cipher::{BlockCipher, BlockCipherDecrypt, BlockCipherEncrypt, KeyInit};
+
+type List = [[u8; 8]; 3];
+
+// Whether the first blocks of the plaintext become those of this list, and themselves again.
+fn list_goes_there_and_back<C: BlockCipher>(cipher: &C, count: usize, answers: &List) -> bool
+    requires { count ≤ 3 }
+{
+    let (mut there, mut back) = ([[0xa5; 8]; 3], [[0xa5; 8]; 3]);
+    there_and_back(
+        cipher,
+        &PLAINTEXT[..count],
+        &mut there[..count],
+        &mut back[..count],
+    );
+    there[..count] == answers[..count] && back[..count] == PLAINTEXT[..count]
+}
+
+// Whether they do by chaining, in place, and the blocks after them stay.
+fn chain_goes_there_and_back<C: BlockCipher>(cipher: &C, count: usize, chained: &List) -> bool
+    requires { count ≤ 3 }
+{
+    let mut blocks = PLAINTEXT;
+    chain(cipher, &IV, &mut blocks[..count]);
+    let is_chained = blocks[..count] == chained[..count] && blocks[count..] == PLAINTEXT[count..];
+    unchain(cipher, &IV, &mut blocks[..count]);
+    is_chained && blocks == PLAINTEXT
+}
+
+// Both, of each number of blocks.
+fn go_there_and_back<C: BlockCipher>(cipher: &C, answers: &List, chained: &List) -> bool {
+    for count in 0..4usize {
+        if !list_goes_there_and_back(cipher, count, answers)
+            || !chain_goes_there_and_back(cipher, count, chained)
+        {
+            return false;
+        }
+    }
+    true
+}
+
+// A block as no call has written it.
+const FILLED: [[u8; 8]; 1] = [[0xa5; 8]];
+
+// Whether lists of two lengths leave the output, and those of one are answered; and a block is.
+fn answers_into_others<C: BlockCipher>(cipher: &C, answer: [u8; 8]) -> bool {
+    let mut output = FILLED;
+    let are_left = !encrypt_into(cipher, &PLAINTEXT, &mut output)
+        && !decrypt_into(cipher, &PLAINTEXT, &mut output)
+        && output == FILLED;
+    let is_encrypted = encrypt_into(cipher, &PLAINTEXT[..1], &mut output) && output == [answer];
+    let is_decrypted = decrypt_into(cipher, &[answer], &mut output) && output == [PLAINTEXT[0]];
+    let (mut there, mut back) = ([0xa5; 8], [0xa5; 8]);
+    block_there_and_back(cipher, &PLAINTEXT[0], &mut there, &mut back);
+    are_left && is_encrypted && is_decrypted && there == answer && back == PLAINTEXT[0]
+}
+
+/// Whether a cipher of which so much is known passes.
+pub fn passes<C: BlockCipher>(cipher: &C, known: &Known) -> bool {
+    let answers: List = blocks(known.ciphertext);
+    go_there_and_back(cipher, &answers, &blocks(known.chained))
+        && answers_into_others(cipher, answers[0])
+}
+
+// ---- ciphers that hide nothing
+
+// Whether the key of equal bytes answers so to the block of equal bytes, and back.
+fn answers(key: u8, block: u8, answer: u8) -> bool {
+    let cipher = XorKey::new(&[key; 8]);
+    let mut bytes = [block; 8];
+    cipher.encrypt_block(&mut bytes);
+    let is_answer = bytes == [answer; 8];
+    cipher.decrypt_block(&mut bytes);
+    is_answer && bytes == [block; 8]
+}
+
+// By hand. The second key and block are the complements of the first, and the answer is the same
+// one: no complement.
+#[test]
+fn xor_answers_with_the_block_xor_the_key(rt: HostRuntime) {
+    assert!(rt; answers(0x0f, 0x00, 0x0f) && answers(0xf0, 0xff, 0x0f));
+}
+
+// By hand: the bytes of the text xor 0f; and each block of it xor 0f, xor the answer before it.
+const XORED: List = [
+    *b"\x5b\x67\x6a\x2f\x7e\x7a\x69\x6c",
+    *b"\x64\x2f\x6d\x7d\x60\x78\x61\x2f",
+    *b"\x69\x60\x77\x2f\x65\x7a\x62\x7f",
+];
+
+const CHAINED: List = [
+    *b"\x49\x53\x3c\x57\xee\xd1\xa4\x83",
+    *b"\x2d\x7c\x51\x2a\x8e\xa9\xc5\xac",
+    *b"\x44\x1c\x26\x05\xeb\xd3\xa7\xd3",
+];
+
+#[test]
+fn lists_go_there_and_back_by_xor(rt: HostRuntime) {
+    assert!(rt; go_there_and_back(&XorKey::new(&[0x0f; 8]), &XORED, &CHAINED));
+}
+
+// By hand: the bytes in the opposite order; a block of zeros in a chain becomes the answer before
+// it, from its end.
+const ONE_TO_EIGHT: [u8; 8] = [1, 2, 3, 4, 5, 6, 7, 8];
+
+const EIGHT_TO_ONE: [u8; 8] = [8, 7, 6, 5, 4, 3, 2, 1];
+
+const REVERSED: List = [*b"cfuq ehT", *b" nworb k", *b"pmuj xof"];
+
+fn chains_by_reversal() -> bool {
+    let mut blocks = [ONE_TO_EIGHT, [0; 8]];
+    chain(&Reverse, &[0; 8], &mut blocks);
+    let is_chained = blocks == [EIGHT_TO_ONE, ONE_TO_EIGHT];
+    unchain(&Reverse, &[0; 8], &mut blocks);
+    is_chained && blocks == [ONE_TO_EIGHT, [0; 8]]
+}
+
+fn lists_are_reversed() -> bool {
+    list_goes_there_and_back(&Reverse, 3, &REVERSED)
+        && list_goes_there_and_back(&Reverse, 0, &REVERSED)
+        && answers_into_others(&Reverse, REVERSED[0])
+}
+
+#[test]
+fn lists_go_there_and_back_by_reversal(rt: HostRuntime) {
+    assert!(rt; lists_are_reversed() && chains_by_reversal());
+}
