@@ -14,7 +14,7 @@ use Rattle.cukvashe.specs.declared.fault.Kind.TheVariants.{KeyText, Field as Fie
 use Rattle.cukvashe.specs.declared.key_block_program.KeyBlockNames.{KeyBlockNames}
 use Rattle.cukvashe.specs.declared.key_block_program.KeyBlockRequest.{KeyBlockRequest}
 use Rattle.cukvashe.specs.KeyBlockLines.{AnswersKeyBlock, FailsAsKeyBlock}
-use Rattle.cukvashe.specs.Written.{IsShown}
+use Rattle.cukvashe.specs.Written.{Saying, IsShown}
 
 -- ---- what faults are about
 
@@ -70,9 +70,9 @@ pub record IsOutcome (request : KeyBlockRequest) (protection text random : List 
   pub told : IsTold request result outcome
 
 -- a run of a command on the digits of a key and on a text: the lines or the fault were shown, and the status says which
-pub record IsKeyBlockRun {W E : Type 0} (out_contents : W → Option (List ℕ)) (err_contents : E → Option (List ℕ))
-    (request : KeyBlockRequest) (protection text random : List ℕ) (status : ℕ)
+pub record IsKeyBlockRun {W E : Type 0} (Says : Saying) (out_contents : W → Option (List ℕ))
+    (err_contents : E → Option (List ℕ)) (request : KeyBlockRequest) (protection text random : List ℕ) (status : ℕ)
     (out_old out_new : W) (err_old err_new : E) : Type 0 where
   pub outcome : Result (Vec ℕ Global) Fault
   pub answers : IsOutcome request protection text random outcome
-  pub shown : IsShown out_contents err_contents outcome status out_old out_new err_old err_new
+  pub shown : IsShown Says out_contents err_contents outcome status out_old out_new err_old err_new

@@ -12,11 +12,10 @@ use Rattle.cukvashe.specs.declared.request.Form.TheVariants.{Encode, Pin}
 use Rattle.cukvashe.specs.declared.command.Beside.{Beside}
 use Rattle.cukvashe.specs.Answers.{status_after}
 use Rattle.cukvashe.specs.CheckDigits.{lacks_check_digit}
-use Rattle.cukvashe.specs.Faults.{line_of}
 use Rattle.cukvashe.specs.Lines.{IsLine, FailsAs}
 use Rattle.cukvashe.specs.PinLines.{is_question}
 use Rattle.cukvashe.specs.Requests.{command_of, about_of}
-use Rattle.cukvashe.specs.Written.{AppendsPrefix, IsShown}
+use Rattle.cukvashe.specs.Written.{Saying, AppendsLinePrefix, IsShown}
 
 -- what a fault of a fill digit is about: the option that gives it, or the block that has it
 abbrev pub fill_name : Form → List ℕ → List ℕ
@@ -60,10 +59,10 @@ abbrev pub needs_notice : LineRequest → List ℕ → Bool
 needs_notice request account = not request.refuses && lacks_check_digit account
 
 -- the error writer then took the line that tells of it, or a prefix of that; else it stays as it is
-abbrev pub IsNoticed : {E : Type 0} → (E → Option (List ℕ)) → LineRequest → List ℕ → E → E → Type 0
-IsNoticed err_contents request account err_old err_new =
+abbrev pub IsNoticed : {E : Type 0} → Saying → (E → Option (List ℕ)) → LineRequest → List ℕ → E → E → Type 0
+IsNoticed Says err_contents request account err_old err_new =
     (IsTrue (needs_notice request account)
-    → AppendsPrefix (err_contents err_old) (err_contents err_new) (line_of CheckDigit request.names.account.now))
+    → AppendsLinePrefix Says CheckDigit request.names.account.now (err_contents err_old) (err_contents err_new))
     × (needs_notice request account ≡ false → err_new ≡ err_old)
 
 -- the answer is no: it is to a question, and its line says that the PIN is wrong
@@ -73,15 +72,15 @@ IsNo form outcome = ⊥
 
 -- a run of a command by what is read beside its input and by the text of that: the check digit was told of where that is
 -- due, and then the line or the fault was shown; the status says which, and whether the answer is no
-pub record IsLineRun {W E : Type 0} (out_contents : W → Option (List ℕ)) (err_contents : E → Option (List ℕ))
-    (request : LineRequest) (beside : Beside) (text : List ℕ) (status : ℕ)
+pub record IsLineRun {W E : Type 0} (Says : Saying) (out_contents : W → Option (List ℕ))
+    (err_contents : E → Option (List ℕ)) (request : LineRequest) (beside : Beside) (text : List ℕ) (status : ℕ)
     (out_old out_new : W) (err_old err_new : E) : Type 0 where
   pub outcome : Result (Vec ℕ Global) Fault
   pub answers : IsOutcome request beside text outcome
   pub noticed : E
-  pub notice : IsNoticed err_contents request beside.account.now err_old noticed
+  pub notice : IsNoticed Says err_contents request beside.account.now err_old noticed
   pub written : ℕ
-  pub shown : IsShown out_contents err_contents outcome written out_old out_new noticed err_new
+  pub shown : IsShown Says out_contents err_contents outcome written out_old out_new noticed err_new
   pub no : Bool
   pub means : IsTrue no ↔ IsNo request.form outcome
   pub ended : status ≡ status_after written no

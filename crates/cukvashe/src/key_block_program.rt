@@ -9,6 +9,7 @@ use crate::inputs::{RANDOM_SOURCE, system_random};
 use crate::key_block_lines::{RANDOM, key_block_lines};
 use crate::report::show;
 use crate::request::Request;
+use crate::sentences::{English, Sentences};
 use crate::source::{Source, bytes_of, text_of};
 use des_payment::key_block_error::KeyBlockError;
 use std::alloc::Global;
@@ -129,7 +130,7 @@ fn outcome_of<'a>(
 /// Writes the lines of a command on key blocks to `out`, or the line of its fault to `err`. Gives the
 /// status that the program ends with: 0 where all the lines were written, 4 where they were not, or
 /// that of the fault.
-pub fn run_key_block<W: Write, E: Write>(
+pub fn run_key_block<S: Sentences, W: Write, E: Write>(
     alloc: Global,
     request: KeyBlockRequest,
     protection: &[u8],
@@ -138,11 +139,11 @@ pub fn run_key_block<W: Write, E: Write>(
     out: &mut W,
     err: &mut E,
 ) -> u8
-    ensures { IsKeyBlockRun W.contents E.contents request.entry protection.now text.now random.now
-        result out.old out.new err.old err.new }
+    ensures { IsKeyBlockRun S.says W.contents E.contents request.entry protection.now text.now
+        random.now result out.old out.new err.old err.new }
 {
     let outcome = outcome_of(alloc, request, protection, text, random);
-    show(&outcome, out, err)
+    show::<S, W, E>(&outcome, out, err)
 }
 
 // ---- what is read
@@ -226,7 +227,7 @@ pub fn key_block_status<'a>(
     let random = random_for(rt, command).map_err(|kind| about(kind, RANDOM_SOURCE))?;
     let text = input.as_slice().trim_ascii();
     let command = command_for(command, text);
-    Ok(run_key_block(
+    Ok(run_key_block::<English, _, _>(
         rt.alloc(),
         KeyBlockRequest { command, names },
         protection.as_slice(),

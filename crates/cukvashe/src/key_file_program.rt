@@ -4,6 +4,7 @@ use crate::fault::{Fault, FileFault, Kind};
 use crate::key_block_lines::shown_name;
 use crate::key_files::{decrypted_key, is_der, object_identifier, pem_text};
 use crate::report::tell;
+use crate::sentences::English;
 use crate::source::bytes_of;
 use crate::stream_request::{KeyFileRequest, KeyForm};
 use crate::streams_program::{output_name, password_in, refuse_terminal, tell_line, write_secret};
@@ -33,7 +34,7 @@ fn tell_name(rt: &HostRuntime, fault: FileFault, input: &str, name: &str) -> Res
         kind: Kind::File(fault),
         about: about.as_str(),
     };
-    Ok(tell(fault, &mut rt.stderr()))
+    Ok(tell::<English, _>(fault, &mut rt.stderr()))
 }
 
 // Tells a fault about the input and an object identifier in it.

@@ -16,6 +16,7 @@ use crate::lines::line_of_command;
 use crate::pin_lines::WRONG;
 use crate::report::{report, show};
 use crate::request::{Form, Names, about_of, command_of};
+use crate::sentences::Sentences;
 use std::alloc::Global;
 use std::io::Write;
 
@@ -100,11 +101,11 @@ fn needs_notice(request: LineRequest, account: &[u8]) -> bool
 
 // Writes the line of the check digit to `err`, where it is needed. A line that can't be written is
 // no fault.
-fn tell_check_digit<E: Write>(request: LineRequest, account: &[u8], err: &mut E)
-    ensures { IsNoticed E.contents request.entry account.now err.old err.new }
+fn tell_check_digit<S: Sentences, E: Write>(request: LineRequest, account: &[u8], err: &mut E)
+    ensures { IsNoticed S.says E.contents request.entry account.now err.old err.new }
 {
     if needs_notice(request, account) {
-        let _ = report(
+        let _ = report::<S, E>(
             Fault {
                 kind: Kind::CheckDigit,
                 about: request.names.account,
@@ -141,7 +142,7 @@ fn is_no(form: Form, outcome: &Result<Vec<u8>, Fault>) -> bool
 /// `beside` what is read beside that. A notice on a wrong check digit is written to `err` first,
 /// unless that is a fault. Gives the status that the program ends with: 0 where the whole line was
 /// written, and 1 where that says that a PIN is wrong; 4 where it was not, or that of the fault.
-pub fn run_line<W: Write, E: Write>(
+pub fn run_line<S: Sentences, W: Write, E: Write>(
     alloc: Global,
     request: LineRequest,
     beside: Beside,
@@ -150,11 +151,11 @@ pub fn run_line<W: Write, E: Write>(
     err: &mut E,
 ) -> u8
     requires { length text.now ≤ LONGEST_TEXT }
-    ensures { IsLineRun W.contents E.contents request.entry beside.entry text.now result
-        out.old out.new err.old err.new }
+    ensures { IsLineRun S.says W.contents E.contents request.entry beside.entry text.now
+        result out.old out.new err.old err.new }
 {
-    tell_check_digit(request, beside.account, err);
+    tell_check_digit::<S, E>(request, beside.account, err);
     let outcome = outcome_of(alloc, request, beside, text);
     let no = is_no(request.form, &outcome);
-    status_of(show(&outcome, out, err), no)
+    status_of(show::<S, W, E>(&outcome, out, err), no)
 }

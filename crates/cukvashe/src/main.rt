@@ -27,6 +27,7 @@ mod program;
 mod progress;
 mod report;
 mod request;
+mod sentences;
 mod source;
 mod stream_request;
 mod streams;

@@ -18,6 +18,7 @@ use crate::line::{LineRequest, run_line};
 use crate::mac::{Method, tag_of};
 use crate::report::show;
 use crate::request::{Account, Form, Names, Question, Request, Task};
+use crate::sentences::English;
 use crate::source::{Source, text_of};
 use crate::stream_request::{Password, StreamRequest};
 use crate::streams_program::{refuse_terminal, run_password, run_stream};
@@ -118,7 +119,7 @@ fn account_in<'a>(rt: &HostRuntime, account: Account<'a>) -> Result<Vec<u8>, Fau
 fn write_line(rt: &HostRuntime, line: LineRequest, beside: Beside, text: &[u8]) -> u8
     requires { length text.now ≤ LONGEST_TEXT }
 {
-    run_line(
+    run_line::<English, _, _>(
         rt.alloc(),
         line,
         beside,
@@ -318,7 +319,7 @@ fn password_status<'a>(
 
 // Writes a text or the line of a fault, and gives the status.
 fn show_on(rt: &HostRuntime, outcome: Result<Vec<u8>, Fault>) -> u8 {
-    show(&outcome, &mut rt.stdout(), &mut rt.stderr())
+    show::<English, _, _>(&outcome, &mut rt.stdout(), &mut rt.stderr())
 }
 
 fn show_answer(rt: &HostRuntime, answer: Answer) -> u8 {

@@ -3,10 +3,11 @@
 ghost use Rattle.std.specs.Prelude.{◌≡◌, List, ℕ, OnOk};
 ghost use Rattle.std.specs.List.{flat_map};
 ghost use Rattle.std.specs.Io.KnownBytes.{Appends};
-ghost use Rattle.cukvashe.specs.Faults.{line_with, line_of, separator_of};
-ghost use Rattle.cukvashe.specs.Written.{AppendsPrefix, IsTold, IsShown};
+ghost use Rattle.cukvashe.specs.Faults.{line_with, separator_of};
+ghost use Rattle.cukvashe.specs.Written.{AppendsPrefix, AppendsLine, AppendsLinePrefix, IsTold, IsShown};
 
 use crate::fault::{Fault, Kind, Reason};
+use crate::sentences::Sentences;
 use std::io::{self, Error, ErrorKind, Write};
 
 // The status of a result that was written.
@@ -86,20 +87,20 @@ pub fn write_line<E: Write>(
 }
 
 /// Writes the line of a fault.
-pub fn report<E: Write>(fault: Fault, err: &mut E) -> io::Result<()>
-    ensures part { AppendsPrefix (E.contents err.old) (E.contents err.new)
-        (line_of fault.entry.kind fault.entry.about.now) }
-    ensures whole { OnOk result (Appends (E.contents err.old) (E.contents err.new)
-        (line_of fault.entry.kind fault.entry.about.now)) }
+pub fn report<S: Sentences, E: Write>(fault: Fault, err: &mut E) -> io::Result<()>
+    ensures part { AppendsLinePrefix S.says fault.entry.kind fault.entry.about.now
+        (E.contents err.old) (E.contents err.new) }
+    ensures whole { OnOk result (AppendsLine S.says fault.entry.kind fault.entry.about.now
+        (E.contents err.old) (E.contents err.new)) }
 {
-    write_line(fault.kind.name(), fault.about, fault.kind.words(), err)
+    write_line(fault.kind.name(), fault.about, S::sentence(fault.kind), err)
 }
 
 /// Writes the line of a fault, and gives its status. A line that can't be written changes no status.
-pub fn tell<E: Write>(fault: Fault, err: &mut E) -> u8
-    ensures { IsTold E.contents fault.entry.kind fault.entry.about.now result err.old err.new }
+pub fn tell<S: Sentences, E: Write>(fault: Fault, err: &mut E) -> u8
+    ensures { IsTold S.says E.contents fault.entry.kind fault.entry.about.now result err.old err.new }
 {
-    let _ = report(fault, err);
+    let _ = report::<S, E>(fault, err);
     fault.kind.status()
 }
 
@@ -107,8 +108,12 @@ pub fn tell<E: Write>(fault: Fault, err: &mut E) -> u8
 /// ends with: 0 where the whole result was written, that of the fault `Write` where it was not, and
 /// that of the fault. No clause says that `Write` is told only where `out` failed, since std has no
 /// word for that; runs of the program show it.
-pub fn show<W: Write, E: Write>(outcome: &Result<Vec<u8>, Fault>, out: &mut W, err: &mut E) -> u8
-    ensures { IsShown W.contents E.contents outcome.now result out.old out.new err.old err.new }
+pub fn show<S: Sentences, W: Write, E: Write>(
+    outcome: &Result<Vec<u8>, Fault>,
+    out: &mut W,
+    err: &mut E,
+) -> u8
+    ensures { IsShown S.says W.contents E.contents outcome.now result out.old out.new err.old err.new }
 {
     match outcome {
         Ok(text) => match send(out, text.as_slice()) {
@@ -118,9 +123,9 @@ pub fn show<W: Write, E: Write>(outcome: &Result<Vec<u8>, Fault>, out: &mut W, e
                     kind: Kind::Write(Reason::of(&error)),
                     about: "standard output",
                 };
-                tell(fault, err)
+                tell::<S, E>(fault, err)
             }
         },
-        Err(fault) => tell(*fault, err),
+        Err(fault) => tell::<S, E>(*fault, err),
     }
 }

@@ -11,6 +11,7 @@ use crate::notices::accept_key;
 use crate::output::{self, NewFile, Target, write_fault};
 use crate::password_streams::{PREFIX, PasswordJob, check_password, first_line, run_by_password};
 use crate::report::{send, tell};
+use crate::sentences::English;
 use crate::source::{LONGEST_TEXT, Source, bytes_of, shown};
 use crate::stream_request::{Output, Part, Password, StreamRequest, Vector, blocks_before};
 use crate::streams::{self, Job};
@@ -304,7 +305,7 @@ pub fn tell_line(rt: &HostRuntime, kind: Kind, input: &str, line: usize) -> Resu
         kind,
         about: about.as_str(),
     };
-    Ok(tell(fault, &mut rt.stderr()))
+    Ok(tell::<English, _>(fault, &mut rt.stderr()))
 }
 
 // Reads Base64, and does the work of a password with its bytes.

@@ -4,6 +4,7 @@
 use crate::arguments::{names_of, parse};
 use crate::fault::{Fault, Kind, Misuse};
 use crate::report::{show, tell};
+use crate::sentences::English;
 use clap::error::ErrorKind;
 use std::alloc::AllocError;
 
@@ -20,7 +21,7 @@ pub fn memory_fault<'a>() -> Fault<'a> {
 // Help and the version go to standard output.
 fn show_help(rt: &HostRuntime, error: &clap::Error) -> Result<u8, AllocError> {
     let text = format!(in rt.alloc(); "{error}")?;
-    Ok(show(&Ok(text.into_bytes()), &mut rt.stdout(), &mut rt.stderr()))
+    Ok(show::<English, _, _>(&Ok(text.into_bytes()), &mut rt.stdout(), &mut rt.stderr()))
 }
 
 // Whether a message of this kind has no word of the command line but options' names.
@@ -76,7 +77,7 @@ fn tell_hidden(rt: &HostRuntime, error: &clap::Error, words: &[&str]) -> Result<
         kind: Kind::Usage(Misuse::Arguments),
         about,
     };
-    let status = tell(fault, &mut rt.stderr());
+    let status = tell::<English, _>(fault, &mut rt.stderr());
     let _ = eprint!(rt; "\n{usage}");
     Ok(status)
 }
@@ -111,6 +112,6 @@ fn show_by_kind(rt: &HostRuntime, error: &clap::Error, words: &[&str]) -> Result
 pub fn show_usage(rt: &HostRuntime, error: &clap::Error, words: &[&str]) -> u8 {
     match show_by_kind(rt, error, words) {
         Ok(status) => status,
-        Err(_) => tell(memory_fault(), &mut rt.stderr()),
+        Err(_) => tell::<English, _>(memory_fault(), &mut rt.stderr()),
     }
 }
