@@ -192,6 +192,6 @@ pub(super) fn answer_lanes_part<S: Slice>(blocks: &mut [[u8; 8]], passes: &[Pass
     }
     let mut answers = [[0; 8]; LARGEST_BATCH];
     answers[..blocks.len()].copy_from_slice(blocks);
-    answer_lanes(&mut answers[..S::BATCH], passes);
+    answer_filled(&mut answers, passes);
     blocks.copy_from_slice(&answers[..blocks.len()]);
 }

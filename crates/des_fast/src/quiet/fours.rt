@@ -66,12 +66,12 @@ fn chosen(first: u64, second: u64, third: u64, fourth: u64) -> u8x32
         ≡ bits_of 4 (box_entry (box_of_byte i) (bits_of 6 (slice_index (to_be_bytes w64 fourth) i))) }
 {
     let bytes: u8x32 = u64x4::from_array([first, second, third, fourth]).to_le_bytes();
-    let first = mask(bytes, 32);
-    let second = mask(bytes, 16);
-    let third = mask(bytes, 8);
-    let fourth = mask(bytes, 4);
-    let fifth = mask(bytes, 2);
     let sixth = mask(bytes, 1);
+    let fifth = mask(bytes, 2);
+    let fourth = mask(bytes, 4);
+    let third = mask(bytes, 8);
+    let second = mask(bytes, 16);
+    let first = mask(bytes, 32);
     let with_last = sum_of_sixteen(0, third, fourth, fifth, sixth);
     let with_first = sum_of_sixteen(16, third, fourth, fifth, sixth);
     in_half(sum(with_last, second, with_first), first)
