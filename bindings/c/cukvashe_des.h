@@ -49,6 +49,16 @@
  * tested: nothing is claimed there of addresses and branches. A call uses at most 27,000 bytes of the stack; those of
  * transaction keys, of records and of the MACs of many messages at most 66,000. This is tested on both.
  *
+ * SECRETS ON THE STACK
+ *
+ * A call that is given or gives a key, a password or a PIN itself writes zeros, before it returns, over the part of the
+ * stack that it used. Calls with a context do not, since single blocks would take much longer: ECB, CBC and records, and
+ * update, final and verify of MACs. Below the frame of their caller they may leave round keys and parts of blocks, until
+ * other calls write over them; init and init_quiet leave none. Registers are not wiped, and may hold parts of keys when
+ * any call returns. Who writes registers down may write these: a signal; and a program that binds calls of the C library
+ * when they are first made, within calls of this one too. Link the static library with -z now; the shared one is bound
+ * when it is loaded.
+ *
  * WHAT IS PROVED
  *
  * Each call is proved safe, and proved to answer as this header says, if you uphold the above: ciphers as FIPS 46-3
@@ -57,7 +67,7 @@
  * values: their rules are the words below. cukvashe_bytes_to_key and cukvashe_NAME_open_salted follow OpenSSL. Tested and
  * not proved are the few lines of C in the library: they choose the width of the vectors, hand the arguments of some
  * calls to proved ones in another order, make of the length of a list its number of blocks, and of a part of a key block
- * its place, and are cukvashe_wipe, cukvashe_strerror and cukvashe_version.
+ * its place, wipe the stack, and are cukvashe_wipe, cukvashe_strerror and cukvashe_version.
  */
 #ifndef CUKVASHE_DES_H
 #define CUKVASHE_DES_H

@@ -1,5 +1,6 @@
 /* How much of the stack each call of the header uses, beside what the header says: each runs in a thread of its own, whose stack was
-   written over with one byte before, and the lowest place that has changed tells how far it came. */
+   written over with one byte before, and the lowest place that has changed tells how far it came. And what is left there by calls that
+   take or give a key: zeros. */
 #define _POSIX_C_SOURCE 200809L
 #include "mac_calls.h"
 #include <pthread.h>
@@ -9,6 +10,10 @@ enum { STACK = 1 << 18, LIST = 300, PAINT = 0xa5 };
 /* What the header says, in bytes. */
 enum { LIMIT = 27000, LIMIT_OF_LISTS = 66000 };
 
+/* Nearer than NEAR are frames of the test and of the C that wipes, and within LAST of the lowest place one of what writes the zeros: there
+   addresses may stand, but no parts of secrets, of as many bytes. */
+enum { NEAR = 512, LAST = 64, PART = 4 };
+
 /* One call, by the test of its kind, or none. */
 struct work {
   void (*run)(const struct work *);
@@ -16,8 +21,9 @@ struct work {
   size_t count;
 };
 
-static uint8_t key[24], iv[8], blocks[8 * LIST], others[8 * LIST];
+static uint8_t key[24], keys[24 * LIST], iv[8], blocks[8 * LIST], others[8 * LIST];
 static char pin[CUKVASHE_PIN_SIZE], value[CUKVASHE_PVV_SIZE];
+static const char digits[] = "123456789012"; /* a PIN */
 static uint8_t sent[8]; /* a PIN block that is encrypted under the key, so that it is translated */
 static cukvashe_dukpt_terminal terminal;
 static union context context;
@@ -100,7 +106,6 @@ static void of_key(const struct work *work) {
 enum { OF_LIST = 3 };
 
 static void of_list(const struct work *work) {
-  static uint8_t keys[24 * LIST];
   const size_t count = work->count;
   switch (3 * work->call + work->number) {
     case 0: returned = cukvashe_des_encrypt_each(keys, count, blocks, 8 * count); break;
@@ -121,7 +126,6 @@ enum { OF_RECORD = 19 };
 static void of_record(const struct work *work) {
   static size_t sizes[LIST];
   static cukvashe_message messages[LIST];
-  static uint8_t keys[24 * LIST];
   static bool right[LIST];
   const size_t count = work->count;
   for (size_t i = 0; i < count; i++) {
@@ -155,7 +159,7 @@ static void of_record(const struct work *work) {
 enum { OF_TEXT = 20, OF_BLOCK = 4, OF_PASSWORD = 5 };
 
 static void of_text(const struct work *work) {
-  static const char *const account = "4012345678909", *const digits = "123456789012";
+  static const char *const account = "4012345678909";
   static const uint8_t fill[10] = {10, 11, 12, 13, 14, 15, 10, 11, 12, 13};
   static cukvashe_decimal_table table;
   size_t length;
@@ -235,9 +239,47 @@ static void of_password(const struct work *work) {
   }
 }
 
+/* Whether a call must leave no key: one that takes a context may, and one that takes no key has none. */
+static bool wipes(const struct work *work) {
+  if (work->run == of_cipher) return work->call < INITS + 1;
+  if (work->run == of_mac) return work->call < INITS;
+  if (work->run == of_record) return work->call >= 6;
+  return work->run != no_call && (work->run != of_block || work->call < 2);
+}
+
+/* What is below the stack pointer after a call: bytes that are neither as they were nor zeros, and parts of secrets. */
+static size_t bytes_left, parts_left;
+
+/* It looks in the frame of its caller, since a frame of its own would lie over what it looks at. */
+static inline __attribute__((always_inline)) void look_below(const uint8_t *pointer) {
+  static const uint8_t digits_of_pin[] = {0x12, 0x34, 0x56, 0x78, 0x90, 0x12};
+  const uint8_t *const secrets[] = {key, others, (const uint8_t *)digits, digits_of_pin};
+  static const size_t sizes[] = {sizeof key, sizeof key, 12, sizeof digits_of_pin};
+  const uint8_t *low = stack;
+  while (low < pointer && *low == PAINT) low++;
+  for (const uint8_t *at = low + LAST; at < pointer - NEAR; at++) bytes_left += *at != 0 && *at != PAINT;
+  for (size_t secret = 0; secret < sizeof sizes / sizeof *sizes; secret++)
+    for (size_t i = 0; i + PART <= sizes[secret]; i++) {
+      uint32_t part, word;
+      memcpy(&part, secrets[secret] + i, PART);
+      for (const uint8_t *at = low; at + PART <= pointer && part != 0; at++) {
+        memcpy(&word, at, PART);
+        parts_left += word == part;
+      }
+    }
+}
+
 static void *run(void *given) {
   struct work *work = (struct work *)given;
+  const uint8_t *pointer;
+  bytes_left = parts_left = 0;
   work->run(work);
+#ifdef __x86_64__
+  __asm__ __volatile__("mov %%rsp, %0" : "=r"(pointer));
+#else
+  __asm__ __volatile__("mov %0, sp" : "=r"(pointer));
+#endif
+  if (wipes(work)) look_below(pointer);
   return NULL;
 }
 
@@ -260,7 +302,7 @@ static size_t none, most;
 static void measure_within(size_t limit, void (*test)(const struct work *), int call, int number, int way, size_t count) {
   struct work work = {test, call, number, way, count};
   size_t used = used_by(&work) - none;
-  CHECK(used <= limit);
+  CHECK(used <= limit && bytes_left == 0 && parts_left == 0);
   if (used > most) most = used;
 }
 
@@ -292,18 +334,43 @@ static void measure_lists(void) {
   }
 }
 
+#ifdef FORCED
+extern __typeof__(cukvashe_key_block_unwrap) cukvashe_unwiped_key_block_unwrap;
+
+static void unwiped(const struct work *work) {
+  static cukvashe_key_block_fields read;
+  static char block[CUKVASHE_KEY_BLOCK_SIZE];
+  static size_t size, length;
+  const cukvashe_key_block_fields header = {'B', "P0", 'T', 'E', "00", 'E'};
+  (void)work;
+  CHECK(cukvashe_key_block_wrap(key, 24, &header, NULL, 0, key, 24, keys, 6, block, sizeof block, &size) == CUKVASHE_OK);
+  CHECK(cukvashe_unwiped_key_block_unwrap(key, 24, block, size, &read, others, &length) == CUKVASHE_OK);
+}
+
+/* Without the C that wipes, the test must see a whole key. */
+static void sees_a_key(void) {
+  struct work work = {unwiped, 0, 0, 0, 0};
+  (void)used_by(&work);
+  CHECK(bytes_left > 0 && parts_left > sizeof key - PART);
+}
+#else
+static void sees_a_key(void) {}
+#endif
+
 int main(void) {
   void *aligned;
   struct work nothing = {no_call, 0, 0, 0, 0};
   CHECK(posix_memalign(&aligned, 4096, STACK) == 0);
   stack = (uint8_t *)aligned;
   random_bytes(key, sizeof key);
+  random_bytes(keys, sizeof keys);
   random_bytes(others, sizeof others);
   CHECK(cukvashe_pin_encode_0("1234", 4, "4012345678909", 13, sent) == CUKVASHE_OK);
   CHECK(ciphers[EDE3].init(&context, key, sizeof key) == CUKVASHE_OK);
   CHECK(cukvashe_tdes_ede3_encrypt_ecb(&context.tdes_ede3, sent, sizeof sent) == CUKVASHE_OK);
   (void)used_by(&nothing); /* the first thread takes more, since names are bound in it */
   none = used_by(&nothing);
+  sees_a_key();
   for (int cipher = 0; cipher < CIPHERS; cipher++)
     for (int init = 0; init < INITS; init++) measure_cipher(cipher, init);
   printf("stack: at most %zu bytes by calls of ciphers", most);
