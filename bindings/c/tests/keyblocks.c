@@ -89,6 +89,18 @@ static void opens_known_blocks(void) {
   }
 }
 
+/* The key of the fourth known block with optional blocks whose lengths have two digits, or four after two or four. */
+static const char *const spelled[] = {
+    "B0096P0TE00E0200KS0CABCDEFGHPB047CE93E8020BF367E9A537B92F710594D004F302175072498F13F8E1370341521",
+    "B0096P0TE00E0200KS0002000CABPB047D57DA7BB5D8C417CCFDC516C7AFF9E7DA626BFDBD0CF15FE9AA7C6FA8EB6F47",
+    "B0096P0TE00E0200KS0004000CABPB048CA7CEC1AAD8C356DA18F5F27B06CDBECB3C5A67EFF81B59067F1C05599AC0FD",
+    "B0088P0TE00E0200KS04PB04061B942EDC6E69B20756E84767F033477BBE194DB8D5A51C9C5B0F36229774A7",
+};
+
+static void opens_each_spelling(void) {
+  for (size_t i = 0; i < sizeof spelled / sizeof *spelled; i++) CHECK(holds(known[3].protection, spelled[i], known[3].key));
+}
+
 /* The optional block of a known block at a place. */
 static int optional_is(int block, size_t place, const char *name, const char *content) {
   char read_name[3];
@@ -173,12 +185,55 @@ static const struct {
     {5, 'K', CUKVASHE_ERR_KEY_BLOCK_MAC},     {11, 'S', CUKVASHE_ERR_KEY_BLOCK_MAC},   {9, '1', CUKVASHE_ERR_KEY_BLOCK_MAC},
 };
 
-/* Of these the key data, authenticated, say a length of 15 bytes, of 0 and of 24 where there are fewer. */
+/* Of these the key data, authenticated, say a length that is no key's, or that of more bytes than there are. */
 static const char *const no_keys[] = {
     "B0080P0TE00E000046AD3EFD0DCF51A1FFDD4D468C4DC235EC217D6B8557FF68335F3126A5C1C8B5",
     "B0080P0TE00E0000809B509B7A4DEE8998BCF59CFC0FCFB65C9067A7E3F6763D6F2215D796C88D94",
     "B0080P0TE00E00005C149CA6FB89E70ED78FDF23C3C11C0AD78A849929B41BF512D7545FB841EB5C",
+    "B0048P0TE00E0000FCA5753C0C73955BB13C761563A1602E",
+    "B0048P0TE00E0000D928110D6BFE2E949C3C8097C3B13C34",
+    "B0080P0TE00E00002BEA116FC20C815182CAC1038F631AA85B797343DF66C343E076FBD83D14A2F1",
 };
+
+/* The spellings with a wrong character, or a wrong number of optional blocks, also authenticated. */
+static const char *const wrong_optional[] = {
+    "B0087P0TE00E0100KS07ABCB9D1A4E6D2C79CE9BF0D238A5ED7BCF909090A6A15F986573A5D59D899933B30",
+    "B0088P0TE00E0100KS03ABCD6CF21EFC134C8963C89B1616037A69B5ABEAA82510453E711557EB21952F7018",
+    "B0096P0TE00E0200KS0cABCDEFGHPB041C8ED102E4A59B0ABE4AAF083BFC0A0465E69FCD16034FEA3195F5B9342470AB",
+    "B0096P0TE00E0200KS0001000CABPB0400BB30B0162DFF6D8C125C52448FE3B2DAE033A29A91300D32D23089F0B441E2",
+    "B0096P0TE00E0200KS0003000CABPB0475734EAF88C1412340CD40F9A073713D5E0F4027FDF7A028376207E33F663687",
+    "B0096P0TE00E0200KS00020009ABPB04BAECB2389DE638C3AEDF78AD41504D0CACDEC3B6850A190910C8A149C2E36BF3",
+    "B0096P0TE00E0200KS0002000cABPB0423CAC2C3AD256F9E887F65F7C8807DB5076AFE8E1067804A2827D3BD37BF308E",
+    "B0088P0TE00E0100KSFFABCD081551BA0A3C0DD3CAF12B233703E3C8E3CBAB50DFD78EEFF729C218CB61C46E",
+    "B0088P0TE00E0200KS04PB059AC267216E0006B4ED0AD2F611691CDF190AF7CDF1930FB01E1E2C5B28677DC7",
+    "B0088P0TE00E0100KS04PB0452FB5424316158CA08F61E407EBF8CAF53496CF533F426679308E00CD7892A92",
+    "B0088P0TE00E0300KS04PB040C6FA53E7229D97224F79D9FC0CF8424DCA6B6DDDE9CE10D30BD731F45D803E6",
+};
+
+/* No key data or eight bytes too many, and two digits too many. */
+static const char *const wrong_lengths[] = {
+    "B0032P0TE00E0000ABFC65D39D1CFB31",
+    "B0112P0TE00E0000B1BE6ADB6C98299E9FA30F08869E77A8B182A7EBBFE1C813FA053186250139F922BABBCC550C4082E4E75AC76E02CB3F",
+    "C0024P0TE00E0000FA0FF436",
+    "C0104P0TE00E0000AE250F58B13B0D96D4EB5A41970F440734FE41AC61D6F250775184928B230D984D86CDB01A3FABD3E9AF0BCE",
+    "B0082P0TE00E000094B420079CC80BA3461F86FE26EFC4A3B8E4FA4C5F5341176EED7B727B8A248E00",
+};
+
+/* A known block with each bit turned, and, of the fourth, each other character in each place. */
+static void refuses_changes(int i) {
+  const size_t length = strlen(known[i].block);
+  char changed[128];
+  CHECK(length < sizeof changed);
+  strcpy(changed, known[i].block);
+  for (size_t place = 0; place < length; place++) {
+    for (int mask = 1; mask < 256; mask = i == 3 ? mask + 1 : 2 * mask) {
+      struct opened opened;
+      changed[place] = (char)(known[i].block[place] ^ mask);
+      CHECK(unwrap(known[i].protection, changed, length, &opened) != CUKVASHE_OK && is_kept(&opened, sizeof opened));
+    }
+    changed[place] = known[i].block[place];
+  }
+}
 
 static void refuses_blocks(void) {
   const char *protection = known[3].protection, *block = known[3].block;
@@ -188,19 +243,16 @@ static void refuses_blocks(void) {
     changed[changes[i].place] = changes[i].character;
     refuses(protection, changed, 80, changes[i].status);
   }
-  for (size_t i = 0; i < 3; i++) refuses(protection, no_keys[i], 80, CUKVASHE_ERR_KEY_LENGTH);
+  for (size_t i = 0; i < sizeof no_keys / sizeof *no_keys; i++) refuses(protection, TEXT(no_keys[i]), CUKVASHE_ERR_KEY_LENGTH);
+  for (size_t i = 0; i < sizeof wrong_optional / sizeof *wrong_optional; i++)
+    refuses(protection, TEXT(wrong_optional[i]), CUKVASHE_ERR_OPTIONAL_BLOCK);
+  for (size_t i = 0; i < sizeof wrong_lengths / sizeof *wrong_lengths; i++)
+    refuses(protection, TEXT(wrong_lengths[i]), CUKVASHE_ERR_KEY_DATA_LENGTH);
   for (size_t length = 0; length < 80; length++) refuses(protection, block, length, CUKVASHE_ERR_KEY_BLOCK_LENGTH);
   refuses(protection, block, 81, CUKVASHE_ERR_KEY_BLOCK_LENGTH); /* with its zero byte */
   refuses(protection, NULL, 0, CUKVASHE_ERR_KEY_BLOCK_LENGTH);
   refuses(known[4].protection, block, 80, CUKVASHE_ERR_KEY_BLOCK_MAC);
-  for (int place = 0; place < 80; place++)
-    for (int character = 0; character < 256; character++) {
-      struct opened opened;
-      strcpy(changed, block);
-      changed[place] = (char)character;
-      if (changed[place] == block[place]) continue;
-      CHECK(unwrap(protection, changed, 80, &opened) != CUKVASHE_OK && is_kept(&opened, sizeof opened));
-    }
+  for (int i = 0; i < KNOWN; i++) refuses_changes(i);
 }
 
 /* Each wrong length of a protection key, which stands before all faults of the block. */
@@ -391,6 +443,7 @@ static void makes_long_blocks(void) {
 
 int main(void) {
   opens_known_blocks();
+  opens_each_spelling();
   reads_optional_blocks();
   finds_empty_contents();
   finds_far_contents();

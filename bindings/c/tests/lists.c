@@ -349,6 +349,40 @@ static void answers_by_width(int width, int n, size_t count) {
   CHECK(forced[width][n][1](keys, count, put(answers, 8 * count), count) == CUKVASHE_OK && is(plain, 8 * count));
 }
 
+/* The records of `sizes`, in `blocks` blocks. */
+typedef int records_of_width(size_t count, size_t blocks);
+
+#define RECORDS_OF(width, name)                                                                                       \
+  static int width##_##name##_encrypt_records(size_t count, size_t blocks) {                                          \
+    return cukvashe_##width##_##name##_encrypt_cbc_records(&chaining.name, left, count, sizes, count, room + MORE,    \
+                                                           blocks);                                                   \
+  }                                                                                                                   \
+  static int width##_##name##_decrypt_records(size_t count, size_t blocks) {                                          \
+    return cukvashe_##width##_##name##_decrypt_cbc_records(&chaining.name, left, count, sizes, count, room + MORE,    \
+                                                           blocks);                                                   \
+  }
+
+#define RECORDS_OF_ALL(width) RECORDS_OF(width, des) RECORDS_OF(width, tdes_ede2) RECORDS_OF(width, tdes_ede3)
+
+EACH_WIDTH(RECORDS_OF_ALL)
+
+#define RECORDS_BY(width)                                                                                             \
+  {{width##_des_encrypt_records, width##_des_decrypt_records},                                                        \
+   {width##_tdes_ede2_encrypt_records, width##_tdes_ede2_decrypt_records},                                            \
+   {width##_tdes_ede3_encrypt_records, width##_tdes_ede3_decrypt_records}},
+
+static records_of_width *const records_by[][CIPHERS][2] = {EACH_WIDTH(RECORDS_BY)};
+
+static void records_by_width(int width, int n, size_t count) {
+  const size_t blocks = put_sizes(count), length = 8 * blocks;
+  put_records(&ciphers[n], count);
+  put(plain, length);
+  memcpy(left, vectors, sizeof left);
+  CHECK(records_by[width][n][0](count, blocks) == CUKVASHE_OK && is(answers, length) && memcmp(left, next, 8 * count) == 0);
+  memcpy(left, vectors, sizeof left);
+  CHECK(records_by[width][n][1](count, blocks) == CUKVASHE_OK && is(plain, length) && memcmp(left, next, 8 * count) == 0);
+}
+
 typedef int transactions(const uint8_t base[16], const uint8_t *serials, size_t serials_count, uint8_t *made,
                          size_t made_count);
 
@@ -461,6 +495,7 @@ static void by_hidden_calls(void) {
       for (int i = 0; i < COUNTS; i++) {
         answers_by_width(width, n, counts[i]);
         values_by_width(width, n, counts[i]);
+        records_by_width(width, n, counts[i]);
       }
   for (int width = 0; width < count_of_ways() - 1; width++)
     for (int i = 0; i < COUNTS; i++) {
