@@ -7,9 +7,9 @@
 The library is the one in this package's folder, else the file that the environment variable CUKVASHE_DES_LIBRARY names, else
 that of `bindings/build`, else the one that the system finds.
 
-Data are bytes, bytearray, memoryview or anything else with a buffer; they are read once, and never changed but by the calls
-named `_into`, which work in place in anything writable and contiguous. Ciphers take whole blocks of 8 bytes: `pad` and `unpad`
-make them of other data.
+Data are bytes, bytearray, memoryview or anything else with a buffer of bytes, or of words whose most significant byte comes first;
+words in another order, as in array('Q'), are a TypeError. Data are read once, and never changed but by the calls named `_into`, which
+work in place in anything writable and contiguous. Ciphers take whole blocks of 8 bytes: `pad` and `unpad` make them of other data.
 
 Messages are authenticated by objects as those of `hmac`, with `update`, `digest`, `hexdigest`, `copy` and `verify`:
 
@@ -50,6 +50,8 @@ messages, and `wrong_tags` gives the places of the tags that came and are not th
 
 A fault is a ValueError of its own name, an argument of the wrong type a TypeError. The texts of both tell lengths, and no other
 value that was given.
+
+A class that you derive from one of the ciphers or MACs is the same cipher or MAC, whatever attributes it has.
 
 Ciphers and MACs can be shared by threads. `close()` wipes the context of one, and so does the end of a `with` block, or of its
 last use. Python itself can't wipe `bytes` and `str`, neither those that you pass nor those that you get: keys that you pass in

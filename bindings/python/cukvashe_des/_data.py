@@ -6,15 +6,29 @@ import contextlib
 import ctypes
 import re
 from itertools import takewhile
-from typing import TYPE_CHECKING, Any, Iterator, NoReturn, Optional, Tuple, Type, TypeVar, Union
+from typing import TYPE_CHECKING, Any, Callable, Dict, Iterator, NoReturn, Optional, Tuple, Type, TypeVar, Union
 
-from ._faults import BlockLength, Closed, KeyLength, VectorLength
-from ._library import wipe
+from ._faults import BlockLength, Closed, KeyLength, VectorLength, check
+from ._library import INT, POINTER, SIZE, function, wipe
 
 if TYPE_CHECKING:
     from _typeshed import ReadableBuffer, WriteableBuffer
 
+    _Call = Callable[..., Any]
+
 BLOCK_SIZE = 8
+
+
+# Bytes, and words whose most significant byte comes first, as a memoryview names them.
+_IN_ORDER = re.compile("[@=<>!]?[Bbc]|[>!][HhIiLlQq]")
+
+
+def in_order(view: memoryview) -> memoryview:
+    """The view of an object whose items are bytes, or words whose most significant byte comes first. A TypeError where they are
+    others, since the bytes of each item would then be out of order."""
+    if not _IN_ORDER.fullmatch(view.format):
+        raise TypeError("data have items of one byte, or words with the most significant byte first (uint8 or >u8)")
+    return view
 
 
 def bytes_of(data: ReadableBuffer) -> bytes:
@@ -23,13 +37,13 @@ def bytes_of(data: ReadableBuffer) -> bytes:
     if type(data) is bytes:
         return data
     with memoryview(data) as view:
-        return view.tobytes()
+        return in_order(view).tobytes()
 
 
 def _copy_of(data: ReadableBuffer) -> bytearray:
     """A copy of the bytes, taken once, which can be wiped."""
     with memoryview(data) as view:
-        return bytearray(view)
+        return bytearray(in_order(view))
 
 
 @contextlib.contextmanager
@@ -183,15 +197,8 @@ def kept_apart(data: ReadableBuffer, written: memoryview) -> Iterator[Tuple[Any,
                 yield ctypes.addressof(held), length
 
 
-# Bytes, and words whose most significant byte comes first, as a memoryview names them.
-_IN_ORDER = re.compile("[@=<>!]?[Bbc]|[>!][HhIiLlQq]")
-
-
 def row_size(view: memoryview) -> Optional[int]:
-    """The bytes of a row, which is the last dimension of more than one, else None. A TypeError where the items are neither
-    bytes nor words whose most significant byte comes first: of others the bytes of each element would be out of order."""
-    if not _IN_ORDER.fullmatch(view.format):
-        raise TypeError("a list has items of one byte, or words with the most significant byte first (uint8 or >u8)")
+    """The bytes of a row, which is the last dimension of more than one, else None."""
     return view.itemsize * view.shape[-1] if view.ndim > 1 else None
 
 
@@ -213,6 +220,42 @@ def context_type(count: int, element: Any = ctypes.c_uint64) -> Any:
     """A type of contexts, of words or else of bytes. A context is wiped when the last that uses it lets it go, be it an object
     or a call that still runs in another thread."""
     return type("Context", (element * count,), {"__del__": _wipe_context})
+
+
+class Kind:
+    """What a class of ciphers or MACs stands for in the library: the name of its calls, the size of its keys, the type of its
+    contexts, the types of a padding method where its keys take one, and its calls. A context says of which kind it is."""
+
+    __slots__ = ("name", "key_size", "paddings", "context", "calls")
+
+    def __init__(self, name: str, key_size: int, words: int, *paddings: Any) -> None:
+        self.name, self.key_size, self.paddings = name, key_size, paddings
+        self.context = context_type(words)
+        self.context.kind = self
+        starts = (INT, POINTER, POINTER, SIZE, *paddings)
+        self.calls: Dict[str, _Call] = {call: function(f"{name}_{call}", *starts) for call in ("init", "init_quiet")}
+
+    def declare(self, call: str, result: Any, *arguments: Any) -> None:
+        """Declares a call of the library's."""
+        self.calls[call] = function(f"{self.name}_{call}", result, *arguments)
+
+    def context_of(self, key: ReadableBuffer, quiet: bool, *padding: int) -> Any:
+        """The context of a key."""
+        context = self.context()
+        with key_of(key, self.key_size) as held:
+            check(self.calls["init_quiet" if quiet else "init"](context, held, len(held), *padding))
+        return context
+
+
+# The kinds of the package's own classes. No attribute of a class is asked: a caller may change it, and the library, which knows
+# nothing of that, would read and write as much memory as before.
+KINDS: Dict[type, Kind] = {}
+
+
+def kind_of(given: type, base: type) -> Optional[Kind]:
+    """The kind of a class that is derived from a base: that of the package's class that it is, or is derived from."""
+    classes = given.__mro__ if isinstance(given, type) else ()
+    return next((KINDS[one] for one in classes if one in KINDS and issubclass(one, base)), None)
 
 
 _Self = TypeVar("_Self", bound="Keyed")

@@ -195,6 +195,7 @@ class SaltLength(ValueError):
 
 
 _FAULTS: Dict[int, Tuple[Type[ValueError], str]] = {
+    _library.PADDING_METHOD: (PaddingMethod, "padding is by method 1 or 2"),
     _library.FORMAT: (Format, "the PIN block is of another format"),
     _library.PIN_LENGTH: (PinLength, "a PIN has 4 to 12 digits"),
     _library.PIN_DIGIT: (PinDigit, "a PIN has digits alone"),
@@ -239,7 +240,10 @@ _FAULTS: Dict[int, Tuple[Type[ValueError], str]] = {
 
 
 def check(status: int) -> None:
-    """Raises the fault of a status of the payment calls."""
-    if status != _library.OK:
-        fault, words = _FAULTS[status]
-        raise fault(words)
+    """Raises the fault of a status. One that none of the calls here can return is a RuntimeError: the library is another one."""
+    if status == _library.OK:
+        return
+    if status not in _FAULTS:
+        raise RuntimeError(f"the library returned the status {status}, which this call has not")
+    fault, words = _FAULTS[status]
+    raise fault(words)

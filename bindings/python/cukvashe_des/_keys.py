@@ -7,8 +7,8 @@ from typing import TYPE_CHECKING, Any, Callable, Optional, Type
 
 from ._ciphers import Cipher, class_of
 from ._data import bytes_from, bytes_of, key_of, room, wiped_room
-from ._faults import SerialLength, WeakKey
-from ._library import BOOL, INT, OK, POINTER, SIZE, WEAK_KEY, function
+from ._faults import SerialLength, WeakKey, check
+from ._library import BOOL, INT, NO_SERIAL, POINTER, SIZE, WEAK_KEY, function
 
 if TYPE_CHECKING:
     from _typeshed import ReadableBuffer
@@ -34,7 +34,10 @@ _is_usable = function("dukpt_is_usable", BOOL, POINTER)
 def is_weak_key(key: ReadableBuffer) -> bool:
     """Whether a key of 8, 16 or 24 bytes is weak: a part of it has few different round keys, or two parts are one key."""
     with key_of(key, *KEY_SIZES) as held:
-        return bool(_weak_key_test(held, len(held)) == WEAK_KEY)
+        status = _weak_key_test(held, len(held))
+    if status != WEAK_KEY:
+        check(status)
+    return bool(status == WEAK_KEY)
 
 
 def with_odd_parity(key: ReadableBuffer) -> bytes:
@@ -52,9 +55,9 @@ def equal_but_parity(first: ReadableBuffer, second: ReadableBuffer) -> bool:
 
 def check_value(cipher: Type[Cipher], key: ReadableBuffer) -> bytes:
     """The check value of a key, three bytes: the first of the block of zeros encrypted. `cipher` is a class, as TdesEde2."""
-    value = room(3)
-    with key_of(key, class_of(cipher).key_size) as held:
-        cipher._value(held, len(held), value)
+    value, kind = room(3), class_of(cipher)
+    with key_of(key, kind.key_size) as held:
+        check(kind.calls["check_value"](held, len(held), value))
     return bytes(value)
 
 
@@ -62,7 +65,7 @@ def _value_by_length(call: Callable[..., Any], size: int, key: ReadableBuffer) -
     """The check value that a call makes of a key of any of the lengths."""
     value = room(size)
     with key_of(key, *KEY_SIZES) as held:
-        call(held, len(held), value)
+        check(call(held, len(held), value))
     return bytes(value)
 
 
@@ -86,8 +89,9 @@ def combine(first: ReadableBuffer, second: ReadableBuffer, *others: ReadableBuff
                 with key_of(component, size) as held:
                     ctypes.memmove(ctypes.byref(more, at * size), held, size)
             status = _combine[size](one, other, more, len(others), key)
-    if status != OK:
+    if status == WEAK_KEY:
         raise WeakKey("the weak key test refuses the key that the components make")
+    check(status)
     return bytes_from(key)
 
 
@@ -149,7 +153,11 @@ def dukpt_data_variant(transaction: ReadableBuffer, is_response: bool = False) -
 def dukpt_next_serial(serial: ReadableBuffer) -> Optional[bytes]:
     """The next key serial number with at most ten one bits in its counter, or None where there is none."""
     following = room(10)
-    return bytes(following) if _next_serial(serial_of(serial), following) == OK else None
+    status = _next_serial(serial_of(serial), following)
+    if status == NO_SERIAL:
+        return None
+    check(status)
+    return bytes(following)
 
 
 def dukpt_is_usable(serial: ReadableBuffer) -> bool:

@@ -9,10 +9,10 @@ from itertools import accumulate
 from typing import TYPE_CHECKING, Any, Iterable, Iterator, List, Optional, Tuple, Type
 
 from ._ciphers import Cipher, class_of
-from ._data import BLOCK_SIZE, bytes_from, is_writable, kept_apart, key_of, lent, pointer_to, room, row_size
+from ._data import BLOCK_SIZE, Kind, bytes_from, in_order, is_writable, kept_apart, key_of, lent, pointer_to, room, row_size
 from ._faults import BlockLength, CountMismatch, KeyLength, PaddingMethod, SerialLength, VectorLength
 from ._library import INT, OK, POINTER, SIZE, function
-from ._macs import TAG_SIZE, Cmac, Mac
+from ._macs import TAG_SIZE, Mac, mac_class_of
 
 if TYPE_CHECKING:
     from _typeshed import ReadableBuffer, WriteableBuffer
@@ -55,7 +55,7 @@ def _count_of(length: int, size: int, fault: Type[ValueError], elements: str) ->
 
 def _elements_of(view: memoryview, size: int, fault: Type[ValueError], elements: str) -> int:
     """How many elements of a size an object has. Of an array of more than one dimension each row is an element."""
-    row = row_size(view)
+    row = row_size(in_order(view))
     if row not in (size, None):
         raise fault(f"rows of {row} bytes are not {elements} of {size}")
     return _count_of(view.nbytes, size, fault, elements)
@@ -72,9 +72,9 @@ def _list_of(
             yield start, count
 
 
-def _answer_each(call: str, cipher: Type[Cipher], keys: Any, count: int, blocks: Any, length: int) -> None:
+def _answer_each(call: str, kind: Kind, keys: Any, count: int, blocks: Any, length: int) -> None:
     """Takes each block of a length through a call in place, under the key at its place."""
-    if _EACH[cipher.name, call](keys, count, pointer_to(blocks) if length else None, length) != OK:
+    if _EACH[kind.name, call](keys, count, pointer_to(blocks) if length else None, length) != OK:
         raise CountMismatch("the numbers of keys and blocks differ")
 
 
@@ -82,8 +82,9 @@ def _answered_each(call: str, cipher: Type[Cipher], keys: ReadableBuffer, blocks
     with memoryview(blocks) as given:
         _elements_of(given, BLOCK_SIZE, BlockLength, "blocks")
         answer = bytearray(given)
-    with _list_of(keys, class_of(cipher).key_size, KeyLength, "keys") as (start, count):
-        _answer_each(call, cipher, start, count, answer, len(answer))
+    kind = class_of(cipher)
+    with _list_of(keys, kind.key_size, KeyLength, "keys") as (start, count):
+        _answer_each(call, kind, start, count, answer, len(answer))
     return bytes(answer)
 
 
@@ -92,8 +93,9 @@ def _change_each(call: str, cipher: Type[Cipher], keys: ReadableBuffer, blocks: 
         if not is_writable(view):
             raise TypeError("a call in place needs writable blocks in one piece, as of a bytearray")
         _elements_of(view, BLOCK_SIZE, BlockLength, "blocks")
-        with _list_of(keys, class_of(cipher).key_size, KeyLength, "keys", view) as (start, count):
-            _answer_each(call, cipher, start, count, view, view.nbytes)
+        kind = class_of(cipher)
+        with _list_of(keys, kind.key_size, KeyLength, "keys", view) as (start, count):
+            _answer_each(call, kind, start, count, view, view.nbytes)
 
 
 def encrypt_each(cipher: Type[Cipher], keys: ReadableBuffer, blocks: ReadableBuffer) -> bytes:
@@ -126,9 +128,10 @@ def decrypt_each_into(cipher: Type[Cipher], keys: ReadableBuffer, blocks: Writea
 def check_values(cipher: Type[Cipher], keys: ReadableBuffer) -> bytes:
     """The check values of keys that stand one after the other, as for `encrypt_each`, three bytes for each, as
     `check_value` makes them. KeyLength where there are no whole keys, or rows of another size."""
-    with _list_of(keys, class_of(cipher).key_size, KeyLength, "keys") as (start, count):
+    kind = class_of(cipher)
+    with _list_of(keys, kind.key_size, KeyLength, "keys") as (start, count):
         values = room(_CHECK_VALUE_SIZE * count)
-        _VALUES[cipher.name](start, values, count)
+        _VALUES[kind.name](start, values, count)
     return bytes(values)
 
 
@@ -173,7 +176,7 @@ def _recorded(
     if records != len(held):
         raise CountMismatch("the numbers of vectors and counts differ")
     first, sizes, output = (pointer_to(data) if data else None for data in (chains, held, answer))
-    if _RECORDS[cipher.name, call](context, first, sizes, records, output, len(answer)) != OK:
+    if _RECORDS[context.kind.name, call](context, first, sizes, records, output, len(answer)) != OK:
         raise CountMismatch("the counts do not add up to the number of blocks")
     return bytes(answer)
 
@@ -203,8 +206,7 @@ def decrypt_cbc_records(
 def _lent_bytes(messages: ReadableBuffer) -> Iterator[Tuple[Any, int]]:
     """Where messages begin, and how many bytes they have. Words that are not in the order of their bytes are refused."""
     with memoryview(messages) as view:
-        row_size(view)
-        with lent(view) as bytes_and_length:
+        with lent(in_order(view)) as bytes_and_length:
             yield bytes_and_length
 
 
@@ -219,19 +221,18 @@ def _messages_of(start: int, length: int, lengths: Iterable[int]) -> array[int]:
     return pairs
 
 
-def _mac_of(kind: Type[Mac], padding: Optional[int]) -> str:
-    """The name of a MAC that takes many messages, with a padding method, or with None."""
-    if not (isinstance(kind, type) and issubclass(kind, Mac) and kind.name):
-        raise TypeError("the first argument is a class of MACs, such as CmacTdesEde2")
-    if issubclass(kind, Cmac):
+def _mac_of(mac: Type[Mac], padding: Optional[int]) -> Kind:
+    """What a class of MACs that takes many messages stands for, with a padding method, or with None."""
+    kind = mac_class_of(mac)
+    if not kind.paddings:
         if padding is not None:
             raise TypeError("CMAC takes no padding method: the third argument is None")
-        return kind.name
+        return kind
     if not isinstance(padding, int) or isinstance(padding, bool):
         raise TypeError("the padding method, the third argument, is the number 1 or 2")
     if padding not in (1, 2):
         raise PaddingMethod("padding is by method 1 or 2")
-    return kind.name
+    return kind
 
 
 def _write_tags(call: str, keys: Any, padding: Optional[int], pairs: array[int], tags: Any) -> None:
@@ -251,11 +252,11 @@ def macs(
 
     128 or 256 messages are worked on together, until the longest has ended; so sort messages of very different lengths.
     KeyLength, PaddingMethod; CountMismatch where the lengths do not add up to the bytes."""
-    name = _mac_of(kind, padding)
-    with key_of(key, kind.key_size) as held, _lent_bytes(messages) as (start, length):
+    made = _mac_of(kind, padding)
+    with key_of(key, made.key_size) as held, _lent_bytes(messages) as (start, length):
         pairs = _messages_of(start or 0, length, lengths)
         tags = room(len(pairs) // 2 * TAG_SIZE)
-        _write_tags(name + "_macs", held, padding, pairs, tags)
+        _write_tags(made.name + "_macs", held, padding, pairs, tags)
     return bytes(tags)
 
 
@@ -265,13 +266,13 @@ def macs_each(
     """The tags of messages, each under the key at its place, as `macs` makes them under one. The keys stand one after the
     other, as those of `encrypt_each` do. KeyLength where there are no whole keys, or rows of another size; CountMismatch
     where the numbers of keys and messages differ, too."""
-    name = _mac_of(kind, padding)
-    with _list_of(keys, kind.key_size, KeyLength, "keys") as (first, count), _lent_bytes(messages) as (start, length):
+    made = _mac_of(kind, padding)
+    with _list_of(keys, made.key_size, KeyLength, "keys") as (first, count), _lent_bytes(messages) as (start, length):
         pairs = _messages_of(start or 0, length, lengths)
         if count != len(pairs) // 2:
             raise CountMismatch("the numbers of keys and messages differ")
         tags = room(count * TAG_SIZE)
-        _write_tags(name + "_macs_each", first, padding, pairs, tags)
+        _write_tags(made.name + "_macs_each", first, padding, pairs, tags)
     return bytes(tags)
 
 

@@ -3,16 +3,14 @@
 from __future__ import annotations
 
 import threading
-from typing import TYPE_CHECKING, Any, Callable, ClassVar, Tuple, TypeVar
+from typing import TYPE_CHECKING, ClassVar, Type, TypeVar
 
-from ._data import BLOCK_SIZE, Keyed, bytes_of, context_type, key_of, room
-from ._faults import PaddingMethod, TagMismatch
-from ._library import INT, OK, POINTER, SIZE, function
+from ._data import BLOCK_SIZE, KINDS, Keyed, Kind, bytes_of, kind_of, room
+from ._faults import TagMismatch
+from ._library import INT, OK, POINTER, SIZE
 
 if TYPE_CHECKING:
     from _typeshed import ReadableBuffer
-
-    _Call = Callable[..., Any]
 
 TAG_SIZE = 8
 LEAST_TAG_SIZE = 4
@@ -30,44 +28,23 @@ class Mac(Keyed):
     key_size: ClassVar[int] = 0
     digest_size: ClassVar[int] = TAG_SIZE
     block_size: ClassVar[int] = BLOCK_SIZE
-    _words: ClassVar[int] = 0
-    _paddings: ClassVar[Tuple[Any, ...]] = ()
-    _context_type: ClassVar[Any]
-    _init: ClassVar[_Call]
-    _init_quiet: ClassVar[_Call]
-    _update: ClassVar[_Call]
-    _final: ClassVar[_Call]
-    _verify: ClassVar[_Call]
-
-    def __init_subclass__(cls) -> None:
-        if not cls.name:
-            return
-        cls._context_type = context_type(cls._words)
-        cls._init = function(cls.name + "_init", INT, POINTER, POINTER, SIZE, *cls._paddings)
-        cls._init_quiet = function(cls.name + "_init_quiet", INT, POINTER, POINTER, SIZE, *cls._paddings)
-        cls._update = function(cls.name + "_update", None, POINTER, POINTER, SIZE)
-        cls._final = function(cls.name + "_final", None, POINTER, POINTER)
-        cls._verify = function(cls.name + "_verify", INT, POINTER, POINTER, SIZE)
 
     def _begin(self, quiet: bool, key: ReadableBuffer, *padding: int) -> None:
-        context = self._context_type()
-        init = type(self)._init_quiet if quiet else type(self)._init
-        with key_of(key, self.key_size) as held:
-            if init(context, held, len(held), *padding) != OK:
-                raise PaddingMethod("padding is by method 1 or 2")
-        self._context, self._lock = context, threading.Lock()
+        self._context, self._lock = mac_class_of(type(self)).context_of(key, quiet, *padding), threading.Lock()
 
     def update(self, data: ReadableBuffer) -> None:
         """Adds bytes to the message."""
         given = bytes_of(data)
         with self._lock:
-            type(self)._update(self._open(), given, len(given))
+            context = self._open()
+            context.kind.calls["update"](context, given, len(given))
 
     def digest(self) -> bytes:
         """The tag of the message so far, 8 bytes; the message may go on. To check a tag call verify, not ==."""
         tag = room(TAG_SIZE)
         with self._lock:
-            type(self)._final(self._open(), tag)
+            context = self._open()
+            context.kind.calls["final"](context, tag)
         return bytes(tag)
 
     def hexdigest(self) -> str:
@@ -86,7 +63,8 @@ class Mac(Keyed):
     def _accept(self, tag: ReadableBuffer, least: int) -> None:
         given = bytes_of(tag)
         with self._lock:
-            status = type(self)._verify(self._open(), given, len(given))
+            context = self._open()
+            status = context.kind.calls["verify"](context, given, len(given))
         if status != OK or len(given) < least:
             raise TagMismatch("the tag is not that of the message")
 
@@ -94,7 +72,8 @@ class Mac(Keyed):
         """A MAC that goes on from here by itself."""
         other = object.__new__(type(self))
         with self._lock:
-            other._context = self._context_type.from_buffer_copy(self._open())
+            context = self._open()
+            other._context = type(context).from_buffer_copy(context)
         other._lock = threading.Lock()
         return other
 
@@ -104,11 +83,18 @@ class Mac(Keyed):
             super().close()
 
 
+def mac_class_of(mac: Type[Mac]) -> Kind:
+    """What a class of MACs stands for. A class that a caller derives from one is as that one."""
+    kind = kind_of(mac, Mac)
+    if kind is None:
+        raise TypeError("the first argument is a class of MACs, such as CmacTdesEde2")
+    return kind
+
+
 class PaddedMac(Mac):
     """A MAC with a padding method of ISO/IEC 9797-1: 1, zeros, or 2, a one bit and zeros."""
 
     __slots__ = ()
-    _paddings = (INT,)
 
     def __init__(self, key: ReadableBuffer, padding: int, data: ReadableBuffer = b"", *, quiet: bool = False) -> None:
         if not isinstance(padding, int) or isinstance(padding, bool):
@@ -132,39 +118,53 @@ class CbcMacDes(PaddedMac):
     """CBC-MAC over DES, under a key of 8 bytes. It is safe only where every message has one length."""
 
     __slots__ = ()
-    name, key_size, _words = "cbc_mac_des", 8, 21
+    name, key_size = "cbc_mac_des", 8
 
 
 class CbcMacTdesEde2(PaddedMac):
     """CBC-MAC over triple DES, under a key of 16 bytes. It is safe only where every message has one length."""
 
     __slots__ = ()
-    name, key_size, _words = "cbc_mac_tdes_ede2", 16, 37
+    name, key_size = "cbc_mac_tdes_ede2", 16
 
 
 class CbcMacTdesEde3(PaddedMac):
     """CBC-MAC over triple DES, under a key of 24 bytes. It is safe only where every message has one length."""
 
     __slots__ = ()
-    name, key_size, _words = "cbc_mac_tdes_ede3", 24, 53
+    name, key_size = "cbc_mac_tdes_ede3", 24
 
 
 class RetailMacDes(PaddedMac):
     """The retail MAC over DES, under a key of 16 bytes, two keys."""
 
     __slots__ = ()
-    name, key_size, _words = "retail_mac_des", 16, 38
+    name, key_size = "retail_mac_des", 16
 
 
 class CmacTdesEde2(Cmac):
     """CMAC over triple DES, under a key of 16 bytes."""
 
     __slots__ = ()
-    name, key_size, _words = "cmac_tdes_ede2", 16, 37
+    name, key_size = "cmac_tdes_ede2", 16
 
 
 class CmacTdesEde3(Cmac):
     """CMAC over triple DES, under a key of 24 bytes."""
 
     __slots__ = ()
-    name, key_size, _words = "cmac_tdes_ede3", 24, 53
+    name, key_size = "cmac_tdes_ede3", 24
+
+
+for _mac, _words, *_paddings in (
+    (CbcMacDes, 21, INT),
+    (CbcMacTdesEde2, 37, INT),
+    (CbcMacTdesEde3, 53, INT),
+    (RetailMacDes, 38, INT),
+    (CmacTdesEde2, 37),
+    (CmacTdesEde3, 53),
+):
+    _kind = KINDS[_mac] = Kind(_mac.name, _mac.key_size, _words, *_paddings)
+    _kind.declare("update", None, POINTER, POINTER, SIZE)
+    _kind.declare("final", None, POINTER, POINTER)
+    _kind.declare("verify", INT, POINTER, POINTER, SIZE)

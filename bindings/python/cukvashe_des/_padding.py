@@ -6,8 +6,8 @@ import ctypes
 from typing import TYPE_CHECKING
 
 from ._data import BLOCK_SIZE, bytes_of, pointer_to
-from ._faults import BlockLength, PaddingMethod, PaddingMismatch
-from ._library import BLOCKS, INT, OK, POINTER, SIZE, function
+from ._faults import BlockLength, PaddingMethod, PaddingMismatch, check
+from ._library import BLOCKS, INT, PADDING, POINTER, SIZE, function
 
 if TYPE_CHECKING:
     from _typeshed import ReadableBuffer
@@ -33,7 +33,7 @@ def pad(data: ReadableBuffer, method: str) -> bytes:
     these bytes, by "iso7816" (ISO/IEC 7816-4) 80 in hexadecimal digits and then zeros."""
     number, given, length = _method_of(method), bytes_of(data), SIZE()
     buffer = bytearray(given) + bytes(BLOCK_SIZE)
-    _pad(pointer_to(buffer), len(given), len(buffer), number, ctypes.byref(length))
+    check(_pad(pointer_to(buffer), len(given), len(buffer), number, ctypes.byref(length)))
     return bytes(buffer[: length.value])
 
 
@@ -44,6 +44,7 @@ def unpad(data: ReadableBuffer, method: str) -> bytes:
     status = _unpad(given, len(given), number, ctypes.byref(length))
     if status == BLOCKS:
         raise BlockLength(f"{len(given)} bytes are not whole blocks of {BLOCK_SIZE}")
-    if status != OK:
+    if status == PADDING:
         raise PaddingMismatch("the data do not end with the padding")
+    check(status)
     return given[: length.value]

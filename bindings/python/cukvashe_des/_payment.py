@@ -103,11 +103,11 @@ def pin_decode_3(block: ReadableBuffer, account: _Text) -> str:
 
 
 def pin_translate_to_0(
-    incoming_key: ReadableBuffer, incoming_format: int, outgoing_key: ReadableBuffer, account: _Text, block: ReadableBuffer
+    incoming_format: int, account: _Text, block: ReadableBuffer, *, incoming_key: ReadableBuffer, outgoing_key: ReadableBuffer
 ) -> bytes:
     """The PIN block of format 0 under the outgoing key of the PIN of a block of format 0, 1 or 3 under the incoming key. Keys have
-    8, 16 or 24 bytes, and the account number, of 8 to 19 digits, is that of both blocks. Whatever is wrong with the block is
-    PinBlock. The PIN does not come out."""
+    8, 16 or 24 bytes, and are given by name, so that none stands in the other's place; the account number, of 8 to 19 digits, is
+    that of both blocks. Whatever is wrong with the block is PinBlock. The PIN does not come out."""
     number = number_of(incoming_format, 0, 3)
     with key_of(incoming_key, *KEY_SIZES) as held, key_of(outgoing_key, *KEY_SIZES) as other:
         with text_of(account) as of, block_of(block) as given:
@@ -115,12 +115,13 @@ def pin_translate_to_0(
 
 
 def pin_translate_to_3(
-    incoming_key: ReadableBuffer,
     incoming_format: int,
-    outgoing_key: ReadableBuffer,
     account: _Text,
     fill: ReadableBuffer,
     block: ReadableBuffer,
+    *,
+    incoming_key: ReadableBuffer,
+    outgoing_key: ReadableBuffer,
 ) -> bytes:
     """The same to a block of format 3, with ten fill digits as of pin_encode_3."""
     number, digits = number_of(incoming_format, 0, 3), _fill_of(fill)

@@ -6,10 +6,10 @@ import ctypes
 import threading
 from typing import TYPE_CHECKING, Any, Tuple, Type, TypeVar
 
-from ._data import Keyed, bytes_from, context_type, data_of, key_of, room
-from ._faults import NoSerial, StateLength
+from ._data import Keyed, bytes_from, context_type, key_of, room, secret_of
+from ._faults import NoSerial, StateLength, check
 from ._keys import serial_of
-from ._library import INT, OK, POINTER, function
+from ._library import INT, NO_SERIAL, POINTER, function
 
 if TYPE_CHECKING:
     from _typeshed import ReadableBuffer
@@ -47,8 +47,9 @@ class DukptTerminal(Keyed):
         serial, key = room(_SERIAL_SIZE), room(16)
         with self._lock:
             status = _next_key(self._open(), serial, key)
-        if status != OK:
+        if status == NO_SERIAL:
             raise NoSerial("the terminal has had its last transaction")
+        check(status)
         return bytes(serial), bytes_from(key)
 
     def state(self) -> bytes:
@@ -60,7 +61,10 @@ class DukptTerminal(Keyed):
     def from_state(cls: Type[_Self], state: ReadableBuffer) -> _Self:
         """The terminal of a state."""
         made = cls.__new__(cls)
-        made._begin(_State.from_buffer_copy(data_of(state, _STATE_SIZE, "the state of a terminal has", StateLength)))
+        with secret_of(state) as (held, length):
+            if length != _STATE_SIZE:
+                raise StateLength(f"the state of a terminal has {_STATE_SIZE} bytes, not {length}")
+            made._begin(_State.from_buffer_copy(held))
         return made
 
     def close(self) -> None:

@@ -15,6 +15,8 @@ from cukvashe_des import (
     Closed,
     CmacTdesEde3,
     Des,
+    DukptTerminal,
+    StateLength,
     TagMismatch,
     TdesEde3,
     _ciphers,
@@ -27,6 +29,7 @@ from cukvashe_des import (
     unwrap_key_block,
     wrap_key_block,
 )
+from cukvashe_des._data import KINDS
 
 from .values import (
     ANSWERS,
@@ -43,24 +46,39 @@ from .values import (
     PROTECTION,
     SALTED,
     SALTED_TEXT,
+    SERIAL,
     TEXT,
 )
 
 
 def views(value):
-    """The same bytes as data of other kinds: in the middle of others, of every second byte, turned round, in rows, in words."""
+    """The same bytes as data of other kinds: in the middle of others, of every second byte, turned round, in rows, in words whose
+    most significant byte comes first."""
     yield bytearray(value)
     yield memoryview(value)
     yield memoryview(bytearray(b"head" + value + b"tail"))[4 : 4 + len(value)].toreadonly()
     yield memoryview(bytes(byte for pair in zip(value, value[::-1]) for byte in pair))[::2]
     yield memoryview(value[::-1])[::-1]
     yield (ctypes.c_uint8 * len(value)).from_buffer_copy(value)
+    yield (ctypes.c_char * len(value)).from_buffer_copy(value)
+    yield array.array("B", value)
+    yield array.array("b", value)
     if value and len(value) % 2 == 0:
         yield memoryview(value).cast("B", (2, len(value) // 2))
-        yield array.array("H", value)
+        yield (ctypes.c_uint16.__ctype_be__ * (len(value) // 2)).from_buffer_copy(value)
     if len(value) % 8 == 0:
-        yield array.array("Q", value)
-        yield (ctypes.c_uint64 * (len(value) // 8)).from_buffer_copy(value)
+        yield (ctypes.c_uint64.__ctype_be__ * (len(value) // 8)).from_buffer_copy(value)
+
+
+def words(value):
+    """The same bytes as words in the machine's order, and as other items, of which the bytes are not those of a text."""
+    yield memoryview(bytearray(value)).cast("?")
+    for kind in (ctypes.c_uint16, ctypes.c_int32, ctypes.c_uint64, ctypes.c_double, ctypes.c_double.__ctype_be__):
+        if len(value) % ctypes.sizeof(kind) == 0:
+            yield (kind * (len(value) // ctypes.sizeof(kind))).from_buffer_copy(value)
+    for kind in "HhIiLlQqfd":
+        if len(value) % array.array(kind).itemsize == 0:
+            yield array.array(kind, value)
 
 
 class Kinds(unittest.TestCase):
@@ -93,6 +111,19 @@ class Kinds(unittest.TestCase):
                 self.assertEqual(made.digest(), kind(*arguments).digest())
                 self.assertEqual(memoryview(view).tobytes(), MESSAGE)
 
+    def test_words(self):
+        """Words in the machine's order, whose bytes stand otherwise than they are written, are a TypeError in each place."""
+        for call, arguments in CALLS + OBJECTS:
+            for at, value in enumerate(arguments):
+                for view in words(value) if isinstance(value, bytes) else ():
+                    with self.assertRaisesRegex(TypeError, "most significant byte first"):
+                        call(*arguments[:at], view, *arguments[at + 1 :])
+                    self.assertEqual(memoryview(view).tobytes(), value)
+        for call, arguments in ((DukptTerminal, (KEY[:16], SERIAL)), (DukptTerminal.from_state, (bytes(346),))):
+            for at, value in enumerate(arguments):
+                for view in words(value):
+                    self.assertRaises(TypeError, call, *arguments[:at], view, *arguments[at + 1 :])
+
     def test_other_types(self):
         """What has no buffer is a TypeError in each place for data."""
         for call, arguments in CALLS + OBJECTS:
@@ -119,7 +150,7 @@ class InPlace(unittest.TestCase):
             around = bytearray(b"head" + TEXT + b"tail")
             call(memoryview(around)[4:28])
             self.assertEqual(around, b"head" + answer + b"tail")
-            for data in (bytearray(TEXT), array.array("Q", TEXT), (ctypes.c_uint64 * 3).from_buffer_copy(TEXT)):
+            for data in (bytearray(TEXT), array.array("B", TEXT), (ctypes.c_uint64.__ctype_be__ * 3).from_buffer_copy(TEXT)):
                 call(data)
                 self.assertEqual(bytes(data), answer)
             data = bytearray(TEXT)
@@ -134,6 +165,9 @@ class InPlace(unittest.TestCase):
             for view in (TEXT, memoryview(TEXT), memoryview(data).toreadonly(), memoryview(spread)[::2], memoryview(data)[::-1]):
                 self.assertRaises(TypeError, call, view)
             self.assertEqual((data, spread[::2], spread[1::2]), (TEXT, TEXT, TEXT))
+            for view in words(TEXT):
+                self.assertRaises(TypeError, call, view)
+                self.assertEqual(memoryview(view).tobytes(), TEXT)
             for view in (TEXT[:7], "text of 24 bytes, quite", None, 8):
                 self.assertRaises(TypeError, call, view)
 
@@ -150,7 +184,7 @@ class InPlace(unittest.TestCase):
         for kind in ANSWERS:
             cipher = kind(KEY[: kind.key_size])
             cipher.encrypt_ecb_into(bytearray())
-            self.assertEqual(cipher.encrypt_cbc_into(IV, array.array("Q")), IV)
+            self.assertEqual(cipher.encrypt_cbc_into(IV, array.array("B")), IV)
             self.assertEqual((cipher.encrypt_ecb(b""), cipher.decrypt_cbc(IV, b"")), (b"", b""))
 
     def test_length_is_kept(self):
@@ -162,7 +196,7 @@ class InPlace(unittest.TestCase):
             tried.append(True)
             return _library.OK
 
-        with mock.patch.object(Des, "_encrypt_ecb", shortening), mock.patch.object(Des, "_decrypt_cbc", shortening):
+        with mock.patch.dict(KINDS[Des].calls, encrypt_ecb=shortening, decrypt_cbc=shortening):
             cipher.encrypt_ecb_into(data)
             cipher.decrypt_cbc_into(IV, data)
         self.assertEqual(len(tried), 2)
@@ -317,9 +351,9 @@ class Threads(unittest.TestCase):
 
                 return noted
 
-            copied = mock.Mock(from_buffer_copy=noting(kind._context_type.from_buffer_copy))
-            with mock.patch.multiple(kind, _update=noting(kind._update), _final=noting(kind._final),
-                                     _verify=noting(kind._verify), _context_type=copied):
+            noted = {name: noting(KINDS[kind].calls[name]) for name in ("update", "final", "verify")}
+            copied = noting(KINDS[kind].context.from_buffer_copy)
+            with mock.patch.dict(KINDS[kind].calls, noted), mock.patch.object(KINDS[kind].context, "from_buffer_copy", copied):
                 mac.update(b"")
                 mac.verify(mac.digest())
                 mac.copy()
@@ -374,8 +408,7 @@ class Wiped(WatchesWiping):
     def test_objects(self):
         """The copy of the key at once; the context by close, by the end of `with`, and by the end of the last use."""
         for kind, arguments in OBJECTS:
-            size = ctypes.sizeof(kind._context_type)
-            self.assertEqual(size, 8 * kind._words)
+            size = ctypes.sizeof(KINDS[kind].context)
 
             def closed():
                 made = kind(*arguments)
@@ -404,7 +437,7 @@ class Wiped(WatchesWiping):
             other, tag = one.copy(), one.digest()
             self.wiped.clear()
             one.close()
-            self.assertEqual(self.wiped, [8 * kind._words])
+            self.assertEqual(self.wiped, [ctypes.sizeof(KINDS[kind].context)])
             self.assertEqual(other.digest(), tag)
 
     def test_refused_key(self):
@@ -433,7 +466,7 @@ class Wiped(WatchesWiping):
             sizes.update({"pin_decode_0": [8, 13, 13], "pin_decode_1": [8, 13], "pin_decode_3": [8, 13, 13]})
             sizes.update({"pin_encode_2": [4, 8], "pin_decode_2": [8, 13], "key_check_value": [24], "short_key_check_value": [24]})
             # both keys, an account number, a block, and room for the other
-            sizes.update({"pin_translate_to_0": [8, 8, 13, 16, 16], "pin_translate_to_3": [8, 8, 13, 16, 16]})
+            sizes.update({"to_format_0": [8, 8, 13, 16, 16], "to_format_3": [8, 8, 13, 16, 16]})
             sizes.update({"pvv": [4, 5, 16, 16], "pvv_verify": [4, 4, 16, 16]})
             sizes.update({"natural_pin": [13, 16], "pin_offset": [4, 13, 16], "pin_offset_verify": [4, 4, 16]})
             sizes.update({"emv_card_key": [2, 16, 16, 17], "emv_session_key": [16, 16], "emv_application_key": [16, 16]})
@@ -454,6 +487,18 @@ class Wiped(WatchesWiping):
             self.wiped.clear()
             self.assertRaises(ValueError, call, *arguments)
             self.assertEqual(sorted(self.wiped), sizes, call.__name__)
+
+    def test_states(self):
+        """Of the state of a terminal one copy is made, which is wiped; that of another length too."""
+        state = bytes(range(256)) + bytes(90)
+        terminal = DukptTerminal.from_state(bytearray(state))
+        self.assertEqual((self.wiped, self.held), ([346], state))
+        with mock.patch.object(_data, "bytes_of", side_effect=AssertionError):
+            self.assertEqual(DukptTerminal.from_state(terminal.state()).state(), state)
+        self.wiped.clear()
+        for length in (0, 345, 347):
+            self.assertRaisesRegex(StateLength, f"^the state of a terminal has 346 bytes, not {length}$", DukptTerminal.from_state, bytes(length))
+        self.assertEqual(self.wiped[1:], [345, 347])
 
     def test_no_other_copies(self):
         """Of the memory that a call wrote the bytes of the answer are made, and no more, which could not be wiped; of a text none."""
@@ -477,7 +522,7 @@ class Wiped(WatchesWiping):
 
     def test_while_a_call_runs(self):
         """Where another thread closes a cipher, its context stays until the call is done."""
-        for call, name in (("encrypt_ecb", "_encrypt_ecb_to"), ("encrypt_ecb_into", "_encrypt_ecb")):
+        for call, name in (("encrypt_ecb", "encrypt_ecb_to"), ("encrypt_ecb_into", "encrypt_ecb")):
             cipher = Des(KEY[:8])
             self.wiped.clear()
 
@@ -488,10 +533,10 @@ class Wiped(WatchesWiping):
                 self.assertEqual(self.wiped, [])
                 return _library.OK
 
-            with mock.patch.object(Des, name, closing):
+            with mock.patch.dict(KINDS[Des].calls, {name: closing}):
                 getattr(cipher, call)(bytearray(TEXT))
             gc.collect()
-            self.assertEqual(self.wiped, [8 * Des._words])
+            self.assertEqual(self.wiped, [ctypes.sizeof(KINDS[Des].context)])
 
     def test_closed(self):
         """A closed object refuses each call, and can be closed again."""

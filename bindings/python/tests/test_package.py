@@ -13,7 +13,8 @@ import unittest
 from unittest import mock
 
 import cukvashe_des
-from cukvashe_des import _library
+from cukvashe_des import _faults, _library
+from cukvashe_des._data import KINDS
 
 from .values import OBJECTS, TOP
 
@@ -60,7 +61,9 @@ class Package(unittest.TestCase):
             self.assertEqual(list(call.argtypes or ()), expected, name)
             self.assertIs(call.restype, ctypes.c_char_p if name == "version" else c_type(result), name)
         sizes = {name: int(words) for words, name in re.findall(r"uint64_t words\[(\d+)\];\s*} cukvashe_(\w+);", header)}
-        self.assertEqual(sizes, {kind.name: kind._words for kind, _ in OBJECTS})
+        self.assertEqual(sizes, {kind.name: ctypes.sizeof(KINDS[kind].context) // 8 for kind, _ in OBJECTS})
+        self.assertEqual({kind: (kind.name, kind.key_size) for kind, _ in OBJECTS},
+                         {kind: (known.name, known.key_size) for kind, known in KINDS.items()})
 
     def test_names(self):
         """What the package offers is listed, and each fault is a ValueError of the package."""

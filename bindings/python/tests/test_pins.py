@@ -5,7 +5,7 @@ import unittest
 import cukvashe_des
 from cukvashe_des import BlockLength, DecimalTable, FillLength, KeyLength, TdesEde2, WrongPin
 
-from .values import ACCOUNT, FILL, LENGTHS, OTHER, PAIR, SENT, TABLE, VALIDATION
+from .values import ACCOUNT, FILL, LENGTHS, OTHER, PAIR, SENT, TABLE, VALIDATION, to_format_0, to_format_3
 
 # A key of three parts, of which the first and the first two are keys too.
 PARTS = PAIR + bytes.fromhex("8899aabbccddeeff")
@@ -104,34 +104,44 @@ class Translation(unittest.TestCase):
         """Blocks of the PIN 1234: of format 0 under both keys, of format 3 under the other, of format 1 under a key of DES."""
         other, third, single = (bytes.fromhex(digits) for digits in ("8856db66d89e9eff", "ba041cb9b3034d36", "824daa361d7dc65a"))
         for key, number, block in ((PAIR, 0, SENT), (OTHER, 3, third), (PAIR[:8], 1, single)):
-            self.assertEqual(cukvashe_des.pin_translate_to_0(key, number, OTHER, ACCOUNT, block), other)
-            self.assertEqual(cukvashe_des.pin_translate_to_0(key, number, PAIR, ACCOUNT.encode(), bytearray(block)), SENT)
-            self.assertEqual(cukvashe_des.pin_translate_to_3(key, number, OTHER, ACCOUNT, FILL, block), third)
+            self.assertEqual(to_format_0(key, number, OTHER, ACCOUNT, block), other)
+            self.assertEqual(to_format_0(key, number, PAIR, ACCOUNT.encode(), bytearray(block)), SENT)
+            self.assertEqual(to_format_3(key, number, OTHER, ACCOUNT, FILL, block), third)
+
+    def test_keys_by_name(self):
+        """Neither key goes by its place, in which it could be taken for the other, and none is left out."""
+        for call, more in ((cukvashe_des.pin_translate_to_0, ()), (cukvashe_des.pin_translate_to_3, (FILL,))):
+            arguments, keys = (0, ACCOUNT, *more, SENT), {"incoming_key": PAIR, "outgoing_key": OTHER}
+            self.assertEqual(len(call(*arguments, **keys)), 8)
+            self.assertRaises(TypeError, call, PAIR, 0, OTHER, ACCOUNT, *more, SENT)
+            self.assertRaises(TypeError, call, *arguments, PAIR, OTHER)
+            for name, key in keys.items():
+                self.assertRaises(TypeError, call, *arguments, **{name: key})
 
     def test_refused(self):
         for number in (2, 4, -1, 256, 2**32, 2**32 + 3, 2**64):
-            self.assertRaises(cukvashe_des.Formats, cukvashe_des.pin_translate_to_0, PAIR, number, OTHER, "", SENT)
-            self.assertRaises(cukvashe_des.Formats, cukvashe_des.pin_translate_to_3, PAIR, number, OTHER, "", bytes(10), SENT)
+            self.assertRaises(cukvashe_des.Formats, to_format_0, PAIR, number, OTHER, "", SENT)
+            self.assertRaises(cukvashe_des.Formats, to_format_3, PAIR, number, OTHER, "", bytes(10), SENT)
         for number in ("0", b"0", None, False, 0.0):
-            self.assertRaises(TypeError, cukvashe_des.pin_translate_to_0, PAIR, number, OTHER, ACCOUNT, SENT)
+            self.assertRaises(TypeError, to_format_0, PAIR, number, OTHER, ACCOUNT, SENT)
         for account, fault in (("1" * 7, "AccountLength"), ("1" * 20, "AccountLength"), ("1234567:", "AccountDigit")):
-            self.assertRaises(getattr(cukvashe_des, fault), cukvashe_des.pin_translate_to_0, PAIR, 0, OTHER, account, SENT)
-            self.assertRaises(getattr(cukvashe_des, fault), cukvashe_des.pin_translate_to_3, PAIR, 0, OTHER, account, bytes(10), SENT)
-        self.assertRaises(cukvashe_des.Fill, cukvashe_des.pin_translate_to_3, PAIR, 0, OTHER, ACCOUNT, bytes(10), SENT)
+            self.assertRaises(getattr(cukvashe_des, fault), to_format_0, PAIR, 0, OTHER, account, SENT)
+            self.assertRaises(getattr(cukvashe_des, fault), to_format_3, PAIR, 0, OTHER, account, bytes(10), SENT)
+        self.assertRaises(cukvashe_des.Fill, to_format_3, PAIR, 0, OTHER, ACCOUNT, bytes(10), SENT)
         for length in LENGTHS:
             if length not in (8, 16, 24):
-                self.assertRaises(KeyLength, cukvashe_des.pin_translate_to_0, bytes(length), 0, OTHER, ACCOUNT, SENT)
-                self.assertRaises(KeyLength, cukvashe_des.pin_translate_to_3, PAIR, 0, bytes(length), ACCOUNT, FILL, SENT)
+                self.assertRaises(KeyLength, to_format_0, bytes(length), 0, OTHER, ACCOUNT, SENT)
+                self.assertRaises(KeyLength, to_format_3, PAIR, 0, bytes(length), ACCOUNT, FILL, SENT)
             if length != 8:
-                self.assertRaises(BlockLength, cukvashe_des.pin_translate_to_0, PAIR, 0, OTHER, ACCOUNT, bytes(length))
+                self.assertRaises(BlockLength, to_format_0, PAIR, 0, OTHER, ACCOUNT, bytes(length))
             if length != 10:
-                self.assertRaises(FillLength, cukvashe_des.pin_translate_to_3, PAIR, 0, OTHER, ACCOUNT, bytes(length), SENT)
+                self.assertRaises(FillLength, to_format_3, PAIR, 0, OTHER, ACCOUNT, bytes(length), SENT)
 
     def test_one_fault_of_the_block(self):
         """Whatever is wrong with the block, and with another account number."""
         cipher = TdesEde2(PAIR)
         for block in ("141274edcba9876f", "031274edcba9876f", "0d1274edcba9876f", "041a74edcba9876f", "041274fdcba9876f", "041274edcba9876e"):
             sent = cipher.encrypt_ecb(bytes.fromhex(block))
-            self.assertRaises(cukvashe_des.PinBlock, cukvashe_des.pin_translate_to_0, PAIR, 0, OTHER, ACCOUNT, sent)
-            self.assertRaises(cukvashe_des.PinBlock, cukvashe_des.pin_translate_to_3, PAIR, 0, OTHER, ACCOUNT, FILL, sent)
-        self.assertRaises(cukvashe_des.PinBlock, cukvashe_des.pin_translate_to_0, PAIR, 0, OTHER, "4012345678919", SENT)
+            self.assertRaises(cukvashe_des.PinBlock, to_format_0, PAIR, 0, OTHER, ACCOUNT, sent)
+            self.assertRaises(cukvashe_des.PinBlock, to_format_3, PAIR, 0, OTHER, ACCOUNT, FILL, sent)
+        self.assertRaises(cukvashe_des.PinBlock, to_format_0, PAIR, 0, OTHER, "4012345678919", SENT)

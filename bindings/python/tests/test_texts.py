@@ -7,7 +7,7 @@ import unittest
 import cukvashe_des
 from cukvashe_des import Des, KeyBlockHeader
 
-from .values import ACCOUNT, BLOCK, BLOCK_HEADER, CALLS, IV, KEY, LISTS, MESSAGE, OBJECTS, PADDED_MACS, SALTED, opens
+from .values import ACCOUNT, BLOCK, BLOCK_HEADER, CALLS, IV, KEY, LISTS, MESSAGE, OBJECTS, PADDED_MACS, SALTED, opens, to_format_0
 
 
 # Each error and its text, which tells a length, here #, and nothing else that is not the same at every call.
@@ -185,7 +185,7 @@ class Texts(unittest.TestCase):
         self.tells_nothing(terminal, (last,))
         names |= self.faults(terminal.next_key) | self.faults(cukvashe_des.DukptTerminal.from_state, last[:-1])
         names |= self.faults(cukvashe_des.pvv, KEY[:16], ACCOUNT, 7, "8765")
-        names |= self.faults(cukvashe_des.pin_translate_to_0, KEY[:16], 2, KEY[:16], ACCOUNT, MESSAGE[:8])
+        names |= self.faults(to_format_0, KEY[:16], 2, KEY[:16], ACCOUNT, MESSAGE[:8])
         names |= self.faults(cukvashe_des.combine, KEY, KEY)
         names |= self.faults(PADDED_MACS[0], KEY[:8], 3)
         names |= self.faults(cukvashe_des.cvv, KEY[:16], ACCOUNT, "87:1", "101") | self.faults(

@@ -111,6 +111,16 @@ def wrap_with_padding(protection, key, padding):
     return cukvashe_des.wrap_key_block(protection, BLOCK_HEADER, key, padding=padding)
 
 
+def to_format_0(incoming, number, outgoing, account, block):
+    """The call that translates a PIN block, with its two keys, which go by name alone, in places."""
+    return cukvashe_des.pin_translate_to_0(number, account, block, incoming_key=incoming, outgoing_key=outgoing)
+
+
+def to_format_3(incoming, number, outgoing, account, fill, block):
+    """The same of the call to format 3."""
+    return cukvashe_des.pin_translate_to_3(number, account, fill, block, incoming_key=incoming, outgoing_key=outgoing)
+
+
 def opens(password, data):
     """The call that opens a file, whose own name is a part of the file's first bytes."""
     return cukvashe_des.open_salted(TdesEde3, password, data)
@@ -143,8 +153,8 @@ FUNCTIONS = [
     (cukvashe_des.pin_decode_1, (bytes.fromhex("141234fe09a51234"),)),
     (cukvashe_des.pin_decode_2, (bytes.fromhex("241234ffffffffff"),)),
     (cukvashe_des.pin_decode_3, (bytes.fromhex("341274b9f9b9d35d"), b"4012345678909")),
-    (cukvashe_des.pin_translate_to_0, (PAIR, 0, OTHER, b"4012345678909", SENT)),
-    (cukvashe_des.pin_translate_to_3, (PAIR, 0, OTHER, b"4012345678909", FILL, SENT)),
+    (to_format_0, (PAIR, 0, OTHER, b"4012345678909", SENT)),
+    (to_format_3, (PAIR, 0, OTHER, b"4012345678909", FILL, SENT)),
     (cukvashe_des.pvv, (PAIR, b"4123456789012345", 1, b"1234")),
     (cukvashe_des.pvv_verify, (PAIR, b"4123456789012345", 1, b"1234", b"1894")),
     (cukvashe_des.natural_pin, (PAIR, TABLE, VALIDATION, 6)),
