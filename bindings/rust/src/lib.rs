@@ -21,8 +21,9 @@
 //! other programs on the processor could learn. That is tested on x86-64; on aarch64 nothing is claimed of indexes.
 //!
 //! The crate needs no `std` and allocates no memory. Ciphers, MACs and PINs can be shared by threads, and are wiped when they
-//! are dropped. A move may leave a copy behind that is not wiped: a value in a `Box` stays where it is. Keys that you pass or
-//! get are yours to wipe.
+//! are dropped. A move may leave a copy behind that is not wiped. A value in a `Box` stays where it is as long as you use it by
+//! reference: of a MAC call `tag` and the calls named `verify_tag` there, since `finalize` and those named `verify` move it out.
+//! Keys that you pass or get are yours to wipe.
 #![no_std]
 #![warn(missing_docs)]
 

@@ -14,9 +14,9 @@
 //! mac.update(b"Now is the time ");
 //! mac.update(b"for it");
 //! let tag = 0x5a692ce64f404145u64.to_be_bytes();
-//! assert_eq!(mac.clone().finalize(), tag);
-//! assert_eq!(mac.clone().verify(&tag), Ok(()));
-//! assert_eq!(mac.verify(&[0; 8]), Err(MacError));
+//! assert_eq!(mac.tag(), tag);
+//! assert_eq!(mac.verify_tag(&tag), Ok(()));
+//! assert_eq!(mac.verify_tag(&[0; 8]), Err(MacError));
 //! # Ok::<(), cukvashe_des::InvalidLength>(())
 //! ```
 
@@ -86,23 +86,39 @@ pub trait Mac: Clone + fmt::Debug {
     /// Adds bytes to the message. However it is cut into pieces, its tag is the same.
     fn update(&mut self, bytes: &[u8]);
 
-    /// The tag of the message. To check a tag call `verify`: `==` may stop at the first wrong byte.
-    fn finalize(self) -> [u8; 8];
+    /// The tag of the message so far, which may go on. To check a tag call `verify_tag`: `==` may stop at the first wrong byte.
+    fn tag(&self) -> [u8; 8];
 
-    /// Accepts the first 4 to 8 bytes of the tag, and nothing else. Pass as many as both sides agreed on, not as many as were
-    /// sent: a forger sends 4.
-    fn verify_truncated_left(self, tag: &[u8]) -> Result<(), MacError>;
+    /// Accepts the first 4 to 8 bytes of the tag of the message so far, and nothing else. Pass as many as both sides agreed on, not
+    /// as many as were sent: a forger sends 4.
+    fn verify_tag_truncated_left(&self, tag: &[u8]) -> Result<(), MacError>;
 
-    /// Accepts the tag of the message, and no other.
+    /// Accepts the tag of the message so far, and no other.
+    fn verify_tag(&self, tag: &[u8; 8]) -> Result<(), MacError> {
+        self.verify_tag_truncated_left(tag)
+    }
+
+    /// As `tag`, of a state that ends here. It is moved to this call, which wipes it; where it was, as in a `Box`, its bytes stay:
+    /// call `tag` there, and drop it.
+    fn finalize(self) -> [u8; 8] {
+        self.tag()
+    }
+
+    /// As `verify_tag_truncated_left`, of a state that ends here, with what `finalize` says of moves.
+    fn verify_truncated_left(self, tag: &[u8]) -> Result<(), MacError> {
+        self.verify_tag_truncated_left(tag)
+    }
+
+    /// As `verify_tag`, of a state that ends here, with what `finalize` says of moves.
     fn verify(self, tag: &[u8; 8]) -> Result<(), MacError> {
-        self.verify_truncated_left(tag)
+        self.verify_tag(tag)
     }
 
     /// The tag of a whole message.
     fn mac(key: &[u8], bytes: &[u8]) -> Result<[u8; 8], InvalidLength> {
         let mut state = Self::new_from_slice(key)?;
         state.update(bytes);
-        Ok(state.finalize())
+        Ok(state.tag())
     }
 }
 
@@ -146,13 +162,13 @@ macro_rules! mac {
                 unsafe { ffi::$update(&mut self.context, bytes.as_ptr(), bytes.len()) }
             }
 
-            fn finalize(self) -> [u8; 8] {
+            fn tag(&self) -> [u8; 8] {
                 let mut tag = [0; 8];
                 unsafe { ffi::$finalize(&self.context, &mut tag) };
                 tag
             }
 
-            fn verify_truncated_left(self, tag: &[u8]) -> Result<(), MacError> {
+            fn verify_tag_truncated_left(&self, tag: &[u8]) -> Result<(), MacError> {
                 match unsafe { ffi::$verify(&self.context, tag.as_ptr(), tag.len()) } {
                     OK => Ok(()),
                     _ => Err(MacError),

@@ -19,8 +19,14 @@ fn answers_cut<M: Mac>(begun: &M, message: &[u8], tag: Block) {
         let mut other = mac.clone();
         mac.update(&message[cut..]);
         message[cut..].iter().for_each(|byte| other.update(&[*byte]));
-        assert_eq!((mac.clone().finalize(), other.finalize()), (tag, tag));
-        assert_eq!(mac.verify(&tag), Ok(()));
+        assert_eq!((mac.tag(), mac.clone().finalize(), other.finalize()), (tag, tag, tag));
+        assert_eq!((mac.verify_tag(&tag), mac.clone().verify(&tag)), (Ok(()), Ok(())));
+        // A tag of the message so far ends nothing.
+        mac.update(b"more");
+        let longer: Vec<u8> = message.iter().copied().chain(*b"more").collect();
+        let mut whole = begun.clone();
+        whole.update(&longer);
+        assert_eq!(mac.tag(), whole.finalize());
     }
 }
 
@@ -30,14 +36,16 @@ fn refuses_tags<M: Mac>(key: &[u8], message: &[u8], tag: Block) {
     mac.update(message);
     let long: Vec<u8> = tag.into_iter().chain([0; 26]).collect();
     for length in LENGTHS {
-        let accepted = mac.clone().verify_truncated_left(&long[..length]);
+        let accepted = mac.verify_tag_truncated_left(&long[..length]);
         assert_eq!(accepted, if (4..=8).contains(&length) { Ok(()) } else { Err(MacError) });
+        assert_eq!(mac.clone().verify_truncated_left(&long[..length]), accepted);
     }
     for place in 0..8 {
         let mut turned = tag;
         turned[place] ^= 1;
-        assert_eq!(mac.clone().verify(&turned), Err(MacError));
+        assert_eq!((mac.verify_tag(&turned), mac.clone().verify(&turned)), (Err(MacError), Err(MacError)));
         let part = &turned[..place.max(3) + 1];
+        assert_eq!(mac.verify_tag_truncated_left(part), Err(MacError));
         assert_eq!(mac.clone().verify_truncated_left(part), Err(MacError));
     }
 }

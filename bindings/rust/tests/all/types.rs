@@ -102,6 +102,32 @@ fn secrets_are_wiped() {
     is_wiped(Terminal::new(&[7; 16], &[9; 10]));
 }
 
+/// What is left of a MAC in a `Box` when the box is dropped after its tag was made and verified.
+fn is_wiped_in_a_box<M: Mac>(mut mac: Box<M>) {
+    mac.update(b"message");
+    let tag = mac.tag();
+    assert_eq!((mac.verify_tag(&tag), mac.verify_tag_truncated_left(&tag[..4])), (Ok(()), Ok(())));
+    let place = Box::into_raw(mac);
+    // SAFETY: the value is dropped once, and its memory, made of words, is given back once, after it was looked at.
+    let left = unsafe {
+        place.drop_in_place();
+        let left = slice::from_raw_parts(place.cast::<u8>(), size_of::<M>()).to_vec();
+        drop(Box::from_raw(place.cast::<MaybeUninit<M>>()));
+        left
+    };
+    assert_eq!(left, vec![0; size_of::<M>()]);
+}
+
+#[test]
+fn macs_are_used_in_a_box() {
+    is_wiped_in_a_box(Box::new(CbcMacDes::<Method1>::new_from_slice(&KEY[..8]).unwrap()));
+    is_wiped_in_a_box(Box::new(CbcMacTdesEde2::<Method2>::new_from_slice(&KEY[..16]).unwrap()));
+    is_wiped_in_a_box(Box::new(CbcMacTdesEde3::<Method1>::new_from_slice(&KEY).unwrap()));
+    is_wiped_in_a_box(Box::new(RetailMacDes::<Method2>::new_from_slice(&KEY[..16]).unwrap()));
+    is_wiped_in_a_box(Box::new(CmacTdesEde2::new_from_slice(&KEY[..16]).unwrap()));
+    is_wiped_in_a_box(Box::new(CmacTdesEde3::new_from_slice(&KEY).unwrap()));
+}
+
 /// A terminal has no clone, which would give its keys again; the rest is as of the others.
 #[test]
 fn terminals_are_no_different() {
