@@ -49,7 +49,10 @@ export class CountMismatch extends CukvasheError {}
 export class WeakKey extends CukvasheError {}
 /** A tag is not that of the message, or has fewer than 4 or more than 8 bytes. */
 export class TagMismatch extends CukvasheError {}
-/** The cipher, MAC or terminal was closed, so that its key is gone. */
+/**
+ * The cipher, MAC or terminal was closed, so that its key is gone; or it, or a decimalization table, is of before a call
+ * of the module that did not end, as where the engine's stack ends within it: make it anew.
+ */
 export class Closed extends CukvasheError {}
 /** The first digit of a PIN block is not that of the format. */
 export class Format extends CukvasheError {}
@@ -284,13 +287,17 @@ export function pinDecode1(block: Uint8Array): string;
 export function pinDecode3(block: Uint8Array, account: Digits): string;
 export function pinEncode2(pin: Digits): Uint8Array;
 export function pinDecode2(block: Uint8Array): string;
+/** The keys of a translation, by name, so that none stands in the other's place. */
+export interface TranslationKeys {
+  incomingKey: Uint8Array;
+  outgoingKey: Uint8Array;
+}
 /** From formats 0, 1 and 3. KeyLength, Formats, AccountLength, AccountDigit, and else PinBlock. */
 export function pinTranslateTo0(
-  incomingKey: Uint8Array, incomingFormat: 0 | 1 | 3, outgoingKey: Uint8Array, account: Digits, block: Uint8Array,
+  incomingFormat: 0 | 1 | 3, account: Digits, block: Uint8Array, keys: TranslationKeys,
 ): Uint8Array;
 export function pinTranslateTo3(
-  incomingKey: Uint8Array, incomingFormat: 0 | 1 | 3, outgoingKey: Uint8Array, account: Digits, fill: Uint8Array,
-  block: Uint8Array,
+  incomingFormat: 0 | 1 | 3, account: Digits, fill: Uint8Array, block: Uint8Array, keys: TranslationKeys,
 ): Uint8Array;
 /** `index` is 1 to 6. */
 export function pvv(key: Uint8Array, account: Digits, index: number, pin: Digits): string;

@@ -261,6 +261,8 @@ class Workspace {
   #calls;
   #start;
   #end;
+  #isInCall = false;
+  #isSpoiled = false;
 
   constructor({ memory, __heap_base: base, ...calls }) {
     this.#memory = memory;
@@ -268,8 +270,27 @@ class Workspace {
     this.#start = this.#end = Math.ceil(Number(base.value) / 16) * 16;
   }
 
+  /** Whether a call did not come to its end, or could not be wiped. */
+  get isSpoiled() {
+    return this.#isSpoiled;
+  }
+
+  /** What a function makes by calls, which is wiped after it. An exception out of the module leaves the instance spoiled. */
+  use(run) {
+    this.#isSpoiled = true;
+    try {
+      return run(this);
+    } finally {
+      this.wipe();
+      this.#isSpoiled = this.#isInCall;
+    }
+  }
+
   call(name, ...words) {
-    return this.#calls[`cukvashe_${name}`](...words);
+    this.#isInCall = true;
+    const answer = this.#calls[`cukvashe_${name}`](...words);
+    this.#isInCall = false;
+    return answer;
   }
 
   /** Room for so many bytes, at an address that is good for anything. */
@@ -343,22 +364,25 @@ class Workspace {
   }
 }
 
+// The instance of the module that is in use, and the module, of which another one can be made.
 let workspace = null;
+let compiled = null;
 
 /**
- * Runs calls in the module's memory, and wipes it. A trap, which only a damaged module has, spoils the module for good.
+ * Runs calls in the module's memory, and wipes it. An exception that is none of the library's, as where the engine's own
+ * stack ends or the module traps, leaves its instance within a call, with a part of its stack in use for good. So the next
+ * call has a new one.
  */
 function inside(run) {
-  const held = workspace;
-  if (held === null) throw new NotLoaded("the library is not loaded: await load() first");
-  try {
-    return run(held);
-  } catch (error) {
-    if (error instanceof WebAssembly.RuntimeError) workspace = null;
-    throw error;
-  } finally {
-    held.wipe();
-  }
+  if (workspace === null) throw new NotLoaded("the library is not loaded: await load() first");
+  if (workspace.isSpoiled) renew();
+  return workspace.use(run);
+}
+
+/** Wipes what a call left behind, and makes a new instance. */
+function renew() {
+  workspace.wipe();
+  workspace = new Workspace(new WebAssembly.Instance(compiled, {}).exports);
 }
 
 /** What a call writes to room of a size, after its other arguments; a status of it is looked at. */
@@ -413,7 +437,8 @@ export async function load(module) {
     const sum = new Uint8Array(await crypto.subtle.digest("SHA-256", bytes));
     if (hexOf(sum) !== MODULE_SUM) throw new ModuleMismatch("the module is not the one that this file was built with");
   }
-  const { instance } = await WebAssembly.instantiate(bytes, {});
+  const { module: made, instance } = await WebAssembly.instantiate(bytes, {});
+  compiled = made;
   workspace = new Workspace(instance.exports);
 }
 
@@ -424,8 +449,12 @@ const hexOf = (bytes) => Array.from(bytes, (byte) => byte.toString(16).padStart(
 // Of each class of ciphers or MACs the name of its calls in C, the size of its key, and how many words its context has.
 const kinds = new Map();
 
-// Of each cipher and MAC its kind and its context, which is null once it was closed. No text of an object shows them.
+// Of each cipher, MAC and terminal its kind, its context, which is null once it was closed, and the instance that made it. No
+// text of an object shows them.
 const states = new WeakMap();
+
+/** Keeps what the instance in use made of a key. */
+const keep = (object, kind, context) => states.set(object, { kind, context, maker: workspace });
 
 /** The kind of a class, which may be one that a caller made of ours. */
 function kindOf(Class, Base, what) {
@@ -433,6 +462,11 @@ function kindOf(Class, Base, what) {
     if (kinds.has(at)) return kinds.get(at);
   }
   throw new TypeError(`${what}: a class is needed, such as ${Base === Cipher ? "TdesEde2" : "RetailMacDes"}`);
+}
+
+/** Refuses what an instance made in which a call did not end: nobody knows what such a one had written. */
+function refuseOfSpoiled({ maker }) {
+  if (maker?.isSpoiled) throw new Closed("the object was closed by a call that did not end: make it anew");
 }
 
 /** The kind and the context of a cipher or MAC. */
@@ -443,6 +477,7 @@ function stateOf(object, Base) {
   }
   const state = states.get(object);
   if (state.context === null) throw new Closed("the object was closed");
+  refuseOfSpoiled(state);
   return state;
 }
 
@@ -477,7 +512,7 @@ class Cipher extends Keyed {
   constructor(key) {
     super();
     const kind = kindOf(new.target, Cipher, "a cipher");
-    states.set(this, { kind, context: contextOf(kind, keyOf(key, kind.keySize)) });
+    keep(this, kind, contextOf(kind, keyOf(key, kind.keySize)));
   }
 
   /** The data, each block of 8 bytes encrypted by itself. */
@@ -592,7 +627,7 @@ class Mac extends Keyed {
   copy() {
     const { kind, context } = stateOf(this, Mac);
     const other = Object.create(Object.getPrototypeOf(this));
-    states.set(other, { kind, context: context.slice() });
+    keep(other, kind, context.slice());
     return other;
   }
 }
@@ -613,7 +648,7 @@ class PaddedMac extends Mac {
     const [held, method, bytes] = [keyOf(key, kind.keySize), paddingOf(padding), bytesOf(data, "data")];
     const context = contextOf(kind, held, method);
     if (context === null) throw new PaddingMethod("padding is by method 1 or 2");
-    states.set(this, { kind, context });
+    keep(this, kind, context);
     this.update(bytes);
   }
 }
@@ -624,7 +659,7 @@ class Cmac extends Mac {
     super();
     const kind = kindOf(new.target, Cmac, "a MAC");
     const [held, bytes] = [keyOf(key, kind.keySize), bytesOf(data, "data")];
-    states.set(this, { kind, context: contextOf(kind, held) });
+    keep(this, kind, contextOf(kind, held));
     this.update(bytes);
   }
 }
@@ -859,14 +894,14 @@ export class DukptTerminal extends Keyed {
       memory.call("dukpt_terminal_init", at, memory.put(key), memory.put(number));
       return memory.taken(at, STATE_SIZE);
     });
-    states.set(this, { kind: null, context });
+    keep(this, null, context);
   }
 
   /** The terminal of a state. */
   static fromState(state) {
     const context = dataOf(state, STATE_SIZE, "the state of a terminal", "has", StateLength).slice();
     const terminal = Object.create(this.prototype);
-    states.set(terminal, { kind: null, context });
+    keep(terminal, null, context);
     return terminal;
   }
 
@@ -959,23 +994,22 @@ export function pinDecode3(block, account) {
 
 /**
  * The PIN block of format 0 under the outgoing key, of the PIN of a block of format 0, 1 or 3 under the incoming key.
- * Keys have 8, 16 or 24 bytes, and the account number is that of both blocks. Whatever is wrong with the block is
- * PinBlock. The PIN does not come out.
+ * Keys are `{ incomingKey, outgoingKey }`, by name so that none stands in the other's place, and have 8, 16 or 24 bytes.
+ * The account number is that of both blocks. Whatever is wrong with the block is PinBlock. The PIN does not come out.
  */
-export function pinTranslateTo0(incomingKey, incomingFormat, outgoingKey, account, block) {
-  const lay = translated(incomingKey, incomingFormat, outgoingKey, account, block, []);
-  return written(BLOCK_SIZE, "pin_translate_to_0", lay);
+export function pinTranslateTo0(incomingFormat, account, block, keys) {
+  return written(BLOCK_SIZE, "pin_translate_to_0", translated(incomingFormat, account, [], block, keys));
 }
 
 /** The same to a block of format 3, with ten fill digits as of pinEncode3. */
-export function pinTranslateTo3(incomingKey, incomingFormat, outgoingKey, account, fill, block) {
-  const lay = translated(incomingKey, incomingFormat, outgoingKey, account, block, [fillOf(fill)]);
-  return written(BLOCK_SIZE, "pin_translate_to_3", lay);
+export function pinTranslateTo3(incomingFormat, account, fill, block, keys) {
+  return written(BLOCK_SIZE, "pin_translate_to_3", translated(incomingFormat, account, [fillOf(fill)], block, keys));
 }
 
 /** What a translation takes, laid down. */
-function translated(incomingKey, incomingFormat, outgoingKey, account, block, fills) {
+function translated(incomingFormat, account, fills, block, keys) {
   const format = numberOf(incomingFormat, 0, 3, "the incoming format");
+  const { incomingKey, outgoingKey } = optionsOf(keys, "incomingKey", "outgoingKey");
   const [incoming, outgoing] = [keyOf(incomingKey, ...SIZES), keyOf(outgoingKey, ...SIZES)];
   const [number, bytes] = [textOf(account, "an account number"), blockOf(block)];
   return (memory) => [
@@ -1016,7 +1050,7 @@ function valueOf(key, account, index, pin) {
 
 const TABLE_SIZE = 16;
 
-// Of each decimalization table its digits. No text of one shows them.
+// Of each decimalization table its digits, and the instance that made it. No text of one shows them.
 const tables = new WeakMap();
 
 /**
@@ -1039,11 +1073,12 @@ export class DecimalTable {
 /** The table that a call makes of digits. */
 function tableOf(call, digits) {
   const text = textOf(digits, "a decimalization table");
-  return inside((memory) => {
+  const taken = inside((memory) => {
     const at = memory.room(TABLE_SIZE);
     check(memory.call(call, at, ...memory.list(text)));
     return memory.taken(at, TABLE_SIZE);
   });
+  return { taken, maker: workspace };
 }
 
 /** A key, a decimalization table and validation data, sixteen digits in 8 bytes, as the calls below take them. */
@@ -1051,7 +1086,9 @@ function naturalOf(key, table, validation) {
   const data = dataOf(validation, BLOCK_SIZE, "validation data", "have", BlockLength);
   const held = keyOf(key, ...SIZES);
   if (!tables.has(table)) throw new TypeError("the decimalization table: a DecimalTable is needed");
-  return (memory) => [...memory.list(held), memory.put(tables.get(table)), memory.put(data)];
+  const made = tables.get(table);
+  refuseOfSpoiled(made);
+  return (memory) => [...memory.list(held), memory.put(made.taken), memory.put(data)];
 }
 
 /**

@@ -351,8 +351,10 @@ export const calculations = [
       },
     },
     compute({ block, from, incoming, to, outgoing, account: number, fill }) {
-      const given = [incoming, Number(from), outgoing, number];
-      const made = to === "0" ? library.pinTranslateTo0(...given, block) : library.pinTranslateTo3(...given, fill, block);
+      const keys = { incomingKey: incoming, outgoingKey: outgoing };
+      const made = to === "0"
+        ? library.pinTranslateTo0(Number(from), number, block, keys)
+        : library.pinTranslateTo3(Number(from), number, fill, block, keys);
       return [value("Translated block", made)];
     },
   },

@@ -27,7 +27,7 @@ export async function exportsOf(changed = (exports) => exports) {
   WebAssembly.instantiate = async (...words) => {
     const made = await instantiate(...words);
     exports = changed({ ...made.instance.exports });
-    return { instance: { exports } };
+    return { module: made.module, instance: { exports } };
   };
   try {
     await library.load();

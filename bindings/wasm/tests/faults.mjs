@@ -3,7 +3,7 @@
 import assert from "node:assert/strict";
 import { readFileSync } from "node:fs";
 import { runInNewContext } from "node:vm";
-import { folder, hex, is, library, unhex } from "./common.mjs";
+import { exportsOf, folder, hex, is, library, unhex } from "./common.mjs";
 
 const KEY = unhex("0123456789abcdef23456789abcdef01456789abcdef0123");
 const PAIR = unhex("0123456789abcdeffedcba9876543210");
@@ -327,16 +327,17 @@ for (const pin of ["123", "123/"]) {
   throwsFault(() => library.pinOffsetVerify(PAIR, TABLE, IV, pin, "1234"), pin === "123" ? "PinLength" : "PinDigit");
 }
 throwsFault(() => library.pinOffsetVerify(PAIR, TABLE, IV, "12345", "0000"), "WrongPin", "the PIN is not the one");
+const KEYS = { incomingKey: PAIR, outgoingKey: OTHER };
 for (const format of [2, 4, -1, 0.5, 2 ** 32, 2 ** 32 + 3]) {
   const text = "PIN blocks are translated from formats 0, 1 and 3";
-  throwsFault(() => library.pinTranslateTo0(PAIR, format, OTHER, "", SENT), "Formats", text);
-  throwsFault(() => library.pinTranslateTo3(PAIR, format, OTHER, "", FILL, SENT), "Formats", text);
+  throwsFault(() => library.pinTranslateTo0(format, "", SENT, KEYS), "Formats", text);
+  throwsFault(() => library.pinTranslateTo3(format, "", FILL, SENT, KEYS), "Formats", text);
 }
-throwsFault(() => library.pinTranslateTo3(PAIR, 0, OTHER, ACCOUNT, new Uint8Array(10), SENT), "Fill");
+throwsFault(() => library.pinTranslateTo3(0, ACCOUNT, new Uint8Array(10), SENT, KEYS), "Fill");
 for (const block of ["141274edcba9876f", "031274edcba9876f", "041a74edcba9876f", "041274edcba9876e"]) {
   const sent = new library.TdesEde2(PAIR).encryptEcb(unhex(block));
   const text = "the PIN block is not one of its format and account number";
-  throwsFault(() => library.pinTranslateTo0(PAIR, 0, OTHER, ACCOUNT, sent), "PinBlock", text);
+  throwsFault(() => library.pinTranslateTo0(0, ACCOUNT, sent, KEYS), "PinBlock", text);
 }
 for (const [sequence, name, text] of [["0", "SequenceLength", "a sequence number has two digits"], ["0:", "SequenceDigit", "a sequence number has digits alone"]]) {
   throwsFault(() => library.emvCardKey(PAIR, ACCOUNT, sequence), name, text);
@@ -346,8 +347,8 @@ for (const length of LENGTHS) {
     const text = `a key has 8 or 16 or 24 bytes, not ${length}`;
     for (const call of ["keyCheckValue", "shortKeyCheckValue"]) throwsFault(() => library[call](of(length)), "KeyLength", text);
     throwsFault(() => library.naturalPin(of(length), TABLE, IV, 4), "KeyLength", text);
-    throwsFault(() => library.pinTranslateTo0(of(length), 0, OTHER, ACCOUNT, SENT), "KeyLength", text);
-    throwsFault(() => library.pinTranslateTo3(PAIR, 0, of(length), ACCOUNT, FILL, SENT), "KeyLength", text);
+    throwsFault(() => library.pinTranslateTo0(0, ACCOUNT, SENT, { ...KEYS, incomingKey: of(length) }), "KeyLength", text);
+    throwsFault(() => library.pinTranslateTo3(0, ACCOUNT, FILL, SENT, { ...KEYS, outgoingKey: of(length) }), "KeyLength", text);
   }
   if (length !== 8) {
     throwsFault(() => library.naturalPin(PAIR, TABLE, of(length), 4), "BlockLength", `validation data have 8 bytes, not ${length}`);
@@ -511,6 +512,19 @@ const OF_OPTIONS = [
   },
 ];
 assert.equal(declared.match(/^  options\?: /gm).length, OF_OPTIONS.length, "a call with options that is not tested");
+// The keys of a translation go by name too, and each is there.
+for (const [call, ...words] of [["pinTranslateTo0", 0, ACCOUNT, SENT], ["pinTranslateTo3", 0, ACCOUNT, FILL, SENT]]) {
+  OF_OPTIONS.push({
+    call: (options) => library[call](...words, options),
+    right: KEYS,
+    others: ["incoming_key", "outgoing_key", "incoming", "outgoing", "key"],
+    text: 'options: the names are "incomingKey" and "outgoingKey" alone',
+  });
+  throwsType(() => library[call](PAIR, words[0], OTHER, ...words.slice(1)), "keys by their places");
+  for (const keys of [PAIR, [PAIR, OTHER], { incomingKey: PAIR }, { outgoingKey: PAIR }, {}]) {
+    throwsType(() => library[call](...words, keys), "keys of which one is missing");
+  }
+}
 for (const { call, right, others, text } of OF_OPTIONS) {
   const answer = call(right);
   assert.deepEqual(call(Object.assign(Object.create(null), right)), answer);
@@ -523,6 +537,117 @@ for (const { call, right, others, text } of OF_OPTIONS) {
     assert.throws(() => call(options), { name: "TypeError", message: text });
   }
 }
+
+// ---- A call that does not end, since the engine's own stack does or the module traps: the next one has a new instance, and what
+// the old one made is refused
+
+/** Loads the module with an export that throws an error after it did its work, once that is asked for, and its memory. */
+async function breaking(name, error) {
+  let isAsked = false;
+  const { memory } = await exportsOf((exports) => {
+    const call = exports[name];
+    assert.equal(typeof call, "function", name);
+    const breaks = (...words) => {
+      const answer = call(...words);
+      if (isAsked) throw error;
+      return answer;
+    };
+    return { ...exports, [name]: breaks };
+  });
+  return { memory, ask: () => { isAsked = true; } };
+}
+
+const OLD = "the object was closed by a call that did not end: make it anew";
+const unended = [new RangeError("Maximum call stack size exceeded"), new WebAssembly.RuntimeError("unreachable"), new Error("other")];
+for (const error of unended) {
+  for (const [name, call] of [
+    ["cukvashe_narrow_tdes_ede3_encrypt_ecb", ({ cipher }) => cipher.encryptEcb(IV)],
+    ["cukvashe_cmac_tdes_ede3_update", ({ mac }) => mac.update(IV)],
+    ["cukvashe_tdes_ede3_init", () => new library.TdesEde3(KEY)],
+    ["cukvashe_dukpt_terminal_next_key", ({ terminal }) => terminal.nextKey()],
+    ["cukvashe_natural_pin", ({ table }) => library.naturalPin(KEY, table, IV, 4)],
+  ]) {
+    const made = () => ({
+      cipher: new library.TdesEde2(PAIR), mac: new library.CmacTdesEde3(KEY, MESSAGE),
+      terminal: new library.DukptTerminal(PAIR, SERIAL), table: new library.DecimalTable("0123456789012345"),
+    });
+    await library.load();
+    const answers = ({ cipher, mac, terminal, table }) => [
+      hex(cipher.encryptEcb(IV)), mac.digest("hex"), mac.copy().digest("hex"), hex(terminal.state()),
+      library.naturalPin(KEY, table, IV, 4),
+    ];
+    const right = answers(made());
+    const { memory, ask } = await breaking(name, error);
+    const old = { ...made(), cipher: name.includes("ecb") ? new library.TdesEde3(KEY) : new library.TdesEde2(PAIR) };
+    ask();
+    assert.throws(() => call(old), (thrown) => thrown === error);
+    const { cipher, mac, terminal, table } = old;
+    const refused = [
+      () => cipher.encryptEcb(IV), () => cipher.decryptCbc(IV, IV), () => library.encryptCbcRecords(cipher, IV, [1], IV),
+      () => mac.update(IV), () => mac.digest(), () => mac.verify(IV), () => mac.copy(), () => terminal.nextKey(),
+      () => terminal.state(), () => library.naturalPin(KEY, table, IV, 4), () => library.pinOffset(KEY, table, IV, "1234"),
+    ];
+    for (const run of refused) throwsFault(run, "Closed", OLD);
+    assert.deepEqual(answers(made()), right, `after ${error} of ${name}`);
+    for (const run of refused) throwsFault(run, "Closed", OLD);
+    // What the call that did not end had laid down is wiped.
+    const bytes = new Uint8Array(memory.buffer);
+    for (const secret of [KEY, PAIR, MESSAGE]) {
+      assert(!Buffer.from(bytes).includes(Buffer.from(secret)), "a key is left in the old instance");
+    }
+    mac.close();
+    throwsFault(() => mac.digest(), "Closed", "the object was closed");
+    await library.load();
+    throwsFault(() => cipher.encryptEcb(IV), "Closed", OLD);
+    assert.deepEqual(answers(made()), right);
+  }
+}
+
+/** Makes a call wherever the engine's stack has come to its end, on the way back from there; gives what came of them. */
+function atTheEnd(call) {
+  const seen = [];
+  const falls = () => {
+    try {
+      falls();
+    } catch (error) {
+      if (!(error instanceof RangeError)) throw error;
+    }
+    if (seen.length < 400) seen.push(call());
+  };
+  falls();
+  return seen;
+}
+
+const wanted = hex(new library.TdesEde3(KEY).encryptEcb(MESSAGE));
+const ends = { RangeError: 0, Closed: 0, right: 0 };
+for (let round = 0; round < 40; round += 1) {
+  let held = new library.TdesEde3(KEY);
+  const outcomes = atTheEnd(() => {
+    try {
+      return hex(held.encryptEcb(MESSAGE));
+    } catch (error) {
+      return error;
+    }
+  });
+  for (const outcome of outcomes) {
+    const isFault = outcome instanceof RangeError || outcome instanceof library.Closed;
+    assert(isFault || outcome === wanted, `${outcome}`);
+    ends[isFault ? outcome.name : "right"] += 1;
+  }
+  held = new library.TdesEde3(KEY);
+  is(held.encryptEcb(MESSAGE), wanted);
+}
+assert(ends.RangeError > 0, "the stack did not end within a call");
+
+// Where memory can't grow, no call of the module had begun, and nothing is spoiled.
+await exportsOf((exports) => {
+  const grow = () => { throw new RangeError("no memory"); };
+  return { ...exports, memory: { get buffer() { return exports.memory.buffer; }, grow } };
+});
+const lasting = new library.TdesEde3(KEY);
+assert.throws(() => lasting.encryptEcb(of(1 << 24)), { name: "RangeError", message: "no memory" });
+is(lasting.encryptEcb(MESSAGE), wanted);
+await library.load();
 
 const last = new Uint8Array(346);
 last.set(unhex("ffff9876543210fff800"));
@@ -586,8 +711,8 @@ const CALLS = [
   ["DukptTerminal", [PAIR, SERIAL], [BYTES, BYTES]],
   ["pinEncode2", ["1234"], [isText]],
   ["pinDecode2", [unhex("241234ffffffffff")], [BYTES]],
-  ["pinTranslateTo0", [PAIR, 0, OTHER, ACCOUNT, SENT], [BYTES, isFive, BYTES, isText, BYTES]],
-  ["pinTranslateTo3", [PAIR, 0, OTHER, ACCOUNT, FILL, SENT], [BYTES, isFive, BYTES, isText, BYTES, BYTES]],
+  ["pinTranslateTo0", [0, ACCOUNT, SENT, KEYS], [isFive, isText, BYTES, BYTES]],
+  ["pinTranslateTo3", [0, ACCOUNT, FILL, SENT, KEYS], [isFive, isText, BYTES, BYTES, BYTES]],
   ["pvv", [PAIR, ACCOUNT, 1, "1234"], [BYTES, isText, isFive, isText]],
   ["pvvVerify", [PAIR, "4123456789012345", 1, "1234", "1894"], [BYTES, isText, isFive, isText, isText]],
   ["DecimalTable", ["0123456789012345"], [isText]],

@@ -239,9 +239,9 @@ is(library.dukptDataVariant(first, true), hex(first.map((byte, at) => (at % 8 ==
 const OTHER = unhex("89e88cf7931444f334bd7547fc3f380c");
 const SENT = unhex("c03d21cdbcb0c58b");
 for (const [key, format, block] of [[PAIR, 0, SENT], [OTHER, 3, unhex("ba041cb9b3034d36")], [PAIR.subarray(0, 8), 1, unhex("824daa361d7dc65a")]]) {
-  is(library.pinTranslateTo0(key, format, OTHER, ACCOUNT, block), "8856db66d89e9eff");
-  is(library.pinTranslateTo0(key, format, PAIR, Buffer.from(ACCOUNT), block), hex(SENT));
-  is(library.pinTranslateTo3(key, format, OTHER, ACCOUNT, FILL, block), "ba041cb9b3034d36");
+  is(library.pinTranslateTo0(format, ACCOUNT, block, { incomingKey: key, outgoingKey: OTHER }), "8856db66d89e9eff");
+  is(library.pinTranslateTo0(format, Buffer.from(ACCOUNT), block, { incomingKey: key, outgoingKey: PAIR }), hex(SENT));
+  is(library.pinTranslateTo3(format, ACCOUNT, FILL, block, { incomingKey: key, outgoingKey: OTHER }), "ba041cb9b3034d36");
 }
 
 const VALUES = [["4123456789012345", 1, "1234", "1894"], ["400000123456", 6, "99990", "1723"],

@@ -169,12 +169,10 @@ function translate() {
   };
   const cipher = { 8: library.Des, 16: library.TdesEde2, 24: library.TdesEde3 }[incoming.length];
   const sent = new cipher(incoming).encryptEcb(encoders[format]());
-  const words = [
-    often(() => incoming, anyKey), often(() => format, () => random(6)), often(() => outgoing, anyKey),
-    often(() => number, account),
-  ];
+  const keys = { incomingKey: often(() => incoming, anyKey), outgoingKey: often(() => outgoing, anyKey) };
+  const words = [often(() => format, () => random(6)), often(() => number, account)];
   const block = often(() => sent, vector);
-  return random(2) === 0 ? ["pinTranslateTo0", ...words, block] : ["pinTranslateTo3", ...words, fill(10), block];
+  return random(2) === 0 ? ["pinTranslateTo0", ...words, block, keys] : ["pinTranslateTo3", ...words, fill(10), block, keys];
 }
 
 const index = () => often(() => 1 + random(6), () => random(9));
