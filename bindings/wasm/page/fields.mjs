@@ -28,6 +28,18 @@ function filled(text) {
   return characters;
 }
 
+/** Whether a text has several lines. A line end before or behind it makes no other line. */
+export const hasLines = (text) => /[\n\v\f\r\u2028\u2029]/.test(text.trim());
+
+/** What a field of one line says of several: joined, two keys would be one. */
+export const ONE_LINE = "One line is needed, and here are several.";
+
+/** Reads a text that has one line. */
+const ofOneLine = (read) => (text, texts) => {
+  if (hasLines(text)) throw new Refused(ONE_LINE);
+  return read(text, texts);
+};
+
 /** The hexadecimal digits of a text, of which there may be any number. White space is passed over. */
 function hexadecimal(text) {
   const digits = text.replace(/\s/g, "");
@@ -124,7 +136,7 @@ export const lines = (...sizes) => (text) => {
   if (texts.length < 2) throw new Refused("Two components at least are needed, each on a line of its own.");
   const read = texts.map((line, at) => {
     try {
-      return bytes(...sizes)(line);
+      return ofOneLine(bytes(...sizes))(line);
     } catch (error) {
       if (!(error instanceof Refused)) throw error;
       throw new Refused(`Component ${at + 1}: ${error.message}`);
@@ -141,10 +153,10 @@ export const decimal = (text) => filled(text).replace(/-/g, "");
 export function readAll(fields, texts) {
   const values = {};
   const faults = [];
-  for (const { name, read, shown } of fields) {
+  for (const { name, read = (text) => text, isLong, shown } of fields) {
     if (shown !== undefined && !shown(texts)) continue;
     try {
-      values[name] = read === undefined ? texts[name] : read(texts[name], texts);
+      values[name] = (isLong ? read : ofOneLine(read))(texts[name], texts);
     } catch (error) {
       if (!(error instanceof Refused)) throw error;
       faults.push(new FieldFault(name, error.message));

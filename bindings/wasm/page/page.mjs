@@ -1,7 +1,7 @@
 // The page: a form for each calculation of the table, and what was computed.
 import { isSupported, load } from "../cukvashe_des.mjs";
 import { calculations, faultOf } from "./calculations.mjs";
-import { FieldFault, readAll } from "./fields.mjs";
+import { FieldFault, ONE_LINE, hasLines, readAll } from "./fields.mjs";
 
 const byId = (id) => document.getElementById(id);
 
@@ -58,6 +58,9 @@ function rowOf(calculation, field) {
   return { field, control, fault, element };
 }
 
+/** The text that an event is about to put into a field. */
+const broughtBy = (event) => (event.clipboardData ?? event.dataTransfer)?.getData("text/plain") ?? event.data ?? "";
+
 // ---- Answers
 
 /** Puts a text on the clipboard. Where a browser keeps pages from disks away from it, the old way is left. */
@@ -104,7 +107,10 @@ class Form {
       event.preventDefault();
       this.compute();
     });
-    for (const row of this.rows) if (row.field.random !== undefined) this.offerRandom(row);
+    for (const row of this.rows) {
+      if (row.field.random !== undefined) this.offerRandom(row);
+      if (row.control.type === "text") this.refuseLines(row);
+    }
     const compute = make("button", { type: "submit" }, "Compute");
     const buttons = make("div", { class: "buttons" }, compute, button({}, () => this.fillIn(), "Fill in an example"));
     this.element.append(...this.rows.map((row) => row.element), buttons);
@@ -137,6 +143,17 @@ class Form {
       this.begin();
     };
     fault.after(button({}, fills, "Random digits"));
+  }
+
+  /** Refuses several lines that are pasted, dropped or typed into a field of one: a browser would join them, and two keys be one. */
+  refuseLines({ field, control }) {
+    const refuses = (event) => {
+      if (!hasLines(broughtBy(event))) return;
+      event.preventDefault();
+      this.begin();
+      this.blame([new FieldFault(field.name, `${ONE_LINE} Nothing was put in.`)]);
+    };
+    for (const kind of ["paste", "drop", "beforeinput"]) control.addEventListener(kind, refuses);
   }
 
   compute() {

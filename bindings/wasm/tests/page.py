@@ -473,6 +473,38 @@ def each_fault(browser):
     same(faults(browser)[0], [], "a fault that was typed over")
 
 
+def one_line(browser):
+    """Several lines that are pasted, dropped or typed into a field of one are refused, and nothing is put in; one line is taken, whatever
+    line end it has behind it. Joined, these two components would be a key."""
+    choose(browser, "check")
+    halves = f"{BASE[:16]}\n{BASE[16:]}"
+    for kind in ("paste", "drop", "beforeinput"):
+        for text, is_refused in ((halves, True), (halves.replace("\n", "\r\n") + "\r\n", True), (f"{BASE}\n", False), (BASE, False)):
+            fill(browser, "check", key="")
+            browser.run("document.activeElement.blur()")
+            goes_on = browser.run("""
+              const field = document.getElementById("check-key"), how = { bubbles: true, cancelable: true };
+              const data = new DataTransfer();
+              data.setData("text/plain", arguments[1]);
+              return field.dispatchEvent({
+                paste: () => new ClipboardEvent("paste", { ...how, clipboardData: data }),
+                drop: () => new DragEvent("drop", { ...how, dataTransfer: data }),
+                beforeinput: () => new InputEvent("beforeinput", { ...how, inputType: "insertText", data: arguments[1] }),
+              }[arguments[0]]());""", kind, text)
+            same(goes_on, not is_refused, f"{kind} of {text!r}")
+            same(browser.run("return document.getElementById('check-key').value"), "", f"what {kind} of {text!r} puts in")
+            said = [["check-key-fault", "One line is needed, and here are several. Nothing was put in."]]
+            if is_refused:
+                same(faults(browser), [said, "check-key"], f"what is said of {kind} of {text!r}")
+    # A field of several lines takes them.
+    choose(browser, "components")
+    same(browser.run("""
+      const data = new DataTransfer();
+      data.setData("text/plain", arguments[0]);
+      return document.getElementById("components-components").dispatchEvent(new ClipboardEvent("paste", { cancelable: true, clipboardData: data }));""",
+      halves), True, "a paste of components")
+
+
 def by_keyboard(page):
     """From opening to the PIN key of a transaction, by keyboard alone."""
     browser = Browser()
@@ -661,6 +693,7 @@ key_blocks(begun)
 known_answers(begun)
 each_fault(begun)
 random_digits(begun)
+one_line(begun)
 is_kept_clean(begun, PAGE)
 copies(begun, PAGE)
 VERSION = begun.version
