@@ -65,24 +65,25 @@ def _fields_of(header: KeyBlockHeader) -> bytes:
     """The fields of a header, as a call takes them."""
     if not isinstance(header, KeyBlockHeader):
         raise TypeError("a header is a KeyBlockHeader")
-    two = (header.usage, header.key_version)
-    one = (header.algorithm, header.mode, header.exportability)
-    if not all(isinstance(field, str) for field in (header.version, *two, *one)):
+    given = (header.version, header.usage, header.algorithm, header.mode, header.key_version, header.exportability)
+    if not all(isinstance(field, str) for field in given):
         raise TypeError("the fields of a header are texts")
-    if len(header.version) != 1:
+    # The characters alone: the member of an enumeration that is a text too is formatted by its name.
+    version, usage, algorithm, mode, key_version, exportability = (str.__str__(field) for field in given)
+    if len(version) != 1:
         raise KeyBlockVersion("a key block is made of version B or C")
-    if any(len(field) != 2 for field in two) or any(len(field) != 1 for field in one):
+    if [len(field) for field in (usage, algorithm, mode, key_version, exportability)] != [2, 1, 1, 2, 1]:
         raise KeyBlockField("the usage and the key's version have two characters, the other fields one")
-    text = f"{header.version}{header.usage}\0{header.algorithm}{header.mode}{header.key_version}\0{header.exportability}"
-    return text.encode("ascii", "replace")
+    return f"{version}{usage}\0{algorithm}{mode}{key_version}\0{exportability}".encode("ascii", "replace")
 
 
 def _block_of(block: _Text) -> bytes:
     """The characters of a key block."""
     if isinstance(block, str):
-        if not block.isascii():
+        text = str.__str__(block)
+        if not text.isascii():
             raise KeyBlockDigit("a key block has ASCII characters alone")
-        return block.encode("ascii")
+        return text.encode("ascii")
     return bytes_of(block)
 
 

@@ -6,7 +6,7 @@ from __future__ import annotations
 import contextlib
 from array import array
 from itertools import accumulate
-from typing import TYPE_CHECKING, Any, Iterable, Iterator, List, Optional, Tuple, Type
+from typing import TYPE_CHECKING, AbstractSet, Any, Iterable, Iterator, List, Mapping, Optional, Tuple, Type
 
 from ._ciphers import Cipher, class_of
 from ._data import BLOCK_SIZE, Kind, bytes_from, in_order, is_writable, kept_apart, key_of, lent, pointer_to, room, row_size
@@ -151,9 +151,10 @@ def dukpt_transaction_keys(base: ReadableBuffer, serials: ReadableBuffer) -> byt
 
 
 def _numbers_of(numbers: Iterable[int]) -> array[int]:
-    """Numbers, of anything that gives them one by one, copied into words that the library reads."""
-    if isinstance(numbers, (str, bytes, bytearray)):
-        raise TypeError("counts and lengths are numbers")
+    """Numbers, of anything that gives them one by one, copied into words that the library reads. A set has no order, and a number
+    once alone."""
+    if isinstance(numbers, (str, bytes, bytearray, AbstractSet, Mapping)):
+        raise TypeError("counts and lengths are numbers, in the order of the records or messages")
     try:
         return array("Q", numbers)
     except OverflowError:

@@ -1,5 +1,6 @@
 """Key blocks: published ones, what the `cryptography` package made, what is made and read again, and each fault."""
 
+import enum
 import inspect
 import os
 import unittest
@@ -19,7 +20,9 @@ else:
 
 import cukvashe_des
 from cukvashe_des import (
+    KeyBlockField,
     KeyBlockHeader,
+    KeyBlockVersion,
     key_block_header,
     key_block_optional_blocks,
     unwrap_key_block,
@@ -193,6 +196,30 @@ class KeyBlocks(unittest.TestCase):
             self.assertRaises(TypeError, wrap_key_block, PROTECTION, changed(**fields), BLOCK_KEY)
         for header in ("B", None, ("B", "P0", "T", "E", "00", "E"), BLOCK.decode()):
             self.assertRaises(TypeError, wrap_key_block, PROTECTION, header, BLOCK_KEY)
+
+    def test_texts_of_other_classes(self):
+        """Members of enumerations that are texts too, and a text that says another length, are taken for their characters."""
+
+        class KeyBlockUsage(str, enum.Enum):
+            PIN = "P0"
+
+        class Said(str):
+            def __len__(self):
+                return 1
+
+            def __format__(self, _):
+                return "9"
+
+            def encode(self, *_):
+                return b"A"
+
+        header = replace(BLOCK_HEADER, usage=KeyBlockUsage.PIN, algorithm=Said("T"), version=Said("B"))
+        padding = bytes.fromhex("1c2965473ce2")
+        self.assertEqual(wrap_key_block(PROTECTION, header, BLOCK_KEY, padding=padding), BLOCK.decode())
+        self.assertEqual(unwrap_key_block(PROTECTION, Said(BLOCK.decode())), (BLOCK_HEADER, BLOCK_KEY))
+        for name in ("version", "usage", "algorithm", "mode", "key_version", "exportability"):
+            with self.assertRaises((KeyBlockField, KeyBlockVersion)):
+                wrap_key_block(PROTECTION, replace(BLOCK_HEADER, **{name: Said("P0T")}), BLOCK_KEY, padding=padding)
 
     def test_optional_refused(self):
         for optional in ([("K", "")], [("KSX", "")], [("", "")], [("K\xe9", "")], [("KS", "\uff10")], [("KS", "")] * 100,

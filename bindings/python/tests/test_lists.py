@@ -109,7 +109,7 @@ class Records(unittest.TestCase):
                 self.assertRaises(CountMismatch, call, cipher, bytes(16), counts, bytes(24))
             self.assertRaises(VectorLength, call, cipher, bytes(15), [3], bytes(24))
             self.assertRaises(BlockLength, call, cipher, bytes(8), [3], bytes(23))
-            for wrong in (b"12", "12", 3, None, [1.5], ["1"]):
+            for wrong in (b"12", "12", 3, None, [1.5], ["1"], {1, 2}, frozenset((1, 2)), {1: 1, 2: 2}, {1: 1, 2: 2}.keys()):
                 self.assertRaises(TypeError, call, cipher, bytes(16), wrong, bytes(24))
             self.assertRaises(TypeError, call, TdesEde3, bytes(8), [3], bytes(24))
             with cipher.__class__(KEY) as closed:
@@ -144,6 +144,8 @@ class Messages(unittest.TestCase):
                     fault = cukvashe_des.PaddingMethod if right else TypeError
                     self.assertRaises(fault, call, kind, keys, padding, [1, 2], b"abc")
                 self.assertRaises(KeyLength, call, kind, keys[:-1], right, [1, 2], b"abc")
+                for lengths in ({1, 2}, {1: 1, 2: 2}):
+                    self.assertRaises(TypeError, call, kind, keys, right, lengths, b"abc")
                 for padding in ("1", True, None if right else 1):
                     self.assertRaises(TypeError, call, kind, keys, padding, [1, 2], b"abc")
                 self.assertRaises(TypeError, call, TdesEde3, keys, right, [1, 2], b"abc")
