@@ -139,12 +139,14 @@ function check(status) {
 
 // ---- Arguments: each is tested, and taken once, before anything is laid down ----------------------------------------
 
-const typedArrayName = Object.getOwnPropertyDescriptor(Object.getPrototypeOf(Uint8Array.prototype), Symbol.toStringTag).get;
+// What every typed array has: a class that a caller derives may say otherwise.
+const typedArray = (name) => Object.getOwnPropertyDescriptor(Object.getPrototypeOf(Uint8Array.prototype), name).get;
+const [typedArrayName, bufferOf, offsetOf, lengthOf] = [Symbol.toStringTag, "buffer", "byteOffset", "length"].map(typedArray);
 
 /** The bytes of a Uint8Array, as Buffer is one, from whatever window it came. */
 function bytesOf(data, what) {
   if (typedArrayName.call(data) !== "Uint8Array") throw new TypeError(`${what}: a Uint8Array is needed`);
-  return new Uint8Array(data.buffer, data.byteOffset, data.length);
+  return new Uint8Array(bufferOf.call(data), offsetOf.call(data), lengthOf.call(data));
 }
 
 /** The bytes of a key of one of these sizes. */
@@ -200,17 +202,25 @@ function textOf(text, what) {
 }
 
 /**
- * The options of a call, an object of these names and of no others: a name that is spelled otherwise would pass for one
- * that was left out.
+ * An object of these names and of no others: a name that is spelled otherwise would pass for one that was left out.
  */
-function optionsOf(options, ...names) {
-  if (Object.prototype.toString.call(options) !== "[object Object]") {
-    throw new TypeError("options: an object of names is needed");
+function namedOf(what, object, ...names) {
+  if (Object.prototype.toString.call(object) !== "[object Object]") {
+    throw new TypeError(`${what}: an object of names is needed`);
   }
-  const given = Reflect.ownKeys(options);
-  for (const name in options) given.push(name);
-  if (given.every((name) => names.includes(name))) return options;
-  throw new TypeError(`options: the names are ${names.map((name) => `"${name}"`).join(" and ")} alone`);
+  const given = Reflect.ownKeys(object);
+  for (const name in object) given.push(name);
+  if (given.every((name) => names.includes(name))) return object;
+  const listed = names.map((name) => `"${name}"`).join(", ").replace(/, ([^,]*)$/, " and $1");
+  throw new TypeError(`${what}: the names are ${listed} alone`);
+}
+
+/** The options of a call. */
+const optionsOf = (options, ...names) => namedOf("options", options, ...names);
+
+/** Refuses arguments that a call does not have. Passed over, they would be taken for a part of its answer. */
+function refuseMore(more, text) {
+  if (more.length > 0) throw new TypeError(text);
 }
 
 /** The text of bytes, each of them a character. */
@@ -509,8 +519,9 @@ if (Symbol.dispose !== undefined) Object.defineProperty(Keyed.prototype, Symbol.
 class Cipher extends Keyed {
   static blockSize = BLOCK_SIZE;
 
-  constructor(key) {
+  constructor(key, ...more) {
     super();
+    refuseMore(more, "a cipher takes a key alone, and neither a vector nor options");
     const kind = kindOf(new.target, Cipher, "a cipher");
     keep(this, kind, contextOf(kind, keyOf(key, kind.keySize)));
   }
@@ -526,13 +537,13 @@ class Cipher extends Keyed {
   }
 
   /** The data, encrypted by cipher block chaining from an initialization vector of 8 bytes. */
-  encryptCbc(iv, data) {
-    return answered(this, "encrypt_cbc", data, [vectorOf(iv)]);
+  encryptCbc(iv, data, ...more) {
+    return cbc(this, "encrypt_cbc", iv, data, more);
   }
 
   /** The data, decrypted by cipher block chaining from an initialization vector of 8 bytes. Padding stays. */
-  decryptCbc(iv, data) {
-    return answered(this, "decrypt_cbc", data, [vectorOf(iv)]);
+  decryptCbc(iv, data, ...more) {
+    return cbc(this, "decrypt_cbc", iv, data, more);
   }
 }
 
@@ -540,8 +551,13 @@ class Cipher extends Keyed {
 const widthOf = (call) => (call === "encrypt_cbc" ? "" : "narrow_");
 
 function ecb(cipher, call, data, more) {
-  if (more.length > 0) throw new TypeError("ECB takes data alone, and no initialization vector");
+  refuseMore(more, "ECB takes data alone, and no initialization vector");
   return answered(cipher, call, data, []);
+}
+
+function cbc(cipher, call, iv, data, more) {
+  refuseMore(more, "CBC takes a vector and data alone, and neither padding nor options");
+  return answered(cipher, call, data, [vectorOf(iv)]);
 }
 
 /** What a call makes of data, in place, with or without a vector. */
@@ -589,7 +605,8 @@ class Mac extends Keyed {
   static digestSize = TAG_SIZE;
 
   /** Adds bytes to the message. */
-  update(data) {
+  update(data, ...more) {
+    refuseMore(more, "update takes data alone");
     const { kind, context } = stateOf(this, Mac);
     const bytes = bytesOf(data, "data");
     inside((memory) => {
@@ -642,8 +659,9 @@ function accepted(mac, tag, least) {
 
 /** A MAC with a padding method of ISO/IEC 9797-1: 1, zeros, or 2, a one bit and zeros. */
 class PaddedMac extends Mac {
-  constructor(key, padding, data = new Uint8Array()) {
+  constructor(key, padding, data = new Uint8Array(), ...more) {
     super();
+    refuseMore(more, "a MAC takes a key, a padding method and data alone");
     const kind = kindOf(new.target, PaddedMac, "a MAC");
     const [held, method, bytes] = [keyOf(key, kind.keySize), paddingOf(padding), bytesOf(data, "data")];
     const context = contextOf(kind, held, method);
@@ -655,8 +673,9 @@ class PaddedMac extends Mac {
 
 /** CMAC, which needs no padding method. */
 class Cmac extends Mac {
-  constructor(key, data = new Uint8Array()) {
+  constructor(key, data = new Uint8Array(), ...more) {
     super();
+    refuseMore(more, "CMAC takes a key and data alone");
     const kind = kindOf(new.target, Cmac, "a MAC");
     const [held, bytes] = [keyOf(key, kind.keySize), bytesOf(data, "data")];
     keep(this, kind, contextOf(kind, held));
@@ -1003,18 +1022,18 @@ export function pinTranslateTo0(incomingFormat, account, block, keys) {
 
 /** The same to a block of format 3, with ten fill digits as of pinEncode3. */
 export function pinTranslateTo3(incomingFormat, account, fill, block, keys) {
-  return written(BLOCK_SIZE, "pin_translate_to_3", translated(incomingFormat, account, [fillOf(fill)], block, keys));
+  return written(BLOCK_SIZE, "pin_translate_to_3", translated(incomingFormat, account, [fill], block, keys));
 }
 
 /** What a translation takes, laid down. */
 function translated(incomingFormat, account, fills, block, keys) {
-  const format = numberOf(incomingFormat, 0, 3, "the incoming format");
+  const [format, digits] = [numberOf(incomingFormat, 0, 3, "the incoming format"), fills.map(fillOf)];
   const { incomingKey, outgoingKey } = optionsOf(keys, "incomingKey", "outgoingKey");
   const [incoming, outgoing] = [keyOf(incomingKey, ...SIZES), keyOf(outgoingKey, ...SIZES)];
   const [number, bytes] = [textOf(account, "an account number"), blockOf(block)];
   return (memory) => [
     ...memory.list(incoming), format, ...memory.list(outgoing), ...memory.list(number),
-    ...fills.map((fill) => memory.put(fill)), memory.put(bytes),
+    ...digits.map((fill) => memory.put(fill)), memory.put(bytes),
   ];
 }
 
@@ -1218,10 +1237,11 @@ function headerFrom(fields) {
   return { version: text[0], usage, algorithm: text[4], mode: text[5], keyVersion, exportability: text[9] };
 }
 
-/** The fields of a header, as a call takes them. */
+const FIELDS = ["version", "usage", "algorithm", "mode", "keyVersion", "exportability"];
+
+/** The fields of a header, as a call takes them. Others would be left out of the block. */
 function fieldsOf(header) {
-  if (typeof header !== "object" || header === null) throw new TypeError("a header: an object of its fields is needed");
-  const { version, usage, algorithm, mode, keyVersion, exportability } = header;
+  const { version, usage, algorithm, mode, keyVersion, exportability } = namedOf("a header", header, ...FIELDS);
   const [two, one] = [[usage, keyVersion], [algorithm, mode, exportability]];
   if (![version, ...two, ...one].every((field) => typeof field === "string")) {
     throw new TypeError("the fields of a header: strings are needed");

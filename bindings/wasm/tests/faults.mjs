@@ -129,6 +129,10 @@ for (const [Cipher, size] of CIPHERS) {
   throwsType(() => cipher.encryptEcb(IV, MESSAGE), "ECB with a vector");
   throwsType(() => cipher.decryptEcb(MESSAGE, IV), "ECB with a vector");
   throwsType(() => cipher.encryptCbc(IV), "CBC without data");
+  for (const more of ["pkcs7", { padding: "pkcs7" }, IV, undefined]) {
+    for (const call of CBC) throwsType(() => cipher[call](IV, of(8), more), "CBC with padding");
+    throwsType(() => new Cipher(KEY.subarray(0, size), more), "a cipher with more than a key");
+  }
   for (const call of ["encryptCbcRecords", "decryptCbcRecords"]) {
     throwsFault(() => library[call](cipher, of(7), [1], IV), "VectorLength", "7 bytes are not whole vectors of 8");
     throwsFault(() => library[call](cipher, IV, [1], of(9)), "BlockLength", "9 bytes are not whole blocks of 8");
@@ -157,6 +161,9 @@ for (const [Mac, size] of [...PADDED, ...CMACS]) {
     throwsFault(() => mac.verify(of(length)), "TagMismatch", "the tag is not that of the message");
     throwsFault(() => mac.verifyTruncatedLeft(of(length)), "TagMismatch", "the tag is not that of the message");
   }
+  throwsType(() => new Mac(key, ...padding, MESSAGE, IV), "a MAC of two messages");
+  throwsType(() => mac.update(IV, IV), "two pieces at once");
+  throwsType(() => mac.update(IV, "hex"), "an encoding of a piece");
   throwsType(() => mac.digest("base64"), "an encoding that is not there");
   throwsType(() => mac.digest(8), "a length in the place of an encoding");
   const method = padding[0] ?? null;
@@ -512,6 +519,13 @@ const OF_OPTIONS = [
   },
 ];
 assert.equal(declared.match(/^  options\?: /gm).length, OF_OPTIONS.length, "a call with options that is not tested");
+// Fields of a header too: an optional block there would be left out of the key block.
+OF_OPTIONS.push({
+  call: (header) => library.wrapKeyBlock(PROTECTION, header, PAIR, { padding: of(14) }),
+  right: HEADER,
+  others: ["optional", "key_version", "keyversion", "padding", "key"],
+  text: 'a header: the names are "version", "usage", "algorithm", "mode", "keyVersion" and "exportability" alone',
+});
 // The keys of a translation go by name too, and each is there.
 for (const [call, ...words] of [["pinTranslateTo0", 0, ACCOUNT, SENT], ["pinTranslateTo3", 0, ACCOUNT, FILL, SENT]]) {
   OF_OPTIONS.push({
@@ -781,6 +795,18 @@ throwsType(() => library.TdesEde3.prototype.encryptEcb.call(mac, IV), "a method 
 throwsType(() => Object.create(library.TdesEde3.prototype).encryptEcb(IV), "an object that no constructor made");
 
 // ---- What is right by habit
+
+// A class that says another length, or another buffer, than it has is taken for the bytes that it has.
+for (const said of [0, 8, 16, 23, 25, 48]) {
+  class Said extends Uint8Array {
+    get length() { return said; }
+
+    get byteOffset() { return 1; }
+
+    get buffer() { return new ArrayBuffer(64); }
+  }
+  is(new library.TdesEde3(Said.from(KEY)).encryptEcb(Said.from(IV)), hex(cipher.encryptEcb(IV)));
+}
 
 class Own extends library.TdesEde3 {}
 is(new Own(KEY).encryptEcb(IV), hex(cipher.encryptEcb(IV)));
