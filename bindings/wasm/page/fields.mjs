@@ -28,11 +28,11 @@ function filled(text) {
   return characters;
 }
 
-/** Whether a text has several lines. A line end before or behind it makes no other line. */
-export const hasLines = (text) => /[\n\v\f\r\u2028\u2029]/.test(text.trim());
+/** Whether a text has several lines, or columns, as of a table. A line end before or behind it makes no other line. */
+export const hasLines = (text) => /[\t\n\v\f\r\u2028\u2029]/.test(text.trim());
 
-/** What a field of one line says of several: joined, two keys would be one. */
-export const ONE_LINE = "One line is needed, and here are several.";
+/** What a field of one line says of several, or of columns: joined, two keys would be one. */
+export const ONE_LINE = "One line without a tab is needed, and here are several lines or columns.";
 
 /** Reads a text that has one line. */
 const ofOneLine = (read) => (text, texts) => {

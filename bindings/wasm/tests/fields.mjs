@@ -3,7 +3,7 @@ import assert from "node:assert/strict";
 import { calculations } from "../page/calculations.mjs";
 import { ONE_LINE, bytes, decimal, hasLines, lines, readAll, shortCode, tenDigits } from "../page/fields.mjs";
 
-const ENDS = ["\n", "\r\n", "\r", "\v", "\f", "\u2028", "\u2029"];
+const ENDS = ["\t", "\n", "\r\n", "\r", "\v", "\f", "\u2028", "\u2029"];
 const PART = "0123456789ABCDEF";
 const hex = (it) => Buffer.from(it).toString("hex").toUpperCase();
 
@@ -35,7 +35,7 @@ assert.equal(readOf(bytes(8), "\n"), "Fill in this field.");
 const components = (text) => lines(8, 16)(text).map(hex);
 assert.deepEqual(components(`${PART}\n${PART}\n`), [PART, PART]);
 assert.deepEqual(components(`\n${PART}\r\n\r\n${PART}\r\n`), [PART, PART]);
-for (const end of ["\v", "\f", "\u2028", "\u2029"]) {
+for (const end of ["\t", "\v", "\f", "\u2028", "\u2029"]) {
   assert.throws(() => components(`${PART}${end}${PART}\n${PART}${PART}`), { message: `Component 1: ${ONE_LINE}` });
 }
 

@@ -479,7 +479,8 @@ def one_line(browser):
     choose(browser, "check")
     halves = f"{BASE[:16]}\n{BASE[16:]}"
     for kind in ("paste", "drop", "beforeinput"):
-        for text, is_refused in ((halves, True), (halves.replace("\n", "\r\n") + "\r\n", True), (f"{BASE}\n", False), (BASE, False)):
+        for text, is_refused in ((halves, True), (halves.replace("\n", "\r\n") + "\r\n", True),
+                                 (halves.replace("\n", "\t"), True), (f"{BASE}\n", False), (BASE, False)):
             fill(browser, "check", key="")
             browser.run("document.activeElement.blur()")
             goes_on = browser.run("""
@@ -493,7 +494,7 @@ def one_line(browser):
               }[arguments[0]]());""", kind, text)
             same(goes_on, not is_refused, f"{kind} of {text!r}")
             same(browser.run("return document.getElementById('check-key').value"), "", f"what {kind} of {text!r} puts in")
-            said = [["check-key-fault", "One line is needed, and here are several. Nothing was put in."]]
+            said = [["check-key-fault", "One line without a tab is needed, and here are several lines or columns. Nothing was put in."]]
             if is_refused:
                 same(faults(browser), [said, "check-key"], f"what is said of {kind} of {text!r}")
     # A field of several lines takes them.
