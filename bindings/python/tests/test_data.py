@@ -387,6 +387,7 @@ class WatchesWiping(unittest.TestCase):
     """What the package wipes: the sizes in `wiped`, and what the last memory held in `held`."""
 
     def setUp(self):
+        gc.collect()  # What other tests left behind is wiped before.
         self.wiped, self.held = [], b""
         real = _data.wipe
 
