@@ -6,9 +6,9 @@ use des_payment::emv_error::EmvError;
 use des_payment::key_block_error::KeyBlockError;
 use des_payment::{CvvError, PinError, TranslationError, VerificationError};
 
-/// What is said of faults. The functions that hold secrets and write to standard error take this as a
-/// type parameter, and are proved for each that there may be. So a line is made of the fault, its
-/// sentence and what it is about, and of nothing else that such a function knows.
+/// What is said of faults. What writes the line of a fault takes this as a type parameter, and is
+/// proved for any. So a line is made of the fault, its sentence and what it is about, and of nothing
+/// else that the caller knows, as a key or a PIN.
 pub trait Sentences {
     ghost use Rattle.std.specs.Prelude.{ℕ, List};
     ghost use Rattle.cukvashe.specs.declared.fault.Kind.{Kind};
