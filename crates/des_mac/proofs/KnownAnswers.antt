@@ -1,5 +1,5 @@
 -- The definitions, computed at outside values: OpenSSL's answers by the commands that
--- crates/des_tests/src/callers/macs.rt gives, and the subkeys of NIST's example for triple DES.
+-- crates/des_tests/src/libraries/macs.rt gives, and the subkeys of NIST's example for triple DES.
 use Rattle.std.proofs.Common.{◌≡◌, ℕ, List, [], ◌++◌, codes, refl}
 use Rattle.std.specs.Int.{w64, to_be_bytes}
 use Rattle.des.specs.Bits.{bits_of, bits_of_bytes, number_of, select, xor_bits}
