@@ -3,14 +3,14 @@ use Rattle.std.proofs.Common.{◌≡◌, [], ◌∷◌, ◌++◌, codes, Some, O
 use Rattle.std.specs.Prelude.{⊤}
 use Rattle.base64.proofs.OnLiterals.{base64_on_literals}
 use Rattle.hex.proofs.OnLiterals.{hex_on_literals}
-use Rattle.des_records.specs.Base64Lines.{with_line, with_lines}
-use Rattle.des_records.specs.Pem.{after_line, after_prefix, begin_line, body_of, bytes_of, cipher_of, contents_of, dek_info_at, dek_info_of, end_line, headers_of, label_of, pem_of, start_of, traditional_of, vector_of}
-use Rattle.des_records.specs.TextLines.{lines_of}
+use Rattle.des_records.specs.Base64Lines.{bytes_in}
+use Rattle.des_records.specs.Pem.{after_line, after_prefix, after_proc_type, begin_line, body_of, bytes_of, cipher_of, contents_of, dek_info_at, dek_info_of, end_line, headers_of, label_of, pem_of, start_of, traditional_of, vector_of}
+use Rattle.des_records.specs.TextLines.{lines_of, trimmed}
 use Rattle.des_records.specs.declared.pem.Label.TheVariants.{Ec}
 use Rattle.des_records.specs.declared.pem.PemCipher.TheVariants.{Des}
 
 unfoldable pem_on_literals : ⊤
-unfolding base64_on_literals hex_on_literals lines_of with_line with_lines pem_of contents_of traditional_of bytes_of
+unfolding base64_on_literals hex_on_literals lines_of trimmed bytes_in after_proc_type pem_of contents_of traditional_of bytes_of
     headers_of dek_info_at dek_info_of vector_of cipher_of after_line after_prefix body_of start_of label_of end_line
     begin_line
 pem_on_literals = tt

@@ -14,6 +14,4 @@ pub mod LinesOfText
 mod KnownAnswers
 mod KnownPem
 pub mod LinesOfPem
-pub mod ReadBase64
-pub mod SpelledBase64
 pub mod XoredBytes

@@ -1,67 +1,58 @@
--- What one line adds to the bytes of Base64, and what all lines give.
-use Rattle.std.proofs.Common.{◌≡◌, ◌∙◌, ℕ, ◌+◌, ◌%◌, ◌<◌, ◌≤◌, Bool, true, false, cond, List, [], ◌∷◌, length, take, drop, Some, Result, Ok, Err, refl, sym, ap, take-append-drop}
-use Rattle.std.specs.Prelude.{nat_lt}
-use Rattle.std.specs.Result.{result_ok}
-use Rattle.std.proofs.lemmas.Bool.{lt-ltb, le-ltb, ne_eqb, eq-eqb}
+-- What one line more does to what lines have, and to the number of the line with a character; and what decoding gives.
+use Rattle.std.proofs.Common.{◌≡◌, ◌∙◌, ℕ, ◌+◌, ◌-◌, ◌<◌, ◌≤◌, List, ◌∷◌, ◌++◌, [], length, Result, Ok, Err, refl, sym, ap, append_assoc}
+use Rattle.std.proofs.lemmas.Bool.{lt-ltb, le-ltb}
 use Rattle.base64.specs.Engines.{standard}
-use Rattle.base64.specs.GeneralPurpose.{decode_of, decoded_of}
+use Rattle.base64.specs.GeneralPurpose.{decode_of}
 use Rattle.base64.specs.declared.decode.DecodeError.{DecodeError}
-use Rattle.des_records.specs.Base64Lines.{◌>>=◌, IsFault, appended, with_line, with_lines}
-use Rattle.des_records.specs.declared.base64_lines.Base64Error.{Base64Error}
-use Rattle.des_records.specs.declared.base64_lines.Base64Error.TheVariants.{Line, OutOfMemory}
+use Rattle.des_records.specs.Base64Lines.{bytes_in, characters_in, in_lines, line_at, place_of}
+use Rattle.des_records.specs.TextLines.{trimmed}
 
-pub long_line : (n : ℕ) (bytes line : List ℕ) → 64 < length line → with_line n bytes line ≡ Err n
-unfolding with_line
-long_line n bytes line long = rw (lt-ltb 64 (length line) long) refl
+pub one_line : (old more line all new : List ℕ) (lines rest : List (List ℕ)) → old ++ characters_in lines ≡ all
+    → lines ≡ line ∷ rest → more ≡ trimmed line → new ≡ old ++ more → new ++ characters_in rest ≡ all
+one_line old more line all new lines rest read is cut grown =
+    ap (λ (l : List ℕ). l ++ characters_in rest) grown
+    ∙ append_assoc old more (characters_in rest)
+    ∙ ap (λ (l : List ℕ). old ++ (l ++ characters_in rest)) cut
+    ∙ ap (λ (l : List (List ℕ)). old ++ characters_in l) (sym is)
+    ∙ read
 
-either_fault : (t : Bool) (n : ℕ) (r : Result (List ℕ) ℕ) → r ≡ Err n → cond t (Err n) r ≡ Err n
-either_fault true n r e = refl
-either_fault false n r e = e
+-- ---- the line with a character
 
-pub padded_line : (n : ℕ) (bytes line : List ℕ) → (length bytes % 3 ≡ 0 → ⊥) → with_line n bytes line ≡ Err n
-unfolding with_line
-padded_line n bytes line padded =
-    either_fault (nat_lt 64 (length line)) n _ (rw (ne_eqb (length bytes % 3) 0 padded) refl)
+pub in_line : (n place : ℕ) (line : List ℕ) (lines rest : List (List ℕ)) → lines ≡ line ∷ rest
+    → place < length (trimmed line) → line_at n place lines ≡ n
+unfolding line_at
+in_line n place line lines rest is within =
+    ap (line_at n place) is ∙ rw (lt-ltb place (length (trimmed line)) within) refl
 
--- a line that is no Base64
-pub fault_line : (n : ℕ) (bytes line : List ℕ) (e : DecodeError) → length line ≤ 64 → length bytes % 3 ≡ 0
-    → decode_of standard line ≡ Err e → with_line n bytes line ≡ Err n
-unfolding with_line decoded_of
-fault_line n bytes line e short whole fault =
-    rw (le-ltb 64 (length line) short, eq-eqb (length bytes % 3) 0 whole) (ap (λ (r : Result (List ℕ) DecodeError).
-    appended n bytes (result_ok r)) fault)
+pub after_line : (n place : ℕ) (line : List ℕ) (lines rest : List (List ℕ)) → lines ≡ line ∷ rest
+    → length (trimmed line) ≤ place → line_at n place lines ≡ line_at (n + 1) (place - length (trimmed line)) rest
+unfolding line_at
+after_line n place line lines rest is beyond =
+    ap (line_at n place) is ∙ rw (le-ltb place (length (trimmed line)) beyond) refl
 
-abbrev ok_of : List ℕ → Result (List ℕ) ℕ
-ok_of bytes = Ok bytes
+pub no_line : (n place : ℕ) (lines : List (List ℕ)) → lines ≡ [] → line_at n place lines ≡ n
+unfolding line_at
+no_line n place lines is = ap (line_at n place) is
 
--- a line that is, where its bytes stand behind those before it
-pub good_line : (n size : ℕ) (bytes line new : List ℕ) → length line ≤ 64 → length bytes % 3 ≡ 0
-    → decode_of standard line ≡ Ok (drop size new) → take size new ≡ bytes → with_line n bytes line ≡ Ok new
-unfolding with_line decoded_of
-good_line n size bytes line new short whole decoded front =
-    rw (le-ltb 64 (length line) short, eq-eqb (length bytes % 3) 0 whole)
-    (ap (λ (r : Result (List ℕ) DecodeError). appended n bytes (result_ok r)) decoded
-    ∙ ap (λ (l : List ℕ). appended n l (Some (drop size new))) (sym front)
-    ∙ ap (λ (l : List ℕ). ok_of l) (take-append-drop size new))
+-- ---- what decoding gives
 
--- ---- all lines
+abbrev at_fault : ℕ → Result (List ℕ) ℕ
+at_fault line = Err line
 
-pub no_line : (n : ℕ) (bytes : List ℕ) (lines : List (List ℕ)) → lines ≡ [] → with_lines n bytes lines ≡ Ok bytes
-unfolding with_lines
-no_line n bytes lines is = ap (with_lines n bytes) is
+abbrev outcome : ℕ → List (List ℕ) → List ℕ → Result (List ℕ) ℕ
+outcome n lines characters = in_lines n lines (decode_of standard characters)
 
-pub one_line : (n : ℕ) (bytes line new : List ℕ) (lines rest : List (List ℕ)) → lines ≡ line ∷ rest
-    → with_line n bytes line ≡ Ok new → with_lines n bytes lines ≡ with_lines (n + 1) new rest
-unfolding with_lines
-one_line n bytes line new lines rest is read =
-    ap (with_lines n bytes) is
-    ∙ ap (λ (r : Result (List ℕ) ℕ). r >>= λ more. with_lines (n + 1) more rest) read
+pub bytes_read : (n : ℕ) (lines : List (List ℕ)) (characters bytes : List ℕ) → characters ≡ characters_in lines
+    → decode_of standard characters ≡ Ok bytes → bytes_in n lines ≡ Ok bytes
+unfolding bytes_in
+bytes_read n lines characters bytes is decoded =
+    ap (outcome n lines) (sym is) ∙ ap (in_lines n lines) decoded
 
--- a fault of a line is one of all
-pub line_at_fault : (error : Base64Error) (n : ℕ) (bytes line : List ℕ) (lines rest : List (List ℕ)) (all : Result
-    (List ℕ) ℕ)
-    → all ≡ with_lines n bytes lines → lines ≡ line ∷ rest → IsFault error (with_line n bytes line) → IsFault error all
-unfolding with_lines
-line_at_fault (Line m) n bytes line lines rest all read is fault =
-    read ∙ ap (with_lines n bytes) is ∙ ap (λ (r : Result (List ℕ) ℕ). r >>= λ more. with_lines (n + 1) more rest) fault
-line_at_fault OutOfMemory n bytes line lines rest all read is fault = tt
+pub line_at_fault : (n : ℕ) (lines : List (List ℕ)) (characters : List ℕ) (error : DecodeError)
+    → characters ≡ characters_in lines → decode_of standard characters ≡ Err error
+    → bytes_in n lines ≡ Err (line_at n (place_of error (length characters)) lines)
+unfolding bytes_in
+line_at_fault n lines characters error is failed =
+    ap (outcome n lines) (sym is)
+    ∙ ap (in_lines n lines) failed
+    ∙ ap (λ (l : List ℕ). at_fault (line_at n (place_of error (length l)) lines)) (sym is)

@@ -1,44 +1,42 @@
--- Base64 (RFC 4648, section 4) in lines of at most 64 characters (RFC 1421, section 4.3.2.4; RFC 7468, section 3), read
--- line by line: the bytes, or the number of the first line at fault. Each line is whole groups of four characters.
-use Rattle.std.specs.Prelude.{◌≡◌, ℕ, ◌+◌, ◌%◌, ◌<◌, ◌≤◌, List, [], ◌∷◌, ◌++◌, length, codes, Option, Some, None, Result, Ok, Err, nat_lt, ◌==◌, if◌then◌else◌}
+-- Base64 (RFC 4648, section 4) in lines of any length. What the lines have without the blanks at their ends is read one
+-- after the other: the bytes, or the number of the line at fault.
+use Rattle.std.specs.Prelude.{◌≡◌, ℕ, ◌+◌, ◌-◌, List, [], ◌∷◌, ◌++◌, length, codes, Result, Ok, Err, nat_lt, if◌then◌else◌}
 use Rattle.std.specs.Fmt.{decimal}
+use Rattle.std.specs.List.{flat_map}
 use Rattle.base64.specs.Engines.{standard}
-use Rattle.base64.specs.GeneralPurpose.{decoded_of}
-use Rattle.des_records.specs.TextLines.{lines_of}
+use Rattle.base64.specs.GeneralPurpose.{decode_of}
+use Rattle.base64.specs.declared.decode.DecodeError.{DecodeError}
+use Rattle.base64.specs.declared.decode.DecodeError.TheVariants.{InvalidByte, InvalidLength, InvalidLastSymbol, InvalidPadding}
+use Rattle.des_records.specs.TextLines.{trimmed}
 use Rattle.des_records.specs.declared.base64_lines.Base64Error.{Base64Error}
 use Rattle.des_records.specs.declared.base64_lines.Base64Error.TheVariants.{Line, OutOfMemory}
 
-abbrev pub appended : ℕ → List ℕ → Option (List ℕ) → Result (List ℕ) ℕ
-appended n bytes (Some more) = Ok (bytes ++ more)
-appended n bytes None = Err n
+-- what lines have, one after the other
+abbrev pub characters_in : List (List ℕ) → List ℕ
+characters_in lines = flat_map trimmed lines
 
--- the bytes of line n behind those before it, which end with a whole group of three: else padding has ended the Base64
-unfoldable pub with_line : ℕ → List ℕ → List ℕ → Result (List ℕ) ℕ
-with_line n bytes line =
-    if nat_lt 64 (length line) then Err n
-    else if length bytes % 3 == 0 then appended n bytes (decoded_of standard line)
-    else Err n
+-- the place of the character at fault: the last one of all where characters are missing
+abbrev pub place_of : DecodeError → ℕ → ℕ
+place_of (InvalidByte place byte) count = place
+place_of (InvalidLastSymbol place symbol value) count = place
+place_of (InvalidLength place) count = count - 1
+place_of InvalidPadding count = count - 1
 
-infixl 10 ◌>>=◌
-abbrev pub ◌>>=◌ : {A B : Type 0} → Result A ℕ → (A → Result B ℕ) → Result B ℕ
-(Ok x) >>= f = f x
-(Err e) >>= f = Err e
+-- the number of the line with the character at a place, where the first is line n
+unfoldable pub line_at : ℕ → ℕ → List (List ℕ) → ℕ
+line_at n place [] = n
+line_at n place (line ∷ rest) =
+    if nat_lt place (length (trimmed line)) then n
+    else line_at (n + 1) (place - length (trimmed line)) rest
 
--- the bytes of lines, of which the first is line n, behind those before them
-unfoldable pub with_lines : ℕ → List ℕ → List (List ℕ) → Result (List ℕ) ℕ
-with_lines n bytes [] = Ok bytes
-with_lines n bytes (line ∷ rest) = do
-  more ← with_line n bytes line
-  with_lines (n + 1) more rest
+-- what decoding gives, with the line at fault, where the first is line n
+abbrev pub in_lines : ℕ → List (List ℕ) → Result (List ℕ) DecodeError → Result (List ℕ) ℕ
+in_lines n lines (Ok bytes) = Ok bytes
+in_lines n lines (Err error) = Err (line_at n (place_of error (length (characters_in lines))) lines)
 
--- the bytes of a text of which the first line is line n
-abbrev pub base64_of : ℕ → List ℕ → Result (List ℕ) ℕ
-base64_of n text = with_lines n [] (lines_of text)
-
--- lines of whole groups, at most 64 characters each, and none of them empty
-abbrev pub AreGroups : List (List ℕ) → Type 0
-AreGroups [] = Unit {0}
-AreGroups (line ∷ rest) = (0 < length line) × (length line ≤ 64) × (length line % 4 ≡ 0) × AreGroups rest
+-- the bytes of lines, of which the first is line n
+unfoldable pub bytes_in : ℕ → List (List ℕ) → Result (List ℕ) ℕ
+bytes_in n lines = in_lines n lines (decode_of standard (characters_in lines))
 
 -- what a function returned is what reading gives, unless memory ran out
 abbrev pub IsFault : {Y : Type 0} → Base64Error → Result Y ℕ → Type 0

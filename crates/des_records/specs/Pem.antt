@@ -1,13 +1,14 @@
 -- Encrypted private keys in PEM: PKCS #8 (RFC 7468, sections 2, 3 and 11), and what OpenSSL calls traditional, with
 -- the headers of RFC 1421, sections 4.6.1.1 and 4.6.1.3. A text is read line by line, with the first fault that is met.
-use Rattle.std.specs.Prelude.{ℕ, ◌+◌, Bool, List, [], ◌∷◌, ◌++◌, length, take, drop, codes, Option, Some, None, nat_eq, ok_or, Result, Ok, Err, if◌then◌else◌}
+use Rattle.std.specs.Prelude.{ℕ, ◌+◌, Bool, List, [], ◌∷◌, ◌++◌, length, take, drop, codes, Option, Some, None, nat_eq, ok_or, unwrap_or, Result, Ok, Err, if◌then◌else◌}
 use Rattle.std.specs.List.{starts_with}
-use Rattle.std.specs.Str.{bytes_eq}
+use Rattle.std.specs.Option.{option_map, option_eq}
+use Rattle.std.specs.Str.{bytes_eq, str_eq_ignore_ascii_case}
 use Rattle.hex.specs.Hex.{decode_sized}
 use Rattle.hex.specs.declared.error.FromHexError.{FromHexError}
-use Rattle.des_records.specs.Base64Lines.{with_lines}
+use Rattle.des_records.specs.Base64Lines.{bytes_in}
 use Rattle.des_records.specs.PemFaults.{Fault, Begin, End, NotEncrypted, NoDekInfo, Cipher, Vector, EmptyLine, Base64}
-use Rattle.des_records.specs.TextLines.{lines_of, before, after}
+use Rattle.des_records.specs.TextLines.{lines_of, before, after, trimmed}
 use Rattle.des_records.specs.declared.base64_lines.Base64Error.{Base64Error}
 use Rattle.des_records.specs.declared.base64_lines.Base64Error.TheVariants.{Line, OutOfMemory}
 use Rattle.des_records.specs.declared.encrypted_keys.Scheme.{Scheme}
@@ -86,11 +87,11 @@ unfoldable pub after_line : List ℕ → List (List ℕ) → Option (List (List 
 after_line wanted [] = None
 after_line wanted (line ∷ rest) = if bytes_eq line wanted then Some rest else None
 
--- the cipher by its name (as OpenSSL names them; RFC 1423, section 1.1, has DES-CBC)
+-- the cipher by its name, in large letters or small (as OpenSSL names them; RFC 1423, section 1.1, has DES-CBC)
 unfoldable pub cipher_of : List ℕ → Result PemCipher Fault
 cipher_of name =
-    if bytes_eq name (codes "DES-EDE3-CBC") then Ok TripleDes
-    else if bytes_eq name (codes "DES-CBC") then Ok Des
+    if str_eq_ignore_ascii_case name (codes "DES-EDE3-CBC") then Ok TripleDes
+    else if str_eq_ignore_ascii_case name (codes "DES-CBC") then Ok Des
     else Err (Cipher name)
 
 -- the vector: sixteen hexadecimal digits
@@ -101,10 +102,14 @@ vector_from (Err e) = Err Vector
 unfoldable pub vector_of : List ℕ → Result (List ℕ) Fault
 vector_of digits = vector_from (decode_sized digits 8)
 
--- `DEK-Info: `, a cipher, a comma and a vector (RFC 1421, section 4.6.1.3; RFC 1423, section 1.1)
+-- the value of a header, without the blanks around it
+abbrev pub value_of : List ℕ → List ℕ → Option (List ℕ)
+value_of name line = option_map trimmed (after_prefix name line)
+
+-- `DEK-Info:`, a cipher, a comma and a vector (RFC 1421, section 4.6.1.3; RFC 1423, section 1.1)
 unfoldable pub dek_info_of : List ℕ → Result DekInfo Fault
 dek_info_of line = do
-  value ← ok_or (after_prefix (codes "DEK-Info: ") line) NoDekInfo
+  value ← ok_or (value_of (codes "DEK-Info:") line) NoDekInfo
   cipher ← cipher_of (before 44 value)
   vector ← vector_of (after 44 value)
   Ok (record { cipher = cipher; vector = vector })
@@ -115,10 +120,19 @@ dek_info_at (line ∷ rest) = do
   info ← dek_info_of line
   Ok (info, rest)
 
+-- the header of a key that is encrypted
+abbrev pub is_encrypted : List ℕ → Bool
+is_encrypted line = option_eq bytes_eq (value_of (codes "Proc-Type:") line) (Some (codes "4,ENCRYPTED"))
+
+-- what follows it, where it is the first line
+unfoldable pub after_proc_type : List (List ℕ) → Option (List (List ℕ))
+after_proc_type [] = None
+after_proc_type (line ∷ rest) = if is_encrypted line then Some rest else None
+
 -- the three lines of the headers, and what follows them
 unfoldable pub headers_of : List (List ℕ) → Result (DekInfo × List (List ℕ)) Fault
 headers_of lines = do
-  rest ← ok_or (after_line (codes "Proc-Type: 4,ENCRYPTED") lines) NotEncrypted
+  rest ← ok_or (after_proc_type lines) NotEncrypted
   info ← dek_info_at rest
   body ← ok_or (after_line [] info.1) EmptyLine
   Ok (info.0, body)
@@ -129,7 +143,7 @@ in_line (Ok bytes) = Ok bytes
 in_line (Err line) = Err (Base64 line)
 
 unfoldable pub bytes_of : ℕ → List (List ℕ) → Result (List ℕ) Fault
-bytes_of n lines = in_line (with_lines n [] lines)
+bytes_of n lines = in_line (bytes_in n lines)
 
 -- what a file holds: PKCS #8 has no headers, and the others have all three lines of them
 pub record Key : Type 0 where
@@ -154,10 +168,14 @@ contents_of Rsa n body = traditional_of Rsa n body
 contents_of Dsa n body = traditional_of Dsa n body
 contents_of Ec n body = traditional_of Ec n body
 
+-- a text without the byte order mark of UTF-8 before it
+abbrev pub unmarked : List ℕ → List ℕ
+unmarked text = unwrap_or (after_prefix (0xEF ∷ 0xBB ∷ 0xBF ∷ []) text) text
+
 -- the first key of a text
 unfoldable pub pem_of : List ℕ → Result Key Fault
 pem_of text = do
-  start ← start_of 1 (lines_of text)
+  start ← start_of 1 (lines_of (unmarked text))
   body ← body_of (end_line start.label) start.rest
   contents_of start.label start.number body
 

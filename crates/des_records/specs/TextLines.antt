@@ -1,6 +1,7 @@
--- The lines of a text, and what stands before and after a byte of it.
-use Rattle.std.specs.Prelude.{◌≡◌, ℕ, ◌<◌, List, ◌∷◌, ◌++◌, length, ◌==◌}
-use Rattle.std.specs.List.{before_first, after_first}
+-- The lines of a text, what stands before and after a byte of it, and a text without its blanks.
+use Rattle.std.specs.Prelude.{◌≡◌, ℕ, ◌-◌, ◌<◌, List, ◌∷◌, ◌++◌, length, take, drop, ◌==◌}
+use Rattle.std.specs.Char.{is_ascii_whitespace}
+use Rattle.std.specs.List.{before_first, after_first, prefix_len, suffix_len}
 use Rattle.std.specs.Str.Lines.{lines}
 
 -- a line ends with LF or CRLF, which are no part of it; the last one may have no end
@@ -14,6 +15,16 @@ before byte text = before_first (λ b. b == byte) text
 -- what stands after it, nothing where there is none
 abbrev pub after : ℕ → List ℕ → List ℕ
 after byte text = after_first (λ b. b == byte) text
+
+-- a text without the blanks at its ends
+abbrev pub without_blanks_before : List ℕ → List ℕ
+without_blanks_before text = drop (prefix_len is_ascii_whitespace text) text
+
+abbrev pub without_blanks_after : List ℕ → List ℕ
+without_blanks_after text = take (length text - suffix_len is_ascii_whitespace text) text
+
+unfoldable pub trimmed : List ℕ → List ℕ
+trimmed text = without_blanks_after (without_blanks_before text)
 
 -- a text is a line, with its end, and the rest: whatever follows the line begins a line of its own
 abbrev pub IsLineBefore : List ℕ → List ℕ → List ℕ → Type 0

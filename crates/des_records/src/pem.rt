@@ -4,14 +4,15 @@
 ghost use Rattle.std.specs.Prelude.{◌≡◌, ◌≤◌, ◌<◌, ◌+◌, ◌^◌, length, codes, IfOk, IfSome, MatchOption};
 ghost use Rattle.std.specs.Option.{option_map};
 ghost use Rattle.des_records.specs.EncryptedKeys.{key_of};
-ghost use Rattle.des_records.specs.Pem.{after_line, after_prefix, begin_line, body_of, bytes_of, cipher_of, contents_of, dek_info_at, dek_info_of, end_line, headers_of, key_view, label_of, pem_of, pkcs8_of, scheme_of, start_of, start_view, traditional_of, vector_of};
+ghost use Rattle.des_records.specs.Pem.{after_line, after_proc_type, begin_line, body_of, bytes_of, cipher_of, contents_of, dek_info_at, dek_info_of, end_line, headers_of, key_view, label_of, pem_of, pkcs8_of, scheme_of, start_of, start_view, traditional_of, unmarked, value_of, vector_of};
+ghost use Rattle.std.specs.Str.{str_eq_ignore_ascii_case};
 ghost use Rattle.des_records.specs.PemFaults.{Gives, GivesInMemory};
 ghost use Rattle.des_records.specs.TextLines.{lines_of};
 
 use crate::base64_lines::{Base64Error, decode_lines};
 use crate::derivation::KeyAndVector;
 use crate::encrypted_keys::{Parameters, Scheme};
-use crate::text_lines::{cut, first_line};
+use crate::text_lines::{cut, first_line, trimmed};
 use std::alloc::Global;
 use std::error::Error;
 use std::fmt;
@@ -35,8 +36,8 @@ pub enum PemError<'a> {
     Vector,
     /// No empty line follows `DEK-Info`.
     EmptyLine,
-    /// The line of this number in the text, counted from 1, is the first that is not Base64 in
-    /// lines of at most 64 characters.
+    /// The line of this number in the text, counted from 1, has a character that is no Base64
+    /// there, or the last one, where characters are missing.
     Base64(usize),
     /// Memory ran out.
     OutOfMemory,
@@ -271,14 +272,21 @@ fn after_line<'a>(wanted: &[u8], text: &'a [u8]) -> Option<&'a [u8]>
     if line == wanted { Some(rest) } else { None }
 }
 
+// Whether two names are the same, in large letters or small.
+fn is_name(name: &[u8], other: &[u8]) -> bool
+    ensures { result ≡ str_eq_ignore_ascii_case name.now other.now }
+{
+    name.eq_ignore_ascii_case(other)
+}
+
 // The cipher of this name.
 #[tactic(auto, unfolding(crate::specs::Pem::cipher_of))]
 fn cipher_of(name: &[u8]) -> Result<PemCipher, PemError<'_>>
     ensures { Gives (λ cipher. cipher) result (cipher_of name.now) }
 {
-    if name == b"DES-EDE3-CBC".as_slice() {
+    if is_name(name, b"DES-EDE3-CBC") {
         Ok(PemCipher::TripleDes)
-    } else if name == b"DES-CBC".as_slice() {
+    } else if is_name(name, b"DES-CBC") {
         Ok(PemCipher::Des)
     } else {
         Err(PemError::Cipher(name))
@@ -297,12 +305,20 @@ fn vector_of(digits: &[u8]) -> Result<[u8; 8], PemError<'_>>
     }
 }
 
+// The value of a header, without the blanks around it.
+#[tactic(auto, unfolding(crate::specs::Pem::after_prefix))]
+fn value_of<'a>(name: &[u8], line: &'a [u8]) -> Option<&'a [u8]>
+    ensures { option_map (λ value. value.now) result ≡ value_of name.now line.now }
+{
+    Some(trimmed(line.strip_prefix(name)?))
+}
+
 // What a line `DEK-Info` says.
 #[tactic(auto, unfolding(crate::specs::Pem::dek_info_of, crate::specs::Pem::after_prefix))]
 fn dek_info_of(line: &[u8]) -> Result<DekInfo, PemError<'_>>
     ensures { Gives (λ info. info) result (dek_info_of line.now) }
 {
-    let Some(value) = line.strip_prefix(b"DEK-Info: ") else {
+    let Some(value) = value_of(b"DEK-Info:", line) else {
         return Err(PemError::NoDekInfo);
     };
     let (name, digits) = cut(b',', value);
@@ -324,13 +340,27 @@ fn dek_info_at(text: &[u8]) -> Result<(DekInfo, &[u8]), PemError<'_>>
     Ok((info, rest))
 }
 
+// What follows the header of a key that is encrypted, where it is the first line.
+#[tactic(auto, unfolding(crate::specs::Pem::after_proc_type))]
+fn after_proc_type(text: &[u8]) -> Option<&[u8]>
+    ensures rest { option_map (λ rest. lines_of rest.now) result
+        ≡ after_proc_type (lines_of text.now) }
+    ensures shorter { IfSome result (λ rest. length rest.now < length text.now) }
+{
+    let (line, rest) = first_line(text)?;
+    match value_of(b"Proc-Type:", line) {
+        Some(value) if value == b"4,ENCRYPTED".as_slice() => Some(rest),
+        _ => None,
+    }
+}
+
 // What the three lines of the headers say, and what follows them.
 #[tactic(auto, unfolding(crate::specs::Pem::headers_of))]
 fn headers_of(text: &[u8]) -> Result<(DekInfo, &[u8]), PemError<'_>>
     ensures read { Gives (λ x. (x.0, lines_of x.1.now)) result (headers_of (lines_of text.now)) }
     ensures shorter { IfOk result (λ x. length x.1.now + 3 ≤ length text.now) }
 {
-    let Some(rest) = after_line(b"Proc-Type: 4,ENCRYPTED", text) else {
+    let Some(rest) = after_proc_type(text) else {
         return Err(PemError::NotEncrypted);
     };
     let (info, rest) = dek_info_at(rest)?;
@@ -400,15 +430,24 @@ fn contents_of(
     }
 }
 
+// A text without the byte order mark of UTF-8 before it.
+#[tactic(auto, unfolding(crate::specs::Pem::after_prefix))]
+fn unmarked(text: &[u8]) -> &[u8]
+    ensures text { result.now ≡ unmarked text.now }
+    ensures shorter { length result.now ≤ length text.now }
+{
+    text.strip_prefix(b"\xEF\xBB\xBF").unwrap_or(text)
+}
+
 /// Reads the first private key in PEM that a text holds: PKCS #8 (`ENCRYPTED PRIVATE KEY`) or what
-/// OpenSSL calls traditional, with `Proc-Type` and `DEK-Info`. A line ends with LF or CRLF. What
-/// stands before the key's first line and after its last is passed over. The error is the first
+/// OpenSSL calls traditional, with `Proc-Type` and `DEK-Info`. A line ends with LF or CRLF. A byte
+/// order mark is passed over, as are blanks around the value of a header. What stands before the key's first line and after its last is passed over. The error is the first
 /// fault: that no line ends the key comes before what is wrong between.
 #[tactic(auto, unfolding(crate::specs::Pem::pem_of))]
 pub fn read_pem(alloc: Global, text: &[u8]) -> Result<PemKey, PemError<'_>>
     ensures { GivesInMemory key_view result (pem_of text.now) }
 {
-    let start = start_of(text)?;
+    let start = start_of(unmarked(text))?;
     let body = body_of(start.label.end(), start.rest)?;
     contents_of(alloc, start.label, start.number, body)
 }

@@ -2,7 +2,7 @@
 
 ghost use Rattle.std.specs.Prelude.{◌≡◌, ◌==◌, ◌<◌, ◌∷◌, [], length, position, IfSome, MatchOption};
 ghost use Rattle.std.specs.Str.Lines.{strip_carriage_return};
-ghost use Rattle.des_records.specs.TextLines.{IsLineBefore, after, before, lines_of};
+ghost use Rattle.des_records.specs.TextLines.{IsLineBefore, after, before, lines_of, trimmed as trimmed_of};
 
 // The place of the first such byte.
 fn place(byte: u8, text: &[u8]) -> Option<usize>
@@ -21,6 +21,13 @@ pub(crate) fn cut(byte: u8, text: &[u8]) -> (&[u8], &[u8])
         Some(i) => (&text[..i], &text[i + 1..]),
         None => (text, &text[text.len()..]),
     }
+}
+
+// A text without the blanks at its ends.
+pub(crate) fn trimmed(text: &[u8]) -> &[u8]
+    ensures { result.now ≡ trimmed_of text.now }
+{
+    text.trim_ascii()
 }
 
 // A line without the carriage return at its end.

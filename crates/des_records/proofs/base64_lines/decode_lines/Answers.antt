@@ -1,27 +1,17 @@
-use Rattle.std.proofs.Common.{◌∙◌, arith}
-use Rattle.std.proofs.lemmas.Result.{err_from_is_err_and}
-use Rattle.des_records.proofs.LinesOfBase64.{no_line, one_line, line_at_fault}
+use Rattle.std.proofs.Common.{◌≡◌, ◌∙◌, length, arith}
+use Rattle.des_records.proofs.LinesOfBase64.{bytes_read, line_at_fault}
 use Rattle.des_records.proofs.base64_lines.decode_lines.Goals as goal
 
--- the first fault
-pub returns-in_err-add_line : goal.returns-in_err-add_line
-returns-in_err-add_line c =
-    let returned = err_from_is_err_and c.from_residual.result c.from_residual.ensures.1 in
-    rw (returned.1, returned.2)
-    (line_at_fault c.in_err-add_line.field-0.0 c.lines.number c.lines.bytes.items c.in-Some.line.now _ _ _
-    c.lines.invariant.read c.in-Some.ensures.lines c.in_err-add_line.ensures)
+pub returns-in-Ok-clause-read : goal.returns-in-Ok-clause-read
+returns-in-Ok-clause-read c =
+    bytes_read c.args.number _ c.as_slice.result.now _ (c.as_slice.ensures.value ∙ c.in_ok-characters.ensures)
+    c.in-Ok.ensures.ok
 
--- one line more
-pub lines-preserved : goal.lines-preserved
-lines-preserved c = record {
-  numbers = omega (arith, c.in-Some.ensures.shorter);
-  read =
-      c.lines.invariant.read
-      ∙ one_line c.lines.number c.lines.bytes.items c.in-Some.line.now c.add_line.new.bytes.items _ _
-      c.in-Some.ensures.lines
-      c.in_ok-add_line.ensures;
-}
-
--- no line is left
-pub returns : goal.returns
-returns c = c.lines.invariant.read ∙ no_line c.lines.number c.lines.bytes.items _ c.in_default.ensures.lines
+pub returns-clause-read : goal.returns-clause-read
+returns-clause-read c =
+    let characters = c.in_ok-characters.characters in
+    let failed = rw c.in-Err-DecodeError.field-0-is at c.in-Err-DecodeError.ensures.err in
+    let count : c.len.result ≡ length characters.items = omega (arith, c.len.ensures, characters.ok.0) in
+    rw (c.line_at.ensures, c.place_of-place.ensures, count)
+    (line_at_fault c.args.number _ characters.items c.in-Err-DecodeError.error c.in_ok-characters.ensures
+    (rw c.as_slice.ensures.value at failed))
