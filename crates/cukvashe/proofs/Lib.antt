@@ -14,4 +14,5 @@ pub mod KeyPlains
 pub mod OptionalLines
 pub mod ProtectionSizes
 pub mod WrapFaults
+pub mod ShownTexts
 pub mod UnwrapFaults

@@ -1,6 +1,7 @@
 -- The faults of the program, as `docs/CUKVASHE.md` lists them: their names, the form of the lines that tell them, and
 -- the statuses that it ends with.
-use Rattle.std.specs.Prelude.{◌≡◌, ℕ, ◌==◌, ◌⊎◌, if◌then◌else◌, List, [], ◌∷◌, ◌++◌, length, codes, Option, Some, None, Result, Err, IsOk, IfErr}
+use Rattle.std.specs.Prelude.{◌≡◌, ℕ, ◌==◌, ◌⊎◌, if◌then◌else◌, List, [], ◌∷◌, ◌++◌, length, map, codes, Option, Some, None, Result, Err, IsOk, IfErr}
+use Rattle.std.specs.Char.{is_ascii_control}
 use Rattle.std.specs.List.{concat}
 use Rattle.des_io.specs.declared.error.StreamError.{StreamError}
 use Rattle.des_io.specs.declared.error.StreamError.TheVariants.{Read as ReadError, Write as WriteError, Length as LengthError, Start as StartError, Padding as PaddingError}
@@ -12,7 +13,7 @@ use Rattle.des_payment.specs.CardCryptograms.{name_of as name_of_emv_error}
 use Rattle.des_payment.specs.KeyBlockFaults.{name_of as name_of_key_block_error}
 use Rattle.cukvashe.specs.declared.fault.Reason.{Reason}
 use Rattle.cukvashe.specs.declared.fault.FileFault.{FileFault}
-use Rattle.cukvashe.specs.declared.fault.FileFault.TheVariants.{Salted, NotSalted, SaltCut, Base64, Begin, End, NotEncrypted, NoDekInfo, Cipher as OtherCipher, DekVector, EmptyLine, Structure, Algorithm as OtherAlgorithm, KeyDerivation, Iterations, KeySize, Prf, KeyPadding, Password as OtherPassword}
+use Rattle.cukvashe.specs.declared.fault.FileFault.TheVariants.{Salted, NotSalted, SaltCut, Base64, Begin, End, NotEncrypted, NoDekInfo, Cipher as OtherCipher, DekVector, EmptyLine, Structure, Algorithm as OtherAlgorithm, KeyDerivation, Iterations, KeySize, Prf, KeyPadding, Password as OtherPassword, Unpadded}
 use Rattle.cukvashe.specs.declared.fault.Kind.{Kind}
 use Rattle.cukvashe.specs.declared.fault.Kind.TheVariants.{Usage, Source, Variable, InputLength, KeyLength, KeyText, ToKeyLength, ToKeyText, WeakKey, Components, Vector, Tag, Value, Offset, Validation, Counter, Cryptogram, Code, Status, Data, DataText, BlockLength, BlockText, SerialLength, SerialText, SerialCounter, FillLength, FillText, CheckDigit, Pin, Card, Translation, Verification, Emv, Field as FieldFault, KeyBlock, File, EmptyPassword, Memory, Read, Write, Length, Start, Padding}
 
@@ -36,6 +37,7 @@ file_name Iterations = codes "Iterations"
 file_name KeySize = codes "KeySize"
 file_name Prf = codes "Prf"
 file_name KeyPadding = codes "Padding"
+file_name Unpadded = codes "Padding"
 file_name OtherPassword = codes "Password"
 
 -- the name of a fault
@@ -97,8 +99,12 @@ separator_of about = if length about == 0 then [] else codes ": "
 abbrev pub line_end : List ℕ → List ℕ → List ℕ
 line_end about words = concat (separator_of about ∷ words ∷ codes "\n" ∷ [])
 
+-- a control character is shown as a question mark: a line stays one line
+abbrev pub shown_byte : ℕ → ℕ
+shown_byte byte = if is_ascii_control byte then 63 else byte
+
 abbrev pub line_with : List ℕ → List ℕ → List ℕ → List ℕ
-line_with name about words = line_start name ++ (about ++ line_end about words)
+line_with name about words = line_start name ++ (map shown_byte about ++ line_end about words)
 
 -- ---- statuses
 

@@ -1,21 +1,33 @@
 -- The text that a source gives.
-use Rattle.std.specs.Prelude.{◌≡◌, ◌⊎◌, ℕ, ◌≤◌, ◌<◌, ◌&&◌, ◌||◌, ◌==◌, nat_le, Bool, if◌then◌else◌, List, length, codes, Option}
+use Rattle.std.specs.Prelude.{◌≡◌, ◌⊎◌, ℕ, ◌≤◌, ◌<◌, ◌&&◌, ◌||◌, ◌==◌, nat_le, Bool, not, if◌then◌else◌, List, filter, length, take, drop, codes, Option}
 use Rattle.std.specs.List.{list_all}
 use Rattle.std.specs.Char.{is_ascii_digit, is_ascii_hexdigit}
+use Rattle.std.specs.Str.{bytes_eq}
 use Rattle.std.specs.Io.KnownBytes.{Consumes, IsAtEnd}
 use Rattle.cukvashe.specs.declared.fault.Reason.{Reason}
 use Rattle.cukvashe.specs.declared.fault.Kind.{Kind}
 use Rattle.cukvashe.specs.declared.fault.Kind.TheVariants.{Source, InputLength, Memory}
 use Rattle.cukvashe.specs.declared.source.Source.{Source as Place}
 use Rattle.cukvashe.specs.declared.source.Source.TheVariants.{StandardInput, File, Descriptor, Variable}
-use Rattle.cukvashe.specs.Texts.{written_in}
+use Rattle.cukvashe.specs.Texts.{is_space}
 
--- a path may be a secret that was typed in the place of a file's name, white space left out: four
--- decimal digits or more, as a PIN or an account number, or 16 hexadecimal digits or more, as a key
+-- what somebody writes between digits: white space, a colon, a hyphen, an underscore or a point
+abbrev pub is_between : ℕ → Bool
+is_between byte = is_space byte || ((byte == 58) || ((byte == 45) || ((byte == 95) || (byte == 46))))
+
+-- the characters of a path that may be digits, without what stands between them and a leading 0x
+abbrev pub without_prefix : List ℕ → List ℕ
+without_prefix path = if bytes_eq (take 2 path) (codes "0x") then drop 2 path else path
+
+abbrev pub digits_in : List ℕ → List ℕ
+digits_in path = filter (λ byte. not (is_between byte)) (without_prefix path)
+
+-- a path may be a secret that was typed in the place of a file's name: four decimal digits or more, as
+-- a PIN or an account number, or 16 hexadecimal digits or more, as a key
 abbrev pub may_be_secret : List ℕ → Bool
 may_be_secret path =
-    (nat_le 4 (length (written_in path)) && list_all is_ascii_digit (written_in path))
-    || (nat_le 16 (length (written_in path)) && list_all is_ascii_hexdigit (written_in path))
+    (nat_le 4 (length (digits_in path)) && list_all is_ascii_digit (digits_in path))
+    || (nat_le 16 (length (digits_in path)) && list_all is_ascii_hexdigit (digits_in path))
 
 -- a path as a fault shows it
 abbrev pub shown_path : List ℕ → List ℕ

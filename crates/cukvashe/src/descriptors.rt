@@ -1,7 +1,10 @@
 //! Descriptors of the process under the names that the system gives them.
 
-use std::fs;
+use std::fs::{self, File, OpenOptions};
 use std::io::{self, ErrorKind};
+use std::os::fd::{AsRawFd, IntoRawFd};
+
+const NULL_DEVICE: &str = "/dev/null";
 
 // The bits of the system's flags for what a descriptor may do, and their value where it may read
 // alone.
@@ -9,18 +12,38 @@ const ACCESS: u32 = 0o3;
 
 const READ_ONLY: u32 = 0;
 
-// The flag of the system for a descriptor that writes at the end of its file.
-const APPEND: u32 = 0o2000;
-
 /// How a descriptor stands in its file.
 #[derive(Clone, Copy)]
 pub struct Standing {
-    /// The byte that is read or written next: 0 in a pipe.
+    /// The byte that is read next: 0 in a pipe.
     pub place: u64,
     /// It may be written to.
     pub writes: bool,
-    /// Bytes go to the end of the file, wherever the descriptor stands.
-    pub appends: bool,
+}
+
+// Holds the lowest closed descriptor, where it is a standard one. Gives whether it was.
+fn hold_next(rt: &HostRuntime) -> io::Result<bool> {
+    let writing = OpenOptions::new().write(true).open(rt, NULL_DEVICE)?;
+    let number = writing.as_raw_fd();
+    if number == 0 {
+        writing.into_raw_fd();
+    } else if number <= 2 {
+        drop(writing);
+        File::open(rt, NULL_DEVICE)?.into_raw_fd();
+    }
+    Ok(number <= 2)
+}
+
+/// Holds each of the descriptors 0 to 2 that is closed, so that no file that is opened later is
+/// taken for a standard stream. The null device is opened the wrong way round, so that reading
+/// from it and writing to it stay faults.
+pub fn hold_closed(rt: &HostRuntime) {
+    for _ in 0..3 {
+        match hold_next(rt) {
+            Ok(true) => {}
+            _ => return,
+        }
+    }
 }
 
 /// The descriptor that a path names, where it names one of this process.
@@ -64,7 +87,6 @@ pub fn standing_of(rt: &HostRuntime, number: u64) -> io::Result<Standing> {
         (Some(place), Some(flags)) => Ok(Standing {
             place,
             writes: flags & ACCESS != READ_ONLY,
-            appends: flags & APPEND != 0,
         }),
         _ => Err(io::Error::from(ErrorKind::InvalidData)),
     }

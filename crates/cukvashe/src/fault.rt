@@ -28,6 +28,8 @@ pub enum Reason {
     TooLarge,
     ReadOnly,
     Closed,
+    IsInput,
+    Reopened,
     Other,
 }
 
@@ -112,6 +114,8 @@ pub enum FileFault {
     KeyPadding,
     /// What is decrypted is no DER of a private key.
     Password,
+    /// What a password decrypts does not end with its padding.
+    Unpadded,
 }
 
 /// What is at fault. Each has a name, under which the documents list it. None has a place for a
@@ -267,7 +271,7 @@ impl FileFault {
             FileFault::Iterations => "Iterations",
             FileFault::KeySize => "KeySize",
             FileFault::Prf => "Prf",
-            FileFault::KeyPadding => "Padding",
+            FileFault::KeyPadding | FileFault::Unpadded => "Padding",
             FileFault::Password => "Password",
         }
     }

@@ -38,5 +38,6 @@ mod watched;
 use std::process::ExitCode;
 
 fn main(rt: HostRuntime) -> ExitCode {
+    descriptors::hold_closed(&rt);
     program::run(&rt)
 }

@@ -6,12 +6,16 @@ use crate::descriptors::{Standing, descriptor_of, standing_of};
 use crate::fault::{Kind, Reason};
 use crate::inputs::system_random;
 use std::fs::{self, File, Metadata, OpenOptions, Permissions};
-use std::io::{self, ErrorKind, Seek, SeekFrom};
-use std::os::unix::fs::{OpenOptionsExt, PermissionsExt};
+use std::io::{self, ErrorKind};
+use std::os::unix::fs::{MetadataExt, OpenOptionsExt, PermissionsExt, fchown};
 use std::path::Path;
 
-// Who may read, write and run a file, of the bits of its mode.
+// Who may read, write and run a file, of the bits of its mode: all, the owner, and the group.
 const PERMISSION_BITS: u32 = 0o777;
+
+const OWNER_BITS: u32 = 0o700;
+
+const GROUP_BITS: u32 = 0o070;
 
 // A file is its owner's alone while it is written.
 const MODE_IN_WRITING: u32 = 0o600;
@@ -30,19 +34,20 @@ const NAMES_AT_MOST: u32 = 16;
 pub struct PrivateFile {
     target: String,
     beside: String,
-    // The permissions that it gets at its end.
+    // The permissions that it gets at its end, and the group, where a file is replaced.
     mode: u32,
+    group: Option<u32>,
     /// Where the bytes go.
     pub file: File,
 }
 
-/// Who may read a file that was not there before.
-#[derive(Clone, Copy)]
-pub enum NewFile {
-    /// Whom the umask lets.
-    ByUmask,
+/// Who may read what is written to a file.
+#[derive(Clone, Copy, PartialEq, Eq)]
+pub enum Readers {
+    /// Who may read the file that it replaces, or whom the umask lets where there is none.
+    AsBefore,
     /// Its owner alone.
-    Private,
+    Owner,
 }
 
 /// What the path of an output names.
@@ -68,21 +73,26 @@ pub fn write_fault(error: io::Error) -> Kind
 
 /// Opens the output that a path names. The fault is `Write`, `Memory`, or `Source` where the system
 /// gives no random bytes for a name.
-pub fn open(rt: &HostRuntime, path: &str, new: NewFile) -> Result<Target, Kind> {
+pub fn open(rt: &HostRuntime, path: &str, readers: Readers) -> Result<Target, Kind> {
     let name = target_of(rt, path).map_err(write_fault)?;
     if let Some(number) = descriptor_of(name.as_str()) {
-        return open_descriptor(rt, number).map_err(write_fault);
+        return open_descriptor(rt, number);
     }
     match fs::metadata(rt, name.as_str()) {
-        Ok(old) => open_old(rt, name, &old),
-        Err(error) if error.kind() == ErrorKind::NotFound => open_new(rt, name, new),
+        Ok(old) => open_old(rt, name, &old, readers),
+        Err(error) if error.kind() == ErrorKind::NotFound => open_new(rt, name, readers),
         Err(error) => Err(write_fault(error)),
     }
 }
 
 // A folder is refused, a regular file is replaced, and anything else is written to as it is. A file
 // that may not be written to is not replaced, although the system would let it be.
-fn open_old(rt: &HostRuntime, name: String, old: &Metadata) -> Result<Target, Kind> {
+fn open_old(
+    rt: &HostRuntime,
+    name: String,
+    old: &Metadata,
+    readers: Readers,
+) -> Result<Target, Kind> {
     if old.is_dir() {
         return Err(Kind::Write(Reason::IsFolder));
     }
@@ -91,17 +101,21 @@ fn open_old(rt: &HostRuntime, name: String, old: &Metadata) -> Result<Target, Ki
         .open(rt, name.as_str())
         .map_err(write_fault)?;
     if old.is_file() {
-        let mode = old.permissions().mode() & PERMISSION_BITS;
-        return Ok(Target::Replaced(create_beside(rt, name, mode)?));
+        let kept = match readers {
+            Readers::AsBefore => PERMISSION_BITS,
+            Readers::Owner => OWNER_BITS,
+        };
+        let mode = old.permissions().mode() & kept;
+        return Ok(Target::Replaced(create_beside(rt, name, mode, Some(old.gid()))?));
     }
     Ok(Target::AsItIs(file))
 }
 
 // The permissions of a new file.
-fn mode_of(rt: &HostRuntime, new: NewFile) -> u32 {
-    match new {
-        NewFile::Private => MODE_IN_WRITING,
-        NewFile::ByUmask => match umask(rt) {
+fn mode_of(rt: &HostRuntime, readers: Readers) -> u32 {
+    match readers {
+        Readers::Owner => MODE_IN_WRITING,
+        Readers::AsBefore => match umask(rt) {
             Some(mask) => MODE_OF_NEW_FILES & !mask,
             None => MODE_IN_WRITING,
         },
@@ -109,42 +123,56 @@ fn mode_of(rt: &HostRuntime, new: NewFile) -> u32 {
 }
 
 // A name that ends with a slash, and an empty one, are no file's.
-fn open_new(rt: &HostRuntime, name: String, new: NewFile) -> Result<Target, Kind> {
+fn open_new(rt: &HostRuntime, name: String, readers: Readers) -> Result<Target, Kind> {
     if name.is_empty() {
         return Err(Kind::Write(Reason::NotFound));
     }
     if name.as_str().ends_with("/") {
         return Err(Kind::Write(Reason::NotFolder));
     }
-    Ok(Target::Replaced(create_beside(rt, name, mode_of(rt, new))?))
+    let mode = mode_of(rt, readers);
+    Ok(Target::Replaced(create_beside(rt, name, mode, None)?))
 }
 
 // ---- descriptors and links
 
 // Standard output itself is written to: other programs may share its place. The system opens the
-// file of another descriptor anew and at its beginning: it is written to from where that stands,
-// and not where the descriptor was opened for reading alone.
-fn open_descriptor(rt: &HostRuntime, number: u64) -> io::Result<Target> {
+// file of another descriptor anew. So a regular file is refused: what the descriptor's owner writes
+// next would go over the output. So is a descriptor that was opened for reading alone.
+fn open_descriptor(rt: &HostRuntime, number: u64) -> Result<Target, Kind> {
     if number == 1 {
         return Ok(Target::StandardOutput);
     }
-    let Standing {
-        place,
-        writes,
-        appends,
-    } = standing_of(rt, number)?;
+    let Standing { writes, .. } = standing_of(rt, number).map_err(write_fault)?;
     if !writes {
-        return Err(io::Error::from(ErrorKind::PermissionDenied));
+        return Err(Kind::Write(Reason::Permission));
     }
+    let file = open_anew(rt, number).map_err(write_fault)?;
+    match file.metadata() {
+        Ok(found) if found.is_file() => Err(Kind::Write(Reason::Reopened)),
+        Ok(_) => Ok(Target::AsItIs(file)),
+        Err(error) => Err(write_fault(error)),
+    }
+}
+
+fn open_anew(rt: &HostRuntime, number: u64) -> io::Result<File> {
     let path = format!(in rt.alloc(); "/dev/fd/{number}")?;
-    let mut file = OpenOptions::new()
-        .write(true)
-        .append(appends)
-        .open(rt, path.as_str())?;
-    if place > 0 && !appends {
-        file.seek(SeekFrom::Start(place))?;
+    OpenOptions::new().write(true).open(rt, path.as_str())
+}
+
+/// Refuses an input that is the regular file of standard output, as `cat` does: it would grow for as
+/// long as it is read. The fault is `Write`.
+pub fn refuse_input(rt: &HostRuntime, path: &str) -> Result<(), Kind> {
+    match (fs::metadata(rt, path), fs::metadata(rt, "/proc/self/fd/1")) {
+        (Ok(input), Ok(output)) if is_same_file(&input, &output) => {
+            Err(Kind::Write(Reason::IsInput))
+        }
+        _ => Ok(()),
     }
-    Ok(Target::AsItIs(file))
+}
+
+fn is_same_file(one: &Metadata, other: &Metadata) -> bool {
+    one.is_file() && one.dev() == other.dev() && one.ino() == other.ino()
 }
 
 // What a link names, seen from the link's folder.
@@ -199,7 +227,12 @@ fn create_private(rt: &HostRuntime, path: &str) -> io::Result<File> {
 }
 
 // A new file beside a target. Another name is tried where one is taken.
-fn create_beside(rt: &HostRuntime, target: String, mode: u32) -> Result<PrivateFile, Kind> {
+fn create_beside(
+    rt: &HostRuntime,
+    target: String,
+    mode: u32,
+    group: Option<u32>,
+) -> Result<PrivateFile, Kind> {
     for _ in 0..NAMES_AT_MOST {
         let beside = random_path(rt, target.as_str())?;
         match create_private(rt, beside.as_str()) {
@@ -207,6 +240,7 @@ fn create_beside(rt: &HostRuntime, target: String, mode: u32) -> Result<PrivateF
                 target,
                 beside,
                 mode,
+                group,
                 file,
             }),
             Err(error) if error.kind() == ErrorKind::AlreadyExists => {}
@@ -230,11 +264,22 @@ impl PrivateFile {
         outcome
     }
 
-    // Gives the file its permissions where the file system has any, flushes it, and renames it.
-    // Then the folder is flushed where the system lets it. One that may not be read can't be: that
-    // is no fault, since the file stands whole under its name.
+    // The permissions of the file, once it has the group of the file that it replaces. Where the
+    // system refuses that group, another one gets none.
+    fn mode_in_group(&self) -> u32 {
+        match self.group {
+            Some(group) if fchown(&self.file, None, Some(group)).is_err() => self.mode
+                & !GROUP_BITS,
+            _ => self.mode,
+        }
+    }
+
+    // Gives the file its group and permissions where the file system has any, flushes it, and
+    // renames it. Then the folder is flushed where the system lets it. One that may not be read
+    // can't be: that is no fault, since the file stands whole under its name.
     fn replace_target(&self, rt: &HostRuntime) -> io::Result<()> {
-        let _ = self.file.set_permissions(Permissions::from_mode(self.mode));
+        let mode = self.mode_in_group();
+        let _ = self.file.set_permissions(Permissions::from_mode(mode));
         self.file.sync_all()?;
         fs::rename(rt, self.beside.as_str(), self.target.as_str())?;
         let _ = flush_folder(rt, self.target.as_str());

@@ -1,9 +1,10 @@
 //! What is written of a result or a fault, and the status that the program ends with.
 
-ghost use Rattle.std.specs.Prelude.{◌≡◌, List, ℕ, OnOk};
-ghost use Rattle.std.specs.List.{flat_map};
+ghost use Rattle.std.specs.Prelude.{◌≡◌, List, ℕ, map, OnOk};
+ghost use Rattle.std.specs.Char.{is_ascii_control};
+ghost use Rattle.std.specs.List.{flat_map, list_any};
 ghost use Rattle.std.specs.Io.KnownBytes.{Appends};
-ghost use Rattle.cukvashe.specs.Faults.{line_with, separator_of};
+ghost use Rattle.cukvashe.specs.Faults.{line_with, separator_of, shown_byte as shown_byte_of};
 ghost use Rattle.cukvashe.specs.Written.{AppendsPrefix, AppendsLine, AppendsLinePrefix, IsTold, IsShown};
 
 use crate::fault::{Fault, Kind, Reason};
@@ -67,8 +68,50 @@ fn separator(about: &str) -> &'static str
     if about.is_empty() { "" } else { ": " }
 }
 
+// A control character is shown as a question mark.
+fn shown_byte(byte: u8) -> u8
+    ensures { result ≡ shown_byte_of byte }
+{
+    if byte.is_ascii_control() { b'?' } else { byte }
+}
+
+// Whether a text has a control character.
+fn has_control(text: &[u8]) -> bool
+    ensures { result ≡ list_any is_ascii_control text.now }
+{
+    text.iter().any(|byte| byte.is_ascii_control())
+}
+
+// Writes a text with its control characters shown, byte by byte.
+fn write_each<E: Write>(err: &mut E, text: &[u8]) -> io::Result<()>
+    ensures part { AppendsPrefix (E.contents err.old) (E.contents err.new)
+        (map shown_byte_of text.now) }
+    ensures whole { OnOk result (Appends (E.contents err.old) (E.contents err.new)
+        (map shown_byte_of text.now)) }
+{
+    for byte in text {
+        write_whole(err, &[shown_byte(*byte)])?;
+    }
+    Ok(())
+}
+
+// Writes a text with its control characters shown; without any, at once.
+fn write_shown<E: Write>(err: &mut E, text: &[u8]) -> io::Result<()>
+    ensures part { AppendsPrefix (E.contents err.old) (E.contents err.new)
+        (map shown_byte_of text.now) }
+    ensures whole { OnOk result (Appends (E.contents err.old) (E.contents err.new)
+        (map shown_byte_of text.now)) }
+{
+    if has_control(text) {
+        write_each(err, text)
+    } else {
+        write_whole(err, text)
+    }
+}
+
 /// Writes a line of a fault or a notice: its name, what it is about, where that is not empty, and
-/// its words. Name and words are of the program's own text, so neither can be a secret.
+/// its words. Name and words are of the program's own text, so neither can be a secret. Control
+/// characters of what it is about are shown as question marks. Name and words are of the program's own text, so neither can be a secret.
 pub fn write_line<E: Write>(
     name: &'static str,
     about: &str,
@@ -81,7 +124,7 @@ pub fn write_line<E: Write>(
         (line_with name.now about.now words.now)) }
 {
     write_texts(err, &["cukvashe: ", name, ": "])?;
-    write_whole(err, about.as_bytes())?;
+    write_shown(err, about.as_bytes())?;
     write_texts(err, &[separator(about), words, "\n"])?;
     err.flush()
 }

@@ -47,6 +47,8 @@ impl Reason {
             Reason::TooLarge => "the file would be too large",
             Reason::ReadOnly => "the file system is read-only",
             Reason::Closed => "nobody reads it any more",
+            Reason::IsInput => "it is the input too",
+            Reason::Reopened => "it leads to a regular file: give the file's path",
             Reason::Other => "the system refused it",
         }
     }
@@ -99,7 +101,7 @@ impl FileFault {
             FileFault::NotSalted =>
                 "the input does not begin with Salted__ (see --no-salt and --base64)",
             FileFault::SaltCut => "the input ends within the salt",
-            FileFault::Base64 => "it is no Base64 in lines of 64 characters at most",
+            FileFault::Base64 => "it is no Base64",
             FileFault::Begin => "no line begins an encrypted private key",
             FileFault::End => "no line ends the key as it begins",
             FileFault::NotEncrypted => "the key is not encrypted",
@@ -114,8 +116,9 @@ impl FileFault {
                 "there are no iterations, or more than 10000000 (see --any-count)",
             FileFault::KeySize => "the key of the cipher does not have 24 bytes",
             FileFault::Prf => "PBKDF2 is neither with HMAC-SHA-1 nor with HMAC-SHA-256",
-            FileFault::KeyPadding => "the key's padding is another: so is the password",
-            FileFault::Password => "what is decrypted is no private key: the password is another",
+            FileFault::KeyPadding => "wrong password",
+            FileFault::Unpadded => "wrong password or --derive, or a damaged file",
+            FileFault::Password => "wrong password",
         }
     }
 }
@@ -166,7 +169,7 @@ impl Kind {
             Kind::Memory => "a request for memory was refused",
             Kind::Length => "the input ends within a block of 8 bytes",
             Kind::Start => "the input ends before the part begins",
-            Kind::Padding => "the last block does not end with the padding of --padding",
+            Kind::Padding => "wrong key, vector or padding",
         }
     }
 }

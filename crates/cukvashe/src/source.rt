@@ -1,11 +1,10 @@
 //! Secrets and other short inputs: where their texts are, and how they are read.
 
-ghost use Rattle.std.specs.Prelude.{◌≡◌, ◌≤◌, ◌<◌, ℕ, List, length, IfOk, IfErr};
+ghost use Rattle.std.specs.Prelude.{◌≡◌, ◌≤◌, ◌<◌, ℕ, List, filter, not, length, IfOk, IfErr};
 ghost use Rattle.std.specs.Char.{is_ascii_digit, is_ascii_hexdigit};
 ghost use Rattle.std.specs.Io.KnownBytes.{Consumes, IsAtEnd};
 ghost use Rattle.std.specs.List.{list_all};
-ghost use Rattle.cukvashe.specs.Texts.{written_in};
-ghost use Rattle.cukvashe.specs.Sources.{IsAllOf, FailsToGive, shown_path, name_of_source, may_be_secret as may_be_secret_of};
+ghost use Rattle.cukvashe.specs.Sources.{IsAllOf, FailsToGive, shown_path, name_of_source, may_be_secret as may_be_secret_of, is_between as is_between_of, without_prefix};
 
 use crate::digits::{is_space, strip};
 use crate::fault::{Kind, Reason};
@@ -32,26 +31,41 @@ pub enum Source<'a> {
 /// The bytes that an input has at most, white space among them.
 pub const LONGEST_TEXT: usize = 4096;
 
-// How many characters a path has, white space left out.
-fn count_written(path: &str) -> usize
-    ensures { result ≡ length (written_in path.now) }
+// Whether somebody writes such a character between digits.
+fn is_between(byte: u8) -> bool
+    ensures { result ≡ is_between_of byte }
 {
-    path.bytes().filter(|byte| !is_space(*byte)).count()
+    is_space(byte) || byte == b':' || byte == b'-' || byte == b'_' || byte == b'.'
 }
 
-fn are_decimal(path: &str) -> bool
-    ensures { result ≡ list_all is_ascii_digit (written_in path.now) }
+fn without_prefix(path: &[u8]) -> &[u8]
+    ensures { result.now ≡ without_prefix path.now }
 {
-    path.bytes()
-        .filter(|byte| !is_space(*byte))
+    path.strip_prefix(b"0x").unwrap_or(path)
+}
+
+// How many characters there are but those between digits.
+fn count_digits(path: &[u8]) -> usize
+    ensures { result ≡ length (filter (λ byte. not (is_between_of byte)) path.now) }
+{
+    path.iter().filter(|byte| !is_between(**byte)).count()
+}
+
+fn are_decimal(path: &[u8]) -> bool
+    ensures { result
+        ≡ list_all is_ascii_digit (filter (λ byte. not (is_between_of byte)) path.now) }
+{
+    path.iter()
+        .filter(|byte| !is_between(**byte))
         .all(|byte| byte.is_ascii_digit())
 }
 
-fn are_hexadecimal(path: &str) -> bool
-    ensures { result ≡ list_all is_ascii_hexdigit (written_in path.now) }
+fn are_hexadecimal(path: &[u8]) -> bool
+    ensures { result
+        ≡ list_all is_ascii_hexdigit (filter (λ byte. not (is_between_of byte)) path.now) }
 {
-    path.bytes()
-        .filter(|byte| !is_space(*byte))
+    path.iter()
+        .filter(|byte| !is_between(**byte))
         .all(|byte| byte.is_ascii_hexdigit())
 }
 
@@ -60,8 +74,9 @@ fn are_hexadecimal(path: &str) -> bool
 fn may_be_secret(path: &str) -> bool
     ensures { result ≡ may_be_secret_of path.now }
 {
-    let count = count_written(path);
-    count >= 4 && are_decimal(path) || count >= 16 && are_hexadecimal(path)
+    let digits = without_prefix(path.as_bytes());
+    let count = count_digits(digits);
+    count >= 4 && are_decimal(digits) || count >= 16 && are_hexadecimal(digits)
 }
 
 // A path as a fault shows it.

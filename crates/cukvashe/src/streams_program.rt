@@ -8,7 +8,7 @@ use crate::answer::Answer;
 use crate::fault::{Fault, FileFault, Kind, Misuse};
 use crate::inputs::{self, Input, name_in_stream, read_fault, system_random};
 use crate::notices::accept_key;
-use crate::output::{self, NewFile, Target, write_fault};
+use crate::output::{self, Readers, Target, write_fault};
 use crate::password_streams::{PREFIX, PasswordJob, check_password, first_line, run_by_password};
 use crate::report::{send, tell};
 use crate::sentences::English;
@@ -81,6 +81,20 @@ impl<'a> Work<'a> {
     }
 }
 
+// Writes to standard output.
+fn run_to_standard_output<R: Read>(
+    rt: &HostRuntime,
+    work: Work,
+    reader: &mut R,
+) -> Result<(), Kind> {
+    let input = match work.request().input {
+        Source::File(path) => path,
+        _ => "/proc/self/fd/0",
+    };
+    output::refuse_input(rt, input)?;
+    work.run(rt, reader, &mut rt.stdout())
+}
+
 // Writes to a file, or what else has the path.
 fn run_to_path<R: Read>(
     rt: &HostRuntime,
@@ -88,8 +102,8 @@ fn run_to_path<R: Read>(
     reader: &mut R,
     path: &str,
 ) -> Result<(), Kind> {
-    match output::open(rt, path, NewFile::ByUmask)? {
-        Target::StandardOutput => work.run(rt, reader, &mut rt.stdout()),
+    match output::open(rt, path, Readers::AsBefore)? {
+        Target::StandardOutput => run_to_standard_output(rt, work, reader),
         Target::AsItIs(file) => {
             let mut file = file;
             work.run(rt, reader, &mut file)
@@ -113,7 +127,7 @@ fn run_reader<R: Read + Drop>(
     let mut reader = Watched::new(rt, reader, watch_of(request, total));
     let outcome = match request.output {
         Output::File(path) => run_to_path(rt, work, &mut reader, path),
-        _ => work.run(rt, &mut reader, &mut rt.stdout()),
+        _ => run_to_standard_output(rt, work, &mut reader),
     };
     reader.end();
     outcome
@@ -355,6 +369,14 @@ fn run_with(
     Ok(0)
 }
 
+// A padding that is another is mostly told of a wrong password, which has no key and no vector.
+fn kind_by_password(kind: Kind) -> Kind {
+    match kind {
+        Kind::Padding => Kind::File(FileFault::Unpadded),
+        kind => kind,
+    }
+}
+
 // What a fault of a stream under a password is about.
 fn name_by_password<'a>(kind: Kind, request: &StreamRequest<'a>) -> &'a str {
     match kind {
@@ -372,12 +394,12 @@ pub fn run_password<'a>(
 ) -> Result<u8, Fault<'a>> {
     let password = password_in(rt, request.key)?;
     run_with(rt, request, by, password.as_slice()).map_err(|kind| Fault {
-        kind,
+        kind: kind_by_password(kind),
         about: name_by_password(kind, request),
     })
 }
 
-/// Writes a secret to an output. A file is replaced when all of it is written, and a new one is its
+/// Writes a secret to an output. A file is replaced when all of it is written, and is then its
 /// owner's alone.
 pub fn write_secret(rt: &HostRuntime, output: Output, bytes: &[u8]) -> Result<(), Kind> {
     match output {
@@ -387,7 +409,7 @@ pub fn write_secret(rt: &HostRuntime, output: Output, bytes: &[u8]) -> Result<()
 }
 
 fn write_secret_to_path(rt: &HostRuntime, path: &str, bytes: &[u8]) -> Result<(), Kind> {
-    match output::open(rt, path, NewFile::Private)? {
+    match output::open(rt, path, Readers::Owner)? {
         Target::StandardOutput => send(&mut rt.stdout(), bytes).map_err(write_fault),
         Target::AsItIs(file) => {
             let mut file = file;
