@@ -138,9 +138,9 @@ pub fn write_weak_key_test(
     out: &mut impl Write,
 ) -> io::Result<u64> {
     let mut passed = 0;
-    let one = tenths_of_call(rt, KEYS, &TestKeys { keys, size: 8 }, &mut passed)?;
-    let two = tenths_of_call(rt, KEYS, &TestKeys { keys, size: 16 }, &mut passed)?;
-    let three = tenths_of_call(rt, KEYS, &TestKeys { keys, size: 24 }, &mut passed)?;
+    let one = tenths_of_call(rt, KEYS, &TestKeys { keys, parts: 1 }, &mut passed)?;
+    let two = tenths_of_call(rt, KEYS, &TestKeys { keys, parts: 2 }, &mut passed)?;
+    let three = tenths_of_call(rt, KEYS, &TestKeys { keys, parts: 3 }, &mut passed)?;
     write_row(out, "weak_key_test", &[one, two, three])?;
     Ok(passed)
 }
