@@ -1,5 +1,5 @@
 //! The listed keys, keys that are partners, and how many round keys a key has. What the weak key
-//! test answers is tested from C too (`bindings/c/tests/known_answers.c`).
+//! test answers is tested from C too (`bindings/c/tests/keys.c`).
 
 ghost use Rattle.std.specs.Prelude.{◌<◌};
 
