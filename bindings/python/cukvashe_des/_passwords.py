@@ -58,7 +58,7 @@ def _length_of(number: int) -> int:
 
 
 def pbkdf2(hash_name: str, password: ReadableBuffer, salt: ReadableBuffer, iterations: int, length: int) -> bytes:
-    """The key of so many bytes of a password and a salt by PBKDF2 with HMAC over "sha1" or "sha256"."""
+    """The key, `length` bytes, that PBKDF2 with HMAC over "sha1" or "sha256" makes of a password and a salt."""
     number, count, key, grains = _hash_of(hash_name), _iterations_of(iterations), room(_length_of(length)), bytes_of(salt)
     with secret_of(password) as held:
         check(_pbkdf2(number, *held, grains, len(grains), count, key, len(key)))
@@ -66,7 +66,7 @@ def pbkdf2(hash_name: str, password: ReadableBuffer, salt: ReadableBuffer, itera
 
 
 def bytes_to_key(hash_name: str, password: ReadableBuffer, salt: ReadableBuffer, length: int) -> bytes:
-    """The key, and after it the vector, of so many bytes together that OpenSSL's EVP_BytesToKey makes of a password and a salt with
+    """The key, and after it the vector, together `length` bytes, that OpenSSL's EVP_BytesToKey makes of a password and a salt with
     one iteration over "md5", "sha1" or "sha256". A password is quick to guess by it: take it to read what others wrote.
 
     The password stands before the salt, as of pbkdf2; EVP_BytesToKey takes the salt first, and then the password, its data. The salt
