@@ -7,9 +7,9 @@
  */
 #include "internal.h"
 
-/* What a call takes beyond its number: arguments on the stack. On aarch64, frames save more registers. */
+/* What a call takes beyond its number: arguments on the stack. On aarch64, frames save more registers: key_block_unwrap takes 1,500. */
 #ifdef __aarch64__
-enum { MORE = 1024 };
+enum { MORE = 2048 };
 #else
 enum { MORE = 64 };
 #endif
