@@ -29,7 +29,8 @@ class DukptTerminal(Keyed):
     """The keys of a terminal's transactions to come, made of the initial key, 16 bytes, and any of the terminal's key serial
     numbers, whose counter plays no part. Threads may share one: its calls take turns."""
 
-    __slots__ = ("_lock",)
+    # Another name than a MAC's: so Python refuses to make the one an object of the other's class, whose context is longer.
+    __slots__ = ("_turns",)
 
     def __init__(self, initial: ReadableBuffer, serial: ReadableBuffer) -> None:
         state = _State()
@@ -38,14 +39,14 @@ class DukptTerminal(Keyed):
         self._begin(state)
 
     def _begin(self, state: Any) -> None:
-        self._context, self._lock = state, threading.Lock()
+        self._context, self._turns = state, threading.Lock()
 
     def next_key(self) -> Tuple[bytes, bytes]:
         """The key serial number and the key of the next transaction, that of dukpt_transaction_key; the terminal no longer has the
         key then. NoSerial after the last transaction, the 1,048,575th. Store `state()` before you use the key, or a key is used
         twice."""
         serial, key = room(_SERIAL_SIZE), room(16)
-        with self._lock:
+        with self._turns:
             status = _next_key(self._open(), serial, key)
         if status == NO_SERIAL:
             raise NoSerial("the terminal has had its last transaction")
@@ -54,7 +55,7 @@ class DukptTerminal(Keyed):
 
     def state(self) -> bytes:
         """The state, 346 bytes, from which `from_state` goes on. Whoever has it has the keys of all transactions to come."""
-        with self._lock:
+        with self._turns:
             return bytes(self._open())
 
     @classmethod
@@ -69,5 +70,5 @@ class DukptTerminal(Keyed):
 
     def close(self) -> None:
         """Forgets the keys: the state is wiped. Every later call raises Closed."""
-        with self._lock:
+        with self._turns:
             super().close()

@@ -98,6 +98,8 @@ class Derived(unittest.TestCase):
         cipher.__class__, mac.__class__ = TdesEde3, CMACS[1]
         self.assertEqual((cipher.encrypt_ecb(TEXT), mac.digest(), mac.copy().digest()), (answer, tag, tag))
         self.assertEqual(cukvashe_des.encrypt_cbc_records(cipher, IV, (3,), TEXT), TdesEde2(PAIR).encrypt_cbc(IV, TEXT))
+        for made, other in ((mac, cukvashe_des.DukptTerminal), (cipher, cukvashe_des.DukptTerminal), (cipher, RetailMacDes)):
+            self.assertRaises(TypeError, setattr, made, "__class__", other)
 
     def test_none(self):
         """The classes behind the ciphers and MACs, and a mixture, have no key."""
