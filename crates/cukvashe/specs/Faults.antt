@@ -13,13 +13,14 @@ use Rattle.des_payment.specs.CardCryptograms.{name_of as name_of_emv_error}
 use Rattle.des_payment.specs.KeyBlockFaults.{name_of as name_of_key_block_error}
 use Rattle.cukvashe.specs.declared.fault.Reason.{Reason}
 use Rattle.cukvashe.specs.declared.fault.FileFault.{FileFault}
-use Rattle.cukvashe.specs.declared.fault.FileFault.TheVariants.{Salted, NotSalted, SaltCut, Base64, Begin, End, NotEncrypted, NoDekInfo, Cipher as OtherCipher, DekVector, EmptyLine, Structure, Algorithm as OtherAlgorithm, KeyDerivation, Iterations, KeySize, Prf, KeyPadding, Password as OtherPassword, Unpadded}
+use Rattle.cukvashe.specs.declared.fault.FileFault.TheVariants.{Salted, SaltedText, NotSalted, SaltCut, Base64, Begin, End, NotEncrypted, NoDekInfo, Cipher as OtherCipher, DekVector, EmptyLine, Structure, Algorithm as OtherAlgorithm, KeyDerivation, Iterations, KeySize, Prf, KeyPadding, Password as OtherPassword, Unpadded}
 use Rattle.cukvashe.specs.declared.fault.Kind.{Kind}
 use Rattle.cukvashe.specs.declared.fault.Kind.TheVariants.{Usage, Source, Variable, InputLength, KeyLength, KeyText, ToKeyLength, ToKeyText, WeakKey, Components, Vector, Tag, Value, Offset, Validation, Counter, Cryptogram, Code, Status, Data, DataText, BlockLength, BlockText, SerialLength, SerialText, SerialCounter, FillLength, FillText, CheckDigit, Pin, Card, Translation, Verification, Emv, Field as FieldFault, KeyBlock, File, EmptyPassword, Memory, Read, Write, Length, Start, Padding}
 
 -- the name of a fault of a file under a password
 abbrev pub file_name : FileFault → List ℕ
 file_name Salted = codes "Salted"
+file_name SaltedText = codes "Salted"
 file_name NotSalted = codes "NotSalted"
 file_name SaltCut = codes "SaltCut"
 file_name Base64 = codes "Base64"
@@ -109,8 +110,8 @@ line_with name about words = line_start name ++ (map shown_byte about ++ line_en
 -- ---- statuses
 
 -- the status of a fault: memory was refused; the input was not read, or the output not written; the
--- input is not whole blocks, is too short or has wrong padding; or else the arguments, a key or an
--- input is at fault
+-- input is not whole blocks, is too short, has wrong padding, or is no file of its form under a
+-- password; or else the arguments, a key or an input is at fault
 abbrev pub status_of : Kind → ℕ
 status_of Memory = 3
 status_of (Read reason) = 4

@@ -1,8 +1,7 @@
 -- The text that a source gives.
-use Rattle.std.specs.Prelude.{◌≡◌, ◌⊎◌, ℕ, ◌≤◌, ◌<◌, ◌&&◌, ◌||◌, ◌==◌, nat_le, Bool, not, if◌then◌else◌, List, filter, length, take, drop, codes, Option}
-use Rattle.std.specs.List.{list_all}
+use Rattle.std.specs.Prelude.{◌≡◌, ◌⊎◌, ℕ, ◌≤◌, ◌<◌, ◌&&◌, ◌||◌, ◌==◌, nat_le, Bool, not, if◌then◌else◌, ◌/◌, List, filter, length, codes, Option}
+use Rattle.std.specs.List.{list_any}
 use Rattle.std.specs.Char.{is_ascii_digit, is_ascii_hexdigit}
-use Rattle.std.specs.Str.{bytes_eq}
 use Rattle.std.specs.Io.KnownBytes.{Consumes, IsAtEnd}
 use Rattle.cukvashe.specs.declared.fault.Reason.{Reason}
 use Rattle.cukvashe.specs.declared.fault.Kind.{Kind}
@@ -11,29 +10,36 @@ use Rattle.cukvashe.specs.declared.source.Source.{Source as Place}
 use Rattle.cukvashe.specs.declared.source.Source.TheVariants.{StandardInput, File, Descriptor, Variable}
 use Rattle.cukvashe.specs.Texts.{is_space}
 
--- what somebody writes between digits: white space, a colon, a hyphen, an underscore or a point
+-- what somebody writes between the digits of a secret or around them, as in 0x13:34 and "13-34": white space, marks and
+-- the letter x
 abbrev pub is_between : ℕ → Bool
-is_between byte = is_space byte || ((byte == 58) || ((byte == 45) || ((byte == 95) || (byte == 46))))
+is_between byte = is_space byte || list_any (λ mark. byte == mark) (codes ":-_.,;/\\='\"xX")
 
--- the characters of a path that may be digits, without what stands between them and a leading 0x
-abbrev pub without_prefix : List ℕ → List ℕ
-without_prefix path = if bytes_eq (take 2 path) (codes "0x") then drop 2 path else path
+abbrev pub count_of : (is_digit : ℕ → Bool) → List ℕ → ℕ
+count_of is_digit path = length (filter is_digit path)
 
-abbrev pub digits_in : List ℕ → List ℕ
-digits_in path = filter (λ byte. not (is_between byte)) (without_prefix path)
+-- how many characters are neither digits nor between them
+abbrev pub count_beside : (is_digit : ℕ → Bool) → List ℕ → ℕ
+count_beside is_digit path =
+    length (filter (λ byte. not (is_digit byte) && not (is_between byte)) path)
+
+-- these digits at least, and for four of them one other character at most
+abbrev pub are_mostly : (is_digit : ℕ → Bool) → (least : ℕ) → List ℕ → Bool
+are_mostly is_digit least path =
+    nat_le least (count_of is_digit path)
+    && nat_le (count_beside is_digit path) (count_of is_digit path / 4)
 
 -- a path may be a secret that was typed in the place of a file's name: four decimal digits or more, as
--- a PIN or an account number, or 16 hexadecimal digits or more, as a key
+-- a PIN or an account number, or 15 hexadecimal digits or more, as a key, also with a word before them
+-- or where a character is wrong
 abbrev pub may_be_secret : List ℕ → Bool
-may_be_secret path =
-    (nat_le 4 (length (digits_in path)) && list_all is_ascii_digit (digits_in path))
-    || (nat_le 16 (length (digits_in path)) && list_all is_ascii_hexdigit (digits_in path))
+may_be_secret path = are_mostly is_ascii_digit 4 path || are_mostly is_ascii_hexdigit 15 path
 
 -- a path as a fault shows it
 abbrev pub shown_path : List ℕ → List ℕ
 shown_path path =
     if length path == 0 then codes "an empty name"
-    else if may_be_secret path then codes "a file named by digits alone"
+    else if may_be_secret path then codes "a file named by digits"
     else path
 
 -- what a fault of a source is about

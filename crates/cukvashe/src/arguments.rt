@@ -28,7 +28,7 @@ pub use grammar::{names_of, parse};
 use key_blocks::key_block_request;
 use passwords::{key_file_request, names_password, password_request, refuse_options};
 use payment::{emv_request, offset_request, pin_request, pvv_request};
-use streams::{input_of, stream_request};
+use streams::{coding_of, input_of, stream_request};
 use typed::{count_of, is_given, is_set, number_of, place_of, text_of, texts_of};
 
 // A fault, and what it is about.
@@ -74,14 +74,19 @@ fn one_of<'a>(
     }
 }
 
-// Where the key is: one place.
-fn key_of<'a>(matches: &ArgMatches<'a>) -> Result<Source<'a>, Fault<'a>> {
+// Where the key is: one place, or else the fault.
+fn key_or<'a>(fault: Misuse, matches: &ArgMatches<'a>) -> Result<Source<'a>, Fault<'a>> {
     one_of(
         text_of(matches, "key-file"),
         number_of(matches, "key-fd"),
         text_of(matches, "key-env"),
-        Misuse::KeySource,
+        fault,
     )
+}
+
+// Where the key is, of a command that takes no password.
+fn key_of<'a>(matches: &ArgMatches<'a>) -> Result<Source<'a>, Fault<'a>> {
+    key_or(Misuse::KeySource, matches)
 }
 
 // Where the account number is: one place.
@@ -167,7 +172,7 @@ fn question_of<'a>(matches: &ArgMatches<'a>) -> Result<Question<'a>, Fault<'a>> 
         (None, None) => Ok(Question::Print(8)),
         (None, Some(count)) => Ok(Question::Print(count)),
         (Some(digits), None) => Ok(Question::Verify(digits)),
-        (Some(_), Some(_)) => Err(misuse(Misuse::Arguments, "--length")),
+        (Some(_), Some(_)) => Err(misuse(Misuse::LengthOfVerify, "")),
     }
 }
 
@@ -236,7 +241,7 @@ fn purpose_of<'a>(name: &str, responds: bool) -> Result<Purpose, Fault<'a>> {
         "mac" => Ok(Purpose::Mac(message)),
         "data" => Ok(Purpose::Data(message)),
         "data-variant" => Ok(Purpose::DataVariant(message)),
-        _ if responds => Err(misuse(Misuse::Arguments, "--response")),
+        _ if responds => Err(misuse(Misuse::ResponseOfPin, "")),
         _ => Ok(Purpose::Pin),
     }
 }
@@ -269,7 +274,8 @@ fn streams_task<'a>(encrypts: bool, matches: &ArgMatches<'a>) -> Result<Request<
     }
     refuse_options(encrypts, matches)?;
     let request = stream_request(encrypts, matches)?;
-    Ok(without_account(Task::Stream(request), request.key))
+    let task = Task::Stream(request, coding_of(encrypts, matches));
+    Ok(without_account(task, request.key))
 }
 
 /// What the words ask for; a fault where their options don't go together.

@@ -1,16 +1,30 @@
 //! Descriptors of the process under the names that the system gives them.
 
-use std::fs::{self, File, OpenOptions};
+use std::fs::{self, Metadata, OpenOptions};
 use std::io::{self, ErrorKind};
 use std::os::fd::{AsRawFd, IntoRawFd};
+use std::os::unix::fs::{MetadataExt, PermissionsExt};
+use std::path::Path;
 
-const NULL_DEVICE: &str = "/dev/null";
+/// The device that holds a standard descriptor which is closed.
+pub const NULL_DEVICE: &str = "/dev/null";
 
-// The bits of the system's flags for what a descriptor may do, and their value where it may read
-// alone.
+// The links in it lead to the files of the descriptors.
+const DESCRIPTORS: &str = "/proc/self/fd";
+
+// The symbolic links that are followed, as many as Linux follows.
+const LINKS_AT_MOST: u32 = 40;
+
+// The bits of the mode of a folder where everyone may write, and remove only their own files.
+const SHARED: u32 = 0o1002;
+
+// The bits of the system's flags for what a descriptor may do, and their values where it may read
+// alone or write alone.
 const ACCESS: u32 = 0o3;
 
 const READ_ONLY: u32 = 0;
+
+const WRITE_ONLY: u32 = 1;
 
 /// How a descriptor stands in its file.
 #[derive(Clone, Copy)]
@@ -21,30 +35,52 @@ pub struct Standing {
     pub writes: bool,
 }
 
+/// What a path leads to, once the symbolic links at its end are followed.
+#[derive(Drop)]
+pub enum Followed {
+    /// A descriptor of this process, under a name of `descriptor_of`.
+    Descriptor(u64),
+    /// A descriptor under another name, or one of another process.
+    OtherDescriptor,
+    /// A link to a name that is no text, which can't be followed.
+    NoText,
+    /// A path that is no link. It is shared where a link on the way stands in a folder where
+    /// everyone may write, as `/tmp`.
+    Path { name: String, is_shared: bool },
+}
+
+// ---- standard descriptors
+
 // Holds the lowest closed descriptor, where it is a standard one. Gives whether it was.
 fn hold_next(rt: &HostRuntime) -> io::Result<bool> {
-    let writing = OpenOptions::new().write(true).open(rt, NULL_DEVICE)?;
-    let number = writing.as_raw_fd();
-    if number == 0 {
-        writing.into_raw_fd();
-    } else if number <= 2 {
-        drop(writing);
-        File::open(rt, NULL_DEVICE)?.into_raw_fd();
+    // A pipe needs no file. Its reader has the lowest closed descriptor.
+    let (reader, writer) = io::pipe(rt)?;
+    let number = reader.as_raw_fd();
+    drop((reader, writer));
+    if number > 2 {
+        return Ok(false);
     }
-    Ok(number <= 2)
+    let held = OpenOptions::new()
+        .read(number != 0)
+        .write(number == 0)
+        .open(rt, NULL_DEVICE)?;
+    held.into_raw_fd();
+    Ok(true)
 }
 
 /// Holds each of the descriptors 0 to 2 that is closed, so that no file that is opened later is
 /// taken for a standard stream. The null device is opened the wrong way round, so that reading
-/// from it and writing to it stay faults.
-pub fn hold_closed(rt: &HostRuntime) {
+/// from it and writing to it stay faults. The error is that the system has none.
+pub fn hold_closed(rt: &HostRuntime) -> io::Result<()> {
     for _ in 0..3 {
-        match hold_next(rt) {
-            Ok(true) => {}
-            _ => return,
+        if !hold_next(rt)? {
+            return Ok(());
         }
     }
+    Ok(())
 }
+
+// ---- names
 
 /// The descriptor that a path names, where it names one of this process.
 pub fn descriptor_of(path: &str) -> Option<u64> {
@@ -68,14 +104,92 @@ fn numbered(path: &str) -> Option<u64> {
     digits.parse().ok()
 }
 
+// What a link leads to, seen from the link's folder.
+fn linked(rt: &HostRuntime, link: &str) -> io::Result<String> {
+    let target = fs::read_link(rt, link)?;
+    let folder = Path::new(link).parent().unwrap_or(Path::new(""));
+    Ok(folder.join(rt.alloc(), target.as_str())?.into_string())
+}
+
+// The folder of a path.
+fn folder_of(path: &str) -> &str {
+    match Path::new(path).parent() {
+        Some(folder) if !folder.as_os_str().is_empty() => folder.as_str(),
+        _ => ".",
+    }
+}
+
+// Whether a path stands in a folder where everyone may write.
+fn is_in_shared(rt: &HostRuntime, path: &str) -> bool {
+    match fs::metadata(rt, folder_of(path)) {
+        Ok(folder) => folder.permissions().mode() & SHARED == SHARED,
+        Err(_) => false,
+    }
+}
+
+// Whether a link is one of the system to a descriptor's file: it is in the system's folder of
+// processes, and its name is a number.
+fn is_of_descriptor(rt: &HostRuntime, path: &str, link: &Metadata) -> bool {
+    let is_number = match path.rsplit_once("/") {
+        Some((_, name)) => name.parse::<u64>().is_ok(),
+        None => path.parse::<u64>().is_ok(),
+    };
+    match fs::metadata(rt, DESCRIPTORS) {
+        Ok(folder) => is_number && folder.dev() == link.dev(),
+        Err(_) => false,
+    }
+}
+
+/// Follows the symbolic links at the end of a path, up to a descriptor. The error is that the links
+/// don't end, or the system's.
+pub fn follow(rt: &HostRuntime, path: &str) -> io::Result<Followed> {
+    let mut name = String::from_str(rt.alloc(), path)?;
+    let mut is_shared = false;
+    for _ in 0..=LINKS_AT_MOST {
+        if let Some(number) = descriptor_of(name.as_str()) {
+            return Ok(Followed::Descriptor(number));
+        }
+        match fs::symlink_metadata(rt, name.as_str()) {
+            Ok(found) if !found.is_symlink() => return Ok(Followed::Path { name, is_shared }),
+            Ok(found) if is_of_descriptor(rt, name.as_str(), &found) => {
+                return Ok(Followed::OtherDescriptor);
+            }
+            Ok(_) => match linked(rt, name.as_str()) {
+                Ok(next) => {
+                    is_shared = is_shared || is_in_shared(rt, name.as_str());
+                    name = next;
+                }
+                Err(error) if error.kind() == ErrorKind::InvalidFilename => {
+                    return Ok(Followed::NoText);
+                }
+                Err(error) => return Err(error),
+            },
+            Err(_) => return Ok(Followed::Path { name, is_shared }),
+        }
+    }
+    Err(io::Error::from(ErrorKind::FilesystemLoop))
+}
+
+// ---- how they stand
+
 // The value of a line of the system's text on a descriptor.
 fn value_of<'a>(text: &'a str, name: &str) -> Option<&'a str> {
     let value = text.lines().find_map(|line| line.strip_prefix(name))?;
     Some(value.trim())
 }
 
-/// How a descriptor stands. The error is the system's, or `InvalidData` where its text has no
-/// position or no flags.
+// Whether a standard descriptor was closed, and is held. It is known by its access, which is the
+// wrong way round: so is one that the caller opened so.
+fn is_held(number: u64, access: u32) -> bool {
+    match number {
+        0 => access == WRITE_ONLY,
+        1 | 2 => access == READ_ONLY,
+        _ => false,
+    }
+}
+
+/// How a descriptor stands. The error is `NotFound` where it is closed, the system's, or
+/// `InvalidData` where its text has no position or no flags.
 pub fn standing_of(rt: &HostRuntime, number: u64) -> io::Result<Standing> {
     let path = format!(in rt.alloc(); "/proc/self/fdinfo/{number}")?;
     let text = fs::read_to_string(rt, path.as_str())?;
@@ -84,6 +198,9 @@ pub fn standing_of(rt: &HostRuntime, number: u64) -> io::Result<Standing> {
         digits, 8,
     ).ok());
     match (place, flags) {
+        (Some(_), Some(flags)) if is_held(number, flags & ACCESS) => {
+            Err(io::Error::from(ErrorKind::NotFound))
+        }
         (Some(place), Some(flags)) => Ok(Standing {
             place,
             writes: flags & ACCESS != READ_ONLY,

@@ -29,7 +29,11 @@ pub enum Reason {
     ReadOnly,
     Closed,
     IsInput,
+    IsSecret,
     Reopened,
+    Descriptor,
+    Folder,
+    Busy,
     Other,
 }
 
@@ -48,12 +52,17 @@ pub enum Misuse {
     PaddingOfCmac,
     PaddingNeeded,
     Account,
+    AccountOfFormat,
     Arguments,
     Components,
     Fill,
+    FillNeeded,
+    LengthOfVerify,
+    ResponseOfPin,
     Session,
     ProtectionKeySource,
     PasswordSource,
+    KeyOrPasswordSource,
     PasswordNeeded,
     VectorOfPassword,
     Derivation,
@@ -78,6 +87,8 @@ pub enum Field {
 pub enum FileFault {
     /// The input begins with `Salted__`, and is decrypted by a key, or with `--no-salt`.
     Salted,
+    /// The input is Base64 of such a file, and `--base64` is not given.
+    SaltedText,
     /// The input does not begin with `Salted__`.
     NotSalted,
     /// The input ends within the salt.
@@ -254,7 +265,7 @@ impl FileFault {
         ensures { result.now ≡ file_name self }
     {
         match self {
-            FileFault::Salted => "Salted",
+            FileFault::Salted | FileFault::SaltedText => "Salted",
             FileFault::NotSalted => "NotSalted",
             FileFault::SaltCut => "SaltCut",
             FileFault::Base64 => "Base64",

@@ -4,7 +4,7 @@ ghost use Rattle.std.specs.Prelude.{◌≡◌, ◌≤◌, ◌⊎◌, IfOk, IfErr
 ghost use Rattle.std.specs.Io.KnownBytes.{Consumes};
 ghost use Rattle.cukvashe.specs.Inputs.{bytes_to_read as bytes_by, name_in_stream as name_by};
 
-use crate::descriptors::{descriptor_of, standing_of};
+use crate::descriptors::{Followed, follow, standing_of};
 use crate::fault::{Kind, Reason};
 use des_io::StreamError;
 use des_io::pieces::fill;
@@ -35,8 +35,23 @@ pub fn read_fault(error: io::Error) -> Kind
 }
 
 /// Opens a file to read. The system opens the file of a descriptor, as `/dev/fd/3`, anew and at its
-/// beginning: it is read from where the descriptor stands.
-pub fn open(rt: &HostRuntime, path: &str) -> io::Result<Input> {
+/// beginning: it is read from where the descriptor stands. Standard input under other names than its
+/// own is refused: it may be read beside this. The fault is `Read` or `Memory`.
+pub fn open(rt: &HostRuntime, path: &str) -> Result<Input, Kind> {
+    match follow(rt, path).map_err(read_fault)? {
+        Followed::Descriptor(0) | Followed::OtherDescriptor => {
+            Err(Kind::Read(Reason::Descriptor))
+        }
+        Followed::Descriptor(number) => {
+            let standing = standing_of(rt, number).map_err(read_fault)?;
+            open_at(rt, path, standing.place).map_err(read_fault)
+        }
+        Followed::NoText | Followed::Path { .. } => open_at(rt, path, 0).map_err(read_fault),
+    }
+}
+
+// Opens a file to read from a place on.
+fn open_at(rt: &HostRuntime, path: &str, place: u64) -> io::Result<Input> {
     let mut file = File::open(rt, path)?;
     let metadata = file.metadata()?;
     if metadata.is_dir() {
@@ -46,10 +61,6 @@ pub fn open(rt: &HostRuntime, path: &str) -> io::Result<Input> {
         Some(metadata.len())
     } else {
         None
-    };
-    let place = match descriptor_of(path) {
-        Some(number) => standing_of(rt, number)?.place,
-        None => 0,
     };
     if place > 0 {
         file.seek(SeekFrom::Start(place))?;
@@ -88,8 +99,8 @@ impl Input {
     }
 }
 
-// The bytes that are read of a file of a length, from a place on.
-fn bytes_to_read(length: u64, place: u64, skipped: u64, blocks: Option<u64>) -> u64
+/// The bytes that are read of a file of a length, from a place on.
+pub fn bytes_to_read(length: u64, place: u64, skipped: u64, blocks: Option<u64>) -> u64
     ensures { result ≡ bytes_by length place skipped blocks }
 {
     let rest = length.saturating_sub(place);

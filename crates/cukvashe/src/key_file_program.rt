@@ -104,9 +104,14 @@ fn write_key(
     };
     if is_pem {
         let text = pem_text(rt.alloc(), label, key.as_slice())?;
-        write_secret(rt, job.request.output, text.as_slice())?;
+        write_secret(
+            rt,
+            job.request.output,
+            job.request.password,
+            text.as_slice(),
+        )?;
     } else {
-        write_secret(rt, job.request.output, key.as_slice())?;
+        write_secret(rt, job.request.output, job.request.password, key.as_slice())?;
     }
     Ok(0)
 }

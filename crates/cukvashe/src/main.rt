@@ -38,6 +38,5 @@ mod watched;
 use std::process::ExitCode;
 
 fn main(rt: HostRuntime) -> ExitCode {
-    descriptors::hold_closed(&rt);
     program::run(&rt)
 }

@@ -2,29 +2,30 @@
 
 ghost use Rattle.std.specs.Prelude.{◌≡◌, ◌⊎◌};
 
-use crate::descriptors::{Standing, descriptor_of, standing_of};
+use crate::descriptors::{Followed, Standing, follow, standing_of};
 use crate::fault::{Kind, Reason};
 use crate::inputs::system_random;
+use crate::source::Source;
 use std::fs::{self, File, Metadata, OpenOptions, Permissions};
 use std::io::{self, ErrorKind};
 use std::os::unix::fs::{MetadataExt, OpenOptionsExt, PermissionsExt, fchown};
 use std::path::Path;
 
-// Who may read, write and run a file, of the bits of its mode: all, the owner, and the group.
+/// The name of the file that standard output is.
+pub const STANDARD_OUTPUT: &str = "/proc/self/fd/1";
+
+// Who may read, write and run a file, of the bits of its mode: all, the owner, and others.
 const PERMISSION_BITS: u32 = 0o777;
 
 const OWNER_BITS: u32 = 0o700;
 
-const GROUP_BITS: u32 = 0o070;
+const OTHERS_BITS: u32 = 0o007;
 
 // A file is its owner's alone while it is written.
 const MODE_IN_WRITING: u32 = 0o600;
 
 // What programs ask for a new file, before the umask takes bits away.
 const MODE_OF_NEW_FILES: u32 = 0o666;
-
-// The symbolic links that are followed, as many as Linux follows.
-const LINKS_AT_MOST: u32 = 40;
 
 // The random names that are tried where there are files of these names already.
 const NAMES_AT_MOST: u32 = 16;
@@ -44,7 +45,7 @@ pub struct PrivateFile {
 /// Who may read what is written to a file.
 #[derive(Clone, Copy, PartialEq, Eq)]
 pub enum Readers {
-    /// Who may read the file that it replaces, or whom the umask lets where there is none.
+    /// Who may read the file that it replaces, or a new file of the folder where there is none.
     AsBefore,
     /// Its owner alone.
     Owner,
@@ -74,19 +75,39 @@ pub fn write_fault(error: io::Error) -> Kind
 /// Opens the output that a path names. The fault is `Write`, `Memory`, or `Source` where the system
 /// gives no random bytes for a name.
 pub fn open(rt: &HostRuntime, path: &str, readers: Readers) -> Result<Target, Kind> {
-    let name = target_of(rt, path).map_err(write_fault)?;
-    if let Some(number) = descriptor_of(name.as_str()) {
-        return open_descriptor(rt, number);
+    match follow(rt, path).map_err(write_fault)? {
+        Followed::Descriptor(number) => open_descriptor(rt, number),
+        Followed::OtherDescriptor => Err(Kind::Write(Reason::Descriptor)),
+        Followed::NoText => Err(Kind::Write(Reason::Name)),
+        Followed::Path { name, is_shared } => open_path(rt, path, name, is_shared, readers),
     }
-    match fs::metadata(rt, name.as_str()) {
+}
+
+// The file is looked up by the path that was given: so the system may refuse to follow another
+// user's links. It would not be asked of a new file: so no link to one is followed that stands in a
+// folder where everyone may write.
+fn open_path(
+    rt: &HostRuntime,
+    path: &str,
+    name: String,
+    is_shared: bool,
+    readers: Readers,
+) -> Result<Target, Kind> {
+    match fs::metadata(rt, path) {
         Ok(old) => open_old(rt, name, &old, readers),
+        Err(error) if error.kind() == ErrorKind::NotFound && is_shared => {
+            Err(Kind::Write(Reason::Permission))
+        }
         Err(error) if error.kind() == ErrorKind::NotFound => open_new(rt, name, readers),
         Err(error) => Err(write_fault(error)),
     }
 }
 
 // A folder is refused, a regular file is replaced, and anything else is written to as it is. A file
-// that may not be written to is not replaced, although the system would let it be.
+// that may not be written to is not replaced, although the system would let it be. It is opened as
+// a shell opens it, by `create` too: so the system may refuse a file or a pipe that another user has
+// put into a folder where everyone may write. It must be the file that was looked up: a link on the
+// way may be another one by now.
 fn open_old(
     rt: &HostRuntime,
     name: String,
@@ -98,28 +119,39 @@ fn open_old(
     }
     let file = OpenOptions::new()
         .write(true)
+        .create(true)
         .open(rt, name.as_str())
         .map_err(write_fault)?;
-    if old.is_file() {
-        let kept = match readers {
-            Readers::AsBefore => PERMISSION_BITS,
-            Readers::Owner => OWNER_BITS,
-        };
-        let mode = old.permissions().mode() & kept;
-        return Ok(Target::Replaced(create_beside(rt, name, mode, Some(old.gid()))?));
+    let found = file.metadata().map_err(write_fault)?;
+    if !are_same(&found, old) {
+        return Err(Kind::Write(Reason::Permission));
     }
-    Ok(Target::AsItIs(file))
+    if !found.is_file() {
+        return Ok(Target::AsItIs(file));
+    }
+    let kept = match readers {
+        Readers::AsBefore => PERMISSION_BITS,
+        Readers::Owner => OWNER_BITS,
+    };
+    let mode = found.permissions().mode() & kept;
+    Ok(Target::Replaced(create_private(rt, name, mode, Some(found.gid()))?))
 }
 
-// The permissions of a new file.
-fn mode_of(rt: &HostRuntime, readers: Readers) -> u32 {
+// The permissions of a new file beside a target.
+fn mode_of(rt: &HostRuntime, target: &str, readers: Readers) -> Result<u32, Kind> {
     match readers {
-        Readers::Owner => MODE_IN_WRITING,
-        Readers::AsBefore => match umask(rt) {
-            Some(mask) => MODE_OF_NEW_FILES & !mask,
-            None => MODE_IN_WRITING,
-        },
+        Readers::Owner => Ok(MODE_IN_WRITING),
+        Readers::AsBefore => mode_by_system(rt, target),
     }
+}
+
+// The permissions that the system gives a file beside a target, by the umask or the folder's own
+// list: an empty file is made, looked at, and removed.
+fn mode_by_system(rt: &HostRuntime, target: &str) -> Result<u32, Kind> {
+    let Beside { path, file } = create_beside(rt, target, MODE_OF_NEW_FILES)?;
+    let found = file.metadata();
+    fs::remove_file(rt, path.as_str()).map_err(write_fault)?;
+    Ok(found.map_err(write_fault)?.permissions().mode() & PERMISSION_BITS)
 }
 
 // A name that ends with a slash, and an empty one, are no file's.
@@ -130,11 +162,11 @@ fn open_new(rt: &HostRuntime, name: String, readers: Readers) -> Result<Target, 
     if name.as_str().ends_with("/") {
         return Err(Kind::Write(Reason::NotFolder));
     }
-    let mode = mode_of(rt, readers);
-    Ok(Target::Replaced(create_beside(rt, name, mode, None)?))
+    let mode = mode_of(rt, name.as_str(), readers)?;
+    Ok(Target::Replaced(create_private(rt, name, mode, None)?))
 }
 
-// ---- descriptors and links
+// ---- descriptors
 
 // Standard output itself is written to: other programs may share its place. The system opens the
 // file of another descriptor anew. So a regular file is refused: what the descriptor's owner writes
@@ -163,7 +195,7 @@ fn open_anew(rt: &HostRuntime, number: u64) -> io::Result<File> {
 /// Refuses an input that is the regular file of standard output, as `cat` does: it would grow for as
 /// long as it is read. The fault is `Write`.
 pub fn refuse_input(rt: &HostRuntime, path: &str) -> Result<(), Kind> {
-    match (fs::metadata(rt, path), fs::metadata(rt, "/proc/self/fd/1")) {
+    match (fs::metadata(rt, path), fs::metadata(rt, STANDARD_OUTPUT)) {
         (Ok(input), Ok(output)) if is_same_file(&input, &output) => {
             Err(Kind::Write(Reason::IsInput))
         }
@@ -171,41 +203,39 @@ pub fn refuse_input(rt: &HostRuntime, path: &str) -> Result<(), Kind> {
     }
 }
 
+fn are_same(one: &Metadata, other: &Metadata) -> bool {
+    one.dev() == other.dev() && one.ino() == other.ino()
+}
+
 fn is_same_file(one: &Metadata, other: &Metadata) -> bool {
-    one.is_file() && one.dev() == other.dev() && one.ino() == other.ino()
+    one.is_file() && are_same(one, other)
 }
 
-// What a link names, seen from the link's folder.
-fn linked(rt: &HostRuntime, link: &str) -> io::Result<String> {
-    let target = fs::read_link(rt, link)?;
-    let folder = Path::new(link).parent().unwrap_or(Path::new(""));
-    Ok(folder.join(rt.alloc(), target.as_str())?.into_string())
-}
-
-// The path without the symbolic links at its end; a descriptor's is left as it is. The error is
-// that the links don't end, or the system's.
-fn target_of(rt: &HostRuntime, path: &str) -> io::Result<String> {
-    let mut name = String::from_str(rt.alloc(), path)?;
-    for _ in 0..=LINKS_AT_MOST {
-        if descriptor_of(name.as_str()).is_some() {
-            return Ok(name);
+/// Refuses an output that is the regular file of a secret, which it would replace. The fault is
+/// `Write` or `Memory`.
+pub fn refuse_secret(rt: &HostRuntime, path: &str, secret: Source) -> Result<(), Kind> {
+    match secret {
+        Source::StandardInput => refuse_file(rt, path, "/proc/self/fd/0"),
+        Source::File(name) => refuse_file(rt, path, name),
+        Source::Descriptor(number) => {
+            let name = format!(in rt.alloc(); "/proc/self/fd/{number}")?;
+            refuse_file(rt, path, name.as_str())
         }
-        match fs::symlink_metadata(rt, name.as_str()) {
-            Ok(found) if found.is_symlink() => name = linked(rt, name.as_str())?,
-            _ => return Ok(name),
-        }
+        Source::Variable(_) => Ok(()),
     }
-    Err(io::Error::from(ErrorKind::FilesystemLoop))
+}
+
+// Refuses an output that is the regular file of the secret of a name.
+fn refuse_file(rt: &HostRuntime, path: &str, name: &str) -> Result<(), Kind> {
+    match (fs::metadata(rt, path), fs::metadata(rt, name)) {
+        (Ok(output), Ok(secret)) if is_same_file(&output, &secret) => {
+            Err(Kind::Write(Reason::IsSecret))
+        }
+        _ => Ok(()),
+    }
 }
 
 // ---- files beside
-
-// The bits that the umask takes from a new file, where the system tells them.
-fn umask(rt: &HostRuntime) -> Option<u32> {
-    let status = fs::read_to_string(rt, "/proc/self/status").ok()?;
-    let digits = status.lines().find_map(|line| line.strip_prefix("Umask:"))?;
-    u32::from_str_radix(digits.trim(), 8).ok()
-}
 
 // A path in the folder of a target, with a name that nobody foresees. It has 26 characters, so it
 // fits beside a target whose name is as long as names may be.
@@ -216,38 +246,67 @@ fn random_path(rt: &HostRuntime, target: &str) -> Result<String, Kind> {
     Ok(path.into_string())
 }
 
-// A new file that only its owner may read and write, whatever the umask lets through. A file that
+// A new file beside a target.
+#[derive(Drop)]
+struct Beside {
+    path: String,
+    file: File,
+}
+
+// A new file of a mode, of which the umask or the folder's own list takes what it takes. A file that
 // stands already, or a link, is never opened.
-fn create_private(rt: &HostRuntime, path: &str) -> io::Result<File> {
+fn create(rt: &HostRuntime, path: &str, mode: u32) -> io::Result<File> {
     OpenOptions::new()
         .write(true)
         .create_new(true)
-        .mode(MODE_IN_WRITING)
+        .mode(mode)
         .open(rt, path)
 }
 
+// The fault of a file that can't be made.
+fn create_fault(error: io::Error) -> Kind {
+    match error.kind() {
+        ErrorKind::PermissionDenied => Kind::Write(Reason::Folder),
+        _ => write_fault(error),
+    }
+}
+
 // A new file beside a target. Another name is tried where one is taken.
-fn create_beside(
+fn create_beside(rt: &HostRuntime, target: &str, mode: u32) -> Result<Beside, Kind> {
+    for _ in 0..NAMES_AT_MOST {
+        let path = random_path(rt, target)?;
+        match create(rt, path.as_str(), mode) {
+            Ok(file) => return Ok(Beside { path, file }),
+            Err(error) if error.kind() == ErrorKind::AlreadyExists => {}
+            Err(error) => return Err(create_fault(error)),
+        }
+    }
+    Err(Kind::Write(Reason::Exists))
+}
+
+// The file that replaces a target, and has a mode and a group then.
+fn create_private(
     rt: &HostRuntime,
     target: String,
     mode: u32,
     group: Option<u32>,
 ) -> Result<PrivateFile, Kind> {
-    for _ in 0..NAMES_AT_MOST {
-        let beside = random_path(rt, target.as_str())?;
-        match create_private(rt, beside.as_str()) {
-            Ok(file) => return Ok(PrivateFile {
-                target,
-                beside,
-                mode,
-                group,
-                file,
-            }),
-            Err(error) if error.kind() == ErrorKind::AlreadyExists => {}
-            Err(error) => return Err(write_fault(error)),
-        }
+    let Beside { path, file } = create_beside(rt, target.as_str(), MODE_IN_WRITING)?;
+    Ok(PrivateFile {
+        target,
+        beside: path,
+        mode,
+        group,
+        file,
+    })
+}
+
+// The fault of a file that can't take the target's name.
+fn replace_fault(error: io::Error) -> Kind {
+    match error.kind() {
+        ErrorKind::ResourceBusy => Kind::Write(Reason::Busy),
+        _ => write_fault(error),
     }
-    Err(Kind::Write(Reason::Exists))
 }
 
 impl PrivateFile {
@@ -255,32 +314,39 @@ impl PrivateFile {
     /// Where anything failed it is removed, and the target stays as it was.
     pub fn end(self, rt: &HostRuntime, outcome: Result<(), Kind>) -> Result<(), Kind> {
         let outcome = match outcome {
-            Ok(()) => self.replace_target(rt).map_err(write_fault),
+            Ok(()) => self.replace_target(rt).map_err(replace_fault),
             Err(kind) => Err(kind),
         };
         if outcome.is_err() {
+            // Where it can't be removed, at least only its owner may read it.
+            let _ = self
+                .file
+                .set_permissions(Permissions::from_mode(MODE_IN_WRITING));
             let _ = fs::remove_file(rt, self.beside.as_str());
         }
         outcome
     }
 
     // The permissions of the file, once it has the group of the file that it replaces. Where the
-    // system refuses that group, another one gets none.
+    // system refuses that group, another one gets none, and others, who may be of that group, get no
+    // more than it had.
     fn mode_in_group(&self) -> u32 {
         match self.group {
-            Some(group) if fchown(&self.file, None, Some(group)).is_err() => self.mode
-                & !GROUP_BITS,
+            Some(group) if fchown(&self.file, None, Some(group)).is_err() => {
+                self.mode & (OWNER_BITS | self.mode >> 3 & OTHERS_BITS)
+            }
             _ => self.mode,
         }
     }
 
-    // Gives the file its group and permissions where the file system has any, flushes it, and
-    // renames it. Then the folder is flushed where the system lets it. One that may not be read
-    // can't be: that is no fault, since the file stands whole under its name.
+    // Flushes the file, gives it its group and permissions where the file system has any, and
+    // renames it: a signal on the way leaves its owner's file. Then the folder is flushed where the
+    // system lets it. One that may not be read can't be: that is no fault, since the file stands
+    // whole under its name.
     fn replace_target(&self, rt: &HostRuntime) -> io::Result<()> {
+        self.file.sync_all()?;
         let mode = self.mode_in_group();
         let _ = self.file.set_permissions(Permissions::from_mode(mode));
-        self.file.sync_all()?;
         fs::rename(rt, self.beside.as_str(), self.target.as_str())?;
         let _ = flush_folder(rt, self.target.as_str());
         Ok(())

@@ -8,19 +8,21 @@ ghost use Rattle.cukvashe.specs.Macs.{tag_by};
 use crate::answer::{Answer, status_of, tag_answer, tag_of_digits, verified, weak_answer};
 use crate::arguments::{file_of, parse, parts_of, request_of};
 use crate::command::Beside;
+use crate::descriptors::{NULL_DEVICE, hold_closed};
 use crate::digits::LONGEST_TEXT;
 use crate::fault::{Fault, Kind, Misuse};
-use crate::inputs::{self, read_fault};
+use crate::inputs;
 use crate::key_block_program::key_block_status;
 use crate::key_file_program::key_file_status;
 use crate::keys::{is_weak, key_of_digits};
 use crate::line::{LineRequest, run_line};
 use crate::mac::{Method, tag_of};
+use crate::output::write_fault;
 use crate::report::show;
 use crate::request::{Account, Form, Names, Question, Request, Task};
 use crate::sentences::English;
 use crate::source::{Source, text_of};
-use crate::stream_request::{Password, StreamRequest};
+use crate::stream_request::{Coding, Password, StreamRequest};
 use crate::streams_program::{refuse_terminal, run_password, run_stream};
 use crate::usage::show_usage;
 use clap::ArgMatches;
@@ -257,7 +259,7 @@ fn tag_of_message(
 ) -> Result<[u8; 8], Kind> {
     match message {
         Source::File(path) => {
-            let mut input = inputs::open(rt, path).map_err(read_fault)?;
+            let mut input = inputs::open(rt, path)?;
             tag_in(rt, method, key, &mut input.file, BYTES_AT_A_TIME)
         }
         _ => tag_in(rt, method, key, &mut rt.stdin(), BYTES_AT_A_TIME),
@@ -295,24 +297,34 @@ fn mac_answer<'a>(
 
 // ---- streams
 
-// What `encrypt` and `decrypt` answer.
-fn stream_answer<'a>(rt: &HostRuntime, request: &StreamRequest<'a>) -> Result<Answer, Fault<'a>> {
+// Standard output is flushed, unless a fault was told.
+fn flushed_after(rt: &HostRuntime, status: u8) -> u8 {
+    match status {
+        0 => show_on(rt, Ok(Vec::new(rt.alloc()))),
+        status => status,
+    }
+}
+
+// What `encrypt` and `decrypt` by a key end with.
+fn stream_status<'a>(
+    rt: &HostRuntime,
+    request: &StreamRequest<'a>,
+    coding: Coding,
+) -> Result<u8, Fault<'a>> {
     refuse_terminal(rt, request.output).map_err(|kind| about(kind, ""))?;
     let key = key_in(rt, request.key, request.cipher.key_size())?;
-    run_stream(rt, request, key.as_slice())
+    Ok(flushed_after(rt, run_stream(rt, request, coding, key.as_slice())?))
 }
 
 // What `encrypt` and `decrypt` by a password end with.
 fn password_status<'a>(
     rt: &HostRuntime,
     request: &StreamRequest<'a>,
+    coding: Coding,
     by: Password,
 ) -> Result<u8, Fault<'a>> {
     refuse_terminal(rt, request.output).map_err(|kind| about(kind, ""))?;
-    match run_password(rt, request, by)? {
-        0 => Ok(show_on(rt, Ok(Vec::new(rt.alloc())))),
-        status => Ok(status),
-    }
+    Ok(flushed_after(rt, run_password(rt, request, coding, by)?))
 }
 
 // ---- the program
@@ -348,11 +360,8 @@ fn status_to<'a>(
             let answer = mac_answer(rt, request.input, method, question, message)?;
             Ok(show_answer(rt, answer))
         }
-        Task::Stream(request) => {
-            let answer = stream_answer(rt, &request)?;
-            Ok(show_answer(rt, answer))
-        }
-        Task::Password(stream, by) => password_status(rt, &stream, by),
+        Task::Stream(request, coding) => stream_status(rt, &request, coding),
+        Task::Password(request, coding, by) => password_status(rt, &request, coding, by),
         Task::KeyFile(request) => key_file_status(rt, &request),
         Task::KeyBlock(command) => key_block_status(rt, request, command),
     }
@@ -387,14 +396,21 @@ fn run_arguments(rt: &HostRuntime) -> io::Result<u8> {
     Ok(run_words(rt, words.as_slice()))
 }
 
-/// Runs the program on the arguments of the process, and gives the status that it ends with.
-pub fn run(rt: &HostRuntime) -> ExitCode {
-    let status = match run_arguments(rt) {
+// Runs the program once the standard descriptors are held.
+fn run_held(rt: &HostRuntime) -> u8 {
+    match run_arguments(rt) {
         Ok(status) => status,
         Err(error) if error.kind() == io::ErrorKind::OutOfMemory => {
             show_on(rt, Err(about(Kind::Memory, "")))
         }
         Err(_) => show_on(rt, Err(about(Kind::Usage(Misuse::NoText), ""))),
-    };
-    ExitCode::from(status)
+    }
+}
+
+/// Runs the program on the arguments of the process, and gives the status that it ends with.
+pub fn run(rt: &HostRuntime) -> ExitCode {
+    ExitCode::from(match hold_closed(rt) {
+        Ok(()) => run_held(rt),
+        Err(error) => show_on(rt, Err(about(write_fault(error), NULL_DEVICE))),
+    })
 }

@@ -111,7 +111,7 @@ fn write_shown<E: Write>(err: &mut E, text: &[u8]) -> io::Result<()>
 
 /// Writes a line of a fault or a notice: its name, what it is about, where that is not empty, and
 /// its words. Name and words are of the program's own text, so neither can be a secret. Control
-/// characters of what it is about are shown as question marks. Name and words are of the program's own text, so neither can be a secret.
+/// characters of what it is about are shown as question marks.
 pub fn write_line<E: Write>(
     name: &'static str,
     about: &str,

@@ -10,7 +10,7 @@ use crate::command::{
 use crate::fault::Kind;
 use crate::mac::Method;
 use crate::source::Source;
-use crate::stream_request::{KeyFileRequest, Password, StreamRequest};
+use crate::stream_request::{Coding, KeyFileRequest, Password, StreamRequest};
 use des_payment::emv_error::EmvError;
 use des_payment::translation::Format;
 use des_payment::{CvvError, PinError, TranslationError, VerificationError};
@@ -65,9 +65,9 @@ pub enum Task<'a> {
         message: Source<'a>,
     },
     /// Bytes are encrypted or decrypted.
-    Stream(StreamRequest<'a>),
+    Stream(StreamRequest<'a>, Coding),
     /// Bytes are encrypted or decrypted by a password, of which the request names the source.
-    Password(StreamRequest<'a>, Password),
+    Password(StreamRequest<'a>, Coding, Password),
     /// A private key under a password is decrypted.
     KeyFile(KeyFileRequest<'a>),
     /// A key block is read or made.

@@ -1,5 +1,5 @@
 //! What is said of each fault, after its name and what it is about. No clause promises a wording: runs
-//! of the program compare each sentence.
+//! of the program compare each that a command line reaches.
 
 use crate::fault::{Field, FileFault, Kind, Misuse, Reason};
 use des_payment::emv_error::EmvError;
@@ -48,7 +48,14 @@ impl Reason {
             Reason::ReadOnly => "the file system is read-only",
             Reason::Closed => "nobody reads it any more",
             Reason::IsInput => "it is the input too",
+            Reason::IsSecret => "it is the file of the key or the password",
             Reason::Reopened => "it leads to a regular file: give the file's path",
+            Reason::Descriptor =>
+                "it is a descriptor under another name, or of another process: give - or /dev/fd/N",
+            Reason::Folder =>
+                "no file can be made in its folder: to write a file that is there, give --out -, and redirect that",
+            Reason::Busy =>
+                "it is mounted or in use, so that nothing can replace it: give --out -, and redirect that",
             Reason::Other => "the system refused it",
         }
     }
@@ -70,17 +77,23 @@ impl Misuse {
             Misuse::PaddingOfCmac => "CMAC takes no --padding",
             Misuse::PaddingNeeded => "CBC-MAC and retail MAC need --padding",
             Misuse::Account => "give one of --account and --account-file",
+            Misuse::AccountOfFormat => "formats 1 and 2 have no account number",
             Misuse::Arguments => "the command doesn't take these words (see --help)",
             Misuse::Components =>
                 "give --part-file twice or more, or --count and one source of all",
-            Misuse::Fill => "the format takes other options (see --help)",
+            Misuse::Fill => "formats 0 and 2 take no --fill",
+            Misuse::FillNeeded => "formats 1 and 3 need --fill, ten digits",
+            Misuse::LengthOfVerify =>
+                "--verify takes no --length: it compares as many bytes as its tag has",
+            Misuse::ResponseOfPin => "--response is for mac, data and data-variant",
             Misuse::Session => "give one of --counter and --cryptogram",
             Misuse::ProtectionKeySource =>
                 "give one of --protection-key-file, --protection-key-fd and --protection-key-env",
             Misuse::PasswordSource =>
                 "give one of --password-file, --password-fd and --password-env, and no key",
-            Misuse::PasswordNeeded =>
-                "--derive, --any-count, --no-salt and --base64 are for a password",
+            Misuse::KeyOrPasswordSource =>
+                "give one of --key-file, --key-fd, --key-env, --password-file, --password-fd and --password-env",
+            Misuse::PasswordNeeded => "--derive, --any-count and --no-salt are for a password",
             Misuse::VectorOfPassword => "a password gives the vector too: leave out --iv",
             Misuse::Derivation =>
                 "md5, sha1, sha256, pbkdf2-sha1:COUNT or pbkdf2-sha256:COUNT is needed",
@@ -98,6 +111,8 @@ impl FileFault {
         match self {
             FileFault::Salted =>
                 "the input begins with Salted__: it is under a password, with a salt (see --password-file and --no-salt)",
+            FileFault::SaltedText =>
+                "the input begins as Base64 of Salted__: it is under a password, with a salt (see --password-file and --base64)",
             FileFault::NotSalted =>
                 "the input does not begin with Salted__ (see --no-salt and --base64)",
             FileFault::SaltCut => "the input ends within the salt",
@@ -137,9 +152,9 @@ impl Kind {
             }
             Kind::WeakKey => "the key is weak",
             Kind::Components => "a key has two components at least",
-            Kind::Vector | Kind::Validation | Kind::Cryptogram => {
-                "16 hexadecimal digits are needed"
-            }
+            Kind::Vector =>
+                "random (to encrypt), first-block (to decrypt) or 16 hexadecimal digits are needed",
+            Kind::Validation | Kind::Cryptogram => "16 hexadecimal digits are needed",
             Kind::Tag => "8, 10, 12, 14 or 16 hexadecimal digits are needed",
             Kind::Value => "4 digits are needed",
             Kind::Offset => "4 to 12 digits are needed",
@@ -168,7 +183,7 @@ impl Kind {
             Kind::EmptyPassword => "the password is empty",
             Kind::Memory => "a request for memory was refused",
             Kind::Length => "the input ends within a block of 8 bytes",
-            Kind::Start => "the input ends before the part begins",
+            Kind::Start => "the input ends within the vector or before the part begins",
             Kind::Padding => "wrong key, vector or padding",
         }
     }
@@ -264,13 +279,13 @@ fn key_block_words(error: KeyBlockError) -> &'static str {
         KeyBlockError::ProtectionKeyLength => "a key of 32 or 48 hexadecimal digits is needed",
         KeyBlockError::Length =>
             "the block is not as long as its header says, or has more than 9999 characters",
-        KeyBlockError::Version => "the block is of another version than A, B and C",
+        KeyBlockError::Version => "the block is of another version than A, B and C, in capitals",
         KeyBlockError::Header =>
             "characters 13 to 16 are not the number of optional blocks and two zeros",
         KeyBlockError::OptionalBlock => "the optional blocks are not the standard's",
         KeyBlockError::DataLength => "the encrypted key and the MAC are too short or too long",
         KeyBlockError::Digit =>
-            "the encrypted key or the MAC has a character that is no hexadecimal digit",
+            "the encrypted key or the MAC has a character that is none of 0 to 9 and A to F, in capitals",
         KeyBlockError::Mac =>
             "the MAC is wrong: the block was changed, or is under another protection key",
         KeyBlockError::KeyLength => "the block's key does not have 8, 16 or 24 bytes",

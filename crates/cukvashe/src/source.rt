@@ -1,10 +1,9 @@
 //! Secrets and other short inputs: where their texts are, and how they are read.
 
-ghost use Rattle.std.specs.Prelude.{◌≡◌, ◌≤◌, ◌<◌, ℕ, List, filter, not, length, IfOk, IfErr};
+ghost use Rattle.std.specs.Prelude.{◌≡◌, ◌≤◌, ◌<◌, length, IfOk, IfErr};
 ghost use Rattle.std.specs.Char.{is_ascii_digit, is_ascii_hexdigit};
 ghost use Rattle.std.specs.Io.KnownBytes.{Consumes, IsAtEnd};
-ghost use Rattle.std.specs.List.{list_all};
-ghost use Rattle.cukvashe.specs.Sources.{IsAllOf, FailsToGive, shown_path, name_of_source, may_be_secret as may_be_secret_of, is_between as is_between_of, without_prefix};
+ghost use Rattle.cukvashe.specs.Sources.{IsAllOf, FailsToGive, shown_path, name_of_source, may_be_secret as may_be_secret_of, is_between as is_between_of, count_of, count_beside, are_mostly};
 
 use crate::digits::{is_space, strip};
 use crate::fault::{Kind, Reason};
@@ -13,7 +12,7 @@ use des_io::StreamError;
 use des_io::pieces::fill;
 use std::alloc::Global;
 use std::env::{self, VarError};
-use std::io::{self, ErrorKind, Read};
+use std::io::Read;
 
 /// Where a text is.
 #[derive(Clone, Copy)]
@@ -31,52 +30,77 @@ pub enum Source<'a> {
 /// The bytes that an input has at most, white space among them.
 pub const LONGEST_TEXT: usize = 4096;
 
-// Whether somebody writes such a character between digits.
+// Whether somebody writes such a character between digits or around them.
 fn is_between(byte: u8) -> bool
     ensures { result ≡ is_between_of byte }
 {
-    is_space(byte) || byte == b':' || byte == b'-' || byte == b'_' || byte == b'.'
+    is_space(byte)
+        || matches!(
+            byte,
+            b':' | b'-'
+                | b'_'
+                | b'.'
+                | b','
+                | b';'
+                | b'/'
+                | b'\\'
+                | b'='
+                | b'\''
+                | b'"'
+                | b'x'
+                | b'X'
+        )
 }
 
-fn without_prefix(path: &[u8]) -> &[u8]
-    ensures { result.now ≡ without_prefix path.now }
+fn count_decimal(path: &[u8]) -> usize
+    ensures { result ≡ count_of is_ascii_digit path.now }
 {
-    path.strip_prefix(b"0x").unwrap_or(path)
+    path.iter().filter(|byte| byte.is_ascii_digit()).count()
 }
 
-// How many characters there are but those between digits.
-fn count_digits(path: &[u8]) -> usize
-    ensures { result ≡ length (filter (λ byte. not (is_between_of byte)) path.now) }
+// How many characters there are that are neither decimal digits nor between digits.
+fn count_beside_decimal(path: &[u8]) -> usize
+    ensures { result ≡ count_beside is_ascii_digit path.now }
 {
-    path.iter().filter(|byte| !is_between(**byte)).count()
+    path.iter()
+        .filter(|byte| !byte.is_ascii_digit() && !is_between(**byte))
+        .count()
 }
 
 fn are_decimal(path: &[u8]) -> bool
-    ensures { result
-        ≡ list_all is_ascii_digit (filter (λ byte. not (is_between_of byte)) path.now) }
+    ensures { result ≡ are_mostly is_ascii_digit 4 path.now }
+{
+    let digits = count_decimal(path);
+    digits >= 4 && count_beside_decimal(path) <= digits / 4
+}
+
+fn count_hexadecimal(path: &[u8]) -> usize
+    ensures { result ≡ count_of is_ascii_hexdigit path.now }
+{
+    path.iter().filter(|byte| byte.is_ascii_hexdigit()).count()
+}
+
+fn count_beside_hexadecimal(path: &[u8]) -> usize
+    ensures { result ≡ count_beside is_ascii_hexdigit path.now }
 {
     path.iter()
-        .filter(|byte| !is_between(**byte))
-        .all(|byte| byte.is_ascii_digit())
+        .filter(|byte| !byte.is_ascii_hexdigit() && !is_between(**byte))
+        .count()
 }
 
 fn are_hexadecimal(path: &[u8]) -> bool
-    ensures { result
-        ≡ list_all is_ascii_hexdigit (filter (λ byte. not (is_between_of byte)) path.now) }
+    ensures { result ≡ are_mostly is_ascii_hexdigit 15 path.now }
 {
-    path.iter()
-        .filter(|byte| !is_between(**byte))
-        .all(|byte| byte.is_ascii_hexdigit())
+    let digits = count_hexadecimal(path);
+    digits >= 15 && count_beside_hexadecimal(path) <= digits / 4
 }
 
 // Whether a path may be a secret that was typed in the place of a file's name: a PIN or an account
-// number, or a key.
+// number, or a key. A few other characters do not make it another thing.
 fn may_be_secret(path: &str) -> bool
     ensures { result ≡ may_be_secret_of path.now }
 {
-    let digits = without_prefix(path.as_bytes());
-    let count = count_digits(digits);
-    count >= 4 && are_decimal(digits) || count >= 16 && are_hexadecimal(digits)
+    are_decimal(path.as_bytes()) || are_hexadecimal(path.as_bytes())
 }
 
 // A path as a fault shows it.
@@ -86,7 +110,7 @@ pub(crate) fn shown<'a>(path: &'a str) -> &'a str
     if path.is_empty() {
         "an empty name"
     } else if may_be_secret(path) {
-        "a file named by digits alone"
+        "a file named by digits"
     } else {
         path
     }
@@ -142,15 +166,15 @@ fn bytes_of_file(rt: &HostRuntime, path: &str, longest: usize) -> Result<Vec<u8>
     requires { longest < 100000 }
     ensures { IfOk result (λ bytes. length bytes.items ≤ longest) }
 {
-    let mut input = inputs::open(rt, path).map_err(refused)?;
+    let mut input = inputs::open(rt, path).map_err(of_source)?;
     bytes_of_reader(rt.alloc(), &mut input.file, longest)
 }
 
-// The system refused a source.
-fn refused(error: io::Error) -> Kind {
-    match error.kind() {
-        ErrorKind::OutOfMemory => Kind::Memory,
-        _ => Kind::Source(Reason::of(&error)),
+// The fault of an input that is a source.
+fn of_source(kind: Kind) -> Kind {
+    match kind {
+        Kind::Read(reason) => Kind::Source(reason),
+        kind => kind,
     }
 }
 

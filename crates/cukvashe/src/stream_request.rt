@@ -107,14 +107,21 @@ pub fn blocks_before(request: &StreamRequest) -> u64
     }
 }
 
-/// How a password gives the key and the vector, and how the file under it is written.
+/// How the bytes of an input are written.
+#[derive(Clone, Copy)]
+pub enum Coding {
+    /// As they are.
+    Bytes,
+    /// As Base64 in lines.
+    Base64,
+}
+
+/// How a password gives the key and the vector, and how the file under it begins.
 #[derive(Clone, Copy)]
 pub struct Password {
     pub derivation: Derivation,
     /// The file begins with `Salted__` and the salt.
     pub is_salted: bool,
-    /// The file is Base64 in lines.
-    pub is_base64: bool,
 }
 
 /// The form of a private key that is written.

@@ -4,16 +4,15 @@
 ghost use Rattle.std.specs.Prelude.{length};
 ghost use Rattle.cukvashe.specs.Keys.{IsKeySize};
 
-use crate::answer::Answer;
 use crate::fault::{Fault, FileFault, Kind, Misuse};
-use crate::inputs::{self, Input, name_in_stream, read_fault, system_random};
+use crate::inputs::{self, Input, bytes_to_read, name_in_stream, read_fault, system_random};
 use crate::notices::accept_key;
-use crate::output::{self, Readers, Target, write_fault};
+use crate::output::{self, Readers, STANDARD_OUTPUT, Target, write_fault};
 use crate::password_streams::{PREFIX, PasswordJob, check_password, first_line, run_by_password};
 use crate::report::{send, tell};
 use crate::sentences::English;
 use crate::source::{LONGEST_TEXT, Source, bytes_of, shown};
-use crate::stream_request::{Output, Part, Password, StreamRequest, Vector, blocks_before};
+use crate::stream_request::{Coding, Output, Part, Password, StreamRequest, Vector, blocks_before};
 use crate::streams::{self, Job};
 use crate::watched::{Watch, Watched};
 use des_io::pieces::fill;
@@ -66,6 +65,14 @@ impl<'a> Work<'a> {
         }
     }
 
+    // Whether the input begins with a salt, which is read.
+    fn takes_salt(self) -> bool {
+        match self {
+            Work::Key(_) => false,
+            Work::Password(job) => job.by.is_salted,
+        }
+    }
+
     fn run<R: Read, W: Write>(
         self,
         rt: &HostRuntime,
@@ -92,6 +99,7 @@ fn run_to_standard_output<R: Read>(
         _ => "/proc/self/fd/0",
     };
     output::refuse_input(rt, input)?;
+    output::refuse_secret(rt, STANDARD_OUTPUT, work.request().key)?;
     work.run(rt, reader, &mut rt.stdout())
 }
 
@@ -102,6 +110,7 @@ fn run_to_path<R: Read>(
     reader: &mut R,
     path: &str,
 ) -> Result<(), Kind> {
+    output::refuse_secret(rt, path, work.request().key)?;
     match output::open(rt, path, Readers::AsBefore)? {
         Target::StandardOutput => run_to_standard_output(rt, work, reader),
         Target::AsItIs(file) => {
@@ -133,8 +142,11 @@ fn run_reader<R: Read + Drop>(
     outcome
 }
 
-// Decrypts what does not begin with `Salted__` and a salt.
-fn run_unsalted<R: Read + Drop>(
+// What a text of Base64 begins with, whose bytes begin with `Salted__`.
+const PREFIX_IN_BASE64: [u8; 8] = *b"U2FsdGVk";
+
+// Decrypts. A salt that the words do not announce is refused, also in Base64.
+fn run_decrypted<R: Read + Drop>(
     rt: &HostRuntime,
     work: Work,
     reader: R,
@@ -143,24 +155,40 @@ fn run_unsalted<R: Read + Drop>(
     let mut reader = reader;
     let mut first = [0; 8];
     let count = fill(&mut reader, &mut first)?;
-    if first == PREFIX {
+    if first == PREFIX && !work.takes_salt() {
         return Err(Kind::File(FileFault::Salted));
+    }
+    if first == PREFIX_IN_BASE64 {
+        return Err(Kind::File(FileFault::SaltedText));
     }
     run_reader(rt, work, (&first[..count]).chain(reader), total)
 }
 
-// Reads from a reader by a key. Where it was sought to a part, its beginning is not looked at.
+// Reads from a reader that stands at the beginning of the input.
+fn run_from_start<R: Read + Drop>(
+    rt: &HostRuntime,
+    work: Work,
+    reader: R,
+    total: Option<u64>,
+) -> Result<(), Kind> {
+    if work.request().encrypts {
+        run_reader(rt, work, reader, total)
+    } else {
+        run_decrypted(rt, work, reader, total)
+    }
+}
+
+// Reads from a file by a key. Where it was sought to a part, its beginning is not looked at.
 fn run_by_key<R: Read + Drop>(
     rt: &HostRuntime,
     job: &Job,
     reader: R,
     total: Option<u64>,
 ) -> Result<(), Kind> {
-    let work = Work::Key(job);
-    if job.request.encrypts || job.skipped != blocks_before(job.request) {
-        run_reader(rt, work, reader, total)
+    if job.skipped == blocks_before(job.request) {
+        run_from_start(rt, Work::Key(job), reader, total)
     } else {
-        run_unsalted(rt, work, reader, total)
+        run_reader(rt, Work::Key(job), reader, total)
     }
 }
 
@@ -177,7 +205,7 @@ fn run_file(
     random: [u8; 8],
     path: &str,
 ) -> Result<(), Kind> {
-    let mut input = inputs::open(rt, path).map_err(read_fault)?;
+    let mut input = inputs::open(rt, path)?;
     let skipped = input.seek_to_last(blocks_before(request));
     let total = input.total(skipped, count_of(request.part));
     let job = Job {
@@ -189,29 +217,37 @@ fn run_file(
     run_by_key(rt, &job, input.file, total)
 }
 
-// Reads the input.
-fn run_input(rt: &HostRuntime, request: &StreamRequest, key: &[u8]) -> Result<(), Kind> {
+// Reads the input, and gives 0 or the status of a fault that was told.
+fn run_input(
+    rt: &HostRuntime,
+    request: &StreamRequest,
+    coding: Coding,
+    key: &[u8],
+) -> Result<u8, Kind> {
     let random = random_of(rt, request.vector)?;
-    if let Source::File(path) = request.input {
-        return run_file(rt, request, key, random, path);
-    }
     let job = Job {
         request,
         key,
         random,
         skipped: blocks_before(request),
     };
-    run_by_key(rt, &job, rt.stdin(), None)
+    match (coding, request.input) {
+        (Coding::Base64, _) => return run_base64(rt, Work::Key(&job)),
+        (Coding::Bytes, Source::File(path)) => run_file(rt, request, key, random, path)?,
+        (Coding::Bytes, _) => run_from_start(rt, Work::Key(&job), rt.stdin(), None)?,
+    }
+    Ok(0)
 }
 
 /// Encrypts or decrypts by a key of the cipher's size, and writes where the request says. The weak
-/// key test comes first: where it refuses the key, nothing is read or written. The answer is an
-/// empty text: to write it flushes standard output.
+/// key test comes first: where it refuses the key, nothing is read or written. Gives 0, or the
+/// status of a fault that was told.
 pub fn run_stream<'a>(
     rt: &HostRuntime,
     request: &StreamRequest<'a>,
+    coding: Coding,
     key: &[u8],
-) -> Result<Answer, Fault<'a>>
+) -> Result<u8, Fault<'a>>
     requires { IsKeySize (length key.now) }
 {
     let key_name = request.key.name();
@@ -226,14 +262,62 @@ pub fn run_stream<'a>(
         kind,
         about: key_name,
     })?;
-    run_input(rt, request, key).map_err(|kind| Fault {
+    run_input(rt, request, coding, key).map_err(|kind| Fault {
         kind,
         about: name_in_stream(kind, request.input.name(), output_name(request.output)),
-    })?;
-    Ok(Answer {
-        text: Vec::new(rt.alloc()),
-        is_no: false,
     })
+}
+
+// ---- Base64
+
+// All that a reader has.
+fn all_of<R: Read>(rt: &HostRuntime, reader: &mut R) -> Result<Vec<u8>, Kind> {
+    let mut bytes = Vec::new(rt.alloc());
+    reader.read_to_end(&mut bytes).map_err(read_fault)?;
+    Ok(bytes)
+}
+
+// The text of an input.
+fn text_of_input(rt: &HostRuntime, source: Source) -> Result<Vec<u8>, Kind> {
+    match source {
+        Source::File(path) => {
+            let mut input: Input = inputs::open(rt, path)?;
+            all_of(rt, &mut input.file)
+        }
+        _ => all_of(rt, &mut rt.stdin()),
+    }
+}
+
+/// Tells a fault of a line of an input, and gives its status.
+pub fn tell_line(rt: &HostRuntime, kind: Kind, input: &str, line: usize) -> Result<u8, Kind> {
+    let about = format!(in rt.alloc(); "{input}: line {line}")?;
+    let fault = Fault {
+        kind,
+        about: about.as_str(),
+    };
+    Ok(tell::<English, _>(fault, &mut rt.stderr()))
+}
+
+// How many of the bytes of an input are read.
+fn total_of(request: &StreamRequest, length: u64) -> u64 {
+    bytes_to_read(length, 0, blocks_before(request), count_of(request.part))
+}
+
+// Reads Base64, and does the work with its bytes.
+fn run_base64(rt: &HostRuntime, work: Work) -> Result<u8, Kind> {
+    let source = work.request().input;
+    let text = text_of_input(rt, source)?;
+    match decode_base64(rt.alloc(), text.as_slice()) {
+        Ok(bytes) => {
+            let total = total_of(work.request(), bytes.len() as u64);
+            run_from_start(rt, work, bytes.as_slice(), Some(total))?;
+            Ok(0)
+        }
+        Err(Base64Error::Line(line)) => {
+            tell_line(rt, Kind::File(FileFault::Base64), source.name(), line)
+        }
+        Err(Base64Error::OutOfMemory) => Err(Kind::Memory),
+    }
 }
 
 // ---- passwords
@@ -266,75 +350,16 @@ pub fn password_in<'a>(rt: &HostRuntime, source: Source<'a>) -> Result<Vec<u8>, 
     Ok(text)
 }
 
-// All that a reader has.
-fn all_of<R: Read>(rt: &HostRuntime, reader: &mut R) -> Result<Vec<u8>, Kind> {
-    let mut bytes = Vec::new(rt.alloc());
-    reader.read_to_end(&mut bytes).map_err(read_fault)?;
-    Ok(bytes)
-}
-
-// The text of an input.
-fn text_of_input(rt: &HostRuntime, source: Source) -> Result<Vec<u8>, Kind> {
-    match source {
-        Source::File(path) => {
-            let mut input: Input = inputs::open(rt, path).map_err(read_fault)?;
-            all_of(rt, &mut input.file)
-        }
-        _ => all_of(rt, &mut rt.stdin()),
-    }
-}
-
-// Reads from a reader, and does the work of a password. What is said to have no salt must not begin
-// with one.
-fn run_by_password_from<R: Read + Drop>(
-    rt: &HostRuntime,
-    job: &PasswordJob,
-    reader: R,
-    total: Option<u64>,
-) -> Result<(), Kind> {
-    let work = Work::Password(job);
-    if job.request.encrypts || job.by.is_salted {
-        run_reader(rt, work, reader, total)
-    } else {
-        run_unsalted(rt, work, reader, total)
-    }
-}
-
 // Reads the input, and does the work of a password.
 fn run_password_input(rt: &HostRuntime, job: &PasswordJob) -> Result<(), Kind> {
+    let work = Work::Password(job);
     match job.request.input {
         Source::File(path) => {
-            let input = inputs::open(rt, path).map_err(read_fault)?;
+            let input = inputs::open(rt, path)?;
             let total = input.total(blocks_before(job.request), count_of(job.request.part));
-            run_by_password_from(rt, job, input.file, total)
+            run_from_start(rt, work, input.file, total)
         }
-        _ => run_by_password_from(rt, job, rt.stdin(), None),
-    }
-}
-
-/// Tells a fault of a line of an input, and gives its status.
-pub fn tell_line(rt: &HostRuntime, kind: Kind, input: &str, line: usize) -> Result<u8, Kind> {
-    let about = format!(in rt.alloc(); "{input}: line {line}")?;
-    let fault = Fault {
-        kind,
-        about: about.as_str(),
-    };
-    Ok(tell::<English, _>(fault, &mut rt.stderr()))
-}
-
-// Reads Base64, and does the work of a password with its bytes.
-fn run_base64(rt: &HostRuntime, job: &PasswordJob) -> Result<u8, Kind> {
-    let source = job.request.input;
-    let text = text_of_input(rt, source)?;
-    match decode_base64(rt.alloc(), text.as_slice()) {
-        Ok(bytes) => {
-            run_by_password_from(rt, job, bytes.as_slice(), Some(bytes.len() as u64))?;
-            Ok(0)
-        }
-        Err(Base64Error::Line(line)) => {
-            tell_line(rt, Kind::File(FileFault::Base64), source.name(), line)
-        }
-        Err(Base64Error::OutOfMemory) => Err(Kind::Memory),
+        _ => run_from_start(rt, work, rt.stdin(), None),
     }
 }
 
@@ -351,6 +376,7 @@ fn salt_for(rt: &HostRuntime, encrypts: bool) -> Result<[u8; 8], Kind> {
 fn run_with(
     rt: &HostRuntime,
     request: &StreamRequest,
+    coding: Coding,
     by: Password,
     password: &[u8],
 ) -> Result<u8, Kind> {
@@ -362,11 +388,13 @@ fn run_with(
         random: salt_for(rt, request.encrypts)?,
         name: password_name(request.key),
     };
-    if by.is_base64 {
-        return run_base64(rt, &job);
+    match coding {
+        Coding::Base64 => run_base64(rt, Work::Password(&job)),
+        Coding::Bytes => {
+            run_password_input(rt, &job)?;
+            Ok(0)
+        }
     }
-    run_password_input(rt, &job)?;
-    Ok(0)
 }
 
 // A padding that is another is mostly told of a wrong password, which has no key and no vector.
@@ -390,21 +418,33 @@ fn name_by_password<'a>(kind: Kind, request: &StreamRequest<'a>) -> &'a str {
 pub fn run_password<'a>(
     rt: &HostRuntime,
     request: &StreamRequest<'a>,
+    coding: Coding,
     by: Password,
 ) -> Result<u8, Fault<'a>> {
     let password = password_in(rt, request.key)?;
-    run_with(rt, request, by, password.as_slice()).map_err(|kind| Fault {
+    run_with(rt, request, coding, by, password.as_slice()).map_err(|kind| Fault {
         kind: kind_by_password(kind),
         about: name_by_password(kind, request),
     })
 }
 
 /// Writes a secret to an output. A file is replaced when all of it is written, and is then its
-/// owner's alone.
-pub fn write_secret(rt: &HostRuntime, output: Output, bytes: &[u8]) -> Result<(), Kind> {
+/// owner's alone. The file of the password is not written.
+pub fn write_secret(
+    rt: &HostRuntime,
+    output: Output,
+    password: Source,
+    bytes: &[u8],
+) -> Result<(), Kind> {
     match output {
-        Output::File(path) => write_secret_to_path(rt, path, bytes),
-        _ => send(&mut rt.stdout(), bytes).map_err(write_fault),
+        Output::File(path) => {
+            output::refuse_secret(rt, path, password)?;
+            write_secret_to_path(rt, path, bytes)
+        }
+        _ => {
+            output::refuse_secret(rt, STANDARD_OUTPUT, password)?;
+            send(&mut rt.stdout(), bytes).map_err(write_fault)
+        }
     }
 }
 

@@ -25,7 +25,7 @@ fn show_help(rt: &HostRuntime, error: &clap::Error) -> Result<u8, AllocError> {
 }
 
 // Whether a message of this kind has no word of the command line but options' names.
-fn hides_words(kind: ErrorKind) -> bool {
+fn has_no_typed_word(kind: ErrorKind) -> bool {
     matches!(
         kind,
         ErrorKind::ArgumentConflict
@@ -65,6 +65,13 @@ fn argument_in(message: &str) -> &str {
     }
 }
 
+// The words that an argument takes, where a message on another word names them.
+fn words_in(message: &str) -> Option<&str> {
+    let (_, rest) = message.rsplit_once("\n  [possible values: ")?;
+    let (words, _) = rest.split_once("]")?;
+    Some(words)
+}
+
 // The message without what was typed.
 fn tell_hidden(rt: &HostRuntime, error: &clap::Error, words: &[&str]) -> Result<u8, AllocError> {
     let usage = usage_of(rt, words)?;
@@ -78,6 +85,9 @@ fn tell_hidden(rt: &HostRuntime, error: &clap::Error, words: &[&str]) -> Result<
         about,
     };
     let status = tell::<English, _>(fault, &mut rt.stderr());
+    if let (ErrorKind::InvalidValue, Some(words)) = (error.kind(), words_in(text.as_str())) {
+        let _ = eprint!(rt; "  [possible values: {words}]\n");
+    }
     let _ = eprint!(rt; "\n{usage}");
     Ok(status)
 }
@@ -103,7 +113,7 @@ fn show_by_kind(rt: &HostRuntime, error: &clap::Error, words: &[&str]) -> Result
         ErrorKind::DisplayHelp | ErrorKind::DisplayVersion => show_help(rt, error),
         ErrorKind::DisplayHelpOnMissingArgumentOrSubcommand => tell_help(rt, error),
         ErrorKind::OutOfMemory => Err(AllocError),
-        kind if hides_words(kind) => tell_message(rt, error),
+        kind if has_no_typed_word(kind) => tell_message(rt, error),
         _ => tell_hidden(rt, error, words),
     }
 }

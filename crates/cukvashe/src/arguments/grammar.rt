@@ -4,7 +4,7 @@ use super::forms::{
     ACCOUNT_LINES, Form, Group, KEY_FORMS, KEY_LINES, Line, STATUSES, Shared, TO_KEY_LINES, Takes,
 };
 use super::key_block_forms::{KEY_BLOCK_FORMS, PROTECTION_KEY_LINES};
-use super::password_forms::{DERIVATION_LINES, KEY_FILE_FORMS, PASSWORD_LINES, SALT_LINES};
+use super::password_forms::{DERIVATION_LINES, KEY_FILE_FORMS, PASSWORD_LINES, READING_LINES};
 use super::payment_forms::{EMV_FORMS, GROUPS, OFFSET_FORMS, PIN_FORMS, PVV_FORMS};
 use super::stream_forms::STREAM_FORMS;
 use clap::{Arg, ArgAction, ArgMatches, Command, Error, value_parser};
@@ -131,7 +131,7 @@ fn with_shared<'a>(
         Shared::KeyOrPassword => with_key_or_password(alloc, command),
         Shared::KeyOrPasswordOfFile => {
             let command = with_key_or_password(alloc, command)?;
-            with_lines(alloc, command, SALT_LINES.as_slice())
+            with_lines(alloc, command, READING_LINES.as_slice())
         }
         Shared::Nothing => Ok(command),
     }

@@ -38,8 +38,8 @@ const ANY_COUNT: Line<'static> = Line(
     "Take more than 10000000 iterations",
 );
 
-/// How a file under a password is written, where it is read.
-pub static SALT_LINES: [Line<'static>; 2] = [
+/// How an input is written, where it is read.
+pub static READING_LINES: [Line<'static>; 2] = [
     Line(
         "no-salt",
         Takes::Nothing,

@@ -5,7 +5,7 @@ ghost use Rattle.des_records.specs.declared.derivation.Derivation.{Derivation as
 ghost use Rattle.cukvashe.specs.PasswordArguments.{IsCount, IsCountedText, IsDerivationText, count_of as count_by, is_to_encrypt as is_to_encrypt_of, derivation_fault};
 ghost use Rattle.cukvashe.specs.Faults.{FailsOnlyBy};
 
-use super::streams::{cipher_of, input_of, output_of, request_of_words, words_of};
+use super::streams::{cipher_of, coding_of, input_of, output_of, request_of_words, words_of};
 use super::typed::{is_given, is_set, number_of, place_of, text_of};
 use super::{misuse, one_of, read_once, without_account};
 use crate::fault::{Fault, Kind, Misuse};
@@ -42,7 +42,7 @@ fn password_of<'a>(matches: &ArgMatches<'a>) -> Result<Source<'a>, Fault<'a>> {
 pub(super) fn refuse_options<'a>(encrypts: bool, matches: &ArgMatches) -> Result<(), Fault<'a>> {
     let is_one = is_given(matches, "derive")
         || is_set(matches, "any-count")
-        || !encrypts && (is_set(matches, "no-salt") || is_set(matches, "base64"));
+        || !encrypts && is_set(matches, "no-salt");
     if is_one {
         Err(misuse(Misuse::PasswordNeeded, ""))
     } else {
@@ -177,9 +177,9 @@ pub(super) fn password_request<'a>(
     let password = Password {
         derivation,
         is_salted: encrypts || !is_set(matches, "no-salt"),
-        is_base64: !encrypts && is_set(matches, "base64"),
     };
-    Ok(without_account(Task::Password(request, password), source))
+    let task = Task::Password(request, coding_of(encrypts, matches), password);
+    Ok(without_account(task, source))
 }
 
 // ---- private keys

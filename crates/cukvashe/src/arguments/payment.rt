@@ -37,11 +37,11 @@ fn each_once<'a>(sources: &[Source]) -> Result<(), Fault<'a>> {
 // Formats 1 and 2 take no account number.
 fn refuse_account<'a>(matches: &ArgMatches) -> Result<(), Fault<'a>> {
     if is_given(matches, "account") {
-        Err(misuse(Misuse::Fill, "--account"))
+        Err(misuse(Misuse::AccountOfFormat, "--account"))
     } else if is_given(matches, "account-file") {
-        Err(misuse(Misuse::Fill, "--account-file"))
+        Err(misuse(Misuse::AccountOfFormat, "--account-file"))
     } else if is_given(matches, "check-digit") {
-        Err(misuse(Misuse::Fill, "--check-digit"))
+        Err(misuse(Misuse::AccountOfFormat, "--check-digit"))
     } else {
         Ok(())
     }
@@ -52,7 +52,8 @@ fn fill_of<'a>(format: Format, matches: &ArgMatches<'a>) -> Result<&'a str, Faul
     match (format, text_of(matches, "fill")) {
         (Format::Format0 | Format::Format2, None) => Ok(""),
         (Format::Format1 | Format::Format3, Some(digits)) => Ok(digits),
-        _ => Err(misuse(Misuse::Fill, "--fill")),
+        (Format::Format0 | Format::Format2, Some(_)) => Err(misuse(Misuse::Fill, "")),
+        (Format::Format1 | Format::Format3, None) => Err(misuse(Misuse::FillNeeded, "")),
     }
 }
 

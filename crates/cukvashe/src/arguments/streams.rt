@@ -12,11 +12,11 @@ ghost use Rattle.cukvashe.specs.StreamArguments.{IsChainVector, FailsAsChainVect
 ghost use Rattle.cukvashe.specs.StreamArguments.{IsRequest, FailsAsRequest};
 
 use super::typed::{is_set, number_of, place_of, text_of};
-use super::{about, file_of, key_of, misuse, read_once};
+use super::{about, file_of, key_or, misuse, read_once};
 use crate::digits::bytes_of;
 use crate::fault::{Fault, Kind, Misuse};
 use crate::source::Source;
-use crate::stream_request::{Cipher, Output, Part, StreamRequest, Vector, WeakKeys};
+use crate::stream_request::{Cipher, Coding, Output, Part, StreamRequest, Vector, WeakKeys};
 use clap::ArgMatches;
 use des_io::Padding;
 
@@ -228,11 +228,20 @@ pub(super) fn words_of<'a>(
     }
 }
 
+// How the input is written: `--base64` is an option of `decrypt`.
+pub(super) fn coding_of(encrypts: bool, matches: &ArgMatches) -> Coding {
+    if !encrypts && is_set(matches, "base64") {
+        Coding::Base64
+    } else {
+        Coding::Bytes
+    }
+}
+
 /// What the words of `encrypt` or `decrypt` ask for; a fault where they don't go together.
 pub fn stream_request<'a>(
     encrypts: bool,
     matches: &ArgMatches<'a>,
 ) -> Result<StreamRequest<'a>, Fault<'a>> {
-    let key = key_of(matches)?;
+    let key = key_or(Misuse::KeyOrPasswordSource, matches)?;
     request_of_words(&words_of(encrypts, key, text_of(matches, "iv"), matches))
 }
