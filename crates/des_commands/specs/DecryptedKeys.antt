@@ -1,0 +1,50 @@
+-- What a key and a vector decrypt of a private key under a password.
+use Rattle.std.specs.Prelude.{◌≡◌, ◌≢◌, ◌⊎◌, ℕ, ◌%◌, List, [], length, Option, Some, IsTrue, false}
+use Rattle.des.specs.TripleCiphers.{ede3_decryption}
+use Rattle.des_io.specs.Streams.{passage_of, Decrypts}
+use Rattle.des_io.specs.StreamFaults.{IsWronglyPadded}
+use Rattle.des_commands.specs.declared.fault.Reason.{Reason}
+use Rattle.des_io.specs.declared.mode.Mode.TheVariants.{Cbc}
+use Rattle.des_io.specs.declared.padding.Padding.TheVariants.{Pkcs7}
+use Rattle.des_commands.specs.declared.fault.FileFault.TheVariants.{KeyPadding, Password}
+use Rattle.des_commands.specs.declared.fault.Kind.{Kind}
+use Rattle.des_commands.specs.declared.fault.Kind.TheVariants.{File, Read, Write, Length, Padding, Memory}
+use Rattle.des_commands.specs.KeyFiles.{is_sequence}
+
+-- all of the bytes, decrypted by triple DES in CBC from the vector, without the padding of PKCS #7
+abbrev pub IsPlain : (key vector encrypted plain : List ℕ) → Type 0
+IsPlain key vector encrypted plain =
+    Decrypts (ede3_decryption key) (Cbc vector) Pkcs7 (passage_of (Some encrypted) (Some []) (Some []) (Some plain))
+
+-- they are one sequence in DER
+abbrev pub IsDecryptedKey : (key vector encrypted plain : List ℕ) → Type 0
+IsDecryptedKey key vector encrypted plain = IsPlain key vector encrypted plain × IsTrue (is_sequence plain)
+
+-- all of the bytes are blocks, and decrypted so they do not end with the padding of PKCS #7
+abbrev pub HasOtherPadding : (key vector encrypted : List ℕ) → Type 0
+HasOtherPadding key vector encrypted =
+    (read_to : Option (List ℕ)) × (written_to : Option (List ℕ))
+    × IsWronglyPadded (ede3_decryption key) (Cbc vector) Pkcs7 (passage_of (Some encrypted) read_to (Some []) written_to)
+
+-- no whole blocks, another padding, a reader or a writer that failed, or memory that was refused
+abbrev pub FailsAsPlain : (key vector encrypted : List ℕ) → Kind → Type 0
+FailsAsPlain key vector encrypted kind =
+    ((kind ≡ Length) × (length encrypted % 8 ≢ 0))
+    ⊎ ((kind ≡ Padding) × HasOtherPadding key vector encrypted)
+    ⊎ ((reason : Reason) × ((kind ≡ Read reason) ⊎ (kind ≡ Write reason)))
+    ⊎ (kind ≡ Memory)
+
+-- the fault of a private key, of one of its bytes: a list of bytes fails to grow only where memory is refused
+abbrev pub key_file_fault : Kind → Kind
+key_file_fault Padding = File KeyPadding
+key_file_fault (Read reason) = Memory
+key_file_fault (Write reason) = Memory
+key_file_fault kind = kind
+
+-- no whole blocks, another padding, no sequence, or memory that was refused
+abbrev pub FailsAsKeyFile : (key vector encrypted : List ℕ) → Kind → Type 0
+FailsAsKeyFile key vector encrypted kind =
+    ((kind ≡ Length) × (length encrypted % 8 ≢ 0))
+    ⊎ ((kind ≡ File KeyPadding) × HasOtherPadding key vector encrypted)
+    ⊎ ((plain : List ℕ) × IsPlain key vector encrypted plain × (is_sequence plain ≡ false) × (kind ≡ File Password))
+    ⊎ (kind ≡ Memory)

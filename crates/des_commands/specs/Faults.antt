@@ -1,0 +1,148 @@
+-- The faults of the program, as `docs/CUKVASHE.md` lists them: their names, the form of the lines that tell them, and
+-- the statuses that it ends with.
+use Rattle.std.specs.Prelude.{◌≡◌, ℕ, ◌==◌, ◌⊎◌, if◌then◌else◌, List, [], ◌∷◌, ◌++◌, length, map, codes, Option, Some, None, Result, Err, IsOk, IfErr}
+use Rattle.std.specs.Char.{is_ascii_control}
+use Rattle.std.specs.List.{concat}
+use Rattle.des_io.specs.declared.error.StreamError.{StreamError}
+use Rattle.des_io.specs.declared.error.StreamError.TheVariants.{Read as ReadError, Write as WriteError, Length as LengthError, Start as StartError, Padding as PaddingError}
+use Rattle.des_payment.specs.PinBlocks.{name_of as name_of_pin_error}
+use Rattle.des_payment.specs.CardVerification.{name_of as name_of_card_error}
+use Rattle.des_payment.specs.Translation.{name_of as name_of_translation_error}
+use Rattle.des_payment.specs.PinVerification.{name_of as name_of_verification_error}
+use Rattle.des_payment.specs.CardCryptograms.{name_of as name_of_emv_error}
+use Rattle.des_payment.specs.KeyBlockFaults.{name_of as name_of_key_block_error}
+use Rattle.des_commands.specs.declared.fault.Reason.{Reason}
+use Rattle.des_commands.specs.declared.fault.FileFault.{FileFault}
+use Rattle.des_commands.specs.declared.fault.FileFault.TheVariants.{Salted, SaltedText, NotSalted, SaltCut, Base64, Begin, End, NotEncrypted, NoDekInfo, Cipher as OtherCipher, DekVector, EmptyLine, Structure, Algorithm as OtherAlgorithm, KeyDerivation, Iterations, KeySize, Prf, KeyPadding, Password as OtherPassword, Unpadded}
+use Rattle.des_commands.specs.declared.fault.Kind.{Kind}
+use Rattle.des_commands.specs.declared.fault.Kind.TheVariants.{Usage, Source, Variable, InputLength, KeyLength, KeyText, ToKeyLength, ToKeyText, WeakKey, Components, Vector, Tag, Value, Offset, Validation, Counter, Cryptogram, Code, Status, Data, DataText, BlockLength, BlockText, SerialLength, SerialText, SerialCounter, FillLength, FillText, CheckDigit, Pin, Card, Translation, Verification, Emv, Field as FieldFault, KeyBlock, File, EmptyPassword, Memory, Read, Write, Length, Start, Padding}
+
+-- the name of a fault of a file under a password
+abbrev pub file_name : FileFault → List ℕ
+file_name Salted = codes "Salted"
+file_name SaltedText = codes "Salted"
+file_name NotSalted = codes "NotSalted"
+file_name SaltCut = codes "SaltCut"
+file_name Base64 = codes "Base64"
+file_name Begin = codes "Begin"
+file_name End = codes "End"
+file_name NotEncrypted = codes "NotEncrypted"
+file_name NoDekInfo = codes "NoDekInfo"
+file_name OtherCipher = codes "Cipher"
+file_name DekVector = codes "DekVector"
+file_name EmptyLine = codes "EmptyLine"
+file_name Structure = codes "Structure"
+file_name OtherAlgorithm = codes "Algorithm"
+file_name KeyDerivation = codes "KeyDerivation"
+file_name Iterations = codes "Iterations"
+file_name KeySize = codes "KeySize"
+file_name Prf = codes "Prf"
+file_name KeyPadding = codes "Padding"
+file_name Unpadded = codes "Padding"
+file_name OtherPassword = codes "Password"
+
+-- the name of a fault
+abbrev pub name_of : Kind → List ℕ
+name_of (Usage _) = codes "Usage"
+name_of (Source _) = codes "Source"
+name_of Variable = codes "Variable"
+name_of InputLength = codes "InputLength"
+name_of (KeyLength _) = codes "KeyLength"
+name_of KeyText = codes "KeyText"
+name_of ToKeyLength = codes "KeyLength"
+name_of ToKeyText = codes "KeyText"
+name_of WeakKey = codes "WeakKey"
+name_of Components = codes "Components"
+name_of Vector = codes "Vector"
+name_of Tag = codes "Tag"
+name_of Value = codes "Value"
+name_of Offset = codes "Offset"
+name_of Validation = codes "Validation"
+name_of Counter = codes "Counter"
+name_of Cryptogram = codes "Cryptogram"
+name_of Code = codes "Code"
+name_of Status = codes "Status"
+name_of Data = codes "Data"
+name_of DataText = codes "DataText"
+name_of BlockLength = codes "BlockLength"
+name_of BlockText = codes "BlockText"
+name_of SerialLength = codes "SerialLength"
+name_of SerialText = codes "SerialText"
+name_of SerialCounter = codes "SerialCounter"
+name_of FillLength = codes "FillLength"
+name_of FillText = codes "FillText"
+name_of CheckDigit = codes "CheckDigit"
+name_of (Pin error) = name_of_pin_error error
+name_of (Card error) = name_of_card_error error
+name_of (Translation error) = name_of_translation_error error
+name_of (Verification error) = name_of_verification_error error
+name_of (Emv error) = name_of_emv_error error
+name_of (FieldFault field) = codes "Field"
+name_of (KeyBlock error) = name_of_key_block_error error
+name_of (File fault) = file_name fault
+name_of EmptyPassword = codes "EmptyPassword"
+name_of Memory = codes "Memory"
+name_of (Read _) = codes "Read"
+name_of (Write _) = codes "Write"
+name_of Length = codes "Length"
+name_of Start = codes "Start"
+name_of Padding = codes "Padding"
+
+-- ---- lines
+
+-- what a line tells: a name, what it is about, where that is not empty, and words
+abbrev pub line_start : List ℕ → List ℕ
+line_start name = concat (codes "cukvashe: " ∷ name ∷ codes ": " ∷ [])
+
+abbrev pub separator_of : List ℕ → List ℕ
+separator_of about = if length about == 0 then [] else codes ": "
+
+abbrev pub line_end : List ℕ → List ℕ → List ℕ
+line_end about words = concat (separator_of about ∷ words ∷ codes "\n" ∷ [])
+
+-- a control character is shown as a question mark: a line stays one line
+abbrev pub shown_byte : ℕ → ℕ
+shown_byte byte = if is_ascii_control byte then 63 else byte
+
+abbrev pub line_with : List ℕ → List ℕ → List ℕ → List ℕ
+line_with name about words = line_start name ++ (map shown_byte about ++ line_end about words)
+
+-- ---- statuses
+
+-- the status of a fault: memory was refused; the input was not read, or the output not written; the
+-- input is not whole blocks, is too short, has wrong padding, or is no file of its form under a
+-- password; or else the arguments, a key or an input is at fault
+abbrev pub status_of : Kind → ℕ
+status_of Memory = 3
+status_of (Read reason) = 4
+status_of (Write reason) = 4
+status_of Length = 5
+status_of Start = 5
+status_of Padding = 5
+status_of (File fault) = 5
+status_of _ = 2
+
+-- the fault of an error of a stream
+abbrev pub IsOfStream : StreamError → Kind → Type 0
+IsOfStream (ReadError error) kind = (reason : Reason) × (kind ≡ Read reason)
+IsOfStream (WriteError error) kind = (reason : Reason) × (kind ≡ Write reason)
+IsOfStream (LengthError past) kind = kind ≡ Length
+IsOfStream StartError kind = kind ≡ Start
+IsOfStream PaddingError kind = kind ≡ Padding
+
+-- a call gives this fault, where there is one, and else fails only if memory is refused
+abbrev pub FailsBy : {A : Type 0} → Option Kind → Result A Kind → Type 0
+FailsBy (Some kind) result = result ≡ Err kind
+FailsBy None result = IfErr result (λ kind. kind ≡ Memory)
+
+-- a call that takes no memory gives this fault, where there is one, and else does not fail
+abbrev pub FailsOnlyBy : {A : Type 0} → Option Kind → Result A Kind → Type 0
+FailsOnlyBy (Some kind) result = result ≡ Err kind
+FailsOnlyBy None result = IsOk result
+
+-- a call gives this fault, where there is one. Else it fails as `WeakKey` where the key is refused,
+-- and only if memory is refused where it is not
+abbrev pub FailsOrRefuses : {A : Type 0} → Option Kind → Type 0 → Result A Kind → Type 0
+FailsOrRefuses (Some kind) Refused result = result ≡ Err kind
+FailsOrRefuses None Refused result =
+    (Refused × (result ≡ Err WeakKey)) ⊎ ((¬ Refused) × FailsBy None result)

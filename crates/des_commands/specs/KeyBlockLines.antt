@@ -1,0 +1,205 @@
+-- What answers a command on key blocks, by the texts that are read.
+use Rattle.std.specs.Prelude.{◌≡◌, ◌⊎◌, ℕ, ◌-◌, ◌==◌, ◌&&◌, nat_le, Bool, true, false, if◌then◌else◌, List, [], ◌∷◌, ◌++◌, length, map, take, replicate, codes, Option, Some, None, Result, Err, IsTrue}
+use Rattle.std.specs.Char.{is_ascii_alphanumeric}
+use Rattle.std.specs.List.{list_all, flat_map}
+use Rattle.std.specs.Option.{option_map, option_or}
+use Rattle.std.specs.declared.vec.Vec.{Vec}
+use Rattle.std.specs.declared.alloc.Global.{Global}
+use Rattle.des_payment.specs.KeyBlockHeaders.{version_text, usage_text, algorithm_text, mode_text, exportability_text}
+use Rattle.des_payment.specs.KeyBlocks.{HasParts, HoldsKey, IsKeyBlock, wrap_fault}
+use Rattle.des_payment.specs.KeyBlockReading.{HasLayoutFault, HasFault, is_sealed_length}
+use Rattle.des_payment.specs.KeyLengths.{encryption_by}
+use Rattle.des_payment.specs.OptionalBlocks.{AreOptionalBlocks, filled}
+use Rattle.des_payment.specs.declared.key_block_header.Header.{Header}
+use Rattle.des_payment.specs.declared.key_block_header.Version.{Version}
+use Rattle.des_payment.specs.declared.key_block_header.Algorithm.{Algorithm}
+use Rattle.des_payment.specs.declared.key_block_header.Algorithm.TheVariants.{OtherAlgorithm}
+use Rattle.des_payment.specs.declared.key_block_error.KeyBlockError.{KeyBlockError}
+use Rattle.des_payment.specs.declared.key_block_error.KeyBlockError.TheVariants.{ProtectionKeyLength, OptionalBlock}
+use Rattle.des_commands.specs.declared.command.Wrapping.{Wrapping}
+use Rattle.des_commands.specs.declared.command.KeyBlockCommand.{KeyBlockCommand}
+use Rattle.des_commands.specs.declared.command.KeyBlockCommand.TheVariants.{Header as TellHeader, Unwrap, Wrap}
+use Rattle.des_commands.specs.declared.fault.Field.{Field}
+use Rattle.des_commands.specs.declared.fault.Field.TheVariants.{Usage, Algorithm as AlgorithmField, Mode, KeyVersion, Exportability}
+use Rattle.des_commands.specs.declared.fault.Kind.{Kind}
+use Rattle.des_commands.specs.declared.fault.Kind.TheVariants.{KeyText, ToKeyLength, ToKeyText, Field as FieldFault, KeyBlock}
+use Rattle.des_commands.specs.Faults.{FailsBy}
+use Rattle.des_commands.specs.Keys.{any_key_fault}
+use Rattle.des_commands.specs.Texts.{bytes_of, hex_line, text_line}
+
+-- ---- headers
+
+-- a character is a space or a printable one of ASCII
+abbrev pub is_printable : ℕ → Bool
+is_printable character = nat_le 32 character && nat_le character 126
+
+-- a character as a line shows it: a question mark in the place of one that is not printable
+abbrev pub shown_character : ℕ → ℕ
+shown_character character = if is_printable character then character else 63
+
+abbrev pub shown_text : List ℕ → List ℕ
+shown_text text = map shown_character text
+
+-- the line of a field: its name and its value
+abbrev pub field_line : List ℕ → List ℕ → List ℕ
+field_line name value = name ++ (codes " " ++ (shown_text value ++ codes "\n"))
+
+-- the lines of the fields
+abbrev pub header_lines : Header → List ℕ
+header_lines header =
+    field_line (codes "version") (version_text header.version ∷ [])
+    ++ (field_line (codes "usage") (usage_text header.usage)
+    ++ (field_line (codes "algorithm") (algorithm_text header.algorithm ∷ [])
+    ++ (field_line (codes "mode") (mode_text header.mode ∷ [])
+    ++ (field_line (codes "key-version") header.key_version
+    ++ field_line (codes "exportability") (exportability_text header.exportability ∷ [])))))
+
+-- the line of an optional block: its name and what it says
+abbrev pub optional_line : List ℕ × List ℕ → List ℕ
+optional_line block =
+    codes "optional " ++ (shown_text block.0 ++ (codes " " ++ (shown_text block.1 ++ codes "\n")))
+
+abbrev pub optional_lines : List (List ℕ × List ℕ) → List ℕ
+optional_lines blocks = flat_map optional_line blocks
+
+-- a block has a header and optional blocks, and then as many characters as an encrypted key and a MAC have
+abbrev pub IsReadable : Header → List (List ℕ × List ℕ) → List ℕ → Type 0
+IsReadable header blocks block =
+    (front : List ℕ) × ((rest : List ℕ) × (HasParts header blocks front rest block
+    × IsTrue (is_sealed_length header.version (length rest))))
+
+-- the lines tell the header and the optional blocks of a block
+abbrev pub TellsHeader : List ℕ → List ℕ → Type 0
+TellsHeader block lines =
+    (header : Header) × ((blocks : List (List ℕ × List ℕ)) × (IsReadable header blocks block
+    × (lines ≡ header_lines header ++ optional_lines blocks)))
+
+-- the block has a fault that shows without a key, or else only memory may be refused
+abbrev pub FailsAsHeader : List ℕ → Result (Vec ℕ Global) Kind → Type 0
+FailsAsHeader block result =
+    ((error : KeyBlockError) × (HasLayoutFault block error × (result ≡ Err (KeyBlock error))))
+    ⊎ ((header : Header) × ((blocks : List (List ℕ × List ℕ)) × (IsReadable header blocks block × FailsBy None result)))
+
+-- ---- what a block holds
+
+-- the fault of the digits of the key that protects a block, which has two parts or three
+abbrev pub protection_fault : List ℕ → Option Kind
+protection_fault digits =
+    if length digits == 16 then Some (KeyBlock ProtectionKeyLength)
+    else any_key_fault (KeyBlock ProtectionKeyLength) KeyText digits
+
+-- the line of a key's check value, which keys of DES and triple DES have
+abbrev pub check_lines : Algorithm → List ℕ → List ℕ
+check_lines (OtherAlgorithm character) key = []
+check_lines algorithm key = codes "check-value " ++ hex_line (take 3 (encryption_by key (replicate 8 0)))
+
+-- the lines tell what a block says of the key that it holds, and the key's check value; or the key alone
+abbrev pub TellsKey : (shows_key : Bool) → List ℕ → List ℕ → List ℕ → Type 0
+TellsKey true protection block lines =
+    (header : Header) × ((key : List ℕ) × (HoldsKey (bytes_of protection) block header key × (lines ≡ hex_line key)))
+TellsKey false protection block lines =
+    (header : Header) × ((key : List ℕ) × (HoldsKey (bytes_of protection) block header key
+    × ((told : List ℕ) × (TellsHeader block told × (lines ≡ told ++ check_lines header.algorithm key)))))
+
+-- the fault of the key's digits, or that of the block under the key, or else only memory may be refused
+abbrev pub FailsAsUnwrapped : List ℕ → List ℕ → Result (Vec ℕ Global) Kind → Type 0
+FailsAsUnwrapped protection block result =
+    ((kind : Kind) × ((protection_fault protection ≡ Some kind) × (result ≡ Err kind)))
+    ⊎ ((error : KeyBlockError) × ((protection_fault protection ≡ None)
+    × (HasFault (bytes_of protection) block error × (result ≡ Err (KeyBlock error)))))
+    ⊎ ((protection_fault protection ≡ None)
+    × ((header : Header) × ((key : List ℕ) × (HoldsKey (bytes_of protection) block header key × FailsBy None result))))
+
+-- ---- blocks that are made
+
+-- each character is a letter or a digit
+abbrev pub are_alphanumeric : List ℕ → Bool
+are_alphanumeric text = list_all is_ascii_alphanumeric text
+
+-- a field has its number of letters and digits
+abbrev pub field_fault : ℕ → Field → List ℕ → Option Kind
+field_fault size field text =
+    if length text == size && are_alphanumeric text then None else Some (FieldFault field)
+
+-- the first field at fault
+abbrev pub header_text_fault : Wrapping → Option Kind
+header_text_fault wrapping =
+    option_or (field_fault 2 Usage wrapping.usage.now)
+    (option_or (field_fault 1 AlgorithmField wrapping.algorithm.now)
+    (option_or (field_fault 1 Mode wrapping.mode.now)
+    (option_or (field_fault 2 KeyVersion wrapping.key_version.now)
+    (field_fault 1 Exportability wrapping.exportability.now))))
+
+-- each character is a space or a printable one
+abbrev pub are_printable : List ℕ → Bool
+are_printable text = list_all is_printable text
+
+-- optional blocks have printable characters alone
+abbrev pub optional_fault : List ℕ → Option Kind
+optional_fault text = if are_printable text then None else Some (KeyBlock OptionalBlock)
+
+-- the header has these fields
+pub record IsHeaderOf (wrapping : Wrapping) (header : Header) : Type 0 where
+  pub version : header.version ≡ wrapping.version
+  pub usage : usage_text header.usage ≡ wrapping.usage.now
+  pub algorithm : algorithm_text header.algorithm ∷ [] ≡ wrapping.algorithm.now
+  pub mode : mode_text header.mode ∷ [] ≡ wrapping.mode.now
+  pub key_version : header.key_version ≡ wrapping.key_version.now
+  pub exportability : exportability_text header.exportability ∷ [] ≡ wrapping.exportability.now
+
+-- the padding of a key: with the key 30 bytes
+abbrev pub padding_of : List ℕ → List ℕ → List ℕ
+padding_of random key = take (30 - length key) random
+
+-- the block of a header, the optional blocks of a text, and a key
+abbrev pub IsMade : List ℕ → Header → List ℕ → List ℕ → List ℕ → List ℕ → Type 0
+IsMade protection header optional key random block =
+    (blocks : List (List ℕ × List ℕ)) × (AreOptionalBlocks blocks optional
+    × IsKeyBlock protection header (filled blocks) key (padding_of random key) block)
+
+-- the block of the key that digits write, under the header and the optional blocks of the texts
+pub record IsWrapped (wrapping : Wrapping) (protection digits random block : List ℕ) : Type 0 where
+  pub header : Header
+  pub fields : IsHeaderOf wrapping header
+  pub made : IsMade (bytes_of protection) header wrapping.optional.now (bytes_of digits) random block
+
+-- the first fault of the digits of both keys, of the fields and of the characters of optional blocks
+abbrev pub texts_fault : Wrapping → List ℕ → List ℕ → Option Kind
+texts_fault wrapping protection digits =
+    option_or (protection_fault protection)
+    (option_or (any_key_fault ToKeyLength ToKeyText digits)
+    (option_or (header_text_fault wrapping) (optional_fault wrapping.optional.now)))
+
+-- a text is that of 99 optional blocks at most
+abbrev pub HasBlocks : List ℕ → Type 0
+HasBlocks optional =
+    (blocks : List (List ℕ × List ℕ)) × (IsTrue (nat_le (length blocks) 99) × AreOptionalBlocks blocks optional)
+
+-- optional blocks that are none, or what no block is made of, or else only memory may be refused
+abbrev pub FailsAsMade : {A : Type 0} → List ℕ → Version → List ℕ → List ℕ → List ℕ → Result A Kind → Type 0
+FailsAsMade protection version optional key random result =
+    ((¬ HasBlocks optional) × (result ≡ Err (KeyBlock OptionalBlock)))
+    ⊎ ((blocks : List (List ℕ × List ℕ)) × (AreOptionalBlocks blocks optional
+    × FailsBy (option_map KeyBlock (wrap_fault protection version blocks key (padding_of random key) 9999)) result))
+
+-- the texts at fault, or what the block is made of
+abbrev pub FailsAsWrapped : {A : Type 0} → Wrapping → List ℕ → List ℕ → List ℕ → Result A Kind → Type 0
+FailsAsWrapped wrapping protection digits random result =
+    ((kind : Kind) × ((texts_fault wrapping protection digits ≡ Some kind) × (result ≡ Err kind)))
+    ⊎ ((texts_fault wrapping protection digits ≡ None)
+    × FailsAsMade (bytes_of protection) wrapping.version wrapping.optional.now (bytes_of digits) random result)
+
+-- ---- commands
+
+-- the lines answer the command
+abbrev pub AnswersKeyBlock : KeyBlockCommand → List ℕ → List ℕ → List ℕ → List ℕ → Type 0
+AnswersKeyBlock TellHeader protection text random lines = TellsHeader text lines
+AnswersKeyBlock (Unwrap shows_key) protection text random lines = TellsKey shows_key protection text lines
+AnswersKeyBlock (Wrap wrapping) protection text random lines =
+    (block : List ℕ) × (IsWrapped wrapping protection text random block × (lines ≡ text_line block))
+
+-- how it fails
+abbrev pub FailsAsKeyBlock : KeyBlockCommand → List ℕ → List ℕ → List ℕ → Result (Vec ℕ Global) Kind → Type 0
+FailsAsKeyBlock TellHeader protection text random result = FailsAsHeader text result
+FailsAsKeyBlock (Unwrap shows_key) protection text random result = FailsAsUnwrapped protection text result
+FailsAsKeyBlock (Wrap wrapping) protection text random result = FailsAsWrapped wrapping protection text random result

@@ -1,0 +1,61 @@
+-- The text that a source gives.
+use Rattle.std.specs.Prelude.{◌≡◌, ◌⊎◌, ℕ, ◌≤◌, ◌<◌, ◌&&◌, ◌||◌, ◌==◌, nat_le, Bool, not, if◌then◌else◌, ◌/◌, List, filter, length, codes, Option}
+use Rattle.std.specs.List.{list_any}
+use Rattle.std.specs.Char.{is_ascii_digit, is_ascii_hexdigit}
+use Rattle.std.specs.Io.KnownBytes.{Consumes, IsAtEnd}
+use Rattle.des_commands.specs.declared.fault.Reason.{Reason}
+use Rattle.des_commands.specs.declared.fault.Kind.{Kind}
+use Rattle.des_commands.specs.declared.fault.Kind.TheVariants.{Source, InputLength, Memory}
+use Rattle.des_commands.specs.declared.source.Source.{Source as Place}
+use Rattle.des_commands.specs.declared.source.Source.TheVariants.{StandardInput, File, Descriptor, Variable}
+use Rattle.des_commands.specs.Texts.{is_space}
+
+-- what somebody writes between the digits of a secret or around them, as in 0x13:34 and "13-34": white space, marks and
+-- the letter x
+abbrev pub is_between : ℕ → Bool
+is_between byte = is_space byte || list_any (λ mark. byte == mark) (codes ":-_.,;/\\='\"xX")
+
+abbrev pub count_of : (is_digit : ℕ → Bool) → List ℕ → ℕ
+count_of is_digit path = length (filter is_digit path)
+
+-- how many characters are neither digits nor between them
+abbrev pub count_beside : (is_digit : ℕ → Bool) → List ℕ → ℕ
+count_beside is_digit path =
+    length (filter (λ byte. not (is_digit byte) && not (is_between byte)) path)
+
+-- these digits at least, and for four of them one other character at most
+abbrev pub are_mostly : (is_digit : ℕ → Bool) → (least : ℕ) → List ℕ → Bool
+are_mostly is_digit least path =
+    nat_le least (count_of is_digit path)
+    && nat_le (count_beside is_digit path) (count_of is_digit path / 4)
+
+-- a path may be a secret that was typed in the place of a file's name: four decimal digits or more, as
+-- a PIN or an account number, or 15 hexadecimal digits or more, as a key, also with a word before them
+-- or where a character is wrong
+abbrev pub may_be_secret : List ℕ → Bool
+may_be_secret path = are_mostly is_ascii_digit 4 path || are_mostly is_ascii_hexdigit 15 path
+
+-- a path as a fault shows it
+abbrev pub shown_path : List ℕ → List ℕ
+shown_path path =
+    if length path == 0 then codes "an empty name"
+    else if may_be_secret path then codes "a file named by digits"
+    else path
+
+-- what a fault of a source is about
+abbrev pub name_of_source : Place → List ℕ
+name_of_source StandardInput = codes "standard input"
+name_of_source (File path) = shown_path path.now
+name_of_source (Descriptor number) = codes "--key-fd"
+name_of_source (Variable name) = codes "--key-env"
+
+-- all was read, no more than the longest input
+abbrev pub IsAllOf : ℕ → List ℕ → Option (List ℕ) → Option (List ℕ) → Type 0
+IsAllOf longest bytes read_from read_to =
+    Consumes read_from read_to bytes × IsAtEnd read_to × (length bytes ≤ longest)
+
+-- nothing is given: the input is longer, the source can't be read, or memory was refused
+abbrev pub FailsToGive : ℕ → Option (List ℕ) → Option (List ℕ) → Kind → Type 0
+FailsToGive longest read_from read_to kind =
+    ((kind ≡ InputLength) × ((bytes : List ℕ) × Consumes read_from read_to bytes × (longest < length bytes)))
+    ⊎ ((reason : Reason) × (kind ≡ Source reason)) ⊎ (kind ≡ Memory)

@@ -1,0 +1,163 @@
+-- What the words of `encrypt` and `decrypt` ask for.
+use Rattle.std.specs.Prelude.{◌≡◌, ◌≢◌, ◌⊎◌, ℕ, Bool, true, false, List, codes, Option, Some, None, Result, Ok, Err}
+use Rattle.std.specs.Borrow.{Bor}
+use Rattle.des_io.specs.declared.padding.Padding.{Padding}
+use Rattle.des_io.specs.declared.padding.Padding.TheVariants.{Pkcs7, Iso7816, Zeros, Unpadded}
+use Rattle.des_commands.specs.declared.fault.Misuse.TheVariants.{Arguments, StandardInputTwice, VectorNeeded, VectorOfEcb, RandomToDecrypt, FirstBlockToEncrypt, PartToEncrypt}
+use Rattle.des_commands.specs.declared.fault.Kind.{Kind}
+use Rattle.des_commands.specs.declared.fault.Kind.TheVariants.{Usage, Vector as WrongVector}
+use Rattle.des_commands.specs.declared.source.Source.{Source}
+use Rattle.des_commands.specs.declared.source.Source.TheVariants.{StandardInput, File}
+use Rattle.des_commands.specs.declared.stream_request.Cipher.{Cipher}
+use Rattle.des_commands.specs.declared.stream_request.Cipher.TheVariants.{Des, TdesEde2, TdesEde3}
+use Rattle.des_commands.specs.declared.stream_request.Vector.{Vector}
+use Rattle.des_commands.specs.declared.stream_request.Vector.TheVariants.{Absent, Bytes, Random, FirstBlock}
+use Rattle.des_commands.specs.declared.stream_request.Part.{Part}
+use Rattle.des_commands.specs.declared.stream_request.WeakKeys.{WeakKeys}
+use Rattle.des_commands.specs.declared.stream_request.WeakKeys.TheVariants.{Refuse, Warn, Accept}
+use Rattle.des_commands.specs.declared.stream_request.Output.{Output}
+use Rattle.des_commands.specs.declared.stream_request.Output.TheVariants.{Unnamed, StandardOutput, File as OutputFile}
+use Rattle.des_commands.specs.declared.stream_request.StreamRequest.{StreamRequest}
+use Rattle.des_commands.specs.declared.arguments.streams.StreamWords.{StreamWords}
+use Rattle.des_commands.specs.Texts.{bytes_of, digits_fault}
+
+-- ---- words
+
+-- the name of a cipher in CBC, or in ECB, which is OpenSSL's
+abbrev pub cipher_name : Cipher → (is_chained : Bool) → List ℕ
+cipher_name Des false = codes "des-ecb"
+cipher_name Des true = codes "des-cbc"
+cipher_name TdesEde2 false = codes "des-ede-ecb"
+cipher_name TdesEde2 true = codes "des-ede-cbc"
+cipher_name TdesEde3 false = codes "des-ede3-ecb"
+cipher_name TdesEde3 true = codes "des-ede3-cbc"
+
+abbrev pub padding_word : Padding → List ℕ
+padding_word Pkcs7 = codes "pkcs7"
+padding_word Iso7816 = codes "iso7816"
+padding_word Zeros = codes "zeros"
+padding_word Unpadded = codes "none"
+
+abbrev pub weak_keys_word : WeakKeys → List ℕ
+weak_keys_word Refuse = codes "refuse"
+weak_keys_word Warn = codes "warn"
+weak_keys_word Accept = codes "accept"
+
+-- what is done with a weak key where no word says so: old data stay readable
+abbrev pub default_weak_keys : (encrypts : Bool) → WeakKeys
+default_weak_keys true = Refuse
+default_weak_keys false = Warn
+
+-- the text of an option, or another where it is not given
+abbrev pub text_or : Option (Bor (List ℕ)) → List ℕ → List ℕ
+text_or None other = other
+text_or (Some text) other = text.now
+
+-- ---- vectors
+
+-- the vector of a text, in CBC: a word, in the direction that it is for, or 16 hexadecimal digits
+abbrev pub IsChainVector : List ℕ → (encrypts : Bool) → Vector → Type 0
+IsChainVector text encrypts Absent = ⊥
+IsChainVector text true Random = text ≡ codes "random"
+IsChainVector text false Random = ⊥
+IsChainVector text true FirstBlock = ⊥
+IsChainVector text false FirstBlock = text ≡ codes "first-block"
+IsChainVector text encrypts (Bytes iv) =
+    (digits_fault 8 WrongVector WrongVector text ≡ None) × (iv ≡ bytes_of text)
+
+-- why a text is no vector: it is the word of the other direction, or neither a word nor 16 digits
+abbrev pub FailsAsChainVector : List ℕ → (encrypts : Bool) → Kind → Type 0
+FailsAsChainVector text encrypts kind =
+    ((encrypts ≡ false) × (text ≡ codes "random") × (kind ≡ Usage RandomToDecrypt))
+    ⊎ ((encrypts ≡ true) × (text ≡ codes "first-block") × (kind ≡ Usage FirstBlockToEncrypt))
+    ⊎ ((text ≢ codes "random") × (text ≢ codes "first-block")
+    × (digits_fault 8 WrongVector WrongVector text ≡ Some WrongVector) × (kind ≡ WrongVector))
+
+-- the vector that an option gives: CBC has one, ECB none
+abbrev pub IsVector : Option (Bor (List ℕ)) → (is_chained encrypts : Bool) → Vector → Type 0
+IsVector None true encrypts vector = ⊥
+IsVector None false encrypts vector = vector ≡ Absent
+IsVector (Some text) true encrypts vector = IsChainVector text.now encrypts vector
+IsVector (Some text) false encrypts vector = ⊥
+
+abbrev pub FailsAsVector : Option (Bor (List ℕ)) → (is_chained encrypts : Bool) → Kind → Type 0
+FailsAsVector None true encrypts kind = kind ≡ Usage VectorNeeded
+FailsAsVector None false encrypts kind = ⊥
+FailsAsVector (Some text) true encrypts kind = FailsAsChainVector text.now encrypts kind
+FailsAsVector (Some text) false encrypts kind = kind ≡ Usage VectorOfEcb
+
+-- ---- parts
+
+-- the part of two numbers: from a block on, the first being 0, and at most this number of them
+abbrev pub part_between : (from count : Option ℕ) → Option Part
+part_between None None = None
+part_between (Some from) count = Some record { from = from; count = count }
+part_between None (Some count) = Some record { from = 0; count = Some count }
+
+-- a part is decrypted, and none is encrypted
+abbrev pub part_for : (encrypts : Bool) (from count : Option ℕ) → Result (Option Part) Kind
+part_for false from count = Ok (part_between from count)
+part_for true None None = Ok None
+part_for true from count = Err (Usage PartToEncrypt)
+
+-- ---- files
+
+-- a path that means standard input: `-`, or a name that the system gives it
+abbrev pub IsNameOfStandardInput : List ℕ → Type 0
+IsNameOfStandardInput path =
+    (path ≡ codes "-") ⊎ (path ≡ codes "/dev/stdin") ⊎ (path ≡ codes "/dev/fd/0")
+    ⊎ (path ≡ codes "/proc/self/fd/0")
+
+-- standard input, as one of its names or no path asks for, or a file
+abbrev pub IsInput : Option (Bor (List ℕ)) → Source → Type 0
+IsInput None source = source ≡ StandardInput
+IsInput (Some path) StandardInput = IsNameOfStandardInput path.now
+IsInput (Some path) (File file) = (¬ IsNameOfStandardInput path.now) × (file ≡ path)
+IsInput (Some path) _ = ⊥
+
+-- standard output, as `-` asks for, a file, or neither
+abbrev pub IsOutput : Option (Bor (List ℕ)) → Output → Type 0
+IsOutput None output = output ≡ Unnamed
+IsOutput (Some path) StandardOutput = path.now ≡ codes "-"
+IsOutput (Some path) (OutputFile file) = (path.now ≢ codes "-") × (file ≡ path)
+IsOutput (Some path) Unnamed = ⊥
+
+-- both are standard input
+abbrev pub IsReadTwice : Source → Source → Type 0
+IsReadTwice first second = (first ≡ StandardInput) × (second ≡ StandardInput)
+
+-- ---- the whole
+
+-- each word has its meaning in the request, and standard input is read once
+pub record IsRequest (words : StreamWords) (request : StreamRequest) : Type 0 where
+  pub is_chained : Bool
+  pub direction : request.encrypts ≡ words.encrypts
+  pub name : words.cipher.now ≡ cipher_name request.cipher is_chained
+  pub vector : IsVector words.iv is_chained words.encrypts request.vector
+  pub padding : padding_word request.padding ≡ text_or words.padding (codes "pkcs7")
+  pub weak_keys : weak_keys_word request.weak_keys
+      ≡ text_or words.weak_keys (weak_keys_word (default_weak_keys words.encrypts))
+  pub part : part_for words.encrypts words.from words.count ≡ Ok request.part
+  pub key : request.key ≡ words.key
+  pub input : IsInput words.input request.input
+  pub output : IsOutput words.output request.output
+  pub progress : request.shows_progress ≡ words.shows_progress
+  pub once : ¬ IsReadTwice request.key request.input
+
+-- a word is none of those that its option takes
+abbrev pub HasOtherWord : StreamWords → Type 0
+HasOtherWord words =
+    ((cipher : Cipher) (is_chained : Bool) → words.cipher.now ≢ cipher_name cipher is_chained)
+    ⊎ ((padding : Padding) → padding_word padding ≢ text_or words.padding (codes "pkcs7"))
+    ⊎ ((choice : WeakKeys)
+    → weak_keys_word choice ≢ text_or words.weak_keys (weak_keys_word (default_weak_keys words.encrypts)))
+
+-- why words ask for nothing
+abbrev pub FailsAsRequest : StreamWords → Kind → Type 0
+FailsAsRequest words kind =
+    (HasOtherWord words × (kind ≡ Usage Arguments))
+    ⊎ (part_for words.encrypts words.from words.count ≡ Err kind)
+    ⊎ ((cipher : Cipher) × (is_chained : Bool) × (words.cipher.now ≡ cipher_name cipher is_chained)
+    × FailsAsVector words.iv is_chained words.encrypts kind)
+    ⊎ ((input : Source) × IsInput words.input input × IsReadTwice words.key input
+    × (kind ≡ Usage StandardInputTwice))

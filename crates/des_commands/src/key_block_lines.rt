@@ -1,0 +1,370 @@
+//! The lines of the commands on key blocks: the fields of a header, what a block holds, and a block
+//! that is made.
+
+ghost use Rattle.std.specs.Prelude.{◌≡◌, ◌≤◌, ◌⊎◌, ◌++◌, List, ℕ, length, take, None, IsTrue, IfOk, OnOk};
+ghost use Rattle.std.specs.String.{string_bytes};
+ghost use Rattle.des_payment.specs.KeyLengths.{is_key};
+ghost use Rattle.des_commands.specs.Texts.{bytes_of as bytes_of_text, text_line};
+ghost use Rattle.des_commands.specs.Faults.{FailsBy, FailsOnlyBy};
+ghost use Rattle.des_commands.specs.KeyBlockLines.{is_printable as is_printable_of, shown_character, shown_text, field_line, header_lines as header_lines_of, optional_line, optional_lines, check_lines};
+ghost use Rattle.des_commands.specs.KeyBlockLines.{IsReadable, TellsHeader, FailsAsHeader, protection_fault, TellsKey, FailsAsUnwrapped};
+ghost use Rattle.des_commands.specs.KeyBlockLines.{are_alphanumeric as are_alphanumeric_of, are_printable as are_printable_of, field_fault, header_text_fault, optional_fault, IsHeaderOf, IsMade, IsWrapped, FailsAsMade, FailsAsWrapped};
+ghost use Rattle.des_commands.specs.KeyBlockLines.{FailsAsKeyBlock, AnswersKeyBlock};
+
+use crate::command::{KeyBlockCommand, Wrapping};
+use crate::digits::{hex_line, line_of};
+use crate::fault::{Field, Kind};
+use crate::keys::read_key;
+use des_payment::key_block_error::KeyBlockError;
+use des_payment::key_block_header::{Algorithm, Exportability, Header, Mode, Usage};
+use des_payment::key_blocks::{self, optional_block, wrap};
+use des_payment::key_check_value;
+use des_payment::optional_blocks::{OptionalBlock, read_optional_blocks};
+use std::alloc::{AllocError, Global};
+
+// The most characters of a key block, and the most optional blocks.
+const MOST: usize = 9999;
+
+const MOST_BLOCKS: usize = 99;
+
+/// The random bytes that a block takes at most: its padding with the key has 30 bytes.
+pub const RANDOM: usize = 22;
+
+/// The lines of a command on key blocks, by the digits of the key that protects them and by the text
+/// of its input: a block, or the digits of the key that is wrapped. A block that is made is padded by
+/// the first of the random bytes.
+///
+/// Every fault but `Memory` is found before any memory is asked for.
+pub fn key_block_lines(
+    alloc: Global,
+    command: KeyBlockCommand,
+    protection: &[u8],
+    text: &[u8],
+    random: &[u8; RANDOM],
+) -> Result<Vec<u8>, Kind>
+    ensures fault { FailsAsKeyBlock command.entry protection.now text.now random.now result }
+    ensures lines { IfOk result (λ lines.
+        AnswersKeyBlock command.entry protection.now text.now random.now lines.items) }
+{
+    match command {
+        KeyBlockCommand::Header => header_lines(alloc, text),
+        KeyBlockCommand::Unwrap { shows_key } => unwrap_lines(alloc, shows_key, protection, text),
+        KeyBlockCommand::Wrap(wrapping) => wrap_line(alloc, &wrapping, protection, text, random),
+    }
+}
+
+// ---- headers
+
+// Whether a character is a space or a printable one of ASCII.
+fn is_printable(character: u8) -> bool
+    ensures { result ≡ is_printable_of character }
+{
+    character >= b' ' && character <= b'~'
+}
+
+// A character as a line shows it: a question mark in the place of one that is not printable.
+fn shown(character: u8) -> u8
+    ensures { result ≡ shown_character character }
+{
+    if is_printable(character) {
+        character
+    } else {
+        b'?'
+    }
+}
+
+/// A name as a line shows it.
+pub fn shown_name(alloc: Global, name: &[u8]) -> Result<String, AllocError>
+    ensures { IfOk result (λ text. string_bytes text ≡ shown_text name.now) }
+{
+    let mut text = String::new(alloc);
+    for character in name {
+        text.push(shown(*character) as char)?;
+    }
+    Ok(text)
+}
+
+// Adds characters as a line shows them.
+fn add_shown(lines: &mut Vec<u8>, text: &[u8]) -> Result<(), Kind>
+    ensures fault { FailsBy None result }
+    ensures text { OnOk result (lines.new.items ≡ lines.old.items ++ shown_text text.now) }
+{
+    for character in text {
+        lines.push(shown(*character))?;
+    }
+    Ok(())
+}
+
+// Adds the line of a field.
+fn add_field(lines: &mut Vec<u8>, name: &str, value: &[u8]) -> Result<(), Kind>
+    ensures fault { FailsBy None result }
+    ensures line { OnOk result
+        (lines.new.items ≡ lines.old.items ++ field_line name.now value.now) }
+{
+    lines.extend_from_slice(name.as_bytes())?;
+    lines.push(b' ')?;
+    add_shown(lines, value)?;
+    lines.push(b'\n')?;
+    Ok(())
+}
+
+// Adds the lines of the fields of a header.
+fn add_header(lines: &mut Vec<u8>, header: &Header) -> Result<(), Kind>
+    ensures fault { FailsBy None result }
+    ensures lines { OnOk result
+        (lines.new.items ≡ lines.old.items ++ header_lines_of header.now) }
+{
+    add_field(lines, "version", &[header.version.character()])?;
+    add_field(lines, "usage", &header.usage.text())?;
+    add_field(lines, "algorithm", &[header.algorithm.character()])?;
+    add_field(lines, "mode", &[header.mode.character()])?;
+    add_field(lines, "key-version", &header.key_version)?;
+    add_field(lines, "exportability", &[header.exportability.character()])
+}
+
+// Adds the line of an optional block.
+fn add_optional(lines: &mut Vec<u8>, block: OptionalBlock) -> Result<(), Kind>
+    ensures fault { FailsBy None result }
+    ensures line { OnOk result (lines.new.items ≡ lines.old.items
+        ++ optional_line (block.entry.name, block.entry.content.now)) }
+{
+    lines.extend_from_slice(b"optional ")?;
+    add_shown(lines, &block.name)?;
+    lines.push(b' ')?;
+    add_shown(lines, block.content)?;
+    lines.push(b'\n')?;
+    Ok(())
+}
+
+// Adds the lines of the optional blocks of a block.
+fn add_optional_blocks(lines: &mut Vec<u8>, block: &[u8]) -> Result<(), Kind>
+    ensures { (header : Header) (blocks : List (List ℕ × List ℕ)) → IsReadable header blocks block.now
+        → FailsBy None result × OnOk result (lines.new.items
+        ≡ lines.old.items ++ optional_lines blocks) }
+{
+    for place in 0..MOST_BLOCKS {
+        match optional_block(block, place)? {
+            Some(found) => add_optional(lines, found)?,
+            None => return Ok(()),
+        }
+    }
+    Ok(())
+}
+
+// The lines of the header of a block, and of its optional blocks.
+fn header_lines(alloc: Global, block: &[u8]) -> Result<Vec<u8>, Kind>
+    ensures fault { FailsAsHeader block.now result }
+    ensures only { (header : Header) (blocks : List (List ℕ × List ℕ))
+        → IsReadable header blocks block.now → FailsBy None result }
+    ensures lines { IfOk result (λ lines. TellsHeader block.now lines.items) }
+{
+    let header = key_blocks::header(block)?;
+    let mut lines = Vec::new(alloc);
+    add_header(&mut lines, &header)?;
+    add_optional_blocks(&mut lines, block)?;
+    Ok(lines)
+}
+
+// ---- what a block holds
+
+// Reads the digits of a key that protects blocks, of two parts or three, into the first bytes of a
+// buffer, and gives their number.
+fn read_protection(digits: &[u8], key: &mut [u8; 24]) -> Result<usize, Kind>
+    ensures fault { FailsOnlyBy (protection_fault digits.now) result }
+    ensures size { IfOk result (λ size. (size ≡ 16) ⊎ (size ≡ 24)) }
+    ensures key { IfOk result (λ size. take size key.new ≡ bytes_of_text digits.now) }
+{
+    let length_fault = Kind::KeyBlock(KeyBlockError::ProtectionKeyLength);
+    if digits.len() == 16 {
+        return Err(length_fault);
+    }
+    read_key(digits, key, length_fault, Kind::KeyText)
+}
+
+// Adds the line of a key's check value, which keys of DES and triple DES have.
+fn add_check_value(
+    alloc: Global,
+    lines: &mut Vec<u8>,
+    algorithm: Algorithm,
+    key: &[u8],
+) -> Result<(), Kind>
+    requires { IsTrue (is_key key.now) }
+    ensures fault { FailsBy None result }
+    ensures line { OnOk result
+        (lines.new.items ≡ lines.old.items ++ check_lines algorithm key.now) }
+{
+    match algorithm {
+        Algorithm::OtherAlgorithm(_) => Ok(()),
+        _ => {
+            let value = key_check_value(key).unwrap();
+            let line = hex_line(alloc, &value)?;
+            lines.extend_from_slice(b"check-value ")?;
+            lines.extend_from_slice(line.as_slice())?;
+            Ok(())
+        }
+    }
+}
+
+// What a block says of its key, with the key's check value; or the key.
+fn unwrap_lines(
+    alloc: Global,
+    shows_key: bool,
+    protection: &[u8],
+    block: &[u8],
+) -> Result<Vec<u8>, Kind>
+    ensures fault { FailsAsUnwrapped protection.now block.now result }
+    ensures lines { IfOk result (λ lines.
+        TellsKey shows_key protection.now block.now lines.items) }
+{
+    let mut buffer = [0u8; 24];
+    let size = read_protection(protection, &mut buffer)?;
+    let (header, key) = key_blocks::unwrap(&buffer[..size], block)?;
+    if shows_key {
+        return Ok(hex_line(alloc, key.bytes())?);
+    }
+    let mut lines = header_lines(alloc, block)?;
+    add_check_value(alloc, &mut lines, header.algorithm, key.bytes())?;
+    Ok(lines)
+}
+
+// ---- blocks that are made
+
+// Whether each character is a letter or a digit.
+fn are_alphanumeric(text: &[u8]) -> bool
+    ensures { result ≡ are_alphanumeric_of text.now }
+{
+    text.iter()
+        .all(|character| character.is_ascii_alphanumeric())
+}
+
+// The letters and digits of a field.
+fn field_of<const N: usize>(text: &str, field: Field) -> Result<[u8; N], Kind>
+    requires { N ≤ 2 }
+    ensures fault { FailsOnlyBy (field_fault N field text.now) result }
+    ensures text { IfOk result (λ characters. characters ≡ text.now) }
+{
+    let characters = text.as_bytes();
+    if characters.len() != N || !are_alphanumeric(characters) {
+        return Err(Kind::Field(field));
+    }
+    let mut copied = [0; N];
+    copied.copy_from_slice(characters);
+    Ok(copied)
+}
+
+// The header that texts give.
+fn header_of(wrapping: &Wrapping) -> Result<Header, Kind>
+    ensures fault { FailsOnlyBy (header_text_fault wrapping.now) result }
+    ensures header { IfOk result (IsHeaderOf wrapping.now) }
+{
+    let usage = field_of::<2>(wrapping.usage, Field::Usage)?;
+    let [algorithm] = field_of::<1>(wrapping.algorithm, Field::Algorithm)?;
+    let [mode] = field_of::<1>(wrapping.mode, Field::Mode)?;
+    let key_version = field_of::<2>(wrapping.key_version, Field::KeyVersion)?;
+    let [exportability] = field_of::<1>(wrapping.exportability, Field::Exportability)?;
+    Ok(Header {
+        version: wrapping.version,
+        usage: Usage::of(usage),
+        algorithm: Algorithm::of(algorithm),
+        mode: Mode::of(mode),
+        key_version,
+        exportability: Exportability::of(exportability),
+    })
+}
+
+// Whether each character is a space or a printable one of ASCII.
+fn are_printable(text: &[u8]) -> bool
+    ensures { result ≡ are_printable_of text.now }
+{
+    text.iter().all(|character| is_printable(*character))
+}
+
+// The text of optional blocks, which has printable characters alone.
+fn optional_of(text: &str) -> Result<&[u8], Kind>
+    ensures fault { FailsOnlyBy (optional_fault text.now) result }
+    ensures text { IfOk result (λ optional. optional.now ≡ text.now) }
+{
+    let characters = text.as_bytes();
+    if are_printable(characters) {
+        Ok(characters)
+    } else {
+        Err(Kind::KeyBlock(KeyBlockError::OptionalBlock))
+    }
+}
+
+// Writes the block of a key to the front of a buffer, by the text of its optional blocks, and gives
+// how many characters it has.
+fn write_block(
+    protection: &[u8],
+    header: &Header,
+    optional: &[u8],
+    key: &[u8],
+    random: &[u8; RANDOM],
+    text: &mut [u8; MOST],
+) -> Result<usize, Kind>
+    requires least { 8 ≤ length key.now }
+    requires most { length key.now ≤ 24 }
+    ensures fault { FailsAsMade protection.now header.now.version optional.now key.now random.now
+        result }
+    ensures within { IfOk result (λ size. size ≤ MOST) }
+    ensures block { IfOk result (λ size. IsMade protection.now header.now optional.now key.now
+        random.now (take size text.new)) }
+{
+    let nothing = OptionalBlock {
+        name: [0; 2],
+        content: &[],
+    };
+    let mut blocks = [nothing; MOST_BLOCKS];
+    let count = read_optional_blocks(optional, &mut blocks)?;
+    let padding = &random[..30 - key.len()];
+    let size = wrap(protection, header, &blocks[..count], key, padding, text)?;
+    Ok(size)
+}
+
+// Writes the block of the key that digits write to the front of a buffer, and gives how many
+// characters it has.
+fn write_wrapped(
+    wrapping: &Wrapping,
+    protection: &[u8],
+    digits: &[u8],
+    random: &[u8; RANDOM],
+    text: &mut [u8; MOST],
+) -> Result<usize, Kind>
+    ensures fault { FailsAsWrapped wrapping.now protection.now digits.now random.now result }
+    ensures within { IfOk result (λ size. size ≤ MOST) }
+    ensures block { IfOk result (λ size. IsWrapped wrapping.now protection.now digits.now
+        random.now (take size text.new)) }
+{
+    let mut buffer = [0u8; 24];
+    let size = read_protection(protection, &mut buffer)?;
+    let mut key = [0u8; 24];
+    let key_size = read_key(digits, &mut key, Kind::ToKeyLength, Kind::ToKeyText)?;
+    let header = header_of(wrapping)?;
+    let optional = optional_of(wrapping.optional)?;
+    write_block(
+        &buffer[..size],
+        &header,
+        optional,
+        &key[..key_size],
+        random,
+        text,
+    )
+}
+
+// The line of the block of a key.
+fn wrap_line(
+    alloc: Global,
+    wrapping: &Wrapping,
+    protection: &[u8],
+    digits: &[u8],
+    random: &[u8; RANDOM],
+) -> Result<Vec<u8>, Kind>
+    ensures fault { FailsAsWrapped wrapping.now protection.now digits.now random.now result }
+    ensures line { IfOk result (λ line. (block : List ℕ)
+        × (IsWrapped wrapping.now protection.now digits.now random.now block
+        × (line.items ≡ text_line block))) }
+{
+    let mut text = [0u8; MOST];
+    let size = write_wrapped(wrapping, protection, digits, random, &mut text)?;
+    Ok(line_of(alloc, &text[..size])?)
+}

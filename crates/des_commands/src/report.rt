@@ -1,0 +1,174 @@
+//! What is written of a result or a fault, and the status that the program ends with.
+
+ghost use Rattle.std.specs.Prelude.{◌≡◌, List, ℕ, map, OnOk};
+ghost use Rattle.std.specs.Char.{is_ascii_control};
+ghost use Rattle.std.specs.List.{flat_map, list_any};
+ghost use Rattle.std.specs.Io.KnownBytes.{Appends};
+ghost use Rattle.des_commands.specs.Faults.{line_with, separator_of, shown_byte as shown_byte_of};
+ghost use Rattle.des_commands.specs.Written.{AppendsPrefix, AppendsLine, AppendsLinePrefix, IsTold, IsShown};
+
+use crate::fault::{Fault, Kind, Reason};
+use crate::sentences::Sentences;
+use std::io::{self, Error, ErrorKind, Write};
+
+// The status of a result that was written.
+const WRITTEN: u8 = 0;
+
+// Writes the bytes. Where that fails, a prefix of them is written. A write that was interrupted is
+// tried again.
+fn write_whole<W: Write>(out: &mut W, bytes: &[u8]) -> io::Result<()>
+    ensures part { AppendsPrefix (W.contents out.old) (W.contents out.new) bytes.now }
+    ensures whole { OnOk result (Appends (W.contents out.old) (W.contents out.new) bytes.now) }
+{
+    let mut at = 0;
+    for _ in 0..u64::MAX {
+        if at >= bytes.len() {
+            return Ok(());
+        }
+        match out.write(&bytes[at..]) {
+            Ok(0) => return Err(Error::from(ErrorKind::WriteZero)),
+            Ok(n) => at += n,
+            Err(error) => {
+                if error.kind() != ErrorKind::Interrupted {
+                    return Err(error);
+                }
+            }
+        }
+    }
+    // A writer that is interrupted again and again, and never ends.
+    Err(Error::from(ErrorKind::TimedOut))
+}
+
+// Writes texts one after another.
+fn write_texts<W: Write>(out: &mut W, texts: &[&str]) -> io::Result<()>
+    ensures part { AppendsPrefix (W.contents out.old) (W.contents out.new)
+        (flat_map (λ text. text.now) texts.now) }
+    ensures whole { OnOk result (Appends (W.contents out.old) (W.contents out.new)
+        (flat_map (λ text. text.now) texts.now)) }
+{
+    for text in texts {
+        write_whole(out, text.as_bytes())?;
+    }
+    Ok(())
+}
+
+/// Writes the bytes and flushes. Where that fails, a prefix of them is written.
+pub fn send<W: Write>(out: &mut W, bytes: &[u8]) -> io::Result<()>
+    ensures part { AppendsPrefix (W.contents out.old) (W.contents out.new) bytes.now }
+    ensures whole { OnOk result (Appends (W.contents out.old) (W.contents out.new) bytes.now) }
+{
+    write_whole(out, bytes)?;
+    out.flush()
+}
+
+// What stands between what a fault is about and its words.
+fn separator(about: &str) -> &'static str
+    ensures { result.now ≡ separator_of about.now }
+{
+    if about.is_empty() { "" } else { ": " }
+}
+
+// A control character is shown as a question mark.
+fn shown_byte(byte: u8) -> u8
+    ensures { result ≡ shown_byte_of byte }
+{
+    if byte.is_ascii_control() { b'?' } else { byte }
+}
+
+// Whether a text has a control character.
+fn has_control(text: &[u8]) -> bool
+    ensures { result ≡ list_any is_ascii_control text.now }
+{
+    text.iter().any(|byte| byte.is_ascii_control())
+}
+
+// Writes a text with its control characters shown, byte by byte.
+fn write_each<E: Write>(err: &mut E, text: &[u8]) -> io::Result<()>
+    ensures part { AppendsPrefix (E.contents err.old) (E.contents err.new)
+        (map shown_byte_of text.now) }
+    ensures whole { OnOk result (Appends (E.contents err.old) (E.contents err.new)
+        (map shown_byte_of text.now)) }
+{
+    for byte in text {
+        write_whole(err, &[shown_byte(*byte)])?;
+    }
+    Ok(())
+}
+
+// Writes a text with its control characters shown; without any, at once.
+fn write_shown<E: Write>(err: &mut E, text: &[u8]) -> io::Result<()>
+    ensures part { AppendsPrefix (E.contents err.old) (E.contents err.new)
+        (map shown_byte_of text.now) }
+    ensures whole { OnOk result (Appends (E.contents err.old) (E.contents err.new)
+        (map shown_byte_of text.now)) }
+{
+    if has_control(text) {
+        write_each(err, text)
+    } else {
+        write_whole(err, text)
+    }
+}
+
+/// Writes a line of a fault or a notice: its name, what it is about, where that is not empty, and
+/// its words. Name and words are of the program's own text, so neither can be a secret. Control
+/// characters of what it is about are shown as question marks.
+pub fn write_line<E: Write>(
+    name: &'static str,
+    about: &str,
+    words: &'static str,
+    err: &mut E,
+) -> io::Result<()>
+    ensures part { AppendsPrefix (E.contents err.old) (E.contents err.new)
+        (line_with name.now about.now words.now) }
+    ensures whole { OnOk result (Appends (E.contents err.old) (E.contents err.new)
+        (line_with name.now about.now words.now)) }
+{
+    write_texts(err, &["cukvashe: ", name, ": "])?;
+    write_shown(err, about.as_bytes())?;
+    write_texts(err, &[separator(about), words, "\n"])?;
+    err.flush()
+}
+
+/// Writes the line of a fault.
+pub fn report<S: Sentences, E: Write>(fault: Fault, err: &mut E) -> io::Result<()>
+    ensures part { AppendsLinePrefix S.says fault.entry.kind fault.entry.about.now
+        (E.contents err.old) (E.contents err.new) }
+    ensures whole { OnOk result (AppendsLine S.says fault.entry.kind fault.entry.about.now
+        (E.contents err.old) (E.contents err.new)) }
+{
+    write_line(fault.kind.name(), fault.about, S::sentence(fault.kind), err)
+}
+
+/// Writes the line of a fault, and gives its status. A line that can't be written changes no status.
+pub fn tell<S: Sentences, E: Write>(fault: Fault, err: &mut E) -> u8
+    ensures { IsTold S.says E.contents fault.entry.kind fault.entry.about.now result err.old err.new }
+{
+    let _ = report::<S, E>(fault, err);
+    fault.kind.status()
+}
+
+/// Writes a result to `out`, or the line of a fault to `err`, and gives the status that the program
+/// ends with: 0 where the whole result was written, that of the fault `Write` where it was not, and
+/// that of the fault. No clause says that `Write` is told only where `out` failed, since std has no
+/// word for that; runs of the program show it.
+pub fn show<S: Sentences, W: Write, E: Write>(
+    outcome: &Result<Vec<u8>, Fault>,
+    out: &mut W,
+    err: &mut E,
+) -> u8
+    ensures { IsShown S.says W.contents E.contents outcome.now result out.old out.new err.old err.new }
+{
+    match outcome {
+        Ok(text) => match send(out, text.as_slice()) {
+            Ok(()) => WRITTEN,
+            Err(error) => {
+                let fault = Fault {
+                    kind: Kind::Write(Reason::of(&error)),
+                    about: "standard output",
+                };
+                tell::<S, E>(fault, err)
+            }
+        },
+        Err(fault) => tell::<S, E>(*fault, err),
+    }
+}
