@@ -2,7 +2,7 @@
 #ifndef BENCHMARK_H
 #define BENCHMARK_H
 
-#include "internal.h"
+#include "src/internal.h"
 #include <stdio.h>
 #include <stdlib.h>
 #include <time.h>

@@ -81,7 +81,7 @@ extern "C" {
 #endif
 
 /* The version of this header; cukvashe_version() has that of the library. */
-#define CUKVASHE_VERSION "@VERSION@"
+#define CUKVASHE_VERSION "0.1.0"
 
 /* What a call that returns a status is declared with. Define it yourself, as empty, if you want no warnings. */
 #ifndef CUKVASHE_CHECK
@@ -90,6 +90,11 @@ extern "C" {
 #else
 #define CUKVASHE_CHECK
 #endif
+#endif
+
+/* The library shows the calls of this header and hides its own. */
+#if defined(__ELF__) || defined(__MACH__)
+#pragma GCC visibility push(default)
 #endif
 
 /* Statuses. */
@@ -951,6 +956,10 @@ CUKVASHE_CHECK int cukvashe_tdes_ede2_open_salted(int hash, size_t iterations, c
 CUKVASHE_CHECK int cukvashe_tdes_ede3_open_salted(int hash, size_t iterations, const uint8_t *password,
                                                   size_t password_length, const uint8_t *bytes, size_t length,
                                                   uint8_t *plain, size_t room, size_t *plain_length);
+
+#if defined(__ELF__) || defined(__MACH__)
+#pragma GCC visibility pop
+#endif
 
 #ifdef __cplusplus
 }

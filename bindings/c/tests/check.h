@@ -82,7 +82,7 @@ DEFINE_PUBLIC(tdes_ede3)
 
 #ifdef FORCED
 /* Each width as well, whatever the length: names that the library hides. */
-#include "../internal.h"
+#include "../src/internal.h"
 
 #define DEFINE_FORCED(name, width)                                                                                    \
   static int name##_##width##_encrypt_ecb(const union context *c, uint8_t *data, size_t length) {                     \

@@ -3,7 +3,7 @@
    wide`) and on one without (`dispatch narrow`), which is asked once, and not before a call needs the answer. The library's C is a
    part of this file, so that the compiler sees cukvashe_wipe where it is called, and could leave it out. */
 #define _POSIX_C_SOURCE 200809L
-#include "../cukvashe_des.c"
+#include "../src/cukvashe_des.c"
 #include <limits.h>
 #include <pthread.h>
 #include <stdio.h>
@@ -235,11 +235,11 @@ static uint8_t iv[8], base[16], input[8], output[8];
   }                                                                                                                   \
   static void NAME##_hands_on_count(size_t count) {                                                                   \
     const char *width = is_v3 && count > 128 ? "wide" : "narrow";                                                     \
-    cukvashe_##NAME##_check_values(input, output, count);                                                             \
+    cukvashe_unwiped_##NAME##_check_values(input, output, count);                                                     \
     was(width, #NAME, "check_values", NULL, NULL, input, output, count);                                              \
-    CHECK(cukvashe_cbc_mac_##NAME##_macs(base, 7, messages, output, count) == STATUS);                                \
+    CHECK(cukvashe_unwiped_cbc_mac_##NAME##_macs(base, 7, messages, output, count) == STATUS);                        \
     was(width, #NAME, "macs", base, NULL, messages, output, count);                                                   \
-    CHECK(cukvashe_cbc_mac_##NAME##_macs_each(base, 7, messages, output, count) == STATUS);                           \
+    CHECK(cukvashe_unwiped_cbc_mac_##NAME##_macs_each(base, 7, messages, output, count) == STATUS);                   \
     was(width, #NAME, "macs_each", base, NULL, messages, output, count);                                              \
   }                                                                                                                   \
   static void NAME##_hands_on_blocks(size_t count, size_t length) {                                                   \
@@ -247,9 +247,9 @@ static uint8_t iv[8], base[16], input[8], output[8];
     const char *width = is_v3 && length > 1024 ? "wide" : "narrow";                                                   \
     const char *of_chains = is_v3 && count > 128 ? "wide" : "narrow";                                                 \
     const size_t blocks = length / 8;                                                                                 \
-    CHECK(cukvashe_##NAME##_encrypt_each(input, count, output, length) == STATUS);                                    \
+    CHECK(cukvashe_unwiped_##NAME##_encrypt_each(input, count, output, length) == STATUS);                            \
     was_of(width, #NAME, "encrypt_each", NULL, NULL, input, count, output, blocks);                                   \
-    CHECK(cukvashe_##NAME##_decrypt_each(input, count, output, length) == STATUS);                                    \
+    CHECK(cukvashe_unwiped_##NAME##_decrypt_each(input, count, output, length) == STATUS);                            \
     was_of(width, #NAME, "decrypt_each", NULL, NULL, input, count, output, blocks);                                   \
     CHECK(cukvashe_##NAME##_encrypt_cbc_records(&context, iv, sizes, count, output, length) == STATUS);               \
     was_of(of_chains, #NAME, "encrypt_cbc_records", &context, iv, sizes, count, output, blocks);                      \
@@ -259,8 +259,8 @@ static uint8_t iv[8], base[16], input[8], output[8];
   static void NAME##_refuses_length(size_t count, size_t length) {                                                    \
     static cukvashe_##NAME context;                                                                                   \
     const int refused = CUKVASHE_ERR_BLOCKS;                                                                          \
-    CHECK(cukvashe_##NAME##_encrypt_each(input, count, output, length) == refused);                                   \
-    CHECK(cukvashe_##NAME##_decrypt_each(input, count, output, length) == refused);                                   \
+    CHECK(cukvashe_unwiped_##NAME##_encrypt_each(input, count, output, length) == refused);                           \
+    CHECK(cukvashe_unwiped_##NAME##_decrypt_each(input, count, output, length) == refused);                           \
     CHECK(cukvashe_##NAME##_encrypt_cbc_records(&context, iv, sizes, count, output, length) == refused);              \
     CHECK(cukvashe_##NAME##_decrypt_cbc_records(&context, iv, sizes, count, output, length) == refused);              \
     CHECK(calls == 0);                                                                                                \
@@ -277,13 +277,13 @@ static void hands_on(size_t length) {
 }
 
 static void hands_on_cmacs(const char *width, size_t count) {
-  cukvashe_cmac_tdes_ede2_macs(base, messages, output, count);
+  cukvashe_unwiped_cmac_tdes_ede2_macs(base, messages, output, count);
   was(width, "tdes_ede2", "cmacs", base, NULL, messages, output, count);
-  cukvashe_cmac_tdes_ede2_macs_each(base, messages, output, count);
+  cukvashe_unwiped_cmac_tdes_ede2_macs_each(base, messages, output, count);
   was(width, "tdes_ede2", "cmacs_each", base, NULL, messages, output, count);
-  cukvashe_cmac_tdes_ede3_macs(base, messages, output, count);
+  cukvashe_unwiped_cmac_tdes_ede3_macs(base, messages, output, count);
   was(width, "tdes_ede3", "cmacs", base, NULL, messages, output, count);
-  cukvashe_cmac_tdes_ede3_macs_each(base, messages, output, count);
+  cukvashe_unwiped_cmac_tdes_ede3_macs_each(base, messages, output, count);
   was(width, "tdes_ede3", "cmacs_each", base, NULL, messages, output, count);
 }
 
@@ -292,11 +292,11 @@ static void hands_on_count(size_t count) {
   des_hands_on_count(count);
   tdes_ede2_hands_on_count(count);
   tdes_ede3_hands_on_count(count);
-  cukvashe_dukpt_transaction_keys(base, input, output, count);
+  cukvashe_unwiped_dukpt_transaction_keys(base, input, output, count);
   was(width, "dukpt", "transaction_keys", base, NULL, input, output, count);
-  CHECK(cukvashe_retail_mac_des_macs(base, 7, messages, output, count) == STATUS);
+  CHECK(cukvashe_unwiped_retail_mac_des_macs(base, 7, messages, output, count) == STATUS);
   was(width, "retail", "macs", base, NULL, messages, output, count);
-  CHECK(cukvashe_retail_mac_des_macs_each(base, 7, messages, output, count) == STATUS);
+  CHECK(cukvashe_unwiped_retail_mac_des_macs_each(base, 7, messages, output, count) == STATUS);
   was(width, "retail", "macs_each", base, NULL, messages, output, count);
   hands_on_cmacs(width, count);
   static bool right[1];
@@ -340,7 +340,7 @@ static void hands_on_the_rest(void) {
   CHECK(last.output == output && last.input_length == 5 && last.output_length == 16);
   for (int i = 0; i < 2; i++) {
     answer = i == 1;
-    CHECK(cukvashe_equal_but_parity(input, output, 24) == answer && strcmp(last.name, "equal") == 0);
+    CHECK(cukvashe_unwiped_equal_but_parity(input, output, 24) == answer && strcmp(last.name, "equal") == 0);
     CHECK(last.input == input && last.output == output && last.input_length == 24 && last.output_length == 24);
   }
 }

@@ -1,5 +1,5 @@
 /* Which processor takes the wide calls: each bit of the words of `cpuid` cleared, and this processor beside what the kernel says. */
-#include "../internal.h"
+#include "../src/internal.h"
 #include "check.h"
 
 /* The bits of x86-64-v3 beyond those of x86-64-v2, by Intel's manual (volume 2A, CPUID; volume 1, 13.3): MOVBE, FMA, OSXSAVE, AVX and

@@ -37,6 +37,11 @@ static bool takes_wide_by_count(size_t count) { return count > 128 && has_wide()
 /* They refuse lists that differ in length too, and here one count is that of both. */
 #define CHOOSE_BY_COUNT(NAME, CALL, ...) (void)CHOOSE_IF(takes_wide_by_count(count), NAME, CALL, __VA_ARGS__)
 
+/* Begins a call that stack.c hands on to, whose arguments are those of the header's. */
+#define UNWIPED(RESULT, NAME)                                                                                         \
+  extern __typeof__(cukvashe_##NAME) cukvashe_unwiped_##NAME;                                                         \
+  RESULT cukvashe_unwiped_##NAME
+
 /* From a buffer to itself is the call in place: the proved calls of two buffers take two that do not overlap. */
 #define DEFINE_CIPHER(NAME)                                                                                           \
   int cukvashe_##NAME##_encrypt_ecb(const cukvashe_##NAME *context, uint8_t *data, size_t length) {                   \
@@ -68,13 +73,13 @@ static bool takes_wide_by_count(size_t count) { return count > 128 && has_wide()
     if (input == output) return cukvashe_##NAME##_decrypt_cbc(context, iv, output, length);                           \
     return CHOOSE(NAME, decrypt_cbc_to, context, iv, input, length, output, length);                                  \
   }                                                                                                                   \
-  int cukvashe_##NAME##_encrypt_each(const uint8_t *keys, size_t count, uint8_t *blocks, size_t length) {             \
+  UNWIPED(int, NAME##_encrypt_each)(const uint8_t *keys, size_t count, uint8_t *blocks, size_t length) {              \
     return CHOOSE_IF_BLOCKS(takes_wide(length), NAME, encrypt_each, keys, count, blocks);                             \
   }                                                                                                                   \
-  int cukvashe_##NAME##_decrypt_each(const uint8_t *keys, size_t count, uint8_t *blocks, size_t length) {             \
+  UNWIPED(int, NAME##_decrypt_each)(const uint8_t *keys, size_t count, uint8_t *blocks, size_t length) {              \
     return CHOOSE_IF_BLOCKS(takes_wide(length), NAME, decrypt_each, keys, count, blocks);                             \
   }                                                                                                                   \
-  void cukvashe_##NAME##_check_values(const uint8_t *keys, uint8_t *values, size_t count) {                           \
+  UNWIPED(void, NAME##_check_values)(const uint8_t *keys, uint8_t *values, size_t count) {                            \
     CHOOSE_BY_COUNT(NAME, check_values, keys, count, values, count);                                                  \
   }                                                                                                                   \
   int cukvashe_##NAME##_encrypt_cbc_records(const cukvashe_##NAME *context, uint8_t *vectors, const size_t *counts,   \
@@ -87,12 +92,12 @@ static bool takes_wide_by_count(size_t count) { return count > 128 && has_wide()
     return CHOOSE_IF_BLOCKS(takes_wide(length), NAME, decrypt_cbc_records, context, vectors, records_count, counts,   \
                             records_count, bytes);                                                                    \
   }                                                                                                                   \
-  int cukvashe_cbc_mac_##NAME##_macs(const uint8_t *key, int method, const cukvashe_message *messages, uint8_t *tags, \
-                                     size_t count) {                                                                  \
+  UNWIPED(int, cbc_mac_##NAME##_macs)(const uint8_t *key, int method, const cukvashe_message *messages,               \
+                                      uint8_t *tags, size_t count) {                                                  \
     return CHOOSE_IF(takes_wide_by_count(count), cbc_mac_##NAME, macs, key, method, messages, count, tags, count);    \
   }                                                                                                                   \
-  int cukvashe_cbc_mac_##NAME##_macs_each(const uint8_t *keys, int method, const cukvashe_message *messages,          \
-                                          uint8_t *tags, size_t count) {                                              \
+  UNWIPED(int, cbc_mac_##NAME##_macs_each)(const uint8_t *keys, int method, const cukvashe_message *messages,         \
+                                           uint8_t *tags, size_t count) {                                             \
     return CHOOSE_IF(takes_wide_by_count(count), cbc_mac_##NAME, macs_each, keys, count, method, messages, count,     \
                      tags, count);                                                                                    \
   }
@@ -101,24 +106,24 @@ DEFINE_CIPHER(des)
 DEFINE_CIPHER(tdes_ede2)
 DEFINE_CIPHER(tdes_ede3)
 
-int cukvashe_retail_mac_des_macs(const uint8_t *key, int method, const cukvashe_message *messages, uint8_t *tags,
-                                 size_t count) {
+UNWIPED(int, retail_mac_des_macs)(const uint8_t *key, int method, const cukvashe_message *messages, uint8_t *tags,
+                                  size_t count) {
   return CHOOSE_IF(takes_wide_by_count(count), retail_mac_des, macs, key, method, messages, count, tags, count);
 }
 
-int cukvashe_retail_mac_des_macs_each(const uint8_t *keys, int method, const cukvashe_message *messages, uint8_t *tags,
-                                      size_t count) {
+UNWIPED(int, retail_mac_des_macs_each)(const uint8_t *keys, int method, const cukvashe_message *messages, uint8_t *tags,
+                                       size_t count) {
   return CHOOSE_IF(takes_wide_by_count(count), retail_mac_des, macs_each, keys, count, method, messages, count, tags,
                    count);
 }
 
 #define DEFINE_CMAC(NAME)                                                                                             \
-  void cukvashe_cmac_##NAME##_macs(const uint8_t *key, const cukvashe_message *messages, uint8_t *tags,               \
-                                   size_t count) {                                                                    \
+  UNWIPED(void, cmac_##NAME##_macs)(const uint8_t *key, const cukvashe_message *messages, uint8_t *tags,              \
+                                    size_t count) {                                                                   \
     CHOOSE_BY_COUNT(cmac_##NAME, macs, key, messages, count, tags, count);                                            \
   }                                                                                                                   \
-  void cukvashe_cmac_##NAME##_macs_each(const uint8_t *keys, const cukvashe_message *messages, uint8_t *tags,         \
-                                        size_t count) {                                                               \
+  UNWIPED(void, cmac_##NAME##_macs_each)(const uint8_t *keys, const cukvashe_message *messages, uint8_t *tags,        \
+                                         size_t count) {                                                              \
     CHOOSE_BY_COUNT(cmac_##NAME, macs_each, keys, count, messages, count, tags, count);                               \
   }
 
@@ -129,7 +134,7 @@ void cukvashe_compare_tags(const uint8_t *tags, const uint8_t *expected, bool *r
   (void)cukvashe_narrow_compare_tags(tags, count, expected, count, right, count);
 }
 
-void cukvashe_dukpt_transaction_keys(const uint8_t base[16], const uint8_t *serials, uint8_t *keys, size_t count) {
+UNWIPED(void, dukpt_transaction_keys)(const uint8_t base[16], const uint8_t *serials, uint8_t *keys, size_t count) {
   CHOOSE_BY_COUNT(dukpt, transaction_keys, base, serials, count, keys, count);
 }
 
@@ -137,7 +142,7 @@ int cukvashe_pad(uint8_t *buffer, size_t length, size_t capacity, int method, si
   return cukvashe_narrow_pad(buffer, capacity, length, method, padded_length);
 }
 
-bool cukvashe_equal_but_parity(const uint8_t *first, const uint8_t *second, size_t key_length) {
+UNWIPED(bool, equal_but_parity)(const uint8_t *first, const uint8_t *second, size_t key_length) {
   return cukvashe_narrow_equal_but_parity(first, key_length, second, key_length);
 }
 

@@ -1,5 +1,7 @@
-/* Which processor this is. */
+/* Which processor this is, if the library has wide calls. */
 #include "internal.h"
+
+#if HAS_WIDE
 #include <cpuid.h>
 
 enum { OSXSAVE = 1 << 27 };
@@ -27,3 +29,4 @@ bool cukvashe_internal_is_v3(const struct processor *words) {
          has_all(words->leaf_7_ebx, bmi1 | avx2 | bmi2) && has_all(words->leaf_80000001_ecx, lzcnt) &&
          has_all(words->xcr0, sse_and_avx_registers);
 }
+#endif

@@ -1,17 +1,17 @@
 /*
  * No call leaves a key, a password or a PIN on the stack that it was given or gives: here are these calls by the header's names. Each goes
- * on to the call that does the work, to which bindings/build gives the name cukvashe_unwiped_.. in the object, and then writes zeros over the
- * part of the stack that this one took. tests/stack.c looks at what is left.
+ * on to the call that does the work, whose name begins with cukvashe_unwiped_, and then writes zeros over the part of the stack that this
+ * one took. tests/stack.c looks at what is left.
  *
  * The numbers are bytes, the most that the call was seen to take on x86-64. More of them would take time for nothing.
  */
 #include "internal.h"
 
-/* What a call takes beyond its number: arguments on the stack. On aarch64, frames save more registers: key_block_unwrap takes 1,500. */
-#ifdef __aarch64__
-enum { MORE = 2048 };
-#else
+/* What a call takes beyond its number: arguments on the stack. Elsewhere frames save more registers: on aarch64 key_block_unwrap takes 1,500. */
+#if defined(__x86_64__) && !defined(_WIN32)
 enum { MORE = 64 };
+#else
+enum { MORE = 2048 };
 #endif
 
 /* What a call left lies below the frame of its caller. So does this array, which is for that reason one of another function's. */

@@ -1,0 +1,121 @@
+/*
+ * What the programs of generated/ ask of the system beside the C library: memory, the arguments, the environment and errno. The proofs
+ * assume of these functions what their comments say.
+ */
+#include <errno.h>
+#include <stdbool.h>
+#include <stddef.h>
+#include <stdint.h>
+#include <stdlib.h>
+#include <string.h>
+
+/* Whether there is memory, and where. If there is none, the pointer is not null, and nothing may be read or written there. */
+struct tried {
+  bool is_there;
+  void *memory;
+};
+
+struct tried rattle_alloc(size_t size, size_t alignment);
+struct tried rattle_realloc(void *memory, size_t kept, size_t size, size_t alignment);
+void rattle_dealloc(void *memory);
+ptrdiff_t rattle_arg(size_t place, unsigned char *buffer, size_t room);
+ptrdiff_t rattle_env(const char *name, unsigned char *buffer, size_t room);
+ptrdiff_t rattle_env_at(size_t place, unsigned char *buffer, size_t room);
+int32_t rattle_errno(void);
+void rattle_set_errno(int32_t error);
+
+/* The program's main, in its assembly. */
+int cukvashe_main(void);
+
+extern char **environ;
+static int count;
+static char **arguments;
+
+int main(int argument_count, char **argument_list) {
+  count = argument_count;
+  arguments = argument_list;
+  return cukvashe_main();
+}
+
+static struct tried tried(void *memory) {
+  static unsigned char none;
+  return (struct tried){memory != NULL, memory != NULL ? memory : &none};
+}
+
+/* New memory of a size, whose address is a multiple of the alignment, which is 1, 2, 4, 8 or 16. */
+struct tried rattle_alloc(size_t size, size_t alignment) {
+  (void)alignment; /* malloc's is 16 */
+  return tried(malloc(size != 0 ? size : 1));
+}
+
+/* Memory of another size, with the first bytes kept, as many as `kept` says. If there is none, the old is as it was. */
+struct tried rattle_realloc(void *memory, size_t kept, size_t size, size_t alignment) {
+  (void)kept;
+  (void)alignment;
+  return tried(realloc(memory, size != 0 ? size : 1));
+}
+
+/* Frees what one of these two gave. */
+void rattle_dealloc(void *memory) { free(memory); }
+
+/* The error of the last call of the C library that failed. */
+int32_t rattle_errno(void) { return errno; }
+
+void rattle_set_errno(int32_t error) { errno = error; }
+
+/* Writes a text to the start of a buffer, without its zero, and returns its length; -1 if there is no such text, or -2 if the buffer has
+   no room for it, and then the buffer is full. */
+static ptrdiff_t copy(const char *text, unsigned char *buffer, size_t room) {
+  if (text == NULL) return -1;
+  const size_t length = strlen(text);
+  memcpy(buffer, text, length < room ? length : room);
+  return length <= room ? (ptrdiff_t)length : -2;
+}
+
+/* The argument at a place; the first is the program's name. */
+ptrdiff_t rattle_arg(size_t place, unsigned char *buffer, size_t room) {
+  return copy(place < (size_t)count ? arguments[place] : NULL, buffer, room);
+}
+
+/* The value of a variable of the environment. */
+ptrdiff_t rattle_env(const char *name, unsigned char *buffer, size_t room) { return copy(getenv(name), buffer, room); }
+
+/* The entry of the environment at a place: NAME=VALUE. */
+ptrdiff_t rattle_env_at(size_t place, unsigned char *buffer, size_t room) {
+  size_t at = 0;
+  while (environ[at] != NULL && at < place) at++;
+  return copy(environ[at], buffer, room);
+}
+
+/* What glibc has and other C libraries, or its versions before 2.33, lack. */
+#ifdef __GLIBC_PREREQ
+#if __GLIBC_PREREQ(2, 33)
+#define HAS_ALL
+#endif
+#endif
+#ifndef HAS_ALL
+#include <unistd.h>
+
+ssize_t __write(int descriptor, const void *bytes, size_t size);
+ssize_t __write(int descriptor, const void *bytes, size_t size) { return write(descriptor, bytes, size); }
+
+#ifdef __x86_64__
+#include <cpuid.h>
+
+/* A group of the processor's features: the words that `cpuid` writes, and those of them that a program may use. */
+struct features {
+  uint32_t there[4], usable[4];
+};
+
+const struct features *__x86_get_cpuid_feature_leaf(unsigned group);
+
+/* The program asks, before all else, for two groups. Their features need nothing of the system. */
+const struct features *__x86_get_cpuid_feature_leaf(unsigned group) {
+  static struct features found;
+  uint32_t *words = found.there;
+  (void)__get_cpuid(group == 0 ? 1 : 0x80000001, &words[0], &words[1], &words[2], &words[3]);
+  memcpy(found.usable, found.there, sizeof found.there);
+  return &found;
+}
+#endif
+#endif
