@@ -2,8 +2,8 @@
 //! caller's, the weak key test and parity, and the calls of `des_payment`. Each export states what
 //! the call that it makes promises. `bindings/c/cukvashe_des.h` declares them, and says what a
 //! caller has to uphold. Those that begin with `cukvashe_narrow_` are hidden in the library, and
-//! declared by `bindings/c/internal.h`. Of each that takes `u64x2`, `bindings/widen` makes one that
-//! takes `u64x4`, for vectors of 256 bits.
+//! declared by `bindings/c/src/internal.h`. Of each that takes `u64x2`, `bindings/widen` makes one
+//! that takes `u64x4`, for vectors of 256 bits.
 #![tactic(auto)]
 
 mod ciphers;
