@@ -12,18 +12,22 @@ target := $(if $(findstring apple,$(machine)),macos,$(if $(findstring mingw,$(ma
 programs := $(patsubst generated/$(processor)/%.s,%,$(wildcard generated/$(processor)/des_tool.s generated/$(processor)/cukvashe.s))
 to = $(target:%=--target %) $(if $(programs),--programs) --prefix '$(PREFIX)' $(if $(DESTDIR),--destdir '$(DESTDIR)')
 
-.PHONY: all library check install uninstall clean
+.PHONY: all library check check-library check-programs install uninstall clean
 all: $(programs) library
 
 library:
 	@CC='$(CC)' bindings/build --generated $(target:%=--target %)
 
-$(programs): %: generated/$(processor)/%.s bindings/programs/system.c | library
+$(programs): %: generated/$(processor)/%.s bindings/programs/system.c
 	$(CC) $(CFLAGS) $(LDFLAGS) -o $@ $^
 
-check: all
+check: check-library check-programs
+
+check-library: library
 	CC='$(CC)' bindings/c/test --leave-out
-	bindings/programs/test des_tool cukvashe
+
+check-programs: $(programs)
+	CC='$(CC)' bindings/programs/test $(programs)
 
 install: all
 	bindings/install $(to)
