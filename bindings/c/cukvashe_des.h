@@ -1,10 +1,10 @@
 /*
  * Cukvashe: DES and triple DES (FIPS 46-3), for C99 and C++11
  *
- * Link with -lcukvashe_des. The library runs on Linux, on aarch64 and on x86-64-v2 (SSE4.2), where it takes wider
- * vectors if the processor has them. No call allocates memory, keeps a pointer after it returns, or prints. All state is
- * in the contexts and buffers that you pass, so calls may run in any threads at the same time, as long as none writes
- * what another reads.
+ * Link with -lcukvashe_des. The library runs on Linux, on aarch64, riscv64 and x86-64-v2 (SSE4.2), where it takes wider
+ * vectors if the processor has them, and on Windows, on such an x86-64. No call allocates memory, keeps a pointer after
+ * it returns, or prints. All state is in the contexts and buffers that you pass, so calls may run in any threads at the
+ * same time, as long as none writes what another reads.
  *
  * LENGTHS
  *
@@ -44,10 +44,10 @@
  * others run on the processor, which could learn the addresses. A copy of a context is of its kind.
  *
  * Nothing is claimed about time. The calls that can read tables at addresses that depend on secrets, or branch on
- * secrets, say so below. On x86-64 it is tested with valgrind that init, pad, the calls of lists, ECB and CBC decryption
- * where this header says so, and all calls of quiet contexts, read no tables at such addresses. On aarch64 that is not
- * tested: nothing is claimed there of addresses and branches. A call uses at most 27,000 bytes of the stack; those of
- * transaction keys, of records and of the MACs of many messages at most 66,000. This is tested on both.
+ * secrets, say so below. On x86-64 with Linux it is tested with valgrind that init, pad, the calls of lists, ECB and CBC
+ * decryption where this header says so, and all calls of quiet contexts, read no tables at such addresses. Elsewhere
+ * that is not tested: nothing is claimed there of addresses and branches. A call uses at most 27,000 bytes of the stack;
+ * those of transaction keys, of records and of the MACs of many messages at most 66,000. This is tested everywhere.
  *
  * SECRETS ON THE STACK
  *
@@ -62,7 +62,8 @@
  * WHAT IS PROVED
  *
  * Each call is proved safe, and proved to answer as this header says, if you uphold the above: ciphers as FIPS 46-3
- * defines, CBC as FIPS 81, and others by the standards named beside them. No standard defines cukvashe_weak_key_test,
+ * defines, CBC as FIPS 81, and others by the standards named beside them. The proof is for Linux on x86-64 and aarch64;
+ * for riscv64 and Windows the code is compiled of that for x86-64, and tested. No standard defines cukvashe_weak_key_test,
  * cukvashe_set_odd_parity, cukvashe_equal_but_parity, check values, components, PIN verification and card verification
  * values: their rules are the words below. cukvashe_bytes_to_key and cukvashe_NAME_open_salted follow OpenSSL. Tested and
  * not proved are the few lines of C in the library: they choose the width of the vectors, hand the arguments of some
