@@ -13,7 +13,7 @@ programs := $(patsubst generated/$(processor)/%.s,%,$(wildcard generated/$(proce
 to = $(target:%=--target %) $(if $(programs),--programs) --prefix '$(PREFIX)' $(if $(DESTDIR),--destdir '$(DESTDIR)')
 
 .PHONY: all library check check-library check-programs install uninstall clean
-all: $(programs) library
+all: library $(programs)
 
 library:
 	@CC='$(CC)' bindings/build --generated $(target:%=--target %)
@@ -26,7 +26,7 @@ check: check-library check-programs
 check-library: library
 	CC='$(CC)' bindings/c/test --leave-out
 
-check-programs: $(programs)
+check-programs: all
 	CC='$(CC)' bindings/programs/test $(programs)
 
 install: all
