@@ -82,8 +82,9 @@ def compiled():
     elif "macos" in target:
         link = ["-dynamiclib", "-mmacosx-version-min=11.0", "-Wl,-install_name,@rpath/libcukvashe_des.2.dylib"]
     sources = [*sorted((C / "src").glob("*.c")), *sorted((GENERATED / target).glob("library*.s"))]
-    compiler("-std=c99", "-O2", "-fvisibility=hidden", "-I", C, "-o", WORK / "library", *sources, *link)
-    return WORK / "library"
+    made = WORK / "cukvashe_des.dll"  # for Windows this name goes into the file, and for others none does
+    compiler("-std=c99", "-O2", "-fvisibility=hidden", "-I", C, "-o", made, *sources, *link)
+    return made
 
 
 @functools.lru_cache(maxsize=None)
