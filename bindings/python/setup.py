@@ -43,13 +43,14 @@ MACH_O = {0x1000007: "x86_64", 0x100000C: "arm64"}
 
 
 def text_of_header():
-    """The header's text. What is generated must be for it, and it must have the package's version."""
+    """The header, byte by byte. What is generated must be for it, and it must have the package's version."""
     try:
-        text, generated_for = ((folder / "cukvashe_des.h").read_text("utf-8") for folder in (C, GENERATED))
+        text, generated_for = ((folder / "cukvashe_des.h").read_bytes() for folder in (C, GENERATED))
     except OSError as error:
-        raise SystemExit(f"{error.filename} is missing. pip before 21.3 copies this folder alone: run bindings/carry bindings/python") from None
-    version = re.findall('__version__ = (".*")', (HERE / "cukvashe_des/_version.py").read_text("utf-8"))[0]
-    if text != generated_for or f"#define CUKVASHE_VERSION {version}" not in text:
+        alone = "pip before 21.3 takes this folder alone, so run bindings/carry bindings/python first"
+        raise SystemExit(f"{error.filename} is missing: {alone}") from None
+    version = re.findall(b'__version__ = (".*")', (HERE / "cukvashe_des/_version.py").read_bytes())[0]
+    if text != generated_for or b"#define CUKVASHE_VERSION " + version not in text:
         raise SystemExit("generated/ was made for another header than bindings/c/cukvashe_des.h: take both from one commit")
     return text
 
@@ -73,11 +74,11 @@ def compiled():
     defined = set(re.findall(r"#define (\w+)", compiler("-E", "-dM", "-x", "c", os.devnull)))
     target = next((target for target, names in TARGETS.items() if names <= defined), None)
     if target is None:
-        raise SystemExit(f"the library has 64 bits and is for {', '.join(TARGETS)}, and the C compiler for none of them: name another by CC")
+        raise SystemExit(f"the C compiler is for none of {', '.join(TARGETS)} with pointers of 64 bits: name another by CC")
     link = ["-shared", "-fPIC", "-Wl,-soname,libcukvashe_des.so.2", "-Wl,-z,defs,-z,relro,-z,now"]
     if target == "windows":
         names = WORK / "names.def"
-        names.write_text("EXPORTS\n" + "\n".join(sorted(set(re.findall(r"\b(cukvashe_[a-z0-9_]+) ?\(", text)))))
+        names.write_bytes(b"\n".join([b"EXPORTS", *sorted(set(re.findall(rb"\b(cukvashe_[a-z0-9_]+) ?\(", text)))]))
         link = ["-shared", names]
     elif "macos" in target:
         link = ["-dynamiclib", "-mmacosx-version-min=11.0", "-Wl,-install_name,@rpath/libcukvashe_des.2.dylib"]
@@ -100,7 +101,7 @@ def kind():
     try:
         data = library().read_bytes()
     except OSError as error:
-        raise SystemExit(f"CUKVASHE_DES_LIBRARY names {error.filename}: {error.strerror}") from None
+        raise SystemExit(f"CUKVASHE_DES_LIBRARY names {error.filename}: {error.strerror} (pip needs an absolute path)") from None
 
     def number(at, size):
         return int.from_bytes(data[at : at + size], "little")
