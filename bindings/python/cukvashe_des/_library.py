@@ -4,6 +4,7 @@ from __future__ import annotations
 
 import ctypes
 import os
+import sys
 from typing import Any, Callable
 
 from ._version import __version__
@@ -56,20 +57,27 @@ SALT_LENGTH = 43
 
 POINTER, SIZE, INT, BOOL = ctypes.c_void_p, ctypes.c_size_t, ctypes.c_int, ctypes.c_bool
 
-_FILE = "libcukvashe_des.so"
+
+def _names() -> tuple[str, str, str]:
+    """The library's file in the package, the one that is built below `bindings/out`, and the one that the system finds."""
+    if sys.platform == "win32":
+        return "cukvashe_des.dll", "windows/bin/cukvashe_des.dll", "cukvashe_des.dll"
+    if sys.platform == "darwin":
+        return "libcukvashe_des.dylib", "macos/lib/libcukvashe_des.2.dylib", "libcukvashe_des.2.dylib"
+    processor = os.uname().machine
+    return "libcukvashe_des.so", ("" if processor == "x86_64" else processor + "/") + "lib/libcukvashe_des.so", "libcukvashe_des.so.2"
 
 
 def _place() -> str:
     """The library in the package, else the one that is named, else the one that is built for this processor, else the system's."""
     package = os.path.dirname(os.path.abspath(__file__))
-    packaged = os.path.join(package, _FILE)
-    processor = os.uname().machine
-    target = "" if processor == "x86_64" else processor
-    built = os.path.join(package, os.pardir, os.pardir, "out", target, "lib", _FILE)
+    file, below, system = _names()
+    packaged = os.path.join(package, file)
+    built = os.path.join(package, os.pardir, os.pardir, "out", below)
     named = os.environ.get("CUKVASHE_DES_LIBRARY")
     if os.path.exists(packaged):
         return packaged
-    return named or (built if os.path.exists(built) else _FILE + ".2")
+    return named or (built if os.path.exists(built) else system)
 
 
 def _load() -> ctypes.CDLL:
@@ -79,7 +87,8 @@ def _load() -> ctypes.CDLL:
         loaded = ctypes.CDLL(place)
         ask = loaded.cukvashe_version
     except (OSError, AttributeError) as error:
-        raise ImportError(f"{place} is not the library: run bindings/build, or name it by CUKVASHE_DES_LIBRARY") from error
+        build = "run `pip install ./bindings/python` or `make` in its repository"
+        raise ImportError(f"{place} is not the library: {build}, or name it by CUKVASHE_DES_LIBRARY") from error
     ask.restype = ctypes.c_char_p
     version = ask().decode("ascii")
     if version.split(".")[:2] != __version__.split(".")[:2]:

@@ -106,7 +106,8 @@ class Package(unittest.TestCase):
         for place in ("/nowhere/libcukvashe_des.so", "libc.so.6"):
             done = self.run_with(place)
             self.assertEqual(done.returncode, 1)
-            self.assertRegex(done.stderr, "ImportError: .* is not the library: run bindings/build, or name it by CUKVASHE_DES_LIBRARY\n$")
+            self.assertRegex(done.stderr, "ImportError: .* is not the library: run `pip install ./bindings/python` or `make` in its repository, "
+                             "or name it by CUKVASHE_DES_LIBRARY\n$")
 
     def test_places(self):
         """The library in the package comes first, then the one that is named, the one that is built, and the system's by its number."""
@@ -128,22 +129,28 @@ class Package(unittest.TestCase):
                 expected = os.path.join(folder, "libcukvashe_des.so.2") if place == places[0] else place
                 self.assertEqual((done.stdout.strip(), done.stderr), (os.path.realpath(expected), ""))
 
-    def test_processors(self):
-        """The library that is built for another processor is not taken."""
-        places = {"x86_64": "lib", "aarch64": os.path.join("aarch64", "lib")}
-        for built, place in places.items():
+    def test_systems(self):
+        """The library in the package, and the one that is built, are for this system and processor, or not taken."""
+        so, dll, dylib = "libcukvashe_des.so", "cukvashe_des.dll", "libcukvashe_des.dylib"
+        systems = {("linux", "x86_64"): (so, "lib/" + so, so + ".2"), ("linux", "aarch64"): (so, "aarch64/lib/" + so, so + ".2"),
+                   ("linux", "riscv64"): (so, "riscv64/lib/" + so, so + ".2"), ("win32", ""): (dll, "windows/bin/" + dll, dll),
+                   ("darwin", "arm64"): (dylib, "macos/lib/libcukvashe_des.2.dylib", "libcukvashe_des.2.dylib")}
+        for packaged, built, _ in systems.values():
             with tempfile.TemporaryDirectory() as folder:
-                library = os.path.join(folder, "out", place, "libcukvashe_des.so")
                 module = os.path.join(folder, "python", "cukvashe_des", "_library.py")
-                for path in (library, module):
-                    os.makedirs(os.path.dirname(path))
-                    open(path, "xb").close()
-                for processor in places:
-                    with mock.patch.dict(os.environ), mock.patch.object(_library, "__file__", module), \
-                            mock.patch.object(os, "uname", return_value=mock.Mock(machine=processor)):
-                        os.environ.pop("CUKVASHE_DES_LIBRARY", None)
-                        found = os.path.normpath(_library._place())
-                    self.assertEqual(found, library if processor == built else "libcukvashe_des.so.2")
+                places = [os.path.join(folder, "out", built), os.path.join(os.path.dirname(module), packaged)]
+                os.makedirs(os.path.dirname(module))
+                os.makedirs(os.path.dirname(places[0]))
+                for count, place in enumerate(places):
+                    open(place, "xb").close()
+                    for (system, processor), (own, own_built, other) in systems.items():
+                        with mock.patch.dict(os.environ), mock.patch.object(_library, "__file__", module), \
+                                mock.patch.object(sys, "platform", system), \
+                                mock.patch.object(os, "uname", return_value=mock.Mock(machine=processor)):
+                            os.environ.pop("CUKVASHE_DES_LIBRARY", None)
+                            found = os.path.normpath(_library._place())
+                        expected = places[0] if own_built == built else other
+                        self.assertEqual(found, places[1] if count == 1 and own == packaged else expected)
 
     def test_other_version(self):
         """A library whose contexts could be larger is refused."""
