@@ -67,7 +67,11 @@ fn tools() -> Tools {
         ));
     };
     let is_own = host.starts_with(&said("CARGO_CFG_TARGET_ARCH")) && host.contains(&said("CARGO_CFG_TARGET_OS"));
-    let (begin, install) = if is_own { ("", "apt-get install gcc libc6-dev") } else { (begin, install) };
+    let (begin, install) = match (is_own, text) {
+        (true, "windows") => ("", "in MSYS2 pacman -S mingw-w64-x86_64-gcc"),
+        (true, _) => ("", "apt-get install gcc libc6-dev"),
+        _ => (begin, install),
+    };
     let compiler = if begin.is_empty() && text != "windows" { "cc".to_string() } else { format!("{begin}gcc") };
     let mut cc = tool("CC", &compiler);
     // One compiler makes code for both of Apple's processors.
