@@ -1,143 +1,240 @@
-//! Finds the library: in the folder that CUKVASHE_DES_LIB_DIR names, else where `bindings/build` of the repository puts it for
-//! the target's processor, else where `pkg-config` says. The static one is taken where it is there. A library of another version is
-//! refused, and so is one that says none: its contexts could need more memory than this crate gives them.
+//! Builds the library by a C compiler, of the assembly that the proofs gave: of `native/` in this folder, which a packaged crate has
+//! (`bindings/carry` makes it), else of the repository. Where CUKVASHE_DES_LIB_DIR names a folder, the library there is linked
+//! instead, the static one if it has both. One of another version is refused, and so is one that says none: its contexts could need
+//! more memory than this crate gives them.
 
 use std::env;
-use std::ffi::OsString;
 use std::fs;
 use std::path::{Path, PathBuf};
-use std::process::Command;
+use std::process::{exit, Command};
 
 const VERSION: &str = env!("CARGO_PKG_VERSION");
 
-/// The variables of `pkg-config` on which the answer depends.
-const VARIABLES: [&str; 5] =
-    ["PKG_CONFIG", "PKG_CONFIG_PATH", "PKG_CONFIG_LIBDIR", "PKG_CONFIG_SYSROOT_DIR", "PKG_CONFIG_ALLOW_CROSS"];
+/// What stands before the version in the header.
+const NAMED: &str = "#define CUKVASHE_VERSION ";
 
-/// The names of one of these, as the crate `pkg-config` has them: for the target, for this machine or another, for all.
-fn names(variable: &str) -> [String; 4] {
-    let of = |name: &str| env::var(name).unwrap_or_default();
-    let (target, host) = (of("TARGET"), of("HOST"));
-    let side = if target == host { "HOST" } else { "TARGET" };
-    let plain = target.replace('-', "_");
-    [format!("{variable}_{target}"), format!("{variable}_{plain}"), format!("{side}_{variable}"), variable.to_string()]
+/// How the C beside the assembly is compiled, as by `bindings/build`.
+const FLAGS: [&str; 6] = ["-std=c99", "-O2", "-fPIC", "-fvisibility=hidden", "-ffunction-sections", "-fdata-sections"];
+
+/// Says why the crate can't be built, and ends.
+fn refused(text: &str) -> ! {
+    eprintln!("{text}");
+    exit(1);
 }
 
-/// What one of these variables says of the target.
-fn value(variable: &str) -> Option<OsString> {
-    names(variable).iter().find_map(env::var_os)
+/// What cargo says by a variable, or nothing.
+fn said(variable: &str) -> String {
+    env::var(variable).unwrap_or_default()
 }
 
-/// What `pkg-config` prints, where it succeeds.
-fn pkg_config(words: &[&str]) -> Option<String> {
-    let mut command = Command::new(value("PKG_CONFIG").unwrap_or_else(|| "pkg-config".into()));
-    command.args(words);
-    for variable in &VARIABLES[1..] {
-        if let Some(value) = value(variable) {
-            command.env(variable, value);
-        }
+/// What builds the library for the target.
+struct Tools {
+    /// The folder of the assembly in generated/.
+    text: &'static str,
+    cc: Vec<String>,
+    ar: Vec<String>,
+    /// What to do where one of them is missing, or is too old.
+    advice: String,
+}
+
+/// Of a target: the folder of its assembly, what the names of gcc's tools for it begin with, and how one comes by them.
+fn known() -> Option<[&'static str; 3]> {
+    let of = |what: &str| said(&format!("CARGO_CFG_TARGET_{what}"));
+    if of("POINTER_WIDTH") != "64" || of("ENDIAN") != "little" {
+        return None;
     }
-    let found = command.output().ok()?;
-    let text = found.status.success().then_some(found.stdout).and_then(|text| String::from_utf8(text).ok())?;
-    Some(text.trim_end_matches('\n').to_string())
+    Some(match (&*of("OS"), &*of("ENV"), &*of("ARCH")) {
+        ("linux", "gnu" | "musl", "x86_64") => ["x86_64", "x86_64-linux-gnu-", "apt-get install gcc-x86-64-linux-gnu"],
+        ("linux", "gnu" | "musl", "aarch64") => {
+            ["aarch64", "aarch64-linux-gnu-", "apt-get install gcc-aarch64-linux-gnu libc6-dev-arm64-cross"]
+        }
+        ("linux", "gnu" | "musl", "riscv64") => {
+            ["riscv64", "riscv64-linux-gnu-", "apt-get install gcc-riscv64-linux-gnu libc6-dev-riscv64-cross"]
+        }
+        ("windows", "gnu", "x86_64") => ["windows", "x86_64-w64-mingw32-", "apt-get install gcc-mingw-w64-x86-64"],
+        ("macos", _, "x86_64") => ["macos/x86_64", "", "xcode-select --install"],
+        ("macos", _, "aarch64") => ["macos/arm64", "", "xcode-select --install"],
+        _ => return None,
+    })
 }
 
-/// The folder of an installed library, and its version.
-fn installed() -> Option<(PathBuf, String)> {
-    let version = pkg_config(&["--modversion", "cukvashe_des"])?;
-    let folder = PathBuf::from(pkg_config(&["--variable=libdir", "cukvashe_des"])?);
-    let root = value("PKG_CONFIG_SYSROOT_DIR").map(PathBuf::from);
-    let folder = match root.filter(|root| !folder.starts_with(root)) {
-        Some(root) => root.join(folder.strip_prefix("/").unwrap_or(&folder)),
-        None => folder,
+/// What builds the library for cargo's target; refuses one for which there is no assembly.
+fn tools() -> Tools {
+    let (target, host) = (said("TARGET"), said("HOST"));
+    let Some([text, begin, install]) = known() else {
+        refused(&format!(
+            "{target} is not supported: take Linux on x86_64, aarch64 or riscv64 (gnu, musl), x86_64-pc-windows-gnu, or macOS"
+        ));
     };
-    Some((folder, version))
+    let is_own = host.starts_with(&said("CARGO_CFG_TARGET_ARCH")) && host.contains(&said("CARGO_CFG_TARGET_OS"));
+    let (begin, install) = match (is_own, text) {
+        (true, "windows") => ("", "in MSYS2 pacman -S mingw-w64-x86_64-gcc"),
+        (true, _) => ("", "apt-get install gcc libc6-dev"),
+        _ => (begin, install),
+    };
+    let compiler = if begin.is_empty() && text != "windows" { "cc".to_string() } else { format!("{begin}gcc") };
+    let mut cc = tool("CC", &compiler);
+    // One compiler makes code for both of Apple's processors.
+    cc.extend(text.strip_prefix("macos/").map(|processor| format!("--target={processor}-apple-macosx11")));
+    let advice = format!(
+        "{install}, or name by CC and AR tools for {target}: GCC with binutils from 2.35 on, or clang from 11 on"
+    );
+    Tools { text, cc, ar: tool("AR", &format!("{begin}ar")), advice }
 }
 
-/// The files beside a library that say its version, and what stands before it there.
-fn files(folder: &Path) -> [(PathBuf, &'static str); 2] {
-    let header = folder.join("../include/cukvashe_des.h");
-    [(folder.join("pkgconfig/cukvashe_des.pc"), "Version:"), (header, "#define CUKVASHE_VERSION ")]
+/// The words of a tool: those of its variable, by the names that the crate `cc` has for it, else its usual name. Cargo asks again when
+/// one of them changes.
+fn tool(variable: &str, usual: &str) -> Vec<String> {
+    let (target, side) = (said("TARGET"), if said("TARGET") == said("HOST") { "HOST" } else { "TARGET" });
+    let plain = target.replace('-', "_");
+    let names = [
+        format!("{variable}_{target}"),
+        format!("{variable}_{plain}"),
+        format!("{side}_{variable}"),
+        variable.to_string(),
+    ];
+    for name in &names {
+        println!("cargo:rerun-if-env-changed={name}");
+    }
+    let named = names.iter().map(|name| said(name)).find(|words| !words.trim().is_empty());
+    named.unwrap_or_else(|| usual.to_string()).split_whitespace().map(String::from).collect()
 }
 
-/// The version that a file says.
-fn version_in((file, before): &(PathBuf, &str)) -> Option<String> {
+/// A command that begins with a tool's words.
+fn command(words: &[String]) -> Command {
+    let mut command = Command::new(&words[0]);
+    command.args(&words[1..]);
+    command
+}
+
+/// Runs a command. Where it can't be run or fails, says which one, what to install, and what it said itself.
+fn run(command: &mut Command, advice: &str) {
+    match command.output() {
+        Ok(output) if output.status.success() => (),
+        Ok(output) => refused(&format!("failed: {command:?}: {advice}\n{}", String::from_utf8_lossy(&output.stderr))),
+        Err(error) => refused(&format!("{} can't be run ({error}): {advice}", command.get_program().to_string_lossy())),
+    }
+}
+
+/// A file's bytes.
+fn read(file: &Path) -> Vec<u8> {
+    fs::read(file).unwrap_or_else(|error| refused(&format!("{} can't be read: {error}", file.display())))
+}
+
+/// The files of a folder whose names begin and end so, in their order.
+fn files(folder: &Path, begin: &str, end: &str) -> Vec<PathBuf> {
+    let Ok(entries) = fs::read_dir(folder) else { return Vec::new() };
+    let mut names: Vec<_> = entries.filter_map(|entry| entry.ok()?.file_name().into_string().ok()).collect();
+    names.retain(|name| name.starts_with(begin) && name.ends_with(end));
+    names.sort();
+    names.iter().map(|name| folder.join(name)).collect()
+}
+
+/// The version that a file says behind a text, if the file is there.
+fn version_in(file: &Path, before: &str) -> Option<String> {
     let text = fs::read_to_string(file).ok()?;
     let version = text.lines().find_map(|line| line.strip_prefix(before)).unwrap_or_default();
     Some(version.trim().trim_matches('"').to_string())
 }
 
-/// The three numbers of a version.
-fn numbers(version: &str) -> Option<[u32; 3]> {
-    let numbers: Result<Vec<u32>, _> = version.split('.').map(str::parse).collect();
-    numbers.ok()?.try_into().ok()
+/// The folders of the C and of the assembly, which must be for one header, of this crate's version.
+fn sources() -> (PathBuf, PathBuf) {
+    let own = PathBuf::from(said("CARGO_MANIFEST_DIR"));
+    let packaged = own.join("native");
+    let (code, generated) = if packaged.exists() {
+        (packaged.join("c"), packaged.join("generated"))
+    } else {
+        (own.join("../c"), own.join("../../generated"))
+    };
+    let headers = [code.join("cukvashe_des.h"), generated.join("cukvashe_des.h")];
+    for watched in headers.iter().chain([&code.join("src")]) {
+        println!("cargo:rerun-if-changed={}", watched.display());
+    }
+    if read(&headers[0]) != read(&headers[1]) {
+        refused("generated/ was made for another header than bindings/c/cukvashe_des.h: take both from one commit");
+    }
+    let version = version_in(&headers[0], NAMED).unwrap_or_default();
+    if version != VERSION {
+        refused(&format!(
+            "cukvashe_des.h has version {version}, and this crate version {VERSION}: take both from one commit"
+        ));
+    }
+    (code, generated)
+}
+
+/// Builds the library, and links it.
+fn build() {
+    let Tools { text, cc, ar, advice } = tools();
+    let (code, generated) = sources();
+    let assembly = files(&generated.join(text), "library", ".s");
+    if assembly.is_empty() {
+        refused(&format!("{} has no assembly", generated.join(text).display()));
+    }
+    let out = PathBuf::from(said("OUT_DIR"));
+    let library = out.join("libcukvashe_des.a");
+    let mut archive = command(&ar);
+    archive.arg("rcs").arg(&library);
+    for file in files(&code.join("src"), "", ".c").iter().chain(&assembly) {
+        println!("cargo:rerun-if-changed={}", file.display());
+        let object = out.join(file.file_name().unwrap_or_default()).with_extension("o");
+        let mut compile = command(&cc);
+        if file.extension().is_some_and(|end| end == "c") {
+            compile.args(FLAGS).arg("-I").arg(&code);
+        }
+        run(compile.arg("-c").arg("-o").arg(&object).arg(file), &advice);
+        archive.arg(object);
+    }
+    // What an earlier run put in it would stay.
+    let _ = fs::remove_file(&library);
+    run(&mut archive, &advice);
+    link(&out, "static");
 }
 
 /// Whether this crate works over a library of a version: its own, or a later one with the same first two numbers.
 fn fits(version: &str) -> bool {
+    let numbers = |version: &str| version.split('.').map(str::parse).collect::<Result<Vec<u32>, _>>().ok();
     let (Some(own), Some(other)) = (numbers(VERSION), numbers(version)) else { return false };
-    own[..2] == other[..2] && own[2] <= other[2]
+    other.len() == 3 && own[..2] == other[..2] && own[2] <= other[2]
 }
 
-/// Whether `pkg-config` speaks of the target: it is for this machine's processor, or a variable says that it is for another.
-fn may_ask(processor: &str) -> bool {
-    let host = env::var("HOST").unwrap_or_default();
-    let allows = value("PKG_CONFIG_ALLOW_CROSS").is_some_and(|value| value != "0" && !value.is_empty());
-    host.split('-').next() == Some(processor) || value("PKG_CONFIG").is_some() || allows
-}
-
-/// The folder of the library, and the version that `pkg-config` says where it was asked.
-fn found(processor: &str) -> Option<(PathBuf, Option<String>)> {
-    let out = Path::new(env!("CARGO_MANIFEST_DIR")).join("../out");
-    let built = if processor == "x86_64" { out.join("lib") } else { out.join(processor).join("lib") };
-    let named = env::var_os("CUKVASHE_DES_LIB_DIR").map(PathBuf::from);
-    match named.or_else(|| Some(built).filter(|folder| folder.exists())) {
-        Some(folder) => Some((folder, None)),
-        None => may_ask(processor).then(installed).flatten().map(|(folder, version)| (folder, Some(version))),
-    }
-}
-
-/// Says why the crate can't be built, and ends.
-fn refused(text: &str) -> ! {
-    eprintln!("{text}");
-    std::process::exit(1);
-}
-
-/// What to do where no library is found.
-fn advice(processor: &str) -> String {
-    let target = if processor == "x86_64" { String::new() } else { format!(" --target {processor}") };
-    let install = if may_ask(processor) {
-        "install it where pkg-config looks"
-    } else {
-        "name the target's pkg-config by PKG_CONFIG"
-    };
-    format!("libcukvashe_des is not found: run bindings/build{target}, {install}, or set CUKVASHE_DES_LIB_DIR")
-}
-
-fn main() {
-    println!("cargo:rerun-if-env-changed=CUKVASHE_DES_LIB_DIR");
-    for name in VARIABLES.iter().flat_map(|variable| names(variable)) {
-        println!("cargo:rerun-if-env-changed={name}");
-    }
-    let processor = env::var("CARGO_CFG_TARGET_ARCH").unwrap_or_default();
-    let Some((folder, said)) = found(&processor) else { refused(&advice(&processor)) };
+/// Links the library of a folder, by the files beside it that say its version.
+fn take(folder: &Path) {
     if folder.is_relative() {
         refused("CUKVASHE_DES_LIB_DIR needs a path that begins with /: the crate is built in a folder of its own");
     }
-    let files = files(&folder);
-    let versions: Vec<String> = said.into_iter().chain(files.iter().filter_map(version_in)).collect();
+    let files =
+        [(folder.join("pkgconfig/cukvashe_des.pc"), "Version:"), (folder.join("../include/cukvashe_des.h"), NAMED)];
+    let versions: Vec<String> = files.iter().filter_map(|(file, before)| version_in(file, before)).collect();
     if let Some(other) = versions.iter().find(|version| !fits(version)) {
         refused(&format!("the library of {} has version {other}, and this crate version {VERSION}", folder.display()));
     }
     if versions.is_empty() {
-        let [pkg_config, header] = files.map(|(file, _)| file.display().to_string());
-        refused(&format!("the library of {} says no version: {pkg_config} and {header} are missing", folder.display()));
+        let [first, second] = files.map(|(file, _)| file.display().to_string());
+        refused(&format!("the library of {} says no version: {first} and {second} are missing", folder.display()));
     }
     let library = folder.join("libcukvashe_des.a");
-    let kind = if library.exists() { "static" } else { "dylib" };
-    for file in files.iter().map(|(file, _)| file).filter(|file| file.exists()).chain([&library]) {
+    for file in files.iter().map(|(file, _)| file).chain([&library]).filter(|file| file.exists()) {
         println!("cargo:rerun-if-changed={}", file.display());
     }
+    link(folder, if library.exists() { "static" } else { "dylib" });
+}
+
+/// Tells cargo to link the library of a folder.
+fn link(folder: &Path, kind: &str) {
     println!("cargo:rustc-link-search=native={}", folder.display());
     println!("cargo:rustc-link-lib={kind}=cukvashe_des");
+}
+
+fn main() {
+    for name in ["CUKVASHE_DES_LIB_DIR", "DOCS_RS"] {
+        println!("cargo:rerun-if-env-changed={name}");
+    }
+    // Nothing is linked for documents.
+    if env::var_os("DOCS_RS").is_some() {
+        return;
+    }
+    match env::var_os("CUKVASHE_DES_LIB_DIR") {
+        Some(folder) => take(Path::new(&folder)),
+        None => build(),
+    }
 }
