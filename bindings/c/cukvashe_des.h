@@ -47,7 +47,7 @@
  * secrets, say so below. On x86-64 with Linux it is tested with valgrind that init, pad, the calls of lists, ECB and CBC
  * decryption where this header says so, and all calls of quiet contexts, read no tables at such addresses. Elsewhere
  * that is not tested: nothing is claimed there of addresses and branches. A call uses at most 27,000 bytes of the stack;
- * those of transaction keys, of records and of the MACs of many messages at most 66,000. This is tested everywhere.
+ * those of transaction keys, of records and of the MACs of many messages at most 66,000. This is tested on Linux, as is what is left on the stack.
  *
  * SECRETS ON THE STACK
  *

@@ -276,6 +276,8 @@ static void *run(void *given) {
   work->run(work);
 #ifdef __x86_64__
   __asm__ __volatile__("mov %%rsp, %0" : "=r"(pointer));
+#elif defined(__riscv)
+  __asm__ __volatile__("mv %0, sp" : "=r"(pointer));
 #else
   __asm__ __volatile__("mov %0, sp" : "=r"(pointer));
 #endif
