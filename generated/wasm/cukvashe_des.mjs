@@ -1,0 +1,1576 @@
+// DES and triple DES (FIPS 46-3), proved, as WebAssembly, for browsers and Node:
+//
+//     import { load, TdesEde3 } from "./cukvashe_des.mjs";
+//     await load();
+//     const plaintext = new TdesEde3(key).decryptCbc(iv, ciphertext);
+//
+// Bytes come in and go out as Uint8Array, texts as strings of digits; names are those of the package for Python, and so
+// are the errors, each a CukvasheError of its own name. A wrong type is a TypeError. cukvashe_des.d.mts has the types.
+//
+// Each call lays its arguments down in the module's memory, calls, copies the answer out, and wipes both and the
+// module's stack. The module asks for no memory and keeps no state: ciphers and MACs keep their contexts here, as
+// bytes.
+
+/** The version of this file, which is that of the module. */
+export const version = "0.1.0";
+
+export const BLOCK_SIZE = 8;
+export const TAG_SIZE = 8;
+
+// The SHA-256 of the module that this file was built with.
+const MODULE_SUM = "a60d11d38d2b4fc5babe7b5ec3e740a8b9ff1d0d6a26c52d2f2b5e6255c5f92d";
+
+// The bytes of the module's stack, which lies at its address 0. `build` links it so.
+const STACK_SIZE = 131072;
+
+// ---- Errors ---------------------------------------------------------------------------------------------------------
+
+/** What every error of the library is. No text of one tells a value that was given, only lengths. */
+export class CukvasheError extends Error {}
+
+/** An error of a name, which stays when a tool shortens the names of classes. */
+function fault(name) {
+  const Fault = class extends CukvasheError {};
+  Object.defineProperty(Fault, "name", { value: name });
+  Object.defineProperty(Fault.prototype, "name", { value: name, writable: true, configurable: true });
+  return Fault;
+}
+
+export const NotLoaded = fault("NotLoaded");
+export const NoMemory64 = fault("NoMemory64");
+export const ModuleMismatch = fault("ModuleMismatch");
+export const KeyLength = fault("KeyLength");
+export const BlockLength = fault("BlockLength");
+export const VectorLength = fault("VectorLength");
+export const PaddingMethod = fault("PaddingMethod");
+export const PaddingMismatch = fault("PaddingMismatch");
+export const SerialLength = fault("SerialLength");
+export const CountMismatch = fault("CountMismatch");
+export const WeakKey = fault("WeakKey");
+export const TagMismatch = fault("TagMismatch");
+export const Closed = fault("Closed");
+export const Format = fault("Format");
+export const PinLength = fault("PinLength");
+export const PinDigit = fault("PinDigit");
+export const AccountLength = fault("AccountLength");
+export const AccountDigit = fault("AccountDigit");
+export const Fill = fault("Fill");
+export const FillLength = fault("FillLength");
+export const ExpiryLength = fault("ExpiryLength");
+export const ExpiryDigit = fault("ExpiryDigit");
+export const ServiceLength = fault("ServiceLength");
+export const ServiceDigit = fault("ServiceDigit");
+export const NoSerial = fault("NoSerial");
+export const StateLength = fault("StateLength");
+export const KeyIndex = fault("KeyIndex");
+export const TableLength = fault("TableLength");
+export const TableDigit = fault("TableDigit");
+export const TableVariety = fault("TableVariety");
+export const WrongPin = fault("WrongPin");
+export const Formats = fault("Formats");
+export const PinBlock = fault("PinBlock");
+export const SequenceLength = fault("SequenceLength");
+export const SequenceDigit = fault("SequenceDigit");
+export const DataLength = fault("DataLength");
+export const ProtectionKeyLength = fault("ProtectionKeyLength");
+export const KeyBlockLength = fault("KeyBlockLength");
+export const KeyBlockVersion = fault("KeyBlockVersion");
+export const KeyBlockField = fault("KeyBlockField");
+export const OptionalBlock = fault("OptionalBlock");
+export const KeyDataLength = fault("KeyDataLength");
+export const KeyBlockDigit = fault("KeyBlockDigit");
+export const KeyBlockMac = fault("KeyBlockMac");
+export const PaddingLength = fault("PaddingLength");
+export const HashName = fault("HashName");
+export const IterationCount = fault("IterationCount");
+export const NotSalted = fault("NotSalted");
+export const SaltLength = fault("SaltLength");
+
+// The statuses of cukvashe_des.h that are tested here, and those that are errors by themselves.
+const OK = 0;
+const BLOCKS = 2;
+const WEAK_KEY = 3;
+const PADDING = 17;
+const NO_OPTIONAL_BLOCK = 39;
+const SALT = 43;
+const FAULTS = new Map([
+  [1, [KeyLength, "a key has 8, 16 or 24 bytes"]],
+  [7, [Format, "the PIN block is of another format"]],
+  [8, [PinLength, "a PIN has 4 to 12 digits"]],
+  [9, [PinDigit, "a PIN has digits alone"]],
+  [10, [AccountLength, "an account number has 8 to 19 digits, for a PVV 12 to 19, for a CVV 13 to 19"]],
+  [11, [AccountDigit, "an account number has digits alone"]],
+  [12, [Fill, "a fill digit is none of those of the format"]],
+  [13, [ExpiryLength, "an expiry date has four digits"]],
+  [14, [ExpiryDigit, "an expiry date has digits alone"]],
+  [15, [ServiceLength, "a service code has three digits"]],
+  [16, [ServiceDigit, "a service code has digits alone"]],
+  [20, [KeyIndex, "the index of a key pair is 1 to 6"]],
+  [21, [TableLength, "a decimalization table has sixteen digits"]],
+  [22, [TableDigit, "a decimalization table has digits alone"]],
+  [23, [TableVariety, "a decimalization table has at least eight different digits"]],
+  [24, [WrongPin, "the PIN is not the one"]],
+  [25, [Formats, "PIN blocks are translated from formats 0, 1 and 3"]],
+  [26, [PinBlock, "the PIN block is not one of its format and account number"]],
+  [27, [SequenceLength, "a sequence number has two digits"]],
+  [28, [SequenceDigit, "a sequence number has digits alone"]],
+  [29, [DataLength, "the data of an issuer have at most 8 bytes"]],
+  [30, [ProtectionKeyLength, "a protection key has 16 or 24 bytes"]],
+  [31, [KeyBlockLength, "a key block has as many characters as it says, at most 9999"]],
+  [32, [KeyBlockVersion, "a key block is read of version A, B or C, and made of version B or C"]],
+  [33, [KeyBlockField, "the number of optional blocks is not two digits and two zeros, or a field to be written is not letters and digits"]],
+  [34, [OptionalBlock, "the optional blocks can't be read: a wrong length, an end off a multiple of eight, or more than 99"]],
+  [35, [KeyDataLength, "the encrypted key does not have a length that it can have"]],
+  [36, [KeyBlockDigit, "an encrypted key and its MAC have digits 0 to 9 and A to F alone"]],
+  [37, [KeyBlockMac, "the MAC is not that of the key block"]],
+  [38, [PaddingLength, "the padding has 6, 14 or 22 bytes, with the key at most 30"]],
+  [40, [HashName, 'the hash function of PBKDF2 is "sha1" or "sha256"']],
+  [41, [IterationCount, "the iterations are 1 at least, and at most 2^32 - 1"]],
+  [42, [NotSalted, "the data do not begin with Salted__"]],
+  [SALT, [SaltLength, "the data end within the salt"]],
+]);
+
+/** Throws the error of a status of the payment calls. */
+function check(status) {
+  if (status === OK) return;
+  const [Fault, words] = FAULTS.get(status);
+  throw new Fault(words);
+}
+
+// ---- Arguments: each is tested, and taken once, before anything is laid down ----------------------------------------
+
+// What every typed array has: a class that a caller derives may say otherwise.
+const typedArray = (name) => Object.getOwnPropertyDescriptor(Object.getPrototypeOf(Uint8Array.prototype), name).get;
+const [typedArrayName, bufferOf, offsetOf, lengthOf] = [Symbol.toStringTag, "buffer", "byteOffset", "length"].map(typedArray);
+
+/** The bytes of a Uint8Array, as Buffer is one, from whatever window it came. */
+function bytesOf(data, what) {
+  if (typedArrayName.call(data) !== "Uint8Array") throw new TypeError(`${what}: a Uint8Array is needed`);
+  return new Uint8Array(bufferOf.call(data), offsetOf.call(data), lengthOf.call(data));
+}
+
+/** The bytes of a key of one of these sizes. */
+function keyOf(key, ...sizes) {
+  const bytes = bytesOf(key, "a key");
+  if (sizes.includes(bytes.length)) return bytes;
+  throw new KeyLength(`a key has ${sizes.join(" or ")} bytes, not ${bytes.length}`);
+}
+
+function vectorOf(iv) {
+  const bytes = bytesOf(iv, "an initialization vector");
+  if (bytes.length === BLOCK_SIZE) return bytes;
+  throw new VectorLength(`an initialization vector has ${BLOCK_SIZE} bytes, not ${bytes.length}`);
+}
+
+function serialOf(serial) {
+  const bytes = bytesOf(serial, "a key serial number");
+  if (bytes.length === SERIAL_SIZE) return bytes;
+  throw new SerialLength(`a key serial number has ${SERIAL_SIZE} bytes, not ${bytes.length}`);
+}
+
+function blockOf(block) {
+  const bytes = bytesOf(block, "a PIN block");
+  if (bytes.length === BLOCK_SIZE) return bytes;
+  throw new BlockLength(`a PIN block has ${BLOCK_SIZE} bytes, not ${bytes.length}`);
+}
+
+/** Ten digits of four bits, one in a byte. */
+function fillOf(digits) {
+  const bytes = bytesOf(digits, "fill digits");
+  if (bytes.length === 10) return bytes;
+  throw new FillLength(`there are ten fill digits, not ${bytes.length}`);
+}
+
+/** The bytes of data that have one length, and no other. */
+function dataOf(data, size, what, has, Fault) {
+  const bytes = bytesOf(data, what);
+  if (bytes.length === size) return bytes;
+  throw new Fault(`${what} ${has} ${size} bytes, not ${bytes.length}`);
+}
+
+/** A number that a call takes, or one that it refuses, since a fraction or a larger one would become another. */
+function numberOf(number, least, most, what) {
+  if (typeof number !== "number") throw new TypeError(`${what}: a number is needed`);
+  return Number.isInteger(number) && number >= least && number <= most ? number : 2 ** 31 - 1;
+}
+
+/** The bytes of a text of ASCII digits. A character beyond ASCII becomes one that is no digit either. */
+function textOf(text, what) {
+  if (typedArrayName.call(text) === "Uint8Array") return bytesOf(text, what);
+  if (typeof text !== "string") throw new TypeError(`${what}: a string of digits is needed`);
+  return Uint8Array.from(text, (character) => (character.codePointAt(0) < 128 ? character.codePointAt(0) : 63));
+}
+
+/**
+ * An object of these names and of no others: a name that is spelled otherwise would pass for one that was left out.
+ */
+function namedOf(what, object, ...names) {
+  if (Object.prototype.toString.call(object) !== "[object Object]") {
+    throw new TypeError(`${what}: an object of names is needed`);
+  }
+  const given = Reflect.ownKeys(object);
+  for (const name in object) given.push(name);
+  if (given.every((name) => names.includes(name))) return object;
+  const listed = names.map((name) => `"${name}"`).join(", ").replace(/, ([^,]*)$/, " and $1");
+  throw new TypeError(`${what}: the names are ${listed} alone`);
+}
+
+/** The options of a call. */
+const optionsOf = (options, ...names) => namedOf("options", options, ...names);
+
+/** Refuses arguments that a call does not have. Passed over, they would be taken for a part of its answer. */
+function refuseMore(more, text) {
+  if (more.length > 0) throw new TypeError(text);
+}
+
+/** The text of bytes, each of them a character. */
+const charactersOf = (bytes) => Array.from(bytes, (byte) => String.fromCharCode(byte)).join("");
+
+/** The word for the message. Any other type would stand for the response, whatever it says. */
+function responseOf(isResponse) {
+  if (typeof isResponse !== "boolean") throw new TypeError("isResponse: true or false is needed");
+  return isResponse;
+}
+
+/** The number of a padding method of a MAC. The library refuses what is neither 1 nor 2. */
+function paddingOf(padding) {
+  if (typeof padding !== "number") throw new TypeError("the padding method: the number 1 or 2 is needed");
+  return padding === 1 || padding === 2 ? padding : 0;
+}
+
+/** The bytes of a list of elements of a size. */
+function listOf(list, size, Fault, elements) {
+  const bytes = bytesOf(list, elements);
+  if (bytes.length % size !== 0) throw new Fault(`${bytes.length} bytes are not whole ${elements} of ${size}`);
+  return bytes;
+}
+
+/** Numbers, of an array or anything else that gives them one by one. */
+function numbersOf(numbers, what) {
+  if (typeof numbers !== "object" || typeof numbers?.[Symbol.iterator] !== "function") {
+    throw new TypeError(`${what}: an array of numbers is needed`);
+  }
+  const taken = [...numbers];
+  if (!taken.every((number) => Number.isInteger(number))) throw new TypeError(`${what}: whole numbers are needed`);
+  if (taken.some((number) => number < 0 || number > Number.MAX_SAFE_INTEGER)) {
+    throw new CountMismatch("a count or a length is no number of 64 bits");
+  }
+  return taken;
+}
+
+// ---- The module's memory --------------------------------------------------------------------------------------------
+
+const PAGE = 65536;
+
+/**
+ * Lays down what a call reads and has room for what it writes, after the module's own data. Addresses and lengths are
+ * BigInt.
+ */
+class Workspace {
+  #memory;
+  #calls;
+  #start;
+  #end;
+  #isInCall = false;
+  #isSpoiled = false;
+
+  constructor({ memory, __heap_base: base, ...calls }) {
+    this.#memory = memory;
+    this.#calls = calls;
+    this.#start = this.#end = Math.ceil(Number(base.value) / 16) * 16;
+  }
+
+  /** Whether a call did not come to its end, or could not be wiped. */
+  get isSpoiled() {
+    return this.#isSpoiled;
+  }
+
+  /** What a function makes by calls, which is wiped after it. An exception out of the module leaves the instance spoiled. */
+  use(run) {
+    this.#isSpoiled = true;
+    try {
+      return run(this);
+    } finally {
+      this.wipe();
+      this.#isSpoiled = this.#isInCall;
+    }
+  }
+
+  call(name, ...words) {
+    this.#isInCall = true;
+    const answer = this.#calls[`cukvashe_${name}`](...words);
+    this.#isInCall = false;
+    return answer;
+  }
+
+  /** Room for so many bytes, at an address that is good for anything. */
+  room(size) {
+    const at = this.#end;
+    const end = Math.ceil((at + size) / 16) * 16;
+    const lacking = end - this.#memory.buffer.byteLength;
+    if (lacking > 0) this.#grow(Math.ceil(lacking / PAGE));
+    this.#end = end;
+    return BigInt(at);
+  }
+
+  /** Where the bytes of an array of a fixed size are laid down. */
+  put(bytes) {
+    const at = this.room(bytes.length);
+    this.lay(at, bytes);
+    return at;
+  }
+
+  /** Lays bytes down in room that was made. */
+  lay(at, bytes) {
+    this.#bytes(Number(at), bytes.length).set(bytes);
+  }
+
+  /** Where the elements of a list are laid down, and how many there are. */
+  list(bytes, size = 1) {
+    return [this.put(bytes), BigInt(bytes.length / size)];
+  }
+
+  /** Where words of 64 bits are laid down. */
+  words(numbers) {
+    const at = this.room(8 * numbers.length);
+    const view = new DataView(this.#memory.buffer, Number(at), 8 * numbers.length);
+    numbers.forEach((number, place) => view.setBigUint64(8 * place, BigInt(number), true));
+    return at;
+  }
+
+  /** A copy of what stands there. */
+  taken(at, size) {
+    return this.#bytes(Number(at), size).slice();
+  }
+
+  /** Copies what stands there over bytes. */
+  take(at, bytes) {
+    bytes.set(this.#bytes(Number(at), bytes.length));
+  }
+
+  /** A word of 64 bits that a call wrote. */
+  word(at) {
+    return Number(new DataView(this.#memory.buffer, Number(at), 8).getBigUint64(0, true));
+  }
+
+  wipe() {
+    this.#bytes(this.#start, this.#end - this.#start).fill(0);
+    this.#bytes(0, STACK_SIZE).fill(0);
+    this.#end = this.#start;
+  }
+
+  #bytes(at, size) {
+    return new Uint8Array(this.#memory.buffer, at, size);
+  }
+
+  // Engines older than the standard of 64-bit memories, such as Node 20's, take the number of pages as a Number.
+  #grow(pages) {
+    try {
+      this.#memory.grow(BigInt(pages));
+    } catch (error) {
+      if (!(error instanceof TypeError)) throw error;
+      this.#memory.grow(pages);
+    }
+  }
+}
+
+// The instance of the module that is in use, and the module, of which another one can be made.
+let workspace = null;
+let compiled = null;
+
+/**
+ * Runs calls in the module's memory, and wipes it. An exception that is none of the library's, as where the engine's own
+ * stack ends or the module traps, leaves its instance within a call, with a part of its stack in use for good. So the next
+ * call has a new one.
+ */
+function inside(run) {
+  if (workspace === null) throw new NotLoaded("the library is not loaded: await load() first");
+  if (workspace.isSpoiled) renew();
+  return workspace.use(run);
+}
+
+/** Wipes what a call left behind, and makes a new instance. */
+function renew() {
+  workspace.wipe();
+  workspace = new Workspace(new WebAssembly.Instance(compiled, {}).exports);
+}
+
+/** What a call writes to room of a size, after its other arguments; a status of it is looked at. */
+function written(size, name, lay) {
+  return inside((memory) => {
+    const words = lay(memory);
+    const at = memory.room(size);
+    check(memory.call(name, ...words, at) ?? OK);
+    return memory.taken(at, size);
+  });
+}
+
+/** The digits that a call writes, up to its zero byte. */
+function writtenText(size, name, lay) {
+  const bytes = written(size, name, lay);
+  const text = String.fromCharCode(...bytes.filter((byte) => byte !== 0));
+  bytes.fill(0);
+  return text;
+}
+
+// ---- Loading --------------------------------------------------------------------------------------------------------
+
+// A module that has a 64-bit memory and nothing else.
+const OF_64_BITS = Uint8Array.of(0, 97, 115, 109, 1, 0, 0, 0, 5, 3, 1, 4, 1);
+
+/** Whether this engine has a 64-bit memory for WebAssembly, without which `load` throws NoMemory64. */
+export function isSupported() {
+  return typeof WebAssembly === "object" && WebAssembly.validate(OF_64_BITS);
+}
+
+/** The bytes of the file cukvashe_des.wasm beside this one. */
+async function fileBeside() {
+  const place = new URL("cukvashe_des.wasm", import.meta.url);
+  if (place.protocol === "file:" && typeof process === "object") {
+    return (await import("node:fs/promises")).readFile(place);
+  }
+  const response = await fetch(place);
+  if (!response.ok) throw new Error(`${place.pathname} was not sent: status ${response.status}`);
+  return response.arrayBuffer();
+}
+
+/**
+ * Loads the module: the file beside this one, or its bytes. Every other call throws NotLoaded before that. NoMemory64
+ * where the engine has no 64-bit memory, ModuleMismatch where the bytes are not those that this file was built with;
+ * where `crypto.subtle` is missing, as on pages by http, they are not compared.
+ */
+export async function load(module) {
+  if (!isSupported()) throw new NoMemory64("this engine has no 64-bit memory for WebAssembly");
+  const given = module === undefined ? await fileBeside() : module;
+  const bytes = (given instanceof ArrayBuffer ? new Uint8Array(given) : bytesOf(given, "the module")).slice();
+  if (globalThis.crypto?.subtle !== undefined) {
+    const sum = new Uint8Array(await crypto.subtle.digest("SHA-256", bytes));
+    if (hexOf(sum) !== MODULE_SUM) throw new ModuleMismatch("the module is not the one that this file was built with");
+  }
+  const { module: made, instance } = await WebAssembly.instantiate(bytes, {});
+  compiled = made;
+  workspace = new Workspace(instance.exports);
+}
+
+const hexOf = (bytes) => Array.from(bytes, (byte) => byte.toString(16).padStart(2, "0")).join("");
+
+// ---- What holds a key -----------------------------------------------------------------------------------------------
+
+// Of each class of ciphers or MACs the name of its calls in C, the size of its key, and how many words its context has.
+const kinds = new Map();
+
+// Of each cipher, MAC and terminal its kind, its context, which is null once it was closed, and the instance that made it. No
+// text of an object shows them.
+const states = new WeakMap();
+
+/** Keeps what the instance in use made of a key. */
+const keep = (object, kind, context) => states.set(object, { kind, context, maker: workspace });
+
+/** The kind of a class, which may be one that a caller made of ours. */
+function kindOf(Class, Base, what) {
+  for (let at = Class; typeof at === "function" && at.prototype instanceof Base; at = Object.getPrototypeOf(at)) {
+    if (kinds.has(at)) return kinds.get(at);
+  }
+  throw new TypeError(`${what}: a class is needed, such as ${Base === Cipher ? "TdesEde2" : "RetailMacDes"}`);
+}
+
+/** Refuses what an instance made in which a call did not end: nobody knows what such a one had written. */
+function refuseOfSpoiled({ maker }) {
+  if (maker?.isSpoiled) throw new Closed("the object was closed by a call that did not end: make it anew");
+}
+
+/** The kind and the context of a cipher or MAC. */
+function stateOf(object, Base) {
+  if (!(object instanceof Base) || !states.has(object)) {
+    const example = Base === Cipher ? "a cipher, such as new TdesEde2(key)" : "one that its class has made";
+    throw new TypeError(`the object: ${example}, is needed`);
+  }
+  const state = states.get(object);
+  if (state.context === null) throw new Closed("the object was closed");
+  refuseOfSpoiled(state);
+  return state;
+}
+
+/** The context of a key; null where a padding method is refused. */
+function contextOf({ name, words }, key, ...padding) {
+  return inside((memory) => {
+    const at = memory.room(8 * words);
+    const status = memory.call(`${name}_init`, at, ...memory.list(key), ...padding);
+    return status === OK ? memory.taken(at, 8 * words) : null;
+  });
+}
+
+/** A cipher or MAC under one key. */
+class Keyed {
+  /** Forgets the key: the context is wiped. Every later call throws Closed. */
+  close() {
+    const state = states.get(this);
+    if (state === undefined) return;
+    state.context?.fill(0);
+    state.context = null;
+  }
+}
+
+if (Symbol.dispose !== undefined) Object.defineProperty(Keyed.prototype, Symbol.dispose, { value: Keyed.prototype.close });
+
+// ---- Ciphers --------------------------------------------------------------------------------------------------------
+
+/** A block cipher under one key. Data are whole blocks of 8 bytes; `pad` and `unpad` make them of other data. */
+class Cipher extends Keyed {
+  static blockSize = BLOCK_SIZE;
+
+  constructor(key, ...more) {
+    super();
+    refuseMore(more, "a cipher takes a key alone, and neither a vector nor options");
+    const kind = kindOf(new.target, Cipher, "a cipher");
+    keep(this, kind, contextOf(kind, keyOf(key, kind.keySize)));
+  }
+
+  /** The data, each block of 8 bytes encrypted by itself. */
+  encryptEcb(data, ...more) {
+    return ecb(this, "encrypt_ecb", data, more);
+  }
+
+  /** The data, each block of 8 bytes decrypted by itself. */
+  decryptEcb(data, ...more) {
+    return ecb(this, "decrypt_ecb", data, more);
+  }
+
+  /** The data, encrypted by cipher block chaining from an initialization vector of 8 bytes. */
+  encryptCbc(iv, data, ...more) {
+    return cbc(this, "encrypt_cbc", iv, data, more);
+  }
+
+  /** The data, decrypted by cipher block chaining from an initialization vector of 8 bytes. Padding stays. */
+  decryptCbc(iv, data, ...more) {
+    return cbc(this, "decrypt_cbc", iv, data, more);
+  }
+}
+
+// Encryption by CBC is one export for all widths of vectors, so its name has no width.
+const widthOf = (call) => (call === "encrypt_cbc" ? "" : "narrow_");
+
+function ecb(cipher, call, data, more) {
+  refuseMore(more, "ECB takes data alone, and no initialization vector");
+  return answered(cipher, call, data, []);
+}
+
+function cbc(cipher, call, iv, data, more) {
+  refuseMore(more, "CBC takes a vector and data alone, and neither padding nor options");
+  return answered(cipher, call, data, [vectorOf(iv)]);
+}
+
+/** What a call makes of data, in place, with or without a vector. */
+function answered(cipher, call, data, vectors) {
+  const { kind, context } = stateOf(cipher, Cipher);
+  const bytes = bytesOf(data, "data");
+  return inside((memory) => {
+    const [at, length] = memory.list(bytes);
+    const laid = [memory.put(context), ...vectors.map((vector) => memory.put(vector))];
+    if (memory.call(`${widthOf(call)}${kind.name}_${call}`, ...laid, at, length) !== OK) {
+      throw new BlockLength(`${bytes.length} bytes are not whole blocks of ${BLOCK_SIZE}`);
+    }
+    return memory.taken(at, bytes.length);
+  });
+}
+
+/** DES, under a key of 8 bytes. */
+export class Des extends Cipher {
+  static keySize = 8;
+}
+
+/** Triple DES: encryption, decryption, encryption, under the two parts of a key of 16 bytes and the first again. */
+export class TdesEde2 extends Cipher {
+  static keySize = 16;
+}
+
+/** Triple DES: encryption, decryption, encryption, under the three parts of a key of 24 bytes. */
+export class TdesEde3 extends Cipher {
+  static keySize = 24;
+}
+
+kinds.set(Des, { name: "des", keySize: 8, words: 17 });
+kinds.set(TdesEde2, { name: "tdes_ede2", keySize: 16, words: 33 });
+kinds.set(TdesEde3, { name: "tdes_ede3", keySize: 24, words: 49 });
+
+/** The kind of a class of ciphers, the first argument of a call. */
+const cipherOf = (Class) => kindOf(Class, Cipher, "the first argument");
+
+// ---- Message authentication codes -----------------------------------------------------------------------------------
+
+const LEAST_TAG_SIZE = 4;
+
+/** A message authentication code of a message that comes in pieces. */
+class Mac extends Keyed {
+  static digestSize = TAG_SIZE;
+
+  /** Adds bytes to the message. */
+  update(data, ...more) {
+    refuseMore(more, "update takes data alone");
+    const { kind, context } = stateOf(this, Mac);
+    const bytes = bytesOf(data, "data");
+    inside((memory) => {
+      const at = memory.put(context);
+      memory.call(`${kind.name}_update`, at, ...memory.list(bytes));
+      memory.take(at, context);
+    });
+    return this;
+  }
+
+  /**
+   * The tag of the message so far, 8 bytes, or as a string of "hex"; the message may go on. To check a tag call verify.
+   */
+  digest(encoding) {
+    if (encoding !== undefined && encoding !== "hex") throw new TypeError('digest takes no argument but "hex"');
+    const { kind, context } = stateOf(this, Mac);
+    const tag = written(TAG_SIZE, `${kind.name}_final`, (memory) => [memory.put(context)]);
+    return encoding === "hex" ? hexOf(tag) : tag;
+  }
+
+  /** True for the tag of the message so far, 8 bytes; TagMismatch is thrown for anything else. */
+  verify(tag) {
+    return accepted(this, tag, TAG_SIZE);
+  }
+
+  /**
+   * True for the first 4 to 8 bytes of the tag; TagMismatch is thrown for anything else. Whoever may send 4 bytes has
+   * one chance in 2^32: test the length too if somebody else chose it.
+   */
+  verifyTruncatedLeft(tag) {
+    return accepted(this, tag, LEAST_TAG_SIZE);
+  }
+
+  /** A MAC that goes on from here by itself. */
+  copy() {
+    const { kind, context } = stateOf(this, Mac);
+    const other = Object.create(Object.getPrototypeOf(this));
+    keep(other, kind, context.slice());
+    return other;
+  }
+}
+
+function accepted(mac, tag, least) {
+  const { kind, context } = stateOf(mac, Mac);
+  const bytes = bytesOf(tag, "a tag");
+  const status = inside((memory) => memory.call(`${kind.name}_verify`, memory.put(context), ...memory.list(bytes)));
+  if (status !== OK || bytes.length < least) throw new TagMismatch("the tag is not that of the message");
+  return true;
+}
+
+/** A MAC with a padding method of ISO/IEC 9797-1: 1, zeros, or 2, a one bit and zeros. */
+class PaddedMac extends Mac {
+  constructor(key, padding, data = new Uint8Array(), ...more) {
+    super();
+    refuseMore(more, "a MAC takes a key, a padding method and data alone");
+    const kind = kindOf(new.target, PaddedMac, "a MAC");
+    const [held, method, bytes] = [keyOf(key, kind.keySize), paddingOf(padding), bytesOf(data, "data")];
+    const context = contextOf(kind, held, method);
+    if (context === null) throw new PaddingMethod("padding is by method 1 or 2");
+    keep(this, kind, context);
+    this.update(bytes);
+  }
+}
+
+/** CMAC, which needs no padding method. */
+class Cmac extends Mac {
+  constructor(key, data = new Uint8Array(), ...more) {
+    super();
+    refuseMore(more, "CMAC takes a key and data alone");
+    const kind = kindOf(new.target, Cmac, "a MAC");
+    const [held, bytes] = [keyOf(key, kind.keySize), bytesOf(data, "data")];
+    keep(this, kind, contextOf(kind, held));
+    this.update(bytes);
+  }
+}
+
+/** CBC-MAC over DES, under a key of 8 bytes. It is safe only where every message has one length. */
+export class CbcMacDes extends PaddedMac {
+  static keySize = 8;
+}
+
+/** CBC-MAC over triple DES, under a key of 16 bytes. It is safe only where every message has one length. */
+export class CbcMacTdesEde2 extends PaddedMac {
+  static keySize = 16;
+}
+
+/** CBC-MAC over triple DES, under a key of 24 bytes. It is safe only where every message has one length. */
+export class CbcMacTdesEde3 extends PaddedMac {
+  static keySize = 24;
+}
+
+/** The retail MAC over DES, under a key of 16 bytes, two keys. */
+export class RetailMacDes extends PaddedMac {
+  static keySize = 16;
+}
+
+/** CMAC over triple DES, under a key of 16 bytes. */
+export class CmacTdesEde2 extends Cmac {
+  static keySize = 16;
+}
+
+/** CMAC over triple DES, under a key of 24 bytes. */
+export class CmacTdesEde3 extends Cmac {
+  static keySize = 24;
+}
+
+kinds.set(CbcMacDes, { name: "cbc_mac_des", keySize: 8, words: 21 });
+kinds.set(CbcMacTdesEde2, { name: "cbc_mac_tdes_ede2", keySize: 16, words: 37 });
+kinds.set(CbcMacTdesEde3, { name: "cbc_mac_tdes_ede3", keySize: 24, words: 53 });
+kinds.set(RetailMacDes, { name: "retail_mac_des", keySize: 16, words: 38 });
+kinds.set(CmacTdesEde2, { name: "cmac_tdes_ede2", keySize: 16, words: 37 });
+kinds.set(CmacTdesEde3, { name: "cmac_tdes_ede3", keySize: 24, words: 53 });
+
+// ---- Padding --------------------------------------------------------------------------------------------------------
+
+const METHODS = new Map([["pkcs7", 11], ["iso7816", 12]]);
+
+function methodOf(method) {
+  if (typeof method !== "string") throw new TypeError('the padding method: "pkcs7" or "iso7816" is wanted');
+  if (!METHODS.has(method)) throw new PaddingMethod('padding is by "pkcs7" or "iso7816"');
+  return METHODS.get(method);
+}
+
+/**
+ * The data with 1 to 8 bytes after them that make whole blocks: by "pkcs7" (RFC 5652, section 6.3) each the number of
+ * these bytes, by "iso7816" (ISO/IEC 7816-4) 80 in hexadecimal digits and then zeros.
+ */
+export function pad(data, method) {
+  const number = methodOf(method);
+  const bytes = bytesOf(data, "data");
+  return inside((memory) => {
+    const capacity = bytes.length + BLOCK_SIZE;
+    const [at, length] = [memory.room(capacity), memory.room(8)];
+    memory.lay(at, bytes);
+    memory.call("narrow_pad", at, BigInt(capacity), BigInt(bytes.length), number, length);
+    return memory.taken(at, memory.word(length));
+  });
+}
+
+/**
+ * The data before the padding. PaddingMismatch where they do not end with it: whoever can send you data and learns
+ * which of them throw it, by a message or by the time that it takes, can decrypt. Verify a MAC first.
+ */
+export function unpad(data, method) {
+  const number = methodOf(method);
+  const bytes = bytesOf(data, "data");
+  return inside((memory) => {
+    const [at, size] = memory.list(bytes);
+    const length = memory.room(8);
+    const status = memory.call("unpad", at, size, number, length);
+    if (status === BLOCKS) throw new BlockLength(`${bytes.length} bytes are not whole blocks of ${BLOCK_SIZE}`);
+    if (status !== OK) throw new PaddingMismatch("the data do not end with the padding");
+    return memory.taken(at, memory.word(length));
+  });
+}
+
+// ---- Keys -----------------------------------------------------------------------------------------------------------
+
+const SIZES = [8, 16, 24];
+
+/** Whether a key of 8, 16 or 24 bytes is weak: a part of it has few different round keys, or two parts are one key. */
+export function isWeakKey(key) {
+  const bytes = keyOf(key, ...SIZES);
+  return inside((memory) => memory.call("weak_key_test", ...memory.list(bytes))) === WEAK_KEY;
+}
+
+/** The key of 8, 16 or 24 bytes with its parity bits, the lowest of each byte, set to odd parity. */
+export function withOddParity(key) {
+  const bytes = keyOf(key, ...SIZES);
+  return inside((memory) => {
+    const [at, length] = memory.list(bytes);
+    memory.call("set_odd_parity", at, length);
+    return memory.taken(at, bytes.length);
+  });
+}
+
+/** Whether two keys of one length, 8, 16 or 24 bytes, agree in all but their parity bits, and so are one key. */
+export function equalButParity(first, second) {
+  const one = keyOf(first, ...SIZES);
+  const other = keyOf(second, one.length);
+  return inside((memory) => memory.call("narrow_equal_but_parity", ...memory.list(one), ...memory.list(other))) !== 0;
+}
+
+const CHECK_VALUE_SIZE = 3;
+
+/**
+ * The check value of a key, three bytes: the first of the block of zeros encrypted. `cipher` is a class, as TdesEde2.
+ */
+export function checkValue(cipher, key) {
+  const { name, keySize } = cipherOf(cipher);
+  const bytes = keyOf(key, keySize);
+  return written(CHECK_VALUE_SIZE, `${name}_check_value`, (memory) => memory.list(bytes));
+}
+
+/** The check value of a key of 8, 16 or 24 bytes, or of a component, by its length: by DES, or by triple DES (EDE). */
+export function keyCheckValue(key) {
+  const bytes = keyOf(key, ...SIZES);
+  return written(CHECK_VALUE_SIZE, "key_check_value", (memory) => memory.list(bytes));
+}
+
+/** The first two bytes of keyCheckValue, which some systems show in its place. */
+export function shortKeyCheckValue(key) {
+  const bytes = keyOf(key, ...SIZES);
+  return written(2, "short_key_check_value", (memory) => memory.list(bytes));
+}
+
+/** The key that two or more components of 8, 16 or 24 bytes make: their xor, with odd parity. A weak one is WeakKey. */
+export function combine(first, second, ...others) {
+  const one = keyOf(first, ...SIZES);
+  const size = one.length;
+  const other = keyOf(second, size);
+  const more = others.map((component) => keyOf(component, size));
+  return inside((memory) => {
+    const laid = [memory.put(one), memory.put(other)];
+    const rest = memory.room(size * more.length);
+    more.forEach((component, place) => memory.lay(rest + BigInt(size * place), component));
+    const at = memory.room(size);
+    if (memory.call(`combine_${size}`, ...laid, rest, BigInt(more.length), at) !== OK) {
+      throw new WeakKey("the weak key test refuses the key that the components make");
+    }
+    return memory.taken(at, size);
+  });
+}
+
+// ---- Keys of a transaction (DUKPT with triple DES, ANSI X9.24-1:2009, the host's side) ------------------------------
+
+const SERIAL_SIZE = 10;
+const TRANSACTION_KEY_SIZE = 16;
+
+/** A key of 16 bytes that a call makes of another. */
+function madeOf(name, key, lay) {
+  const bytes = keyOf(key, TRANSACTION_KEY_SIZE);
+  return written(TRANSACTION_KEY_SIZE, name, (memory) => [memory.put(bytes), ...lay(memory)]);
+}
+
+/** The initial key of a terminal, from the base derivation key and a key serial number. */
+export function dukptInitialKey(base, serial) {
+  const number = serialOf(serial);
+  return madeOf("dukpt_initial_key", base, (memory) => [memory.put(number)]);
+}
+
+/**
+ * The key of a transaction, from the terminal's initial key and the transaction's key serial number. Every counter is
+ * taken; that of 0 gives the initial key itself: ask dukptIsUsable first.
+ */
+export function dukptTransactionKey(initial, serial) {
+  const number = serialOf(serial);
+  return madeOf("dukpt_transaction_key", initial, (memory) => [memory.put(number)]);
+}
+
+/** The key that encrypts PIN blocks, from the transaction's key. */
+export function dukptPinKey(transaction) {
+  return madeOf("dukpt_pin_key", transaction, () => []);
+}
+
+/** The key that authenticates the request, or the response, from the transaction's key. */
+export function dukptMacKey(transaction, isResponse = false) {
+  const word = responseOf(isResponse);
+  return madeOf("dukpt_mac_key", transaction, () => [Number(word)]);
+}
+
+/** The key that encrypts the data of the request, or of the response, from the transaction's key. */
+export function dukptDataKey(transaction, isResponse = false) {
+  const word = responseOf(isResponse);
+  return madeOf("dukpt_data_key", transaction, () => [Number(word)]);
+}
+
+/**
+ * The key that dukptDataKey makes, without its last step: some terminals encrypt data under it. Whoever has it has the
+ * transaction's other keys.
+ */
+export function dukptDataVariant(transaction, isResponse = false) {
+  const word = responseOf(isResponse);
+  return madeOf("dukpt_data_variant", transaction, () => [Number(word)]);
+}
+
+/** The next key serial number with at most ten one bits in its counter, or null where there is none. */
+export function dukptNextSerial(serial) {
+  const number = serialOf(serial);
+  return inside((memory) => {
+    const [at, next] = [memory.put(number), memory.room(SERIAL_SIZE)];
+    return memory.call("dukpt_next_serial", at, next) === OK ? memory.taken(next, SERIAL_SIZE) : null;
+  });
+}
+
+/** Whether a transaction has this key serial number: its counter is not 0 and has at most ten one bits. */
+export function dukptIsUsable(serial) {
+  const number = serialOf(serial);
+  return inside((memory) => memory.call("dukpt_is_usable", memory.put(number))) !== 0;
+}
+
+const STATE_SIZE = 346;
+
+/**
+ * The terminal's side: the keys of its transactions to come, made of the initial key, 16 bytes, and any of its key
+ * serial numbers, whose counter plays no part.
+ */
+export class DukptTerminal extends Keyed {
+  constructor(initial, serial) {
+    super();
+    const [key, number] = [keyOf(initial, TRANSACTION_KEY_SIZE), serialOf(serial)];
+    const context = inside((memory) => {
+      const at = memory.room(STATE_SIZE);
+      memory.call("dukpt_terminal_init", at, memory.put(key), memory.put(number));
+      return memory.taken(at, STATE_SIZE);
+    });
+    keep(this, null, context);
+  }
+
+  /** The terminal of a state. */
+  static fromState(state) {
+    const context = dataOf(state, STATE_SIZE, "the state of a terminal", "has", StateLength).slice();
+    const terminal = Object.create(this.prototype);
+    keep(terminal, null, context);
+    return terminal;
+  }
+
+  /**
+   * The key serial number, `serial`, and the key, `key`, of the next transaction, that of dukptTransactionKey; the
+   * terminal no longer has the key then. NoSerial after the last transaction, the 1,048,575th. Store `state()` before
+   * you use the key, or a key is used twice.
+   */
+  nextKey() {
+    const { context } = stateOf(this, DukptTerminal);
+    return inside((memory) => {
+      const at = memory.put(context);
+      const [serial, key] = [memory.room(SERIAL_SIZE), memory.room(TRANSACTION_KEY_SIZE)];
+      if (memory.call("dukpt_terminal_next_key", at, serial, key) !== OK) {
+        throw new NoSerial("the terminal has had its last transaction");
+      }
+      memory.take(at, context);
+      return { serial: memory.taken(serial, SERIAL_SIZE), key: memory.taken(key, TRANSACTION_KEY_SIZE) };
+    });
+  }
+
+  /** The state, 346 bytes, from which `fromState` goes on. Whoever has it has the keys of all transactions to come. */
+  state() {
+    return stateOf(this, DukptTerminal).context.slice();
+  }
+}
+
+// ---- PIN blocks (ISO 9564-1) and their translation. Numbers are strings, or bytes, of digits -----------------
+
+const PIN_SIZE = 13;
+const CVV_SIZE = 4;
+
+/**
+ * The PIN block of format 0, 8 bytes, of a PIN of 4 to 12 digits and an account number of 8 to 19 with its check digit.
+ * It is not encrypted.
+ */
+export function pinEncode0(pin, account) {
+  const [digits, number] = [textOf(pin, "a PIN"), textOf(account, "an account number")];
+  return written(BLOCK_SIZE, "pin_encode_0", (memory) => [...memory.list(digits), ...memory.list(number)]);
+}
+
+/**
+ * The PIN block of format 1 of a PIN and ten transaction digits, bytes from 0 to 15, of which it uses the first ones
+ * that there is room for.
+ */
+export function pinEncode1(pin, transaction) {
+  const [digits, fill] = [textOf(pin, "a PIN"), fillOf(transaction)];
+  return written(BLOCK_SIZE, "pin_encode_1", (memory) => [...memory.list(digits), memory.put(fill)]);
+}
+
+/** The PIN block of format 2 of a PIN, which goes to a card as it is. */
+export function pinEncode2(pin) {
+  const digits = textOf(pin, "a PIN");
+  return written(BLOCK_SIZE, "pin_encode_2", (memory) => memory.list(digits));
+}
+
+/**
+ * The PIN block of format 3 of a PIN, an account number, and ten fill digits, random bytes from 10 to 15, of which it
+ * uses the first ones that there is room for.
+ */
+export function pinEncode3(pin, account, fill) {
+  const [digits, number, random] = [textOf(pin, "a PIN"), textOf(account, "an account number"), fillOf(fill)];
+  const lay = (memory) => [...memory.list(digits), ...memory.list(number), memory.put(random)];
+  return written(BLOCK_SIZE, "pin_encode_3", lay);
+}
+
+/** The PIN of a block of format 0 and an account number. Which error is thrown tells of the PIN: show no one. */
+export function pinDecode0(block, account) {
+  const [number, bytes] = [textOf(account, "an account number"), blockOf(block)];
+  return writtenText(PIN_SIZE, "pin_decode_0", (memory) => [memory.put(bytes), ...memory.list(number)]);
+}
+
+/** The PIN of a block of format 1. */
+export function pinDecode1(block) {
+  const bytes = blockOf(block);
+  return writtenText(PIN_SIZE, "pin_decode_1", (memory) => [memory.put(bytes)]);
+}
+
+/** The PIN of a block of format 2. */
+export function pinDecode2(block) {
+  const bytes = blockOf(block);
+  return writtenText(PIN_SIZE, "pin_decode_2", (memory) => [memory.put(bytes)]);
+}
+
+/** The PIN of a block of format 3 and an account number. */
+export function pinDecode3(block, account) {
+  const [number, bytes] = [textOf(account, "an account number"), blockOf(block)];
+  return writtenText(PIN_SIZE, "pin_decode_3", (memory) => [memory.put(bytes), ...memory.list(number)]);
+}
+
+/**
+ * The PIN block of format 0 under the outgoing key, of the PIN of a block of format 0, 1 or 3 under the incoming key.
+ * Keys are `{ incomingKey, outgoingKey }`, by name so that none stands in the other's place, and have 8, 16 or 24 bytes.
+ * The account number is that of both blocks. Whatever is wrong with the block is PinBlock. The PIN does not come out.
+ */
+export function pinTranslateTo0(incomingFormat, account, block, keys) {
+  return written(BLOCK_SIZE, "pin_translate_to_0", translated(incomingFormat, account, [], block, keys));
+}
+
+/** The same to a block of format 3, with ten fill digits as of pinEncode3. */
+export function pinTranslateTo3(incomingFormat, account, fill, block, keys) {
+  return written(BLOCK_SIZE, "pin_translate_to_3", translated(incomingFormat, account, [fill], block, keys));
+}
+
+/** What a translation takes, laid down. */
+function translated(incomingFormat, account, fills, block, keys) {
+  const [format, digits] = [numberOf(incomingFormat, 0, 3, "the incoming format"), fills.map(fillOf)];
+  const { incomingKey, outgoingKey } = optionsOf(keys, "incomingKey", "outgoingKey");
+  const [incoming, outgoing] = [keyOf(incomingKey, ...SIZES), keyOf(outgoingKey, ...SIZES)];
+  const [number, bytes] = [textOf(account, "an account number"), blockOf(block)];
+  return (memory) => [
+    ...memory.list(incoming), format, ...memory.list(outgoing), ...memory.list(number),
+    ...digits.map((fill) => memory.put(fill)), memory.put(bytes),
+  ];
+}
+
+// ---- PIN verification: the PIN verification value (PVV), and natural PINs and offsets by the method of the IBM 3624
+
+const PVV_SIZE = 5;
+
+/**
+ * The PIN verification value, four digits, under a key pair of 16 bytes with an index from 1 to 6, of an account number
+ * of 12 to 19 digits and the first four digits of a PIN.
+ */
+export function pvv(key, account, index, pin) {
+  return writtenText(PVV_SIZE, "pvv", valueOf(key, account, index, pin));
+}
+
+/**
+ * True for the PIN whose PIN verification value this is; WrongPin is thrown for any other. Count these: whoever may ask
+ * often enough finds the PIN.
+ */
+export function pvvVerify(key, account, index, pin, value) {
+  const lay = valueOf(key, account, index, pin);
+  const kept = textOf(value, "a PIN verification value");
+  inside((memory) => check(memory.call("pvv_verify", ...lay(memory), ...memory.list(kept))));
+  return true;
+}
+
+/** What the calls of PIN verification values take, laid down. */
+function valueOf(key, account, index, pin) {
+  const place = numberOf(index, 1, 6, "the index of the key pair");
+  const [pair, number, digits] = [keyOf(key, 16), textOf(account, "an account number"), textOf(pin, "a PIN")];
+  return (memory) => [memory.put(pair), ...memory.list(number), place, ...memory.list(digits)];
+}
+
+const TABLE_SIZE = 16;
+
+// Of each decimalization table its digits, and the instance that made it. No text of one shows them.
+const tables = new WeakMap();
+
+/**
+ * A decimalization table of sixteen decimal digits, those that stand for 0 to 15 in this order. With fewer than eight
+ * different ones it is TableVariety: then many PINs are right, and who chooses the table finds a PIN out.
+ */
+export class DecimalTable {
+  constructor(digits) {
+    tables.set(this, tableOf("decimal_table_init", digits));
+  }
+
+  /** The same with any number of different digits, for old systems that have such a table. */
+  static ofAnyVariety(digits) {
+    const table = Object.create(this.prototype);
+    tables.set(table, tableOf("decimal_table_init_any", digits));
+    return table;
+  }
+}
+
+/** The table that a call makes of digits. */
+function tableOf(call, digits) {
+  const text = textOf(digits, "a decimalization table");
+  const taken = inside((memory) => {
+    const at = memory.room(TABLE_SIZE);
+    check(memory.call(call, at, ...memory.list(text)));
+    return memory.taken(at, TABLE_SIZE);
+  });
+  return { taken, maker: workspace };
+}
+
+/** A key, a decimalization table and validation data, sixteen digits in 8 bytes, as the calls below take them. */
+function naturalOf(key, table, validation) {
+  const data = dataOf(validation, BLOCK_SIZE, "validation data", "have", BlockLength);
+  const held = keyOf(key, ...SIZES);
+  if (!tables.has(table)) throw new TypeError("the decimalization table: a DecimalTable is needed");
+  const made = tables.get(table);
+  refuseOfSpoiled(made);
+  return (memory) => [...memory.list(held), memory.put(made.taken), memory.put(data)];
+}
+
+/**
+ * The natural PIN of 4 to 12 digits: the first digits of the validation data, 8 bytes, encrypted under a key of 8, 16 or
+ * 24 bytes, each by the decimalization table.
+ */
+export function naturalPin(key, table, validation, length) {
+  const lay = naturalOf(key, table, validation);
+  const count = BigInt(numberOf(length, 4, 12, "the length of the PIN"));
+  return writtenText(PIN_SIZE, "natural_pin", (memory) => [...lay(memory), count]);
+}
+
+/** The offset of a PIN: digit by digit, modulo ten, the PIN less the natural PIN. */
+export function pinOffset(key, table, validation, pin) {
+  const lay = naturalOf(key, table, validation);
+  const digits = textOf(pin, "a PIN");
+  return writtenText(PIN_SIZE, "pin_offset", (memory) => [...lay(memory), ...memory.list(digits)]);
+}
+
+/** True for the PIN whose offset this is; WrongPin is thrown for any other. Count these. */
+export function pinOffsetVerify(key, table, validation, pin, offset) {
+  const lay = naturalOf(key, table, validation);
+  const texts = [textOf(pin, "a PIN"), textOf(offset, "an offset")];
+  inside((memory) => {
+    check(memory.call("pin_offset_verify", ...lay(memory), ...texts.flatMap((text) => memory.list(text))));
+  });
+  return true;
+}
+
+// ---- Card cryptograms (EMV 4.3, Book 2), the issuer's side. Keys have 16 bytes
+
+const cryptogramOf = (bytes) => dataOf(bytes, BLOCK_SIZE, "an application cryptogram", "has", BlockLength);
+
+/**
+ * The key of a card (option A), with odd parity, from the issuer's key, an account number of 8 to 19 digits and a
+ * sequence number of two: "00" where the card has none.
+ */
+export function emvCardKey(issuer, account, sequence) {
+  const key = keyOf(issuer, 16);
+  const texts = [textOf(account, "an account number"), textOf(sequence, "a sequence number")];
+  return written(16, "emv_card_key", (memory) => [memory.put(key), ...texts.flatMap((text) => memory.list(text))]);
+}
+
+/**
+ * The session key of a card's key, from eight bytes that are different for each session: for secure messaging the
+ * application cryptogram. The third of them plays no part.
+ */
+export function emvSessionKey(card, block) {
+  const bytes = dataOf(block, BLOCK_SIZE, "the block of a session", "has", BlockLength);
+  return madeOf("emv_session_key", card, (memory) => [memory.put(bytes)]);
+}
+
+/** The session key for application cryptograms, by the application transaction counter, two bytes. */
+export function emvApplicationKey(card, counter) {
+  const bytes = dataOf(counter, 2, "a transaction counter", "has", DataLength);
+  return madeOf("emv_application_key", card, (memory) => [memory.put(bytes)]);
+}
+
+/**
+ * The application cryptogram of data under a session key, 8 bytes. To check one that a card sent call
+ * new RetailMacDes(session, 2, data).verify(cryptogram).
+ */
+export function emvApplicationCryptogram(session, data) {
+  const [key, bytes] = [keyOf(session, 16), bytesOf(data, "data")];
+  return written(BLOCK_SIZE, "emv_application_cryptogram", (memory) => [memory.put(key), ...memory.list(bytes)]);
+}
+
+/** The issuer's response by method 1 to an application cryptogram, 8 bytes, with a response code of two bytes. */
+export function emvResponse1(session, cryptogram, code) {
+  const request = cryptogramOf(cryptogram);
+  const word = dataOf(code, 2, "a response code", "has", DataLength);
+  const key = keyOf(session, 16);
+  return written(BLOCK_SIZE, "emv_response_1", (memory) => [memory.put(key), memory.put(request), memory.put(word)]);
+}
+
+/**
+ * The issuer's response by method 2, 4 bytes, with a card status update of four bytes and at most eight bytes of the
+ * issuer's.
+ */
+export function emvResponse2(session, cryptogram, status, data = new Uint8Array()) {
+  const request = cryptogramOf(cryptogram);
+  const word = dataOf(status, 4, "a card status update", "has", DataLength);
+  const [bytes, key] = [bytesOf(data, "data"), keyOf(session, 16)];
+  const lay = (memory) => [memory.put(key), memory.put(request), memory.put(word), ...memory.list(bytes)];
+  return written(4, "emv_response_2", lay);
+}
+
+// ---- Card verification values
+
+/**
+ * The card verification value, three digits, under a key pair of 16 bytes, of an account number of 13 to 19 digits, an
+ * expiry date of four and a service code of three.
+ */
+export function cvv(key, account, expiry, service) {
+  const pair = keyOf(key, 16);
+  const texts = [textOf(account, "an account number"), textOf(expiry, "an expiry date"), textOf(service, "a service code")];
+  return writtenText(CVV_SIZE, "cvv", (memory) => [memory.put(pair), ...texts.flatMap((text) => memory.list(text))]);
+}
+
+// ---- Key blocks (ANSI X9.143, ASC X9 TR-31): a key with what it is for, encrypted and authenticated under another -----
+
+const FIELDS_SIZE = 10;
+const KEY_DATA_SIZE = 32;
+
+// More characters than a block has besides its optional blocks, and a zero byte; and more than it can have.
+const MORE_CHARACTERS = 128;
+const TOO_MANY_CHARACTERS = 10000;
+
+const isAscii = (text) => /^[\0-\x7f]*$/.test(text);
+const isPrintable = (text) => /^[ -~]*$/.test(text);
+
+/** The bytes of a text of ASCII characters. Another character becomes one that no field of a header has. */
+const asciiOf = (text) => Uint8Array.from(text, (character) => (isAscii(character) ? character.charCodeAt(0) : 63));
+
+/** The characters of a key block. */
+function keyBlockOf(block) {
+  if (typedArrayName.call(block) === "Uint8Array") return bytesOf(block, "a key block");
+  if (typeof block !== "string") throw new TypeError("a key block: a string is needed");
+  if (!isAscii(block)) throw new KeyBlockDigit("a key block has ASCII characters alone");
+  return asciiOf(block);
+}
+
+/** The header of the fields that a call wrote. */
+function headerFrom(fields) {
+  const text = charactersOf(fields);
+  const [usage, keyVersion] = [text.slice(1, 3), text.slice(6, 8)];
+  return { version: text[0], usage, algorithm: text[4], mode: text[5], keyVersion, exportability: text[9] };
+}
+
+const FIELDS = ["version", "usage", "algorithm", "mode", "keyVersion", "exportability"];
+
+/** The fields of a header, as a call takes them. Others would be left out of the block. */
+function fieldsOf(header) {
+  const { version, usage, algorithm, mode, keyVersion, exportability } = namedOf("a header", header, ...FIELDS);
+  const [two, one] = [[usage, keyVersion], [algorithm, mode, exportability]];
+  if (![version, ...two, ...one].every((field) => typeof field === "string")) {
+    throw new TypeError("the fields of a header: strings are needed");
+  }
+  if ([...version].length !== 1) throw new KeyBlockVersion("a key block is made of version B or C");
+  if (two.some((field) => [...field].length !== 2) || one.some((field) => [...field].length !== 1)) {
+    throw new KeyBlockField("the usage and the key's version have two characters, the other fields one");
+  }
+  return asciiOf(`${version}${usage}\0${algorithm}${mode}${keyVersion}\0${exportability}`);
+}
+
+/** An optional block. The library writes it in its shortest form. */
+function optionalText(pair) {
+  if (!Array.isArray(pair) || pair.length !== 2 || pair.some((part) => typeof part !== "string")) {
+    throw new TypeError("an optional block: a pair of its name and its content, two strings, is needed");
+  }
+  const [name, content] = pair;
+  if (name.length !== 2 || !isAscii(name)) {
+    throw new OptionalBlock("the name of an optional block has two characters, both ASCII");
+  }
+  if (name === "PB") {
+    throw new OptionalBlock("a block PB is added where one is needed: leave out that of a block that was read");
+  }
+  if (!isPrintable(content)) throw new OptionalBlock("the content of an optional block is printable ASCII alone");
+  if (content.length > TOO_MANY_CHARACTERS) throw new KeyBlockLength("a key block has at most 9999 characters");
+  return `${name}0002${(content.length + 10).toString(16).toUpperCase().padStart(4, "0")}${content}`;
+}
+
+/** Optional blocks, one after the other. */
+function optionalOf(optional) {
+  if (typeof optional !== "object" || typeof optional?.[Symbol.iterator] !== "function") {
+    throw new TypeError("optional blocks: an array of pairs of a name and its content is needed");
+  }
+  return asciiOf(Array.from(optional, optionalText).join(""));
+}
+
+/**
+ * The header and the key, 8, 16 or 24 bytes, of a key block of version A, B or C, a string, under a protection key of 16
+ * or 24 bytes. KeyBlockMac where the block was changed, or is under another key. The header says what the key may be
+ * used for: look at it before you use the key.
+ */
+export function unwrapKeyBlock(protection, block) {
+  const held = bytesOf(protection, "a protection key");
+  const text = keyBlockOf(block);
+  return inside((memory) => {
+    const laid = [...memory.list(held), ...memory.list(text)];
+    const [fields, key, length] = [FIELDS_SIZE, 24, 8].map((size) => memory.room(size));
+    check(memory.call("key_block_unwrap", ...laid, fields, key, length));
+    return { header: headerFrom(memory.taken(fields, FIELDS_SIZE)), key: memory.taken(key, memory.word(length)) };
+  });
+}
+
+/**
+ * The key block, a string, of a key of 8, 16 or 24 bytes under a protection key of 16 or 24 bytes, of version B or C.
+ * `header` has the fields that unwrapKeyBlock gives; no call compares them with the key's length. Options are `optional`,
+ * pairs of a name of two characters and its content, printable ASCII, after which a block PB is added where they do not
+ * end at a multiple of eight characters, and none is taken: OptionalBlock; and `padding`, random bytes that hide how long
+ * the key is, 6, 14 or 22: without it they come from the engine. An option of another name is a TypeError.
+ */
+export function wrapKeyBlock(protection, header, key, options = {}) {
+  const { optional = [], padding } = optionsOf(options, "optional", "padding");
+  const [held, bare] = [bytesOf(protection, "a protection key"), bytesOf(key, "a key")];
+  const given = padding === undefined ? null : bytesOf(padding, "the padding");
+  const [fields, more] = [fieldsOf(header), optionalOf(optional)];
+  const hiding = given ?? crypto.getRandomValues(new Uint8Array(Math.max(0, KEY_DATA_SIZE - 2 - bare.length)));
+  return inside((memory) => {
+    const laid = [...memory.list(held), memory.put(fields), ...[more, bare, hiding].flatMap((bytes) => memory.list(bytes))];
+    const room = more.length + MORE_CHARACTERS;
+    const [at, length] = [memory.room(room), memory.room(8)];
+    check(memory.call("key_block_wrap", ...laid, at, BigInt(room), length));
+    return charactersOf(memory.taken(at, memory.word(length)));
+  });
+}
+
+/** The header of a key block, read with no key. Nothing of it is authenticated. */
+export function keyBlockHeader(block) {
+  const text = keyBlockOf(block);
+  return headerFrom(written(FIELDS_SIZE, "key_block_header", (memory) => memory.list(text)));
+}
+
+/** The optional blocks of a key block, pairs of a name and its content, read with no key. Nothing is authenticated. */
+export function keyBlockOptionalBlocks(block) {
+  const text = keyBlockOf(block);
+  return inside((memory) => {
+    const found = [];
+    const [at, size] = memory.list(text);
+    const [name, content] = [memory.room(3), memory.words([Number(at), 0])];
+    for (;;) {
+      const status = memory.call("narrow_key_block_optional_block", at, size, BigInt(found.length), name, content);
+      if (status === NO_OPTIONAL_BLOCK) return found;
+      check(status);
+      const start = memory.word(content) - Number(at);
+      const characters = text.subarray(start, start + memory.word(content + 8n));
+      found.push([charactersOf(memory.taken(name, 2)), charactersOf(characters)]);
+    }
+  });
+}
+
+// ---- Keys from passwords, and what `openssl enc` encrypted under them -------------------------------------------------
+
+const HASHES = new Map([["md5", 21], ["sha1", 22], ["sha256", 23]]);
+
+// One more than PBKDF2 counts, which it refuses.
+const TOO_MANY_ITERATIONS = 2 ** 32;
+
+function hashOf(name) {
+  if (typeof name !== "string") throw new TypeError('a hash function: "md5", "sha1" or "sha256" is wanted');
+  if (!HASHES.has(name)) throw new HashName('a hash function is "md5", "sha1" or "sha256"');
+  return HASHES.get(name);
+}
+
+/** A number of iterations, of which there is one at least, or one that is refused. */
+function iterationsOf(number) {
+  if (typeof number !== "number") throw new TypeError("iterations: a number is needed");
+  if (!(Number.isInteger(number) && number >= 1)) {
+    throw new IterationCount("the iterations are 1 at least, and at most 2^32 - 1");
+  }
+  return BigInt(Math.min(number, TOO_MANY_ITERATIONS));
+}
+
+/** The length of a key that is derived. */
+function derivedLengthOf(number) {
+  if (typeof number !== "number") throw new TypeError("the length of a key: a number is needed");
+  if (Number.isInteger(number) && number >= 1 && number < 2 ** 32) return number;
+  throw new KeyLength("a key that is derived has one byte at least, and less than 2^32");
+}
+
+/** The key of so many bytes that a call derives. */
+function derived(name, hash, password, salt, words, length) {
+  const [secret, grains] = [bytesOf(password, "a password"), bytesOf(salt, "a salt")];
+  return inside((memory) => {
+    const at = memory.room(length);
+    const laid = [...memory.list(secret), ...memory.list(grains), ...words, at, BigInt(length)];
+    const status = memory.call(name, hash, ...laid);
+    if (status === SALT) throw new SaltLength(`the salt of bytesToKey has 0 or 8 bytes, not ${grains.length}`);
+    check(status);
+    return memory.taken(at, length);
+  });
+}
+
+/** The key of so many bytes of a password, as bytes, and a salt by PBKDF2 with HMAC over "sha1" or "sha256". */
+export function pbkdf2(hashName, password, salt, iterations, length) {
+  return derived("pbkdf2", hashOf(hashName), password, salt, [iterationsOf(iterations)], derivedLengthOf(length));
+}
+
+/**
+ * The key, and after it the vector, of so many bytes together that OpenSSL's EVP_BytesToKey makes of a password and a
+ * salt of 8 bytes, or of none, with one iteration. A password is quick to guess by it: take it to read what others wrote.
+ */
+export function bytesToKey(hashName, password, salt, length) {
+  return derived("bytes_to_key", hashOf(hashName), password, salt, [], derivedLengthOf(length));
+}
+
+/**
+ * The plaintext of a file that `openssl enc` encrypted under a password, as bytes: by -des-cbc, -des-ede-cbc or -des3, as
+ * `cipher` is the class Des, TdesEde2 or TdesEde3. The data are the whole file, and no Base64 (-a). Options are
+ * `hashName`, that of -md, "sha256" where it is not given and "md5" before OpenSSL 1.1.0; and `iterations`, those of
+ * -iter, 10000 where -pbkdf2 was given alone, and left out, not 1, where neither was. An option of another name is a
+ * TypeError. A wrong password is PaddingMismatch, but for one in 256, which gives wrong bytes: nothing here authenticates.
+ */
+export function openSalted(cipher, password, data, options = {}) {
+  const { hashName = "sha256", iterations } = optionsOf(options, "hashName", "iterations");
+  const { name } = cipherOf(cipher);
+  const [secret, bytes] = [bytesOf(password, "a password"), bytesOf(data, "data")];
+  const [hash, count] = [hashOf(hashName), iterations === undefined ? 0n : iterationsOf(iterations)];
+  return inside((memory) => {
+    const [plain, length] = [memory.room(bytes.length), memory.room(8)];
+    const laid = [...memory.list(secret), ...memory.list(bytes), plain, BigInt(bytes.length), length];
+    const status = memory.call(`${name}_open_salted`, hash, count, ...laid);
+    if (status === BLOCKS) throw new BlockLength(`${bytes.length} bytes are not whole blocks of ${BLOCK_SIZE}`);
+    if (status === PADDING) throw new PaddingMismatch("the data do not end with the padding");
+    check(status);
+    return memory.taken(plain, memory.word(length));
+  });
+}
+
+// ---- Lists: elements stand one after the other, without a gap -------------------------------------------------------
+
+/** The blocks, each of 8 bytes encrypted under the key at its place. `cipher` is a class, as TdesEde2. */
+export function encryptEach(cipher, keys, blocks) {
+  return answeredEach("encrypt_each", cipher, keys, blocks);
+}
+
+/** The blocks, each decrypted under the key at its place, as `encryptEach` encrypts it. */
+export function decryptEach(cipher, keys, blocks) {
+  return answeredEach("decrypt_each", cipher, keys, blocks);
+}
+
+function answeredEach(each, cipher, keys, blocks) {
+  const given = listOf(blocks, BLOCK_SIZE, BlockLength, "blocks");
+  const { name, keySize } = cipherOf(cipher);
+  const held = listOf(keys, keySize, KeyLength, "keys");
+  return inside((memory) => {
+    const [at, count] = memory.list(given, BLOCK_SIZE);
+    if (memory.call(`narrow_${name}_${each}`, ...memory.list(held, keySize), at, count) !== OK) {
+      throw new CountMismatch("the numbers of keys and blocks differ");
+    }
+    return memory.taken(at, given.length);
+  });
+}
+
+/** The check values of keys, three bytes for each, as `checkValue` makes them. */
+export function checkValues(cipher, keys) {
+  const { name, keySize } = cipherOf(cipher);
+  const held = listOf(keys, keySize, KeyLength, "keys");
+  const count = held.length / keySize;
+  return inside((memory) => {
+    const at = memory.room(CHECK_VALUE_SIZE * count);
+    memory.call(`narrow_${name}_check_values`, ...memory.list(held, keySize), at, BigInt(count));
+    return memory.taken(at, CHECK_VALUE_SIZE * count);
+  });
+}
+
+/**
+ * The keys of transactions, of 16 bytes each, from the base derivation key and key serial numbers of ten bytes: what
+ * dukptTransactionKey makes of dukptInitialKey, for each. The terminals may be different ones. Such a key encrypts
+ * nothing itself: take dukptPinKey, dukptMacKey or dukptDataKey of it.
+ */
+export function dukptTransactionKeys(base, serials) {
+  const key = keyOf(base, TRANSACTION_KEY_SIZE);
+  const numbers = listOf(serials, SERIAL_SIZE, SerialLength, "key serial numbers");
+  const count = numbers.length / SERIAL_SIZE;
+  return inside((memory) => {
+    const at = memory.room(TRANSACTION_KEY_SIZE * count);
+    const laid = [memory.put(key), ...memory.list(numbers, SERIAL_SIZE)];
+    memory.call("narrow_dukpt_transaction_keys", ...laid, at, BigInt(count));
+    return memory.taken(at, TRANSACTION_KEY_SIZE * count);
+  });
+}
+
+/**
+ * Records, each encrypted by cipher block chaining from a vector of its own: record k has counts[k] of the blocks, one
+ * record after the other, and the k-th 8 bytes of `vectors`. `cipher` is one that has a key.
+ */
+export function encryptCbcRecords(cipher, vectors, counts, blocks) {
+  return recorded("encrypt_cbc_records", cipher, vectors, counts, blocks);
+}
+
+/** Records, each decrypted by cipher block chaining, as `encryptCbcRecords` encrypts them. Padding stays. */
+export function decryptCbcRecords(cipher, vectors, counts, blocks) {
+  return recorded("decrypt_cbc_records", cipher, vectors, counts, blocks);
+}
+
+function recorded(records, cipher, vectors, counts, blocks) {
+  const { kind, context } = stateOf(cipher, Cipher);
+  const sizes = numbersOf(counts, "counts");
+  const chains = listOf(vectors, BLOCK_SIZE, VectorLength, "vectors");
+  const given = listOf(blocks, BLOCK_SIZE, BlockLength, "blocks");
+  if (chains.length / BLOCK_SIZE !== sizes.length) throw new CountMismatch("the numbers of vectors and counts differ");
+  return inside((memory) => {
+    const [at, count] = memory.list(given, BLOCK_SIZE);
+    const laid = [memory.put(context), ...memory.list(chains, BLOCK_SIZE), memory.words(sizes), BigInt(sizes.length)];
+    if (memory.call(`narrow_${kind.name}_${records}`, ...laid, at, count) !== OK) {
+      throw new CountMismatch("the counts do not add up to the number of blocks");
+    }
+    return memory.taken(at, given.length);
+  });
+}
+
+/** The kind of a class of MACs, with its calls' word for a padding method, or none. */
+function macsOf(Class, padding) {
+  const kind = kindOf(Class, Mac, "the first argument");
+  if (Class.prototype instanceof Cmac) {
+    if (padding !== null) throw new TypeError("the padding method: CMAC takes none, so give null");
+    return { ...kind, method: [] };
+  }
+  const method = paddingOf(padding);
+  if (method === 0) throw new PaddingMethod("padding is by method 1 or 2");
+  return { ...kind, method: [method] };
+}
+
+/** The tags of messages that stand one after the other, by a call. `lay` gives what it takes of keys. */
+function tagsOf(call, lay, method, lengths, bytes) {
+  return inside((memory) => {
+    const tags = memory.room(TAG_SIZE * lengths.length);
+    let next = Number(memory.put(bytes));
+    const pairs = [];
+    for (const length of lengths) {
+      pairs.push(next, length);
+      next += length;
+    }
+    const count = BigInt(lengths.length);
+    memory.call(call, ...lay(memory), ...method, memory.words(pairs), count, tags, count);
+    return memory.taken(tags, TAG_SIZE * lengths.length);
+  });
+}
+
+/** The lengths of messages that stand one after the other, and their bytes. */
+function messagesOf(lengths, messages) {
+  const bytes = bytesOf(messages, "messages");
+  const numbers = numbersOf(lengths, "lengths");
+  if (numbers.reduce((sum, length) => sum + length, 0) !== bytes.length) {
+    throw new CountMismatch("the lengths do not add up to the messages");
+  }
+  return [numbers, bytes];
+}
+
+/**
+ * The tags, of 8 bytes each, of messages under one key: message k has lengths[k] of the bytes, one after the other.
+ * `mac` is a class, as RetailMacDes; the padding method is 1 or 2, of CMAC null.
+ */
+export function macs(mac, key, padding, lengths, messages) {
+  const { name, keySize, method } = macsOf(mac, padding);
+  const held = keyOf(key, keySize);
+  const [numbers, bytes] = messagesOf(lengths, messages);
+  return tagsOf(`narrow_${name}_macs`, (memory) => [memory.put(held)], method, numbers, bytes);
+}
+
+/** The tags of messages, each under the key at its place, as `macs` makes them under one. */
+export function macsEach(mac, keys, padding, lengths, messages) {
+  const { name, keySize, method } = macsOf(mac, padding);
+  const held = listOf(keys, keySize, KeyLength, "keys");
+  const [numbers, bytes] = messagesOf(lengths, messages);
+  if (held.length / keySize !== numbers.length) throw new CountMismatch("the numbers of keys and messages differ");
+  return tagsOf(`narrow_${name}_macs_each`, (memory) => memory.list(held, keySize), method, numbers, bytes);
+}
+
+/**
+ * The places of the tags, of 8 bytes each, that are not the one at their place in `expected`, the tags that `macs` or
+ * `macsEach` made: an array without elements where all are right. Every byte is compared, wherever two tags differ.
+ */
+export function wrongTags(tags, expected) {
+  const [given, wanted] = [tags, expected].map((list) => listOf(list, TAG_SIZE, CountMismatch, "tags"));
+  if (given.length !== wanted.length) throw new CountMismatch("the numbers of tags and expected tags differ");
+  const count = given.length / TAG_SIZE;
+  const right = inside((memory) => {
+    const at = memory.room(count);
+    memory.call("narrow_compare_tags", ...memory.list(given, 8), ...memory.list(wanted, 8), at, BigInt(count));
+    return memory.taken(at, count);
+  });
+  return Array.from(right.keys()).filter((place) => right[place] === 0);
+}
