@@ -4,26 +4,37 @@
 #   make check          and tests it; what this machine lacks for a test is named, and the test left out
 #   make install        below PREFIX, which is /usr/local, and that below DESTDIR if you make a package; make uninstall removes it
 #   make clean
+#
+# CFLAGS and LDFLAGS are for the programs alone.
 PREFIX = /usr/local
 CFLAGS = -O2
 machine := $(shell $(CC) -dumpmachine)
 processor := $(firstword $(subst -, ,$(machine)))
 target := $(if $(findstring apple,$(machine)),macos,$(if $(findstring mingw,$(machine)),windows,$(filter-out x86_64,$(processor))))
-programs := $(patsubst generated/$(processor)/%.s,%,$(wildcard generated/$(processor)/des_tool.s generated/$(processor)/cukvashe.s))
+text := generated/$(or $(target),x86_64)
+library := bindings/out/$(target:%=%/)lib/libcukvashe_des.a
+programs := $(if $(findstring linux,$(machine)),$(notdir $(basename $(wildcard $(text)/des_tool.s $(text)/cukvashe.s))))
 to = $(target:%=--target %) $(if $(programs),--programs) --prefix '$(PREFIX)' $(if $(DESTDIR),--destdir '$(DESTDIR)')
 
-.PHONY: all library check check-library check-programs install uninstall clean
-all: library $(programs)
+.PHONY: all check check-library check-programs install uninstall clean always
+# The tests take what the others build.
+.NOTPARALLEL:
+all: $(library) $(programs)
 
-library:
+# Changes with the compiler and its words, and with it what they made.
+out/made_by: always
+	@mkdir -p out
+	@echo '$(CC) $(machine) $(CFLAGS) $(LDFLAGS)' | cmp -s - $@ || echo '$(CC) $(machine) $(CFLAGS) $(LDFLAGS)' >$@
+
+$(library): out/made_by VERSION bindings/build bindings/c/cukvashe_des.h generated/cukvashe_des.h $(wildcard bindings/c/src/* $(text)/*/library*.s $(text)/library*.s)
 	@CC='$(CC)' bindings/build --generated $(target:%=--target %)
 
-$(programs): %: generated/$(processor)/%.s bindings/programs/system.c
-	$(CC) $(CFLAGS) $(LDFLAGS) -o $@ $^
+$(programs): %: $(text)/%.s bindings/programs/system.c out/made_by
+	$(CC) $(CFLAGS) $(LDFLAGS) -o $@ $(text)/$@.s bindings/programs/system.c
 
 check: check-library check-programs
 
-check-library: library
+check-library: $(library)
 	CC='$(CC)' bindings/c/test --leave-out
 
 check-programs: all
@@ -36,4 +47,5 @@ uninstall:
 	bindings/uninstall $(to)
 
 clean:
-	rm -rf des_tool cukvashe bindings/out/include bindings/out/lib bindings/out/objects bindings/out/share bindings/out/tests
+	rm -rf $(programs) out/made_by
+	cd bindings && rm -rf $(foreach folder,out out/aarch64 out/riscv64 out/windows out/macos,$(addprefix $(folder)/,bin include lib objects share tests))

@@ -22,7 +22,8 @@ except ImportError:  # before setuptools 70.1
 
 HERE = Path(__file__).resolve().parent
 NATIVE = HERE / "native"
-TOP = NATIVE if NATIVE.exists() else HERE.parent.parent
+REPOSITORY = HERE.parent.parent
+TOP = REPOSITORY if (REPOSITORY / "bindings/c/cukvashe_des.h").exists() else NATIVE
 C = TOP / ("c" if TOP == NATIVE else "bindings/c")
 GENERATED = TOP / "generated"
 WORK = Path(tempfile.mkdtemp())

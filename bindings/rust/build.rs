@@ -1,5 +1,5 @@
-//! Builds the library by a C compiler, of the assembly that the proofs gave: of `native/` in this folder, which a packaged crate has
-//! (`bindings/carry` makes it), else of the repository. Where CUKVASHE_DES_LIB_DIR names a folder, the library there is linked
+//! Builds the library by a C compiler, of the assembly that the proofs gave: of the repository, or of `native/` in a packaged crate
+//! (`bindings/carry` makes it). Where CUKVASHE_DES_LIB_DIR names a folder, the library there is linked
 //! instead, the static one if it has both. One of another version is refused, and so is one that says none: its contexts could need
 //! more memory than this crate gives them.
 
@@ -140,11 +140,11 @@ fn version_in(file: &Path, before: &str) -> Option<String> {
 /// The folders of the C and of the assembly, which must be for one header, of this crate's version.
 fn sources() -> (PathBuf, PathBuf) {
     let own = PathBuf::from(said("CARGO_MANIFEST_DIR"));
-    let packaged = own.join("native");
-    let (code, generated) = if packaged.exists() {
-        (packaged.join("c"), packaged.join("generated"))
+    let repository = own.join("../c");
+    let (code, generated) = if repository.join("cukvashe_des.h").exists() {
+        (repository, own.join("../../generated"))
     } else {
-        (own.join("../c"), own.join("../../generated"))
+        (own.join("native/c"), own.join("native/generated"))
     };
     let headers = [code.join("cukvashe_des.h"), generated.join("cukvashe_des.h")];
     for watched in headers.iter().chain([&code.join("src")]) {
