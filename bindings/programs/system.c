@@ -87,9 +87,9 @@ ptrdiff_t rattle_env_at(size_t place, unsigned char *buffer, size_t room) {
   return copy(environ[at], buffer, room);
 }
 
-/* What glibc has and other C libraries, or its versions before 2.33, lack. */
+/* What glibc has and other C libraries, or its versions before 2.33, lack. With OLD_LIBC a test takes it too. */
 #ifdef __GLIBC_PREREQ
-#if __GLIBC_PREREQ(2, 33)
+#if __GLIBC_PREREQ(2, 33) && !defined(OLD_LIBC)
 #define HAS_ALL
 #endif
 #endif

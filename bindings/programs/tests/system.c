@@ -6,6 +6,7 @@
 #include <stdio.h>
 #include <stdlib.h>
 #include <string.h>
+#include <sys/resource.h>
 #include <unistd.h>
 
 struct tried {
@@ -52,6 +53,17 @@ static void gives_and_refuses_memory(void) {
   }
   struct tried refused = rattle_alloc(too_much, 1);
   CHECK(!refused.is_there && refused.memory != NULL);
+}
+
+/* Memory that is given back can be given again: a hundred times as much as there may be. */
+static void takes_memory_back(void) {
+  const struct rlimit most = {(rlim_t)256 << 20, (rlim_t)256 << 20};
+  CHECK(setrlimit(RLIMIT_AS, &most) == 0);
+  for (int time = 0; time < 25600; time++) {
+    struct tried block = rattle_alloc((size_t)1 << 20, 16);
+    CHECK(block.is_there);
+    rattle_dealloc(block.memory);
+  }
 }
 
 /* The argument at a place and the variable LONG, each of LONG bytes, into buffers that fit, that do not, and that have no room. */
@@ -106,6 +118,7 @@ int cukvashe_main(void) {
     return 1;
   }
   gives_and_refuses_memory();
+  takes_memory_back();
   copies(argument);
   copies(variable);
   tells_what_is_not_there();
