@@ -80,7 +80,7 @@ def compiled():
     if target == "windows":
         names = WORK / "names.def"
         names.write_bytes(b"\n".join([b"EXPORTS", *sorted(set(re.findall(rb"\b(cukvashe_[a-z0-9_]+) ?\(", text)))]))
-        link = ["-shared", "-Wl,--no-insert-timestamp", names]
+        link = ["-shared", "-Wl,--no-insert-timestamp,--disable-auto-image-base", names]
     elif "macos" in target:
         link = ["-dynamiclib", "-mmacosx-version-min=11.0", "-Wl,-install_name,@rpath/libcukvashe_des.2.dylib"]
     sources = [*sorted((C / "src").glob("*.c")), *sorted((GENERATED / target).glob("library*.s"))]
