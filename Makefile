@@ -17,8 +17,8 @@ programs := $(if $(findstring linux,$(machine)),$(notdir $(basename $(wildcard $
 to = $(target:%=--target %) $(if $(programs),--programs) --prefix '$(PREFIX)' $(if $(DESTDIR),--destdir '$(DESTDIR)')
 
 .PHONY: all check check-library check-programs install uninstall clean always
-# The tests take what the others build.
-.NOTPARALLEL:
+# The tests of the library and of the programs run at once, and take what is built before.
+MAKEFLAGS += --jobs=2
 all: $(library) $(programs)
 
 # Changes with the compiler and its words, and with it what they made.
@@ -34,11 +34,14 @@ $(programs): %: $(text)/%.s bindings/programs/system.c out/made_by
 
 check: check-library check-programs
 
+# The tests call make themselves, with the words that it was called with, and take none of its jobs.
+tests = MAKEFLAGS='-- $(MAKEOVERRIDES)' CC='$(CC)'
+
 check-library: $(library)
-	$(if $(target),@echo 'the tests of C are left out: here they are for x86-64 with Linux',CC='$(CC)' bindings/c/test --leave-out)
+	$(if $(target),@echo 'the tests of C are left out: here they are for x86-64 with Linux',$(tests) bindings/c/test --leave-out)
 
 check-programs: all
-	CC='$(CC)' bindings/programs/test $(programs)
+	$(tests) bindings/programs/test $(programs)
 
 install: all
 	bindings/install $(to)
