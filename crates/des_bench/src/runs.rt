@@ -8,7 +8,9 @@ ghost use Rattle.std.specs.Prelude.{◌≡◌, ◌⊎◌};
 use crate::stopwatch::Run;
 use des::cipher::{BlockCipherDecrypt, BlockCipherEncrypt, KeyInit};
 use des::{cbc, weak_key_test};
-use des_fast::many::{KeyForEach, ListKeys, ManyBlocks, Slice, SpreadKeys, SpreadOnce};
+use des_fast::many::{
+    EachKey, Equal, KeyForEach, ManyBlocks, RecordKeys, Slice, SpreadKeys, SpreadOnce,
+};
 use des_fast::quiet::SideBySide;
 use des_mac::Mac;
 use std::marker::PhantomData;
@@ -176,7 +178,7 @@ pub struct Records {
     pub blocks: Blocks,
 }
 
-/// `encrypt_cbc_equal_records_each_by`, each record under the key at its place.
+/// `encrypt_cbc_records`, each record under the key at its place.
 #[derive(Drop)]
 pub struct EncryptRecordsEach<'a, C, S, K> {
     pub keys: &'a [K],
@@ -187,8 +189,12 @@ impl<C: KeyForEach, S: Slice> Run<Records> for EncryptRecordsEach<'_, C, S, C::K
     fn run(&self, records: &mut Records) {
         let vectors = records.vectors.as_mut_slice();
         let blocks = records.blocks.as_mut_slice();
-        let Ok(()) = C::encrypt_cbc_equal_records_each_by::<S>(self.keys, vectors, RECORD, blocks)
-        else {
+        let sizes = Equal {
+            count: vectors.len(),
+            size: RECORD,
+        };
+        let keys = EachKey::<S, C>::new(self.keys);
+        let Ok(()) = keys.encrypt_cbc_records(vectors, sizes, blocks) else {
             return;
         };
     }

@@ -188,7 +188,7 @@ impl Context for TdesEde3Context {
     ghost quiet_relation = { λ key block answer. (λ related. related, λ related. related) };
 
     fn to_cipher(&self) -> TdesEde3 {
-        joined::ede3(
+        joined::of_three(
             from_round_key_words(&self.first),
             from_round_key_words(&self.second),
             from_round_key_words(&self.third),
@@ -196,7 +196,7 @@ impl Context for TdesEde3Context {
     }
 
     fn to_quiet(&self) -> quiet::TdesEde3 {
-        joined::ede3(
+        joined::of_three(
             quiet_from_round_key_words(&self.first),
             quiet_from_round_key_words(&self.second),
             quiet_from_round_key_words(&self.third),
@@ -264,14 +264,14 @@ impl Context for TdesEde2Context {
     ghost quiet_relation = { λ key block answer. (λ related. related, λ related. related) };
 
     fn to_cipher(&self) -> TdesEde2 {
-        joined::ede2(
+        joined::of_two(
             from_round_key_words(&self.first),
             from_round_key_words(&self.second),
         )
     }
 
     fn to_quiet(&self) -> quiet::TdesEde2 {
-        joined::ede2(
+        joined::of_two(
             quiet_from_round_key_words(&self.first),
             quiet_from_round_key_words(&self.second),
         )

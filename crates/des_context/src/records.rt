@@ -8,7 +8,7 @@ ghost use Rattle.des_context.specs.Records.{AreSizesOf, ChainsEach};
 use crate::contexts::Context;
 use crate::status::{ERR_COUNTS, OK};
 use des::cipher::Relating;
-use des_fast::many::{ListKeys, Slice, SpreadOnce};
+use des_fast::many::{RecordKeys, Slice, SpreadOnce};
 
 // Encrypts records in place by CBC, by the relation of the cipher's key.
 fn chain<S: Slice, C: Relating + SpreadOnce>(

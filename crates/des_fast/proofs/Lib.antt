@@ -50,3 +50,4 @@ pub mod EachByte
 pub mod ChosenTerms
 pub mod ExpandedEntries
 pub mod FourAnswers
+pub mod PassDirections

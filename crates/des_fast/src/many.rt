@@ -14,77 +14,39 @@
 //! block of a list, chains messages in step (those of MACs), and takes records that CBC chained,
 //! each under a key of its own; the keys of `spread_keys` take records under one key.
 
-ghost use Rattle.std.specs.Prelude.{◌≡◌, ◌≤◌, List, Bool, length, map, take};
+ghost use Rattle.std.specs.Prelude.{◌≡◌, ◌≤◌, ℕ, List, map};
 ghost use Rattle.std.specs.List.{All};
 ghost use Rattle.des.specs.Blocks.{IsBlock};
 ghost use Rattle.des.specs.Cbc.{Unchains, xor_blocks};
-ghost use Rattle.des_fast.specs.Passes.{HoldPasses, block_through_passes};
+ghost use Rattle.des_fast.specs.SpreadKeys.{AreSlicesFor};
 
 mod chains;
 mod ciphers;
 mod each_key;
 mod ends;
-mod keyed_records;
 mod lanes;
 mod passes;
+mod record_keys;
 mod records;
 mod spread;
 
 pub use crate::slices::Slice;
-use crate::slices::{LARGEST_BATCH, PassSlices, read_blocks, slices_through_passes, write_blocks};
+use crate::slices::{LARGEST_BATCH, PassSlices};
 use des::cbc;
 use des::cipher::{BlockCipherDecrypt, BlockCipherEncrypt};
 pub use each_key::KeyForEach;
 pub use ends::BlockLists;
 pub use lanes::LaneKeys;
-pub use spread::{ListKeys, SpreadKeys, SpreadOnce};
+use lanes::answer_lanes_part;
+pub use record_keys::{EachKey, RecordKeys};
+pub use records::{Equal, Sizes};
+pub use spread::{SpreadKeys, SpreadOnce};
 use std::simd::prelude::*;
 
 // The most blocks of a list that go four side by side, as the lists of `quiet`, and through no
 // batch. Eight blocks so take less time than a batch of 128, of single DES and of triple DES alike;
 // twelve of triple DES take as long as a batch.
 const FEW: usize = 8;
-
-// Takes a batch of blocks through passes.
-fn answer_batch<S: Slice>(blocks: &mut [[u8; 8]], passes: &[PassSlices<S>])
-    requires { length blocks.old ≡ S.BATCH }
-    ensures { (keys : List (List (List Bool))) → HoldPasses S.BATCH S.bit passes.now keys
-        → blocks.new ≡ map (block_through_passes keys) blocks.old }
-{
-    let mut slices = [S::same(false); 64];
-    read_blocks(&mut slices, blocks);
-    slices_through_passes(&mut slices, passes);
-    write_blocks(blocks, &mut slices);
-}
-
-// Makes the first blocks of an array what passes make of at most a batch of blocks. They go
-// through the passes in a batch that is filled up with blocks of the array.
-fn write_answers<S: Slice>(
-    answers: &mut [[u8; 8]; LARGEST_BATCH],
-    blocks: &[[u8; 8]],
-    passes: &[PassSlices<S>],
-)
-    requires { length blocks.now ≤ S.BATCH }
-    ensures { (keys : List (List (List Bool))) → HoldPasses S.BATCH S.bit passes.now keys
-        → take (length blocks.now) answers.new ≡ map (block_through_passes keys) blocks.now }
-{
-    answers[..blocks.len()].copy_from_slice(blocks);
-    answer_batch(&mut answers[..S::BATCH], passes);
-}
-
-// Takes at most a batch of blocks through passes.
-fn answer_part<S: Slice>(blocks: &mut [[u8; 8]], passes: &[PassSlices<S>])
-    requires { length blocks.old ≤ S.BATCH }
-    ensures { (keys : List (List (List Bool))) → HoldPasses S.BATCH S.bit passes.now keys
-        → blocks.new ≡ map (block_through_passes keys) blocks.old }
-{
-    if blocks.len() == S::BATCH {
-        return answer_batch(blocks, passes);
-    }
-    let mut answers = [[0; 8]; LARGEST_BATCH];
-    write_answers(&mut answers, blocks, passes);
-    blocks.copy_from_slice(&answers[..blocks.len()]);
-}
 
 // The xor of two blocks.
 #[inline(always)]
@@ -108,13 +70,13 @@ fn next_count<S: Slice>(left: usize) -> usize
 
 // Takes blocks through passes, batch after batch, and then what is left over.
 fn answer<S: Slice>(blocks: &mut [[u8; 8]], passes: &[PassSlices<S>])
-    ensures { (keys : List (List (List Bool))) → HoldPasses S.BATCH S.bit passes.now keys
-        → blocks.new ≡ map (block_through_passes keys) blocks.old }
+    ensures { (answer : List ℕ → List ℕ) → AreSlicesFor S.BATCH S.bit passes.now answer
+        → blocks.new ≡ map answer blocks.old }
 {
     let mut from = 0;
     'parts: while from < blocks.len() {
         let count = next_count::<S>(blocks.len() - from);
-        answer_part(&mut blocks[from..from + count], passes);
+        answer_lanes_part(&mut blocks[from..from + count], passes);
         from += count;
     }
 }

@@ -6,7 +6,7 @@ ghost use Rattle.des.specs.Cbc.{Cbc, Unchains, next_vector};
 ghost use Rattle.des_fast.specs.Records.{record_of};
 
 use des::cipher::NotEqualError;
-use des_fast::many::{KeyForEach, Slice};
+use des_fast::many::{EachKey, Equal, KeyForEach, RecordKeys, Slice};
 
 /// Encrypts records in place by CBC, each from the vector and under the key at its place: record k
 /// has `sizes[k]` blocks. Each vector becomes the one with which its chain goes on. Sizes that are
@@ -30,7 +30,7 @@ pub fn encrypt_records<S: Slice, C: KeyForEach>(
         (record_of sizes.now blocks.new k)) }
     ensures kept { OnErr result ((vectors.new ≡ vectors.old) × (blocks.new ≡ blocks.old)) }
 {
-    C::encrypt_cbc_records_each_by::<S>(keys, vectors, sizes, blocks)?;
+    EachKey::<S, C>::new(keys).encrypt_cbc_records(vectors, sizes, blocks)?;
     Ok(())
 }
 
@@ -54,7 +54,7 @@ pub fn decrypt_records<S: Slice, C: KeyForEach>(
         (record_of sizes.now blocks.old k)) }
     ensures kept { OnErr result ((vectors.new ≡ vectors.old) × (blocks.new ≡ blocks.old)) }
 {
-    C::decrypt_cbc_records_each_by::<S>(keys, vectors, sizes, blocks)?;
+    EachKey::<S, C>::new(keys).decrypt_cbc_records(vectors, sizes, blocks)?;
     Ok(())
 }
 
@@ -77,7 +77,8 @@ pub fn encrypt_equal_records<S: Slice, C: KeyForEach>(
         (record_of (replicate (length vectors.old) size) blocks.new k)) }
     ensures kept { OnErr result ((vectors.new ≡ vectors.old) × (blocks.new ≡ blocks.old)) }
 {
-    C::encrypt_cbc_equal_records_each_by::<S>(keys, vectors, size, blocks)?;
+    let count = vectors.len();
+    EachKey::<S, C>::new(keys).encrypt_cbc_records(vectors, Equal { count, size }, blocks)?;
     Ok(())
 }
 
@@ -100,6 +101,7 @@ pub fn decrypt_equal_records<S: Slice, C: KeyForEach>(
         (record_of (replicate (length vectors.old) size) blocks.old k)) }
     ensures kept { OnErr result ((vectors.new ≡ vectors.old) × (blocks.new ≡ blocks.old)) }
 {
-    C::decrypt_cbc_equal_records_each_by::<S>(keys, vectors, size, blocks)?;
+    let count = vectors.len();
+    EachKey::<S, C>::new(keys).decrypt_cbc_records(vectors, Equal { count, size }, blocks)?;
     Ok(())
 }

@@ -6,7 +6,7 @@ ghost use Rattle.des.specs.Cbc.{Chains};
 ghost use Rattle.des.specs.Relations.{TakesBlock};
 
 use des::cipher::{InvalidLength, KeyedCipher};
-use des_fast::many::{ListKeys, Slice, SpreadOnce};
+use des_fast::many::{Slice, SpreadOnce};
 
 /// Encrypts in place each block of a list by keys that are spread over slices: what the key answers
 /// to it. A key that does not have `KEY_SIZE` bytes is `InvalidLength`, and the list stays.

@@ -7,7 +7,7 @@ ghost use Rattle.des.specs.Cbc.{Cbc, next_vector};
 ghost use Rattle.des_fast.specs.Records.{record_of};
 
 use des::cipher::{BlockCipher, NotEqualError};
-use des_fast::many::{ListKeys, Slice, SpreadOnce};
+use des_fast::many::{RecordKeys, Slice, SpreadOnce};
 
 /// Encrypts records in place by CBC, each from the vector at its place: record k has `sizes[k]`
 /// blocks. Each vector becomes the one with which its chain goes on. Sizes that are not those of

@@ -1,11 +1,12 @@
 //! Deciphering of chained blocks (FIPS 81, cipher block chaining mode), a batch at a time, or four
 //! side by side: each block is deciphered by itself, and xored with the ciphertext block before it.
 
-ghost use Rattle.std.specs.Prelude.{◌≡◌, ◌≤◌, ℕ, List, Bool, length, map, take};
+ghost use Rattle.std.specs.Prelude.{◌≡◌, ◌≤◌, ℕ, List, length, map, take};
 ghost use Rattle.des.specs.Cbc.{Unchains};
-ghost use Rattle.des_fast.specs.Passes.{HoldPasses, block_through_passes};
+ghost use Rattle.des_fast.specs.SpreadKeys.{AreSlicesFor};
 
-use super::{FEW, LARGEST_BATCH, Slice, next_count, write_answers};
+use super::lanes::write_answers;
+use super::{FEW, LARGEST_BATCH, Slice, next_count};
 use crate::quiet::lists::{self, AnswersFour};
 use crate::slices::PassSlices;
 use des::cbc;
@@ -50,8 +51,8 @@ pub(super) fn unchain_few<P: AnswersFour>(blocks: &mut [[u8; 8]], iv: &[u8; 8], 
 // Takes at most a batch of blocks through passes, and out of the chain that begins with `iv`.
 fn unchain_part<S: Slice>(blocks: &mut [[u8; 8]], iv: &[u8; 8], passes: &[PassSlices<S>])
     requires { length blocks.old ≤ S.BATCH }
-    ensures { (keys : List (List (List Bool))) → HoldPasses S.BATCH S.bit passes.now keys
-        → Unchains (block_through_passes keys) iv.now blocks.old blocks.new }
+    ensures { (answer : List ℕ → List ℕ) → AreSlicesFor S.BATCH S.bit passes.now answer
+        → Unchains answer iv.now blocks.old blocks.new }
 {
     let mut answers = [[0; 8]; LARGEST_BATCH];
     write_answers(&mut answers, blocks, passes);
@@ -61,8 +62,8 @@ fn unchain_part<S: Slice>(blocks: &mut [[u8; 8]], iv: &[u8; 8], passes: &[PassSl
 /// Takes blocks through passes, and out of the chain that begins with `iv`, batch after batch, and
 /// then what is left over.
 pub(super) fn unchain<S: Slice>(blocks: &mut [[u8; 8]], iv: &[u8; 8], passes: &[PassSlices<S>])
-    ensures { (keys : List (List (List Bool))) → HoldPasses S.BATCH S.bit passes.now keys
-        → Unchains (block_through_passes keys) iv.now blocks.old blocks.new }
+    ensures { (answer : List ℕ → List ℕ) → AreSlicesFor S.BATCH S.bit passes.now answer
+        → Unchains answer iv.now blocks.old blocks.new }
 {
     let mut before = *iv;
     let mut from = 0;

@@ -180,7 +180,22 @@ pub(super) fn answer_filled<S: Slice>(
     answer_lanes(&mut lanes[..S::BATCH], passes);
 }
 
-/// The same of at most a batch of blocks.
+/// Makes the first blocks of an array what passes make of at most a batch of blocks. They go
+/// through the passes in a batch that is filled up with blocks of the array.
+pub(super) fn write_answers<S: Slice>(
+    answers: &mut [[u8; 8]; LARGEST_BATCH],
+    blocks: &[[u8; 8]],
+    passes: &[PassSlices<S>],
+)
+    requires { length blocks.now ≤ S.BATCH }
+    ensures { (k : ℕ) → k < length blocks.now → block_at answers.new k
+        ≡ lane_answer (S.bit k) passes.now (block_at blocks.now k) }
+{
+    answers[..blocks.len()].copy_from_slice(blocks);
+    answer_filled(answers, passes);
+}
+
+/// Takes at most a batch of blocks through passes.
 pub(super) fn answer_lanes_part<S: Slice>(blocks: &mut [[u8; 8]], passes: &[PassSlices<S>])
     requires { length blocks.old ≤ S.BATCH }
     ensures count { length blocks.new ≡ length blocks.old }
@@ -191,7 +206,6 @@ pub(super) fn answer_lanes_part<S: Slice>(blocks: &mut [[u8; 8]], passes: &[Pass
         return answer_lanes(blocks, passes);
     }
     let mut answers = [[0; 8]; LARGEST_BATCH];
-    answers[..blocks.len()].copy_from_slice(blocks);
-    answer_filled(&mut answers, passes);
+    write_answers(&mut answers, blocks, passes);
     blocks.copy_from_slice(&answers[..blocks.len()]);
 }

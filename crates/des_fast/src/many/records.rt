@@ -4,22 +4,25 @@
 //! next block of every record goes into its chain, and the chains go through the passes together.
 //! Decryption waits for no other block, and takes the list a batch of blocks at a time.
 
-ghost use Rattle.std.specs.Prelude.{◌≡◌, ◌↔◌, ◌≤◌, ◌<◌, ◌+◌, ℕ, List, Bool, IsTrue, length, replicate, sum, slice_index};
+ghost use Rattle.std.specs.Prelude.{◌≡◌, ◌↔◌, ◌≤◌, ◌<◌, ◌+◌, ℕ, List, IsTrue, length, replicate, sum, slice_index};
 ghost use Rattle.des.specs.Cbc.{xor_blocks};
-ghost use Rattle.des_fast.specs.Passes.{HoldPasses, block_through_passes};
 ghost use Rattle.des_fast.specs.EachKey.{lane_answer};
 ghost use Rattle.des_fast.specs.Records.{start};
 ghost use Rattle.des_fast.specs.RecordStates.{HasBlock, AreWritten, AreChainedBelow, AreUnchainedBelow};
 ghost use Rattle.des_fast.specs.Transposition.{block_at};
 
 use super::lanes::answer_filled;
-use super::{LARGEST_BATCH, Slice, next_count, write_answers, xored};
+use super::{LARGEST_BATCH, Slice, xored};
 use crate::slices::PassSlices;
 
-/// How many blocks each record has.
-pub(super) trait Sizes: Copy {
+/// How many blocks each record has: a number for each, or, of `Equal` records, one for all.
+pub trait Sizes: Copy {
     // The number of blocks of each record, in order.
     ghost list: { Self → List ℕ };
+
+    /// How many records there are.
+    fn count(self) -> usize
+        ensures { result ≡ length (list self) };
 
     /// The number of blocks of record k, from 0.
     fn of(self, k: usize) -> usize
@@ -30,33 +33,40 @@ pub(super) trait Sizes: Copy {
 impl Sizes for &[usize] {
     ghost list = { λ sizes. sizes.now };
 
+    fn count(self) -> usize {
+        self.len()
+    }
+
     fn of(self, k: usize) -> usize {
         self[k]
     }
 }
 
-/// Sizes of records that have as many blocks each.
+/// `count` records of `size` blocks each.
 #[derive(Clone, Copy)]
-pub(super) struct Equal {
-    pub(super) count: usize,
-    pub(super) size: usize,
+pub struct Equal {
+    pub count: usize,
+    pub size: usize,
 }
 
 impl Sizes for Equal {
     ghost list = { λ equal. replicate equal.count equal.size };
+
+    fn count(self) -> usize {
+        self.count
+    }
 
     fn of(self, _k: usize) -> usize {
         self.size
     }
 }
 
-/// Whether the sizes of `count` records sum up to a number of blocks.
-pub(super) fn add_up_to<Z: Sizes>(sizes: Z, count: usize, blocks: usize) -> bool
-    requires { length (Z.list sizes) ≡ count }
+/// Whether the records have so many blocks together.
+pub(super) fn add_up_to<Z: Sizes>(sizes: Z, blocks: usize) -> bool
     ensures { IsTrue result ↔ (sum (Z.list sizes) ≡ blocks) }
 {
     let mut left = blocks;
-    'records: for k in 0..count {
+    'records: for k in 0..sizes.count() {
         let size = sizes.of(k);
         if left < size {
             return false;
@@ -199,36 +209,9 @@ pub(super) fn chain_group<S: Slice, Z: Sizes>(
     }
 }
 
-/// Chains each record from the vector at its place, a batch of records at a time, and makes the
-/// vector the one with which the chain goes on.
-pub(super) fn chain<S: Slice, Z: Sizes>(
-    vectors: &mut [[u8; 8]],
-    sizes: Z,
-    blocks: &mut [[u8; 8]],
-    passes: &[PassSlices<S>],
-)
-    requires vectors { length vectors.old ≡ length (Z.list sizes) }
-    requires whole { length blocks.old ≡ sum (Z.list sizes) }
-    ensures count { length blocks.new ≡ length blocks.old }
-    ensures chained { (keys : List (List (List Bool))) → HoldPasses S.BATCH S.bit passes.now keys
-        → AreChainedBelow (λ _. block_through_passes keys) (Z.list sizes) vectors.old blocks.old
-        vectors.new blocks.new (length vectors.old) }
-{
-    let mut from = 0;
-    let mut start = 0;
-    'groups: while from < vectors.len() {
-        let count = next_count::<S>(vectors.len() - from);
-        let group = Group { from, count, start };
-        let extent = group.extent(sizes);
-        chain_group(vectors, sizes, blocks, group, extent.steps, passes);
-        from += count;
-        start = extent.end;
-    }
-}
-
 /// A record, by its number from 0, with the block at which it begins.
 #[derive(Clone, Copy)]
-pub(super) struct Record {
+pub struct Record {
     pub(super) number: usize,
     pub(super) start: usize,
 }
@@ -288,63 +271,4 @@ pub(super) fn take_out<Z: Sizes>(
         vectors[record.number] = ciphertext;
     }
     record
-}
-
-// Takes a part of the blocks through passes and out of the chains, as `take_out` does.
-fn unchain_part<S: Slice, Z: Sizes>(
-    vectors: &mut [[u8; 8]],
-    sizes: Z,
-    blocks: &mut [[u8; 8]],
-    from: usize,
-    count: usize,
-    current: Record,
-    passes: &[PassSlices<S>],
-) -> Record
-    requires few { count ≤ S.BATCH }
-    requires within { from + count ≤ length blocks.old }
-    requires starts { current.start ≡ start (Z.list sizes) current.number }
-    requires before { current.start ≤ from }
-    requires vectors { length vectors.old ≡ length (Z.list sizes) }
-    requires whole { length blocks.old ≡ sum (Z.list sizes) }
-    ensures starts { result.start ≡ start (Z.list sizes) result.number }
-    ensures before { result.start ≤ from + count }
-    ensures count { length blocks.new ≡ length blocks.old }
-    ensures vectors { length vectors.new ≡ length vectors.old }
-    ensures unchained { (keys : List (List (List Bool))) → HoldPasses S.BATCH S.bit passes.now keys
-        → (first q : List (List ℕ))
-        → AreUnchainedBelow (λ _. block_through_passes keys) (Z.list sizes) first q vectors.old
-        blocks.old from
-        → AreUnchainedBelow (λ _. block_through_passes keys) (Z.list sizes) first q vectors.new
-        blocks.new (from + count) }
-{
-    let mut answers = [[0; 8]; LARGEST_BATCH];
-    write_answers(&mut answers, &blocks[from..from + count], passes);
-    take_out(vectors, sizes, blocks, from, count, current, &answers)
-}
-
-/// Takes each record out of the chain that begins with the vector at its place, a batch of blocks
-/// at a time, and makes the vector the one with which the chain goes on.
-pub(super) fn unchain<S: Slice, Z: Sizes>(
-    vectors: &mut [[u8; 8]],
-    sizes: Z,
-    blocks: &mut [[u8; 8]],
-    passes: &[PassSlices<S>],
-)
-    requires vectors { length vectors.old ≡ length (Z.list sizes) }
-    requires whole { length blocks.old ≡ sum (Z.list sizes) }
-    ensures count { length blocks.new ≡ length blocks.old }
-    ensures unchained { (keys : List (List (List Bool))) → HoldPasses S.BATCH S.bit passes.now keys
-        → AreUnchainedBelow (λ _. block_through_passes keys) (Z.list sizes) vectors.old blocks.old
-        vectors.new blocks.new (length blocks.old) }
-{
-    let mut record = Record {
-        number: 0,
-        start: 0,
-    };
-    let mut from = 0;
-    'parts: while from < blocks.len() {
-        let count = next_count::<S>(blocks.len() - from);
-        record = unchain_part(vectors, sizes, blocks, from, count, record, passes);
-        from += count;
-    }
 }

@@ -29,7 +29,7 @@ pub(crate) struct Pass {
 
 /// A pass of DES as slices.
 #[derive(Clone, Copy)]
-pub(crate) struct PassSlices<S> {
+pub struct PassSlices<S> {
     pub(super) halves: KeyHalves<S>,
     pub(super) deciphers: bool,
 }

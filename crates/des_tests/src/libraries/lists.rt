@@ -4,7 +4,7 @@
 use crate::libraries::known::{EEE2, EEE3, IV, Known, STEP, THREE, TWO, blocks, multiples};
 use des::cbc;
 use des::cipher::{BlockCipher, KeyInit};
-use des_fast::many::{ListKeys, ManyBlocks, SpreadOnce};
+use des_fast::many::{ManyBlocks, Slice, SpreadKeys, SpreadOnce};
 use des_fast::quiet::{self, SideBySide};
 use std::simd::prelude::*;
 
@@ -32,7 +32,7 @@ fn answers_many<C: ManyBlocks>(cipher: &C, known: &Known) -> bool {
 }
 
 // Whether keys do that are spread over slices of a width.
-fn spread_keys_answer<K: ListKeys>(keys: &K, known: &Known) -> bool {
+fn spread_keys_answer<S: Slice>(keys: &SpreadKeys<S>, known: &Known) -> bool {
     let mut lists: [List; 3] = [multiples(STEP); 3];
     keys.encrypt_many(&mut lists[0]);
     keys.decrypt_many(&mut lists[1]);

@@ -5,7 +5,7 @@ use crate::libraries::known::{STEP, THREE, keys, multiples};
 use des::cbc;
 use des::cipher::{BlockCipher, KeyInit};
 use des_fast::TdesEee3;
-use des_fast::many::{KeyForEach, ListKeys, Slice, SpreadOnce};
+use des_fast::many::{EachKey, Equal, KeyForEach, RecordKeys, Slice, SpreadOnce};
 use std::simd::prelude::*;
 
 // More records than the widest batch has.
@@ -94,7 +94,9 @@ fn encrypt_each<S: Slice, C: KeyForEach>(
     ) else {
         return false;
     };
-    C::encrypt_cbc_records_each_by::<S>(keys, vectors, sizes, blocks).is_ok()
+    EachKey::<S, C>::new(keys)
+        .encrypt_cbc_records(vectors, sizes, blocks)
+        .is_ok()
 }
 
 fn decrypt_each<S: Slice, C: KeyForEach>(
@@ -108,7 +110,9 @@ fn decrypt_each<S: Slice, C: KeyForEach>(
     ) else {
         return false;
     };
-    C::decrypt_cbc_records_each_by::<S>(keys, vectors, sizes, blocks).is_ok()
+    EachKey::<S, C>::new(keys)
+        .decrypt_cbc_records(vectors, sizes, blocks)
+        .is_ok()
 }
 
 // Whether the list, whose vectors go on after encryption, has the blocks of the plain one again, and
@@ -159,31 +163,31 @@ fn records_are_chained_under_keys_of_their_own(rt: HostRuntime) {
     assert!(rt; records_with_keys_pass());
 }
 
-fn encrypt_equal<K: ListKeys>(keys: &K, list: &mut Records, count: usize) -> bool {
+fn encrypt_equal<K: RecordKeys>(keys: &K, list: &mut Records, count: usize) -> bool {
     let (Some(vectors), Some(blocks)) = (
         list.vectors.get_mut(..count),
         list.blocks.get_mut(..count.saturating_mul(SIZE)),
     ) else {
         return false;
     };
-    keys.encrypt_cbc_equal_records(vectors, SIZE, blocks)
-        .is_ok()
+    let sizes = Equal { count, size: SIZE };
+    keys.encrypt_cbc_records(vectors, sizes, blocks).is_ok()
 }
 
-fn decrypt_equal<K: ListKeys>(keys: &K, list: &mut Records, count: usize) -> bool {
+fn decrypt_equal<K: RecordKeys>(keys: &K, list: &mut Records, count: usize) -> bool {
     let (Some(vectors), Some(blocks)) = (
         list.vectors.get_mut(..count),
         list.blocks.get_mut(..count.saturating_mul(SIZE)),
     ) else {
         return false;
     };
-    keys.decrypt_cbc_equal_records(vectors, SIZE, blocks)
-        .is_ok()
+    let sizes = Equal { count, size: SIZE };
+    keys.decrypt_cbc_records(vectors, sizes, blocks).is_ok()
 }
 
 // Whether records of one length are chained by keys as by the cipher one after another, and read
 // back.
-fn chains_equal<K: ListKeys, C: BlockCipher>(keys: &K, cipher: &C, count: usize) -> bool {
+fn chains_equal<K: RecordKeys, C: BlockCipher>(keys: &K, cipher: &C, count: usize) -> bool {
     let mut chained = Records::new();
     chained.chain(cipher, count);
     let mut list = Records::new();
@@ -195,7 +199,7 @@ fn chains_equal<K: ListKeys, C: BlockCipher>(keys: &K, cipher: &C, count: usize)
     decrypt_equal(keys, &mut list, count) && are_read(&list, &chained)
 }
 
-fn equal_records_pass<K: ListKeys, C: BlockCipher>(keys: &K, cipher: &C) -> bool {
+fn equal_records_pass<K: RecordKeys, C: BlockCipher>(keys: &K, cipher: &C) -> bool {
     for count in COUNTS {
         if !chains_equal(keys, cipher, count) {
             return false;

@@ -18,10 +18,8 @@ returns-in-Ok-clause-chained g c = λ done key made k below.
     (record_of sizes c.encrypt_cbc_records.new.blocks k) (All-get_or IsBlock vectors k [] below ensured.vectors)
     (All-take IsBlock (slice_index sizes k) (drop (start sizes k) p) (All-drop IsBlock (start sizes k) p ensured.blocks))
     (g.met.C.BlockCipher.encrypted_is_block cipher)
-    (ensured.chained (g.C.BlockCipherEncrypt.encrypted cipher) (g.C.BlockCipherDecrypt.decrypted cipher)
-    c.spread_keys-keys.ensures k below)
+    (ensured.chained (λ _. g.C.BlockCipherEncrypt.encrypted cipher) (λ n. c.spread_keys-keys.ensures.encryption) k below)
 
 pub returns-in-Ok-clause-goes_on : goal.returns-in-Ok-clause-goes_on
 returns-in-Ok-clause-goes_on g c = λ done.
-    c.in-Ok.ensures.goes_on (g.C.BlockCipherEncrypt.encrypted c.args.cipher.now)
-    (g.C.BlockCipherDecrypt.decrypted c.args.cipher.now) c.spread_keys-keys.ensures
+    c.in-Ok.ensures.goes_on (λ _. g.C.BlockCipherEncrypt.encrypted c.args.cipher.now) (λ n. c.spread_keys-keys.ensures.encryption)

@@ -1,25 +1,33 @@
 -- A part more.
-use Rattle.std.proofs.Common.{◌≡◌, ℕ, ◌+◌, ◌-◌, ◌++◌, List, map, take, drop, ap, ◌∙◌, arith}
-use Rattle.des_fast.specs.Passes.{block_through_passes}
-use Rattle.des_fast.proofs.AnsweredBatches.{answered-more, answered-all}
+use Rattle.std.proofs.Common.{◌≡◌, ℕ, ◌+◌, ◌-◌, ◌++◌, List, [], length, get_or, map, take, drop, ap, ◌∙◌, arith, length-take-le}
+use Rattle.std.proofs.lemmas.List.{length-drop}
+use Rattle.des_fast.proofs.AnsweredBatches.{answered-at, answered-more, answered-all}
 use Rattle.des_fast.proofs.many.answer.Goals as goal
 
 pub parts-preserved : goal.parts-preserved
 parts-preserved g c = (
   omega (arith, c.next_count-count.ensures.there),
-  λ keys hold.
+  λ f are.
       let m : ℕ = c.parts.from in
       let count : ℕ = c.next_count-count.result in
       let n : ℕ = m + count - m in
-      let f : List ℕ → List ℕ = block_through_passes keys in
       let old : List (List ℕ) = c.args.blocks.now in
+      let part : List (List ℕ) = take n (drop m c.parts.blocks) in
       let next : m + n ≡ m + count = omega arith in
-      answered-more f m n old c.parts.blocks c.answer_part.new.blocks (omega (arith, c.parts.invariant.0))
-      (c.parts.invariant.1 keys hold) (c.answer_part.ensures keys hold)
+      let in_part : length part ≡ n =
+      length-take-le n (drop m c.parts.blocks)
+      (omega (arith, length-drop m c.parts.blocks, c.next_count-count.ensures.there)) in
+      answered-more f m n old c.parts.blocks c.answer_lanes_part.new.blocks (omega (arith, c.parts.invariant.0))
+      (c.parts.invariant.1 f are)
+      (answered-at f part c.answer_lanes_part.new.blocks c.answer_lanes_part.ensures.count
+      (λ k below.
+      c.answer_lanes_part.ensures.lanes k below
+      ∙ ap (λ (g : List ℕ → List ℕ). g (get_or part k []))
+      (are k (omega (arith, in_part, c.next_count-count.ensures.within)))))
       ∙ ap (λ (k : ℕ). map f (take k old) ++ drop k old) next,
 )
 
 pub returns : goal.returns
-returns g c keys hold =
-    c.parts.invariant.1 keys hold
-    ∙ answered-all (block_through_passes keys) c.parts.from c.args.blocks.now (omega arith)
+returns g c f are =
+    c.parts.invariant.1 f are
+    ∙ answered-all f c.parts.from c.args.blocks.now (omega arith)

@@ -18,10 +18,9 @@ returns-clause-read g c k below =
     (All-get_or IsBlock vectors k [] below ensured.vectors)
     (All-take IsBlock (slice_index sizes k) (drop (start sizes k) q) (All-drop IsBlock (start sizes k) q ensured.blocks))
     (g.met.C.BlockCipher.decrypted_is_block cipher) (g.met.C.BlockCipher.encrypts_decrypted cipher)
-    (ensured.unchained (g.C.BlockCipherEncrypt.encrypted cipher) (g.C.BlockCipherDecrypt.decrypted cipher)
-    c.spread_keys-keys.ensures k below)
+    (ensured.unchained (λ _. g.C.BlockCipherDecrypt.decrypted cipher) (λ n. c.spread_keys-keys.ensures.decryption) k below)
 
 pub returns-clause-goes_on : goal.returns-clause-goes_on
 returns-clause-goes_on g c =
-    c.in_ok-decrypt_cbc_records.ensures.goes_on (g.C.BlockCipherEncrypt.encrypted c.args.cipher.now)
-    (g.C.BlockCipherDecrypt.decrypted c.args.cipher.now) c.spread_keys-keys.ensures
+    c.in_ok-decrypt_cbc_records.ensures.goes_on (λ _. g.C.BlockCipherDecrypt.decrypted c.args.cipher.now)
+    (λ n. c.spread_keys-keys.ensures.decryption)

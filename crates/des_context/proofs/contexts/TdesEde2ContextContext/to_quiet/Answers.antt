@@ -10,5 +10,5 @@ quiet_from_round_key_words-requires-2 c = (part 2 c.requires.0, c.requires.1.2)
 
 pub returns : goal.returns
 returns c key is =
-    c.ede2.ensures key is.0 (c.quiet_from_round_key_words.ensures (part 1 key) is.1)
+    c.of_two.ensures key is.0 (c.quiet_from_round_key_words.ensures (part 1 key) is.1)
     (c.quiet_from_round_key_words-2.ensures (part 2 key) is.2)

@@ -13,5 +13,5 @@ from_round_key_words-requires-3 c = (part 3 c.requires.0, c.requires.1.3)
 
 pub returns : goal.returns
 returns c key is =
-    c.ede3.ensures key is.0 (c.from_round_key_words.ensures (part 1 key) is.1)
+    c.of_three.ensures key is.0 (c.from_round_key_words.ensures (part 1 key) is.1)
     (c.from_round_key_words-2.ensures (part 2 key) is.2) (c.from_round_key_words-3.ensures (part 3 key) is.3)

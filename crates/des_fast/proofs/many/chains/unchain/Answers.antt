@@ -3,7 +3,6 @@ use Rattle.std.proofs.Common.{◌≡◌, ℕ, ◌+◌, ◌-◌, ◌++◌, suc, L
 use Rattle.std.proofs.lemmas.List.{get_or-drop, drop-drop}
 use Rattle.std.proofs.lemmas.Slice.{drop-put_mid}
 use Rattle.des.specs.Cbc.{next_vector}
-use Rattle.des_fast.specs.Passes.{block_through_passes}
 use Rattle.des.proofs.UnchainedBatches.{unchained, unchained-from, unchained-more, unchained-all, next_vector-take, Unchains-unchained}
 use Rattle.des_fast.proofs.many.chains.unchain.Goals as goal
 
@@ -29,11 +28,10 @@ parts-preserved g c =
           ∙ sym (next_vector-take iv old (m + (count - 1))
           (omega (arith, c.next_count-count.ensures.some, c.next_count-count.ensures.there)))
           ∙ ap (λ (k : ℕ). next_vector iv (take k old)) last;
-      answered = λ keys hold.
-          let f : List ℕ → List ℕ = block_through_passes keys in
+      answered = λ f are.
           unchained-more f iv m n old now part (omega (arith, c.parts.invariant.within))
-          (c.parts.invariant.answered keys hold)
-          (unchained-from f c.parts.before (take n (drop m now)) part (c.unchain_part.ensures keys hold)
+          (c.parts.invariant.answered f are)
+          (unchained-from f c.parts.before (take n (drop m now)) part (c.unchain_part.ensures f are)
           ∙ ap (λ (before : List ℕ). unchained f before (take n (drop m now))) c.parts.invariant.chained)
           ∙ ap (λ (k : ℕ). unchained f iv (take k old) ++ drop k old) next;
       rest =
@@ -46,9 +44,8 @@ parts-preserved g c =
     }
 
 pub returns : goal.returns
-returns g c keys hold =
-    let f : List ℕ → List ℕ = block_through_passes keys in
+returns g c f are =
     let iv : List ℕ = c.args.iv.now in
     let old : List (List ℕ) = c.args.blocks.now in
     Unchains-unchained f iv old c.parts.blocks
-    (c.parts.invariant.answered keys hold ∙ unchained-all f iv c.parts.from old (omega arith))
+    (c.parts.invariant.answered f are ∙ unchained-all f iv c.parts.from old (omega arith))

@@ -1,12 +1,12 @@
 use Rattle.std.proofs.Common.{[], ◌∷◌, ap, ◌∙◌, arith}
-use Rattle.des_fast.specs.KeyedPasses.{keys_of}
+use Rattle.des_fast.specs.Passes.{block_through_passes}
 use Rattle.des_fast.proofs.SliceSizes.{pass_slices-le}
 use Rattle.des_fast.proofs.many.ciphers.answer_one_by_batches.Goals as goal
 
 pub returns : goal.returns
 returns g c =
-    c.answer.ensures (keys_of c.args.pass.now ∷ [])
-    (λ b within. ap (λ keys. keys ∷ []) (c.spread.ensures b within ∙ c.last_keys.ensures))
+    c.answer.ensures _
+    (λ b within. ap (λ keys. block_through_passes (keys ∷ [])) (c.spread.ensures b within ∙ c.last_keys.ensures))
 
 pub shared_whole_as_slice-answer : goal.shared_whole_as_slice-answer
 shared_whole_as_slice-answer g c = omega (arith, pass_slices-le _ _ g.met.S.Slice.small_gaps g.met.S.Slice.few_bytes)

@@ -1,17 +1,13 @@
-use Rattle.std.proofs.Common.{◌≡◌, ℕ, List, Bool, [], ◌∷◌, map, subst, arith}
-use Rattle.des_fast.specs.KeyedPasses.{keys_of}
+use Rattle.std.proofs.Common.{ap, ◌∙◌, arith}
+use Rattle.des_fast.specs.Passes.{block_through_passes}
 use Rattle.des_fast.proofs.SliceSizes.{pass_slices-le}
 use Rattle.des_fast.proofs.ThreePasses.{block_through_passes-three}
 use Rattle.des_fast.proofs.many.ciphers.answer_three_by_batches.Goals as goal
 
 pub returns : goal.returns
 returns g c =
-    let first : List (List Bool) = keys_of c.args.three.now.first in
-    let second : List (List Bool) = keys_of c.args.three.now.second in
-    let third : List (List Bool) = keys_of c.args.three.now.third in
-    subst (λ (f : List ℕ → List ℕ). c.answer.new.blocks ≡ map f c.args.blocks.now)
-    (block_through_passes-three first second third)
-    (c.answer.ensures (first ∷ second ∷ third ∷ []) c.spread.ensures)
+    c.answer.ensures _
+    (λ b within. ap block_through_passes (c.spread.ensures b within) ∙ block_through_passes-three _ _ _)
 
 pub shared_whole_as_slice-answer : goal.shared_whole_as_slice-answer
 shared_whole_as_slice-answer g c = omega (arith, pass_slices-le _ _ g.met.S.Slice.small_gaps g.met.S.Slice.few_bytes)

@@ -1,22 +1,15 @@
 -- In each direction three passes.
-use Rattle.std.proofs.Common.{[], ◌∷◌, ◌∙◌}
-use Rattle.des_fast.specs.KeyedPasses.{keys_of}
+use Rattle.std.proofs.Common.{ap, ◌∙◌}
+use Rattle.des_fast.specs.Passes.{block_through_passes}
 use Rattle.des_fast.proofs.ThreePasses.{block_through_passes-three}
 use Rattle.des_fast.proofs.many.spread.spread_triple.Goals as goal
 
 pub returns : goal.returns
-returns g c =
-    let there = c.encryption_passes.result in
-    let back = c.decryption_passes.result in
-    record {
-      encryption = record {
-        keys = keys_of there.first ∷ keys_of there.second ∷ keys_of there.third ∷ [];
-        hold = c.spread.ensures;
-        answers = block_through_passes-three _ _ _ ∙ c.encryption_passes.ensures;
-      };
-      decryption = record {
-        keys = keys_of back.first ∷ keys_of back.second ∷ keys_of back.third ∷ [];
-        hold = c.spread-2.ensures;
-        answers = block_through_passes-three _ _ _ ∙ c.decryption_passes.ensures;
-      };
-    }
+returns g c = record {
+  encryption = λ b within.
+      ap block_through_passes (c.spread.ensures b within)
+      ∙ block_through_passes-three _ _ _ ∙ c.encryption_passes.ensures;
+  decryption = λ b within.
+      ap block_through_passes (c.spread-2.ensures b within)
+      ∙ block_through_passes-three _ _ _ ∙ c.decryption_passes.ensures;
+}

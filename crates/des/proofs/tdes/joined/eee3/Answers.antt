@@ -1,4 +1,0 @@
-use Rattle.des.proofs.tdes.joined.eee3.Goals as goal
-
-pub returns : goal.returns
-returns g c key is_key first second third = (is_key, first, second, third)

@@ -1,0 +1,60 @@
+-- A group more.
+use Rattle.std.proofs.Common.{◌≡◌, ℕ, length, refl, ◌∙◌, arith, subst}
+use Rattle.des_fast.specs.RecordStates.{AreChainedBelow}
+use Rattle.des_fast.proofs.SliceSizes.{pass_slices-le, lane_keys-le}
+use Rattle.des_fast.proofs.ChainedRecords.{AreChainedBelow-none, CbcEach-all, GoOn-chained}
+use Rattle.des_fast.proofs.many.record_keys.chain.Goals as goal
+
+pub groups-init : goal.groups-init
+groups-init g c = record {
+  within = omega arith;
+  starts = refl;
+  in_vectors = refl;
+  in_blocks = refl;
+  chained = λ encryption are.
+      AreChainedBelow-none encryption (g.Z.Sizes.list c.args.sizes) c.args.vectors.now c.args.blocks.now;
+}
+
+pub encryption-passes-requires : goal.encryption-passes-requires
+encryption-passes-requires g c = (
+  omega (arith, lane_keys-le _ _ g.met.K.Slices.Slice.small_gaps g.met.K.Slices.Slice.few_bytes),
+  (
+    omega (arith, pass_slices-le _ _ g.met.K.Slices.Slice.small_gaps g.met.K.Slices.Slice.few_bytes),
+    (
+      omega (arith, c.next_count-count.ensures.within),
+      (
+        length c.args.vectors.now,
+        c.requires.keys,
+        omega (arith, c.next_count-count.ensures.there, c.groups.invariant.in_vectors),
+      ),
+    ),
+  ),
+)
+
+pub groups-preserved : goal.groups-preserved
+groups-preserved g c = record {
+  within = omega (arith, c.next_count-count.ensures.there, c.groups.invariant.in_vectors);
+  starts = c.extent-extent.ensures.end;
+  in_vectors = c.chain_group.ensures.vectors ∙ c.groups.invariant.in_vectors;
+  in_blocks = c.chain_group.ensures.count ∙ c.groups.invariant.in_blocks;
+  chained = λ encryption are.
+      c.chain_group.ensures.chained encryption c.args.vectors.now c.args.blocks.now
+      (c.encryption-passes.ensures encryption are) (c.groups.invariant.chained encryption are);
+}
+
+pub returns-clause-chained : goal.returns-clause-chained
+returns-clause-chained g c encryption are =
+    let all : c.groups.from ≡ length c.args.vectors.now = omega (arith, c.groups.invariant.within) in
+    CbcEach-all encryption (g.Z.Sizes.list c.args.sizes) c.args.vectors.now c.args.blocks.now
+    c.groups.vectors c.groups.blocks c.requires.vectors c.requires.whole c.groups.invariant.in_blocks
+    c.are_blocks.ensures
+    (subst (λ (n : ℕ). AreChainedBelow encryption (g.Z.Sizes.list c.args.sizes) c.args.vectors.now c.args.blocks.now
+    c.groups.vectors c.groups.blocks n) all (c.groups.invariant.chained encryption are))
+
+pub returns-clause-goes_on : goal.returns-clause-goes_on
+returns-clause-goes_on g c encryption are =
+    let all : c.groups.from ≡ length c.args.vectors.now = omega (arith, c.groups.invariant.within) in
+    GoOn-chained encryption (g.Z.Sizes.list c.args.sizes) c.args.vectors.now c.args.blocks.now
+    c.groups.vectors c.groups.blocks c.requires.vectors c.requires.whole c.groups.invariant.in_blocks
+    (subst (λ (n : ℕ). AreChainedBelow encryption (g.Z.Sizes.list c.args.sizes) c.args.vectors.now c.args.blocks.now
+    c.groups.vectors c.groups.blocks n) all (c.groups.invariant.chained encryption are))

@@ -1,0 +1,20 @@
+-- The blocks before the index are out of their chains.
+use Rattle.std.proofs.Common.{◌≡◌, ◌-◌, ◌≤◌, ℕ, List, length}
+use Rattle.des_fast.specs.Records.{start}
+use Rattle.des_fast.specs.RecordStates.{AreUnchainedBelow}
+use Rattle.des_fast.proofs.many.record_keys.unchain.Given as goal
+
+abbrev pub invariant-parts : goal.invariant-parts
+invariant-parts g l = record {
+  within : l.from ≤ length l.initial.blocks;
+  starts : l.record.start ≡ start (g.Z.Sizes.list l.sizes) l.record.number;
+  before : l.record.start ≤ l.from;
+  in_vectors : length l.vectors ≡ length l.initial.vectors;
+  in_blocks : length l.blocks ≡ length l.initial.blocks;
+  unchained : (decryption : ℕ → List ℕ → List ℕ) → g.K.RecordKeys.decrypt l.keys decryption
+      → AreUnchainedBelow decryption (g.Z.Sizes.list l.sizes) l.initial.vectors l.initial.blocks l.vectors l.blocks
+      l.from;
+}
+
+abbrev pub decreases-parts : goal.decreases-parts
+decreases-parts g l = length l.initial.blocks - l.from
