@@ -18,7 +18,7 @@ export const BLOCK_SIZE = 8;
 export const TAG_SIZE = 8;
 
 // The SHA-256 of the module that this file was built with.
-const MODULE_SUM = "a60d11d38d2b4fc5babe7b5ec3e740a8b9ff1d0d6a26c52d2f2b5e6255c5f92d";
+const MODULE_SUM = "4bb95417258ae426302971238078b6741459625e467409a6a7f4587115889233";
 
 // The bytes of the module's stack, which lies at its address 0. `build` links it so.
 const STACK_SIZE = 131072;
