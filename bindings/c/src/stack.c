@@ -61,8 +61,8 @@ static __attribute__((noinline)) void wipe_stack(size_t size) {
         hash, iterations, password, password_length, bytes, length, plain, room, plain_length)
 
 WIPES_CIPHER(des, 304, 736, 15392, 24432, 17504, 26544, 7776)
-WIPES_CIPHER(tdes_ede2, 464, 976, 10528, 20688, 15616, 24992, 12144)
-WIPES_CIPHER(tdes_ede3, 1024, 1376, 10528, 20688, 15616, 24992, 13280)
+WIPES_CIPHER(tdes_ede2, 464, 976, 12416, 20688, 15616, 24992, 12144)
+WIPES_CIPHER(tdes_ede3, 1024, 1376, 12416, 20688, 15616, 24992, 13280)
 
 #define WIPES_MAC(NAME, INIT, ONE_KEY, ONE_KEY_WIDE, EACH, EACH_WIDE)                                                 \
   WIPES(int, NAME##_init, INIT, (cukvashe_##NAME * context, const uint8_t *key, size_t key_length, int method),       \
