@@ -61,7 +61,7 @@ static __attribute__((noinline)) void wipe_stack(size_t size) {
         hash, iterations, password, password_length, bytes, length, plain, room, plain_length)
 
 WIPES_CIPHER(des, 304, 736, 15392, 24432, 17504, 26544, 7776)
-WIPES_CIPHER(tdes_ede2, 464, 976, 12416, 20688, 15616, 24992, 12144)
+WIPES_CIPHER(tdes_ede2, 464, 976, 12416, 20688, 15616, 26064, 12144)
 WIPES_CIPHER(tdes_ede3, 1024, 1376, 12416, 20688, 15616, 24992, 13280)
 
 #define WIPES_MAC(NAME, INIT, ONE_KEY, ONE_KEY_WIDE, EACH, EACH_WIDE)                                                 \
@@ -93,8 +93,8 @@ WIPES_MAC(retail_mac_des, 336, 19600, 30128, 29968, 47200)
              (const uint8_t *keys, const cukvashe_message *messages, uint8_t *tags, size_t count), keys, messages,    \
              tags, count)
 
-WIPES_CMAC(cmac_tdes_ede2, 480, 15808, 23168, 15792, 25344)
-WIPES_CMAC(cmac_tdes_ede3, 1024, 17856, 25232, 15792, 25344)
+WIPES_CMAC(cmac_tdes_ede2, 480, 15808, 23168, 17376, 28384)
+WIPES_CMAC(cmac_tdes_ede3, 1024, 17856, 25232, 17392, 25344)
 
 /* Keys. */
 WIPES(int, weak_key_test, 32, (const uint8_t *key, size_t key_length), key, key_length)
@@ -116,7 +116,7 @@ WIPES_COMBINE(16)
 WIPES_COMBINE(24)
 
 /* Keys of a transaction. */
-WIPES_VOID(dukpt_initial_key, 496, (const uint8_t base[16], const uint8_t serial[10], uint8_t key[16]), base, serial,
+WIPES_VOID(dukpt_initial_key, 672, (const uint8_t base[16], const uint8_t serial[10], uint8_t key[16]), base, serial,
            key)
 WIPES_VOID(dukpt_transaction_key, 432, (const uint8_t initial[16], const uint8_t serial[10], uint8_t key[16]), initial,
            serial, key)
@@ -125,7 +125,7 @@ WIPES_VOID(dukpt_transaction_keys, BY_WIDTH(count, 43968, 47104),
 WIPES_VOID(dukpt_pin_key, 32, (const uint8_t transaction[16], uint8_t key[16]), transaction, key)
 WIPES_VOID(dukpt_mac_key, 32, (const uint8_t transaction[16], bool is_response, uint8_t key[16]), transaction,
            is_response, key)
-WIPES_VOID(dukpt_data_key, 496, (const uint8_t transaction[16], bool is_response, uint8_t key[16]), transaction,
+WIPES_VOID(dukpt_data_key, 672, (const uint8_t transaction[16], bool is_response, uint8_t key[16]), transaction,
            is_response, key)
 WIPES_VOID(dukpt_data_variant, 32, (const uint8_t transaction[16], bool is_response, uint8_t key[16]), transaction,
            is_response, key)
@@ -165,11 +165,11 @@ WIPES(int, pin_translate_to_3, 2064,
        const uint8_t block[8], uint8_t translated[8]),
       incoming_key, incoming_key_length, incoming_format, outgoing_key, outgoing_key_length, account, account_length,
       fill, block, translated)
-WIPES(int, pvv, 944,
+WIPES(int, pvv, 1152,
       (const uint8_t key[16], const char *account, size_t account_length, int index, const char *pin, size_t pin_length,
        char value[5]),
       key, account, account_length, index, pin, pin_length, value)
-WIPES(int, pvv_verify, 944,
+WIPES(int, pvv_verify, 1152,
       (const uint8_t key[16], const char *account, size_t account_length, int index, const char *pin, size_t pin_length,
        const char *value, size_t value_length),
       key, account, account_length, index, pin, pin_length, value, value_length)
@@ -185,21 +185,21 @@ WIPES(int, pin_offset_verify, 1456,
       (const uint8_t *key, size_t key_length, const cukvashe_decimal_table *table, const uint8_t validation[8],
        const char *pin, size_t pin_length, const char *offset, size_t offset_length),
       key, key_length, table, validation, pin, pin_length, offset, offset_length)
-WIPES(int, cvv, 864,
+WIPES(int, cvv, 1072,
       (const uint8_t key[16], const char *account, size_t account_length, const char *expiry, size_t expiry_length,
        const char *service, size_t service_length, char value[4]),
       key, account, account_length, expiry, expiry_length, service, service_length, value)
-WIPES(int, emv_card_key, 496,
+WIPES(int, emv_card_key, 688,
       (const uint8_t issuer[16], const char *account, size_t account_length, const char *sequence,
        size_t sequence_length, uint8_t key[16]),
       issuer, account, account_length, sequence, sequence_length, key)
-WIPES_VOID(emv_application_key, 496, (const uint8_t card[16], const uint8_t counter[2], uint8_t key[16]), card, counter,
+WIPES_VOID(emv_application_key, 672, (const uint8_t card[16], const uint8_t counter[2], uint8_t key[16]), card, counter,
            key)
-WIPES_VOID(emv_session_key, 496, (const uint8_t card[16], const uint8_t block[8], uint8_t key[16]), card, block, key)
+WIPES_VOID(emv_session_key, 672, (const uint8_t card[16], const uint8_t block[8], uint8_t key[16]), card, block, key)
 WIPES_VOID(emv_application_cryptogram, 1328,
            (const uint8_t session[16], const uint8_t *data, size_t length, uint8_t cryptogram[8]), session, data, length,
            cryptogram)
-WIPES_VOID(emv_response_1, 480,
+WIPES_VOID(emv_response_1, 640,
            (const uint8_t session[16], const uint8_t cryptogram[8], const uint8_t code[2], uint8_t response[8]), session,
            cryptogram, code, response)
 WIPES(int, emv_response_2, 1648,

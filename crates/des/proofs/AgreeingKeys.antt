@@ -14,7 +14,7 @@ Enciphers-from_agreeing : (key other x y : List ℕ) → IsKey 8 key → IsKey 8
     → Enciphers key x y → Enciphers other x y
 Enciphers-from_agreeing key other x y is_key other_is_key agree enciphers =
     let made = (IsGraphOf-encryption key is_key x y).0 enciphers in
-    let same = ap (λ keys. answer_by keys x) (key_schedule-agreeing key other is_key other_is_key agree) in
+    let same = ap (λ keys. answer_by keys x) (key_schedule-agreeing key other agree) in
     (IsGraphOf-encryption other other_is_key x y).1 (made.0, sym same ∙ made.1)
 
 -- agreement outside parity, from the other key to the first

@@ -77,37 +77,34 @@ Unchains-from_Cbc encryption decryption iv p q is_iv are_blocks makes_blocks und
       (sym (xor_blocks-undone (block_at p n) (block_before iv q n) (omega arith)));
 }
 
--- a list that decryption unchains is chained by what undoes it, and blocks are encrypted in the chain
-pub Chains-from_Unchains : (encryption decryption : List ℕ → List ℕ) (iv : List ℕ) (p q : List (List ℕ)) → IsBlock iv
-    → All IsBlock q → ((block : List ℕ) → IsBlock block → IsBlock (decryption block))
-    → ((block : List ℕ) → IsBlock block → encryption (decryption block) ≡ block) → Unchains decryption iv q p
-    → Chains (TakesBlock encryption) iv p q
-Chains-from_Unchains encryption decryption iv p q is_iv are_blocks makes_blocks undoes unchains =
-    let each = λ (n : ℕ) (from : 1 ≤ n) (to : n ≤ length q). IsBlock-block_at q n from to are_blocks in
-    let before = λ (n : ℕ) (to : n ≤ length q). IsBlock-block_before iv q n to is_iv are_blocks in
-    record {
-      count = sym unchains.count;
-      widths = λ n from to.
-          let within : n ≤ length q = omega (arith, unchains.count) in
-          let is_block = makes_blocks (block_at q n) (each n from within) in
-          let is_before = before n within in
-          rw (unchains.unchained n from within) (length-xor_blocks _ _ (omega arith) ∙ is_block.0);
-      chained = λ n from to.
-          let within : n ≤ length q = omega (arith, unchains.count) in
-          let is_block = makes_blocks (block_at q n) (each n from within) in
-          let is_before = before n within in
-          rw (
-            unchains.unchained n from within,
-            xor_blocks-undone (decryption (block_at q n)) (block_before iv q n) (omega arith),
-          )
-          (is_block, undoes (block_at q n) (each n from within));
-    }
+-- a list that decryption unchains, by what undoes it
+module _ (encryption decryption : List ℕ → List ℕ) (iv : List ℕ) (p q : List (List ℕ)) (is_iv : IsBlock iv)
+    (are_blocks : All IsBlock q) (makes_blocks : (block : List ℕ) → IsBlock block → IsBlock (decryption block))
+    (undoes : (block : List ℕ) → IsBlock block → encryption (decryption block) ≡ block)
+    (unchains : Unchains decryption iv q p) where
+  -- is chained, and blocks are encrypted in the chain
+  pub Chains-from_Unchains : Chains (TakesBlock encryption) iv p q
+  Chains-from_Unchains = record {
+    count = sym unchains.count;
+    widths = λ n from to.
+        let within : n ≤ length q = omega (arith, unchains.count) in
+        let is_block = makes_blocks (block_at q n) (IsBlock-block_at q n from within are_blocks) in
+        let is_before = IsBlock-block_before iv q n within is_iv are_blocks in
+        rw (unchains.unchained n from within) (length-xor_blocks _ _ (omega arith) ∙ is_block.0);
+    chained = λ n from to.
+        let within : n ≤ length q = omega (arith, unchains.count) in
+        let of_block = IsBlock-block_at q n from within are_blocks in
+        let is_block = makes_blocks (block_at q n) of_block in
+        let is_before = IsBlock-block_before iv q n within is_iv are_blocks in
+        rw (
+          unchains.unchained n from within,
+          xor_blocks-undone (decryption (block_at q n)) (block_before iv q n) (omega arith),
+        )
+        (is_block, undoes (block_at q n) of_block);
+  }
 
--- so it is one of CBC
-pub Cbc-from_Unchains : (encryption decryption : List ℕ → List ℕ) (iv : List ℕ) (p q : List (List ℕ)) → IsBlock iv
-    → All IsBlock q → ((block : List ℕ) → IsBlock block → IsBlock (decryption block))
-    → ((block : List ℕ) → IsBlock block → encryption (decryption block) ≡ block) → Unchains decryption iv q p
-    → Cbc encryption iv p q
-Cbc-from_Unchains encryption decryption iv p q is_iv are_blocks makes_blocks undoes unchains =
-    Chains-weaker (TakesBlock encryption) (λ block answer. answer ≡ encryption block) iv p q (λ x y taken. sym taken.1)
-    (Chains-from_Unchains encryption decryption iv p q is_iv are_blocks makes_blocks undoes unchains)
+  -- and so is one of CBC
+  pub Cbc-from_Unchains : Cbc encryption iv p q
+  Cbc-from_Unchains =
+      Chains-weaker (TakesBlock encryption) (λ block answer. answer ≡ encryption block) iv p q (λ x y taken. sym taken.1)
+      Chains-from_Unchains

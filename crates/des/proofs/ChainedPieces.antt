@@ -1,5 +1,6 @@
 -- Lists of blocks that are chained piece after piece.
-use Rattle.std.proofs.Common.{◌≡◌, ◌⊎◌, inl, inr, ℕ, zero, suc, ◌+◌, ◌-◌, ◌<◌, ◌≤◌, List, [], ◌∷◌, ◌++◌, length, get_or, refl, ap, ap₂, sym, ◌∙◌, arith, length-append}
+use Rattle.std.proofs.Common.{◌≡◌, inl, inr, ℕ, zero, suc, ◌+◌, ◌-◌, ◌<◌, ◌≤◌, List, [], ◌∷◌, ◌++◌, length, get_or, refl, ap, ap₂, sym, ◌∙◌, arith, length-append}
+use Rattle.std.proofs.lemmas.Bool.{cases_lt}
 use Rattle.std.proofs.lemmas.List.{get_or-append_right}
 use Rattle.std.proofs.Math.ListN.{get_or-append}
 use Rattle.des.specs.Cbc.{block_at, block_before, next_vector, Chains, Unchains}
@@ -50,9 +51,6 @@ before_back iv a b n after =
     let same : n - 1 ≡ n - length a - 1 + length a = omega arith in
     ap (λ k. get_or (iv ∷ (a ++ b)) k []) same ∙ from_last iv a b (n - length a - 1)
 
-le_or_lt : (n m : ℕ) → (n ≤ m) ⊎ (m < n)
-le_or_lt n m = search arith
-
 -- ---- chains
 
 pub Chains-append : (Relates : List ℕ → List ℕ → Type 0) (iv : List ℕ) (p q more answers : List (List ℕ))
@@ -60,17 +58,17 @@ pub Chains-append : (Relates : List ℕ → List ℕ → Type 0) (iv : List ℕ)
     → Chains Relates (next_vector iv q) more answers → Chains Relates iv (p ++ more) (q ++ answers)
 Chains-append Relates iv p q more answers first second = record {
   count = length-append q answers ∙ ap₂ ◌+◌ first.count second.count ∙ sym (length-append p more);
-  widths = λ n from to. elim (le_or_lt n (length p)) [
-    | inl front ↦ rw (at_front p more n from front) (first.widths n from front)
-    | inr back ↦
+  widths = λ n from to. elim (cases_lt (length p) n) [
+    | inr front ↦ rw (at_front p more n from front) (first.widths n from front)
+    | inl back ↦
         rw (at_back p more n back) (second.widths (n - length p) (omega arith) (omega (arith, length-append p more)))
   ];
-  chained = λ n from to. elim (le_or_lt n (length p)) [
-    | inl front ↦
+  chained = λ n from to. elim (cases_lt (length p) n) [
+    | inr front ↦
         let within : n ≤ length q = omega (arith, first.count) in
         rw (at_front p more n from front, before_front iv q answers n from within, at_front q answers n from within)
         (first.chained n from front)
-    | inr back ↦
+    | inl back ↦
         let after : length q < n = omega (arith, first.count) in
         rw (at_back p more n back, before_back iv q answers n after, at_back q answers n after, first.count)
         (second.chained (n - length p) (omega arith) (omega (arith, length-append p more)))
@@ -82,12 +80,12 @@ pub Unchains-append : (decryption : List ℕ → List ℕ) (iv : List ℕ) (q p 
     → Unchains decryption (next_vector iv q) more answers → Unchains decryption iv (q ++ more) (p ++ answers)
 Unchains-append decryption iv q p more answers first second = record {
   count = length-append p answers ∙ ap₂ ◌+◌ first.count second.count ∙ sym (length-append q more);
-  unchained = λ n from to. elim (le_or_lt n (length q)) [
-    | inl front ↦
+  unchained = λ n from to. elim (cases_lt (length q) n) [
+    | inr front ↦
         let within : n ≤ length p = omega (arith, first.count) in
         rw (at_front p answers n from within, before_front iv q more n from front, at_front q more n from front)
         (first.unchained n from front)
-    | inr back ↦
+    | inl back ↦
         let after : length p < n = omega (arith, first.count) in
         rw (at_back p answers n after, before_back iv q more n back, at_back q more n back, first.count)
         (second.unchained (n - length q) (omega arith) (omega (arith, length-append q more)))

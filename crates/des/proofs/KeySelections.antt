@@ -1,33 +1,22 @@
--- The round keys as selections from the key by lists of positions: keys have the same round keys just where they agree
--- at the positions that the lists have. What a round key takes from the halves C and D is in `RoundKeyPlaces`.
-use Rattle.std.proofs.Common.{◌≡◌, ℕ, ◌%◌, ◌≤◌, ◌==◌, ◌&&◌, ◌||◌, not, nat_le, Bool, true, List, [], ◌∷◌, ◌++◌, map, length, take, drop, refl, sym, ap, ap₂, ◌∙◌, arith, inl, inr}
-use Rattle.std.specs.Prelude.{sum}
-use Rattle.std.specs.List.{list_all, list_any, range_with_len}
+-- Keys that agree outside parity have the same halves C and D, since permuted choice 1 takes just the positions outside
+-- parity, and so the same round keys. Keys with the same round keys agree outside parity, since each bit of C and of D
+-- is taken for some round key.
+use Rattle.std.proofs.Common.{◌≡◌, ℕ, ◌%◌, ◌≤◌, ◌==◌, ◌&&◌, not, nat_le, Bool, true, List, [], ◌∷◌, ◌++◌, map, take, drop, refl, sym, ap, ap₂, ◌∙◌, arith, inl, inr, take-append-drop}
+use Rattle.std.specs.List.{list_all, flat_map}
 use Rattle.std.proofs.lemmas.List.{map-append, take-map, drop-map}
 use Rattle.std.proofs.lemmas.Bool.{and_parts, or_cases, eqb-true, ne_eqb, not_from_false, agree_below_at}
 use Rattle.std.proofs.lemmas.Bool.Decides.{nat_tests}
 use Rattle.des.specs.Bits.{bit, bits_of_bytes, select}
-use Rattle.des.specs.Tables.{permuted_choice_1, permuted_choice_2, left_shifts}
-use Rattle.des.specs.KeySchedule.{c_half, d_half, rotate, shifts_through, round_key, key_schedule}
-use Rattle.des.specs.Blocks.{IsKey}
+use Rattle.des.specs.Tables.{permuted_choice_1}
+use Rattle.des.specs.KeySchedule.{c_half, d_half, rotate, key_schedule}
 use Rattle.des.specs.Parity.{AgreeOutsideParity}
 use Rattle.des.proofs.Places.{is_among}
-use Rattle.des.specs.Laws.Selections.{composed, select-select}
-use Rattle.des.specs.Laws.BlockBits.{length-bits_of_block}
-
--- ---- the positions of a round key
+use Rattle.des.proofs.RoundKeys.{length-c_half, length-d_half}
+use Rattle.des.proofs.RoundKeyPlaces.{schedule_of_halves, key_schedule-halves, schedule_places, schedule-placed, c_places, d_places, from_places_of_two}
 
 -- positions rotated to the left by n places
 abbrev pub rotated : List ℕ → ℕ → List ℕ
 rotated positions n = drop n positions ++ take n positions
-
--- the positions of the key that round key i takes: permuted choice 2 of the rotated halves of permuted choice 1. The
--- shifts are written out, so that the positions compute; 65 is a position past the end of a key
-abbrev round_key_positions : ℕ → List ℕ
-round_key_positions i =
-    let shifts = sum (take i left_shifts) in
-    composed 65 permuted_choice_2
-    (rotated (take 28 permuted_choice_1) shifts ++ rotated (drop 28 permuted_choice_1) shifts)
 
 -- a selection, rotated, is the selection by the positions, rotated
 pub rotate-select : (positions : List ℕ) (bits : List Bool) (n : ℕ)
@@ -37,41 +26,7 @@ rotate-select positions bits n =
     ap₂ ◌++◌ (drop-map (bit bits) n positions) (take-map (bit bits) n positions)
     ∙ sym (map-append (bit bits) (drop n positions) (take n positions))
 
--- C is the selection by the first half of permuted choice 1
-c_half-select : (key : List Bool) → c_half key ≡ select (take 28 permuted_choice_1) key
-unfolding c_half select
-c_half-select key = take-map (bit key) 28 permuted_choice_1
-
--- D is the selection by the second half
-d_half-select : (key : List Bool) → d_half key ≡ select (drop 28 permuted_choice_1) key
-unfolding d_half select
-d_half-select key = drop-map (bit key) 28 permuted_choice_1
-
--- selections by two lists of positions, one after the other
-select-append : (positions more : List ℕ) (bits : List Bool)
-    → select (positions ++ more) bits ≡ select positions bits ++ select more bits
-unfolding select
-select-append positions more bits = map-append (bit bits) positions more
-
--- each round key is the selection from the key by its positions
-round_key-select : (key : List Bool) → length key ≡ 64 → (i : ℕ) → round_key key i ≡ select (round_key_positions i) key
-unfolding round_key shifts_through
-round_key-select key width i =
-    let shifts : ℕ = sum (take i left_shifts) in
-    let first : List ℕ = rotated (take 28 permuted_choice_1) shifts in
-    let second : List ℕ = rotated (drop 28 permuted_choice_1) shifts in
-    let c_rotated =
-    ap (λ half. rotate half shifts) (c_half-select key) ∙ rotate-select (take 28 permuted_choice_1) key shifts in
-    let d_rotated =
-    ap (λ half. rotate half shifts) (d_half-select key) ∙ rotate-select (drop 28 permuted_choice_1) key shifts in
-    ap (select permuted_choice_2) (ap₂ ◌++◌ c_rotated d_rotated ∙ sym (select-append first second key))
-    ∙ select-select 65 permuted_choice_2 (first ++ second) key (omega arith)
-
--- ---- keys that agree outside parity have the same round keys
-
--- the numbers of the rounds
-abbrev rounds : List ℕ
-rounds = range_with_len 1 16
+-- ---- from agreement to round keys
 
 -- whether each is a position outside parity
 abbrev are_outside_parity : List ℕ → Bool
@@ -92,105 +47,79 @@ select-agreeing key other (position ∷ positions) agree outside =
 pub halves-agreeing : (key other : List ℕ) → AgreeOutsideParity key other
     → (c_half (bits_of_bytes key) ≡ c_half (bits_of_bytes other))
     × (d_half (bits_of_bytes key) ≡ d_half (bits_of_bytes other))
-halves-agreeing key other agree = (
-  c_half-select (bits_of_bytes key)
-      ∙ select-agreeing key other (take 28 permuted_choice_1) agree refl
-      ∙ sym (c_half-select (bits_of_bytes other)),
-  d_half-select (bits_of_bytes key)
-      ∙ select-agreeing key other (drop 28 permuted_choice_1) agree refl
-      ∙ sym (d_half-select (bits_of_bytes other)),
-)
+unfolding c_half d_half
+halves-agreeing key other agree =
+    let chosen = select-agreeing key other permuted_choice_1 agree refl in
+    (ap (take 28) chosen, ap (drop 28) chosen)
 
--- they have the same round keys of rounds whose positions are outside parity
-round_keys-agreeing : (key other : List ℕ) → IsKey 8 key → IsKey 8 other → AgreeOutsideParity key other
-    → (numbers : List ℕ) → list_all (λ i. are_outside_parity (round_key_positions i)) numbers ≡ true
-    → map (round_key (bits_of_bytes key)) numbers ≡ map (round_key (bits_of_bytes other)) numbers
-round_keys-agreeing key other is_key other_is_key agree [] outside = refl
-round_keys-agreeing key other is_key other_is_key agree (i ∷ numbers) outside =
-    let later : Bool = list_all (λ j. are_outside_parity (round_key_positions j)) numbers in
-    let parts = and_parts (are_outside_parity (round_key_positions i)) later outside in
-    ap₂ ◌∷◌
-    (round_key-select (bits_of_bytes key) (length-bits_of_block key is_key) i
-    ∙ select-agreeing key other (round_key_positions i) agree parts.0
-    ∙ sym (round_key-select (bits_of_bytes other) (length-bits_of_block other other_is_key) i))
-    (round_keys-agreeing key other is_key other_is_key agree numbers parts.1)
-
--- keys that agree outside parity have the same round keys
-pub key_schedule-agreeing : (key other : List ℕ) → IsKey 8 key → IsKey 8 other → AgreeOutsideParity key other
+-- and so the same round keys
+pub key_schedule-agreeing : (key other : List ℕ) → AgreeOutsideParity key other
     → key_schedule (bits_of_bytes key) ≡ key_schedule (bits_of_bytes other)
-unfolding key_schedule
-key_schedule-agreeing key other is_key other_is_key agree =
-    round_keys-agreeing key other is_key other_is_key agree rounds refl
+key_schedule-agreeing key other agree =
+    let halves = halves-agreeing key other agree in
+    key_schedule-halves (bits_of_bytes key) ∙ ap₂ schedule_of_halves halves.0 halves.1
+    ∙ sym (key_schedule-halves (bits_of_bytes other))
 
--- ---- keys with the same halves, and keys with the same round keys, agree outside parity
+-- ---- from round keys to agreement
 
--- equal selections have the same bit at each position that they take
-bit-from_select : (key other : List Bool) (positions : List ℕ) → select positions key ≡ select positions other
-    → (position : ℕ) → is_among positions position ≡ true → bit key position ≡ bit other position
-unfolding select
-bit-from_select key other [] same position among = absurd (cc)
-bit-from_select key other (first ∷ positions) same position among =
-    let here : bit key first ≡ bit other first = cc in
-    let rest : select positions key ≡ select positions other = cc in
+-- two functions with the same values along a list of positions agree at each of them
+same_among : (f g : ℕ → Bool) (positions : List ℕ) → map f positions ≡ map g positions
+    → (position : ℕ) → is_among positions position ≡ true → f position ≡ g position
+same_among f g [] same position among = absurd (cc)
+same_among f g (first ∷ positions) same position among =
+    let here : f first ≡ g first = cc in
+    let rest : map f positions ≡ map g positions = cc in
     elim (or_cases (first == position) (is_among positions position) among) [
       | inl found ↦ rw (← eqb-true first position found) here
-      | inr later ↦ bit-from_select key other positions rest position later
+      | inr later ↦ same_among f g positions rest position later
     ]
 
--- permuted choice 1 takes a position for C or for D
-abbrev is_chosen : ℕ → Bool
-is_chosen position = is_among (take 28 permuted_choice_1) position || is_among (drop 28 permuted_choice_1) position
+-- and along a list of some of them
+map-among : (f g : ℕ → Bool) (positions some : List ℕ) → map f positions ≡ map g positions
+    → list_all (is_among positions) some ≡ true → map f some ≡ map g some
+map-among f g positions [] same among = refl
+map-among f g positions (position ∷ some) same among =
+    let parts = and_parts _ _ among in
+    ap₂ ◌∷◌ (same_among f g positions same position parts.0) (map-among f g positions some same parts.1)
 
--- each position up to 64 is chosen just if eight does not divide it
-is_chosen-outside_parity : (position : ℕ) → position ≤ 64 → is_chosen position ≡ not (position % 8 == 0)
-is_chosen-outside_parity position within =
-    agree_below_at is_chosen (λ n. not (n % 8 == 0)) 65 position refl (omega arith)
+-- permuted choice 1 takes a position up to 64 just if eight does not divide it
+is_among-permuted_choice_1 : (position : ℕ) → position ≤ 64
+    → is_among permuted_choice_1 position ≡ not (position % 8 == 0)
+is_among-permuted_choice_1 position within =
+    agree_below_at (is_among permuted_choice_1) (λ n. not (n % 8 == 0)) 65 position refl (omega arith)
 
 -- keys with the same halves C and D agree outside parity
 pub AgreeOutsideParity-halves : (key other : List ℕ) → c_half (bits_of_bytes key) ≡ c_half (bits_of_bytes other)
     → d_half (bits_of_bytes key) ≡ d_half (bits_of_bytes other) → AgreeOutsideParity key other
+unfolding c_half d_half select
 AgreeOutsideParity-halves key other same_c same_d position from within outside =
-    let a : List Bool = bits_of_bytes key in
-    let b : List Bool = bits_of_bytes other in
-    let c : List ℕ = take 28 permuted_choice_1 in
-    let d : List ℕ = drop 28 permuted_choice_1 in
-    let chosen = is_chosen-outside_parity position within
-    ∙ not_from_false (position % 8 == 0) (ne_eqb (position % 8) 0 outside) in
-    elim (or_cases (is_among c position) (is_among d position) chosen) [
-      | inl in_c ↦ bit-from_select a b c (sym (c_half-select a) ∙ same_c ∙ c_half-select b) position in_c
-      | inr in_d ↦ bit-from_select a b d (sym (d_half-select a) ∙ same_d ∙ d_half-select b) position in_d
-    ]
+    let chosen : List ℕ → List Bool = λ bytes. select permuted_choice_1 (bits_of_bytes bytes) in
+    same_among (bit (bits_of_bytes key)) (bit (bits_of_bytes other)) permuted_choice_1
+    (sym (take-append-drop 28 (chosen key)) ∙ ap₂ ◌++◌ same_c same_d ∙ take-append-drop 28 (chosen other)) position
+    (is_among-permuted_choice_1 position within ∙ not_from_false (position % 8 == 0) (ne_eqb (position % 8) 0 outside))
 
--- equal round keys of some rounds have the same bit at each position that one of them takes
-bit-from_round_keys : (key other : List Bool) → length key ≡ 64 → length other ≡ 64 → (numbers : List ℕ)
-    → map (round_key key) numbers ≡ map (round_key other) numbers
-    → (position : ℕ) → list_any (λ i. is_among (round_key_positions i) position) numbers ≡ true
-    → bit key position ≡ bit other position
-bit-from_round_keys key other width other_width [] same position taken = absurd (cc)
-bit-from_round_keys key other width other_width (i ∷ numbers) same position taken =
-    let here : round_key key i ≡ round_key other i = cc in
-    let rest : map (round_key key) numbers ≡ map (round_key other) numbers = cc in
-    let later = list_any (λ j. is_among (round_key_positions j) position) numbers in
-    elim (or_cases (is_among (round_key_positions i) position) later taken) [
-      | inl found ↦
-          bit-from_select key other (round_key_positions i)
-          (sym (round_key-select key width i) ∙ here ∙ round_key-select other other_width i) position found
-      | inr found ↦ bit-from_round_keys key other width other_width numbers rest position found
-    ]
+-- halves with the same round keys are the same
+abbrev AreAlike : List Bool → List Bool → List Bool → List Bool → Type 0
+AreAlike c d c_other d_other =
+    schedule_of_halves c d ≡ schedule_of_halves c_other d_other → (c ≡ c_other) × (d ≡ d_other)
 
--- some round key takes a position
-abbrev is_taken : ℕ → Bool
-is_taken position = list_any (λ i. is_among (round_key_positions i) position) rounds
-
--- each position up to 64 is taken just if eight does not divide it
-is_taken-outside_parity : (position : ℕ) → position ≤ 64 → is_taken position ≡ not (position % 8 == 0)
-is_taken-outside_parity position within = agree_below_at is_taken (λ n. not (n % 8 == 0)) 65 position refl (omega arith)
+-- so it is with a value at each place
+AreAlike-placed : (value other : ℕ → Bool)
+    → AreAlike (map value c_places) (map value d_places) (map other c_places) (map other d_places)
+AreAlike-placed value other same =
+    let places : List ℕ = flat_map (λ key. key) schedule_places in
+    let taken : map value places ≡ map other places =
+    ap (flat_map (λ (key : List Bool). key)) (sym (schedule-placed value) ∙ same ∙ schedule-placed other) in
+    (map-among value other places c_places taken refl, map-among value other places d_places taken refl)
 
 -- keys with the same round keys agree outside parity
-pub AgreeOutsideParity-key_schedule : (key other : List ℕ) → IsKey 8 key → IsKey 8 other
+pub AgreeOutsideParity-key_schedule : (key other : List ℕ)
     → key_schedule (bits_of_bytes key) ≡ key_schedule (bits_of_bytes other) → AgreeOutsideParity key other
-unfolding key_schedule
-AgreeOutsideParity-key_schedule key other is_key other_is_key same = λ position from within outside.
-    bit-from_round_keys (bits_of_bytes key) (bits_of_bytes other)
-    (length-bits_of_block key is_key) (length-bits_of_block other other_is_key) rounds same position
-    (is_taken-outside_parity position within ∙ not_from_false (position % 8 == 0) (ne_eqb (position % 8) 0 outside))
+AgreeOutsideParity-key_schedule key other same =
+    let a : List Bool = bits_of_bytes key in
+    let b : List Bool = bits_of_bytes other in
+    let halves =
+    from_places_of_two AreAlike AreAlike-placed (c_half a) (d_half a) (c_half b) (d_half b)
+    (length-c_half a) (length-d_half a) (length-c_half b) (length-d_half b)
+    (sym (key_schedule-halves a) ∙ same ∙ key_schedule-halves b) in
+    AgreeOutsideParity-halves key other halves.0 halves.1

@@ -12,81 +12,30 @@ use Rattle.des.specs.Enciphering.{IsDes}
 use Rattle.des.specs.Rounds.{after_rounds, through_rounds}
 use Rattle.des.proofs.OneAnswer.{IsDes-through_rounds}
 
--- ---- the steps, each at the worked example's values
+-- ---- steps
 
--- `bits_of_bytes`
-bits_of_bytes-example : bits_of_bytes (0x13 ∷ 0x34 ∷ 0x57 ∷ 0x79 ∷ 0x9b ∷ 0xbc ∷ 0xdf ∷ 0xf1 ∷ [])
-    ≡ bits_of_word 0x133457799bbcdff1
-unfolding bits_of bits_of_bytes
-bits_of_bytes-example = refl
+-- the steps of the worked example, each with what it gives, as a word with zeros after it; and an exchange of bits by
+-- hand, which takes the last bit of a word one place up, and from one end of the word to the other
+abbrev steps : List (List Bool × ℕ)
+steps =
+    (bits_of_bytes (0x13 ∷ 0x34 ∷ 0x57 ∷ 0x79 ∷ 0x9b ∷ 0xbc ∷ 0xdf ∷ 0xf1 ∷ []), 0x133457799bbcdff1) ∷
+    (select initial_permutation (bits_of_word 0x0123456789abcdef), 0xcc00ccfff0aaf0aa) ∷
+    (select final_permutation (bits_of_word 0x0a4cd99543423234), 0x85e813540f0ab405) ∷
+    (select permuted_choice_1 (bits_of_word 0x133457799bbcdff1) ++ zeros 8, 0xf0ccaaf556678f00) ∷
+    (select permuted_choice_2 (take 56 (bits_of_word 0xe19955faaccf1e00)) ++ zeros 16, 0x1b02effc70720000) ∷
+    (round_key (bits_of_word 0x133457799bbcdff1) 1 ++ zeros 16, 0x1b02effc70720000) ∷
+    (round_key (bits_of_word 0x133457799bbcdff1) 16 ++ zeros 16, 0xcb3d8b0e17f50000) ∷
+    (select expansion (take 32 (bits_of_word 0xf0aaf0aa00000000)) ++ zeros 16, 0x7a15557a15550000) ∷
+    (substitute (take 48 (bits_of_word 0x6117ba8665270000)) ++ zeros 32, 0x5c82b59700000000) ∷
+    (select permutation (take 32 (bits_of_word 0x5c82b59700000000)) ++ zeros 32, 0x234aa9bb00000000) ∷
+    (cipher_function (bits_of 32 0xf0aaf0aa) (bits_of 48 0x1b02effc7072) ++ zeros 32, 0x234aa9bb00000000) ∷
+    (bits_of_word (delta_swapped 0x0000000000000001 1 0x0000000000000001), 0x0000000000000002) ∷
+    (bits_of_word (delta_swapped 0x0000000000000001 63 0x0000000000000001), 0x8000000000000000) ∷ []
 
--- `initial_permutation`
-initial_permutation-example : select initial_permutation (bits_of_word 0x0123456789abcdef)
-    ≡ bits_of_word 0xcc00ccfff0aaf0aa
-unfolding bits_of select
-initial_permutation-example = refl
-
--- `final_permutation`
-final_permutation-example : select final_permutation (bits_of_word 0x0a4cd99543423234) ≡ bits_of_word 0x85e813540f0ab405
-unfolding bits_of select
-final_permutation-example = refl
-
--- `permuted_choice_1`
-permuted_choice_1-example : select permuted_choice_1 (bits_of_word 0x133457799bbcdff1) ++ zeros 8
-    ≡ bits_of_word 0xf0ccaaf556678f00
-unfolding bits_of select
-permuted_choice_1-example = refl
-
--- `permuted_choice_2`
-permuted_choice_2-example : select permuted_choice_2 (take 56 (bits_of_word 0xe19955faaccf1e00)) ++ zeros 16
-    ≡ bits_of_word 0x1b02effc70720000
-unfolding bits_of select
-permuted_choice_2-example = refl
-
--- `round_key`, the first
-round_key-first_example : round_key (bits_of_word 0x133457799bbcdff1) 1 ++ zeros 16 ≡ bits_of_word 0x1b02effc70720000
-unfolding bits_of select round_key c_half d_half rotate shifts_through
-round_key-first_example = refl
-
--- `round_key`, the last
-round_key-last_example : round_key (bits_of_word 0x133457799bbcdff1) 16 ++ zeros 16 ≡ bits_of_word 0xcb3d8b0e17f50000
-unfolding bits_of select round_key c_half d_half rotate shifts_through
-round_key-last_example = refl
-
--- `expansion`
-expansion-example : select expansion (take 32 (bits_of_word 0xf0aaf0aa00000000)) ++ zeros 16
-    ≡ bits_of_word 0x7a15557a15550000
-unfolding bits_of select
-expansion-example = refl
-
--- `substitute`
-substitute-example : substitute (take 48 (bits_of_word 0x6117ba8665270000)) ++ zeros 32
-    ≡ bits_of_word 0x5c82b59700000000
-unfolding bits_of substitute_by box_entry number_of
-substitute-example = refl
-
--- `permutation`
-permutation-example : select permutation (take 32 (bits_of_word 0x5c82b59700000000)) ++ zeros 32
-    ≡ bits_of_word 0x234aa9bb00000000
-unfolding bits_of select
-permutation-example = refl
-
--- `cipher_function`
-cipher_function-example : cipher_function (bits_of 32 0xf0aaf0aa) (bits_of 48 0x1b02effc7072) ≡ bits_of 32 0x234aa9bb
-unfolding bits_of select substitute_by box_entry number_of cipher_function xor_bits
-cipher_function-example = refl
-
--- ---- an exchange of bits, by hand
-
--- the last bit of a word goes one place up
-delta_swapped-near : delta_swapped 0x0000000000000001 1 0x0000000000000001 ≡ 0x0000000000000002
-unfolding delta_swapped
-delta_swapped-near = refl
-
--- and from one end of the word to the other
-delta_swapped-far : delta_swapped 0x0000000000000001 63 0x0000000000000001 ≡ 0x8000000000000000
-unfolding delta_swapped
-delta_swapped-far = refl
+each_step : map (λ step. step.0) steps ≡ map (λ step. bits_of_word step.1) steps
+unfolding bits_of bits_of_bytes select substitute_by box_entry number_of cipher_function xor_bits
+    round_key c_half d_half rotate shifts_through delta_swapped
+each_step = refl
 
 -- ---- whole encryptions
 

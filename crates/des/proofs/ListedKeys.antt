@@ -3,14 +3,12 @@
 -- a listed key.
 use Rattle.std.proofs.Common.{◌≡◌, ◌↔◌, ℕ, ◌&&◌, ◌||◌, List, Bool, true, length, inl, inr, refl, subst}
 use Rattle.std.specs.List.{list_all, list_any}
-use Rattle.std.specs.Cmp.{booleans_Decides}
 use Rattle.std.specs.Cmp.Lexicographic.{pointwise}
 use Rattle.std.proofs.Math.Bool.{beq}
 use Rattle.std.proofs.lemmas.Bool.{and_parts, or_cases}
 use Rattle.std.proofs.lemmas.List.Elements.{All-contains}
 use Rattle.std.proofs.lemmas.List.Sums.{AllPass-from_list_all}
 use Rattle.std.proofs.lemmas.List.Folds.{Any-from_list_any}
-use Rattle.std.proofs.lemmas.Slice.Eq.{slice_eq-Decides}
 use Rattle.des.specs.Bits.{bits_of, bits_of_bytes, select}
 use Rattle.des.specs.Blocks.{IsKey, AreBytes, part}
 use Rattle.des.specs.Complement.{complement_bits}
@@ -18,7 +16,7 @@ use Rattle.des.specs.KeySchedule.{rotate, c_half, d_half}
 use Rattle.des.specs.Parity.{ContainsAgreeing}
 use Rattle.des.specs.KeyHalves.{IsListedHalf}
 use Rattle.des.specs.WeakKeys.{listed_keys, IsListed, IsRefused, IsRefusedByList}
-use Rattle.des.proofs.HalfPatterns.{half_patterns, Contains-listed_half}
+use Rattle.des.proofs.HalfPatterns.{at_all_patterns, at_listed_halves, same_bits}
 use Rattle.des.proofs.KeyParts.{IsKey-part}
 use Rattle.des.proofs.KeySelections.{halves-agreeing, AgreeOutsideParity-halves}
 use Rattle.des.proofs.RoundKeys.{length-c_half, length-d_half}
@@ -33,8 +31,8 @@ is_listed_half half = pointwise beq (rotate half 2) half || pointwise beq (rotat
 IsListedHalf-from_test : (half : List Bool) → is_listed_half half ≡ true → IsListedHalf half
 IsListedHalf-from_test half passes =
     elim (or_cases (pointwise beq (rotate half 2) half) (pointwise beq (rotate half 2) (complement_bits half)) passes) [
-      | inl same ↦ inl ((slice_eq-Decides booleans_Decides (rotate half 2) half _ refl).0 same)
-      | inr other ↦ inr ((slice_eq-Decides booleans_Decides (rotate half 2) (complement_bits half) _ refl).0 other)
+      | inl same ↦ inl (same_bits (rotate half 2) half same)
+      | inr other ↦ inr (same_bits (rotate half 2) (complement_bits half) other)
     ]
 
 -- whether the halves of a key are of the listed class
@@ -49,17 +47,14 @@ listed_keys_pass = refl
 -- a key that agrees with one of the list outside parity has its halves, and so is of the class
 IsListed-from_agreeing : (key : List ℕ) → IsKey 8 key → ContainsAgreeing listed_keys key → IsListed key
 IsListed-from_agreeing key is_key found =
-    let listed : List ℕ = found.0 in
-    let c : List Bool = c_half (bits_of_bytes listed) in
-    let d : List Bool = d_half (bits_of_bytes listed) in
     let each = AllPass-from_list_all has_listed_halves listed_keys listed_keys_pass in
-    let passes = All-contains (λ other. has_listed_halves other ≡ true) listed_keys listed each found.1.0 in
-    let tests = and_parts (is_listed_half c) (is_listed_half d) passes in
-    let same = halves-agreeing listed key found.1.1 in (
+    let passes = All-contains (λ other. has_listed_halves other ≡ true) listed_keys found.0 each found.1.0 in
+    let tests = and_parts _ _ passes in
+    let same = halves-agreeing found.0 key found.1.1 in (
       is_key,
       (
-        subst IsListedHalf same.0 (IsListedHalf-from_test c tests.0),
-        subst IsListedHalf same.1 (IsListedHalf-from_test d tests.1),
+        subst IsListedHalf same.0 (IsListedHalf-from_test _ tests.0),
+        subst IsListedHalf same.1 (IsListedHalf-from_test _ tests.1),
       ),
     )
 
@@ -73,32 +68,26 @@ has_halves c d key = pointwise beq (c_half (bits_of_bytes key)) c && pointwise b
 abbrev are_listed_halves : List Bool → List Bool → Bool
 are_listed_halves c d = list_any (has_halves c d) listed_keys
 
--- each two of the eight patterns are the halves of a listed key
-half_patterns_pass : list_all (λ c. list_all (are_listed_halves c) half_patterns) half_patterns ≡ true
+-- each two patterns are the halves of a listed key
+patterns_pass : at_all_patterns are_listed_halves ≡ true
 unfolding bits_of bits_of_bytes select c_half d_half
-half_patterns_pass = refl
+patterns_pass = refl
 
 -- a key of the class has the halves of a key of the list, and so agrees with it outside parity
 ContainsAgreeing-listed : (key : List ℕ) → IsListed key → ContainsAgreeing listed_keys key
 ContainsAgreeing-listed key listed =
     let c : List Bool = c_half (bits_of_bytes key) in
     let d : List Bool = d_half (bits_of_bytes key) in
-    let c_passes : list_all (are_listed_halves c) half_patterns ≡ true =
-    All-contains (λ p. list_all (are_listed_halves p) half_patterns ≡ true) half_patterns c
-    (AllPass-from_list_all (λ p. list_all (are_listed_halves p) half_patterns) half_patterns half_patterns_pass)
-    (Contains-listed_half c (length-c_half (bits_of_bytes key)) listed.1.0) in
-    let passes : are_listed_halves c d ≡ true =
-    All-contains (λ p. are_listed_halves c p ≡ true) half_patterns d
-    (AllPass-from_list_all (are_listed_halves c) half_patterns c_passes)
-    (Contains-listed_half d (length-d_half (bits_of_bytes key)) listed.1.1) in
+    let passes =
+    at_listed_halves are_listed_halves patterns_pass c d (length-c_half (bits_of_bytes key))
+    (length-d_half (bits_of_bytes key)) listed.1.0 listed.1.1 in
     let found = Any-from_list_any (has_halves c d) listed_keys passes in
     let weak : List ℕ = found.1 in
     let weak_c : List Bool = c_half (bits_of_bytes weak) in
     let weak_d : List Bool = d_half (bits_of_bytes weak) in
     let same = and_parts (pointwise beq weak_c c) (pointwise beq weak_d d) found.4 in
-    let same_c : weak_c ≡ c = (slice_eq-Decides booleans_Decides weak_c c _ refl).0 same.0 in
-    let same_d : weak_d ≡ d = (slice_eq-Decides booleans_Decides weak_d d _ refl).0 same.1 in
-    (weak, ((found.0, found.2, found.3), AgreeOutsideParity-halves weak key same_c same_d))
+    let agree = AgreeOutsideParity-halves weak key (same_bits weak_c c same.0) (same_bits weak_d d same.1) in
+    (weak, ((found.0, found.2, found.3), agree))
 
 -- ---- refused keys
 

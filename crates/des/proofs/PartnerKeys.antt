@@ -1,24 +1,24 @@
 -- Partner keys: the one's round keys are the other's in the opposite order, so the one enciphers as the other
 -- deciphers.
-use Rattle.std.proofs.Common.{◌≡◌, ◌↔◌, ℕ, suc, ◌-◌, ◌<◌, ◌≤◌, List, [], Bool, length, reverse, IsTrue, sym, ap, ◌∙◌, subst, arith}
-use Rattle.std.proofs.lemmas.List.{reverse-reverse, length-reverse, get_or-reverse, ext_get_or}
+use Rattle.std.proofs.Common.{◌≡◌, ◌↔◌, ℕ, suc, ◌-◌, ◌<◌, ◌≤◌, List, [], Bool, map, get_or, reverse, IsTrue, refl, one-add, sym, ap, ◌∙◌, subst, arith}
+use Rattle.std.specs.List.{range_with_len}
+use Rattle.std.proofs.lemmas.List.{reverse-reverse, ext_get_or}
+use Rattle.std.proofs.lemmas.List.FromFn.{get_or-map-range_with_len}
 use Rattle.des.specs.Bits.{bits_of_bytes}
 use Rattle.des.specs.Blocks.{IsKey}
 use Rattle.des.specs.Des.{encryption, decryption}
-use Rattle.des.specs.Enciphering.{half_block, Enciphers}
+use Rattle.des.specs.Enciphering.{Enciphers}
 use Rattle.des.specs.KeySchedule.{round_key, key_schedule}
 use Rattle.des.specs.KeyHalves.{ArePartners}
 use Rattle.des.specs.Rounds.{answer_by}
 use Rattle.des.proofs.RoundKeys.{length-c_half, length-d_half}
-use Rattle.des.proofs.Traces.{length-key_schedule, half_block-key_schedule}
 use Rattle.des.proofs.Graphs.{IsGraphOf-encryption, IsGraphOf-decryption}
 use Rattle.des.proofs.RoundKeyPlaces.{key_schedule-halves}
 use Rattle.des.proofs.ReversedRoundKeys.{reversed_from_turned, turned_from_reversed}
 
 -- two keys are partners exactly where the one's round keys are the other's in the opposite order
-reversed_round_keys : (key partner : List ℕ) → IsKey 8 key → IsKey 8 partner
-    → ArePartners key partner ↔ (key_schedule (bits_of_bytes partner) ≡ reverse (key_schedule (bits_of_bytes key)))
-reversed_round_keys key partner is_key partner_is_key = (
+reversed_round_keys : (key partner : List ℕ) → ArePartners key partner ↔ (key_schedule (bits_of_bytes partner) ≡ reverse (key_schedule (bits_of_bytes key)))
+reversed_round_keys key partner = (
   λ partners.
       key_schedule-halves (bits_of_bytes partner)
       ∙ reversed_from_turned _ _ _ _ (length-c_half (bits_of_bytes key)) (length-d_half (bits_of_bytes key))
@@ -40,45 +40,34 @@ reversed_round_keys key partner is_key partner_is_key = (
 -- the end
 reversed_by_number : (key partner : List Bool) → (key_schedule partner ≡ reverse (key_schedule key))
     ↔ ((i : ℕ) → 1 ≤ i → i ≤ 16 → round_key partner i ≡ round_key key (17 - i))
+unfolding key_schedule
 reversed_by_number key partner =
-    let count = length-key_schedule key in
-    let from_end : (j : ℕ) → j < 16 → half_block (reverse (key_schedule key)) j ≡ round_key key (17 - suc j) =
-    λ j below.
-    let place : length (key_schedule key) - 1 - j ≡ 15 - j = omega (arith, count) in
-    get_or-reverse (key_schedule key) j [] (omega (arith, count))
-    ∙ ap (half_block (key_schedule key)) place
-    ∙ half_block-key_schedule key (15 - j) (omega arith)
-    ∙ ap (round_key key) (omega arith) in (
+    let theirs : ℕ → List Bool = λ i. round_key partner i in
+    let ours : ℕ → List Bool = λ i. round_key key (17 - i) in
+    let at : (keys : ℕ → List Bool) (k : ℕ) → k < 16 → get_or (map keys (range_with_len 1 16)) k [] ≡ keys (suc k) =
+    λ keys k below. get_or-map-range_with_len keys 1 16 k (suc k) [] below (one-add k) in (
       λ reversed i from to.
-          let number : i ≡ suc (i - 1) = omega arith in
-          ap (round_key partner) number
-          ∙ sym (half_block-key_schedule partner (i - 1) (omega arith))
-          ∙ ap (λ keys. half_block keys (i - 1)) reversed
-          ∙ from_end (i - 1) (omega arith)
-          ∙ ap (λ (n : ℕ). round_key key (17 - n)) (sym number),
-      λ each.
-          ext_get_or [] (key_schedule partner) (reverse (key_schedule key))
-          (omega (arith, count, length-key_schedule partner, length-reverse (key_schedule key)))
-          (λ j below.
-          let within : j < 16 = omega (arith, length-key_schedule partner) in
-          half_block-key_schedule partner j within ∙ each (suc j) (omega arith) (omega arith)
-          ∙ sym (from_end j within)),
+          let number : suc (i - 1) ≡ i = omega arith in
+          rw number at (sym (at theirs (i - 1) (omega arith)) ∙ ap (λ keys. get_or keys (i - 1) []) reversed
+          ∙ at ours (i - 1) (omega arith)),
+      λ each. ext_get_or [] (key_schedule partner) (reverse (key_schedule key)) refl (λ k below.
+          at theirs k below ∙ each (suc k) (omega arith) (omega arith) ∙ sym (at ours k below)),
     )
 
 -- the same of partners
-reversed_numbers : (key partner : List ℕ) → IsKey 8 key → IsKey 8 partner → ArePartners key partner
+reversed_numbers : (key partner : List ℕ) → ArePartners key partner
     ↔ ((i : ℕ) → 1 ≤ i → i ≤ 16 → round_key (bits_of_bytes partner) i ≡ round_key (bits_of_bytes key) (17 - i))
-reversed_numbers key partner is_key partner_is_key =
-    let by_lists = reversed_round_keys key partner is_key partner_is_key in
+reversed_numbers key partner =
+    let by_lists = reversed_round_keys key partner in
     let by_number = reversed_by_number (bits_of_bytes key) (bits_of_bytes partner) in
     (λ partners. by_number.0 (by_lists.0 partners), λ each. by_lists.1 (by_number.1 each))
 
 -- decryption under a partner is encryption under the key
-decryption-partner : (key partner : List ℕ) → IsKey 8 key → IsKey 8 partner → ArePartners key partner → (block : List ℕ)
+decryption-partner : (key partner : List ℕ) → ArePartners key partner → (block : List ℕ)
     → decryption partner block ≡ encryption key block
-decryption-partner key partner is_key partner_is_key partners block =
+decryption-partner key partner partners block =
     ap (λ keys. answer_by keys block)
-    (ap reverse ((reversed_round_keys key partner is_key partner_is_key).0 partners)
+    (ap reverse ((reversed_round_keys key partner).0 partners)
     ∙ reverse-reverse (key_schedule (bits_of_bytes key)))
 
 -- DES under a key takes a block to another exactly where DES under its partner takes the other to the first
@@ -86,7 +75,7 @@ Enciphers-partners : (key partner : List ℕ) → IsKey 8 key → IsKey 8 partne
     → Enciphers key x y ↔ Enciphers partner y x
 Enciphers-partners key partner is_key partner_is_key partners x y =
     let same : decryption partner x ≡ encryption key x =
-    decryption-partner key partner is_key partner_is_key partners x in
+    decryption-partner key partner partners x in
     let forth = IsGraphOf-encryption key is_key x y in
     let back = IsGraphOf-decryption partner partner_is_key x y in (
       λ enciphers. let made = forth.0 enciphers in back.1 (made.0, same ∙ made.1),
@@ -104,13 +93,12 @@ Enciphers-own_partner key is_key partners x y z first second =
 
 -- what a test that tells partners says besides
 pub told_by_partners : (result : Bool) (key partner : List ℕ) → IsKey 8 key → IsKey 8 partner
-    → IsTrue result ↔ ArePartners key partner
-    → (IsTrue result
+    → IsTrue result ↔ ArePartners key partner → (IsTrue result
     ↔ ((i : ℕ) → 1 ≤ i → i ≤ 16 → round_key (bits_of_bytes partner) i ≡ round_key (bits_of_bytes key) (17 - i)))
     × (IsTrue result → (x y : List ℕ) → Enciphers key x y ↔ Enciphers partner y x)
     × (IsTrue result → key ≡ partner → (x y z : List ℕ) → Enciphers key x y → Enciphers key y z → z ≡ x)
 told_by_partners result key partner is_key partner_is_key told =
-    let by_number = reversed_numbers key partner is_key partner_is_key in (
+    let by_number = reversed_numbers key partner in (
       (λ yes. by_number.0 (told.0 yes), λ each. told.1 (by_number.1 each)),
       λ yes. Enciphers-partners key partner is_key partner_is_key (told.0 yes),
       λ yes same. Enciphers-own_partner key is_key (subst (ArePartners key) (sym same) (told.0 yes)),

@@ -1,6 +1,7 @@
 -- Partners by words: the words that hold the halves C and D of two keys tell whether the keys are partners.
-use Rattle.std.proofs.Common.{◌≡◌, ◌↔◌, ℕ, ◌^◌, ◌<◌, List, ◌++◌, Bool, length, take, drop, slice_index, sym, ap, ap₂, ◌∙◌, arith, length-append, take_at, drop_at, take-append-drop}
+use Rattle.std.proofs.Common.{◌≡◌, ◌↔◌, ℕ, ◌^◌, ◌<◌, List, ◌++◌, Bool, length, take, drop, slice_index, sym, ap, ap₂, ◌∙◌, arith, take_at, drop_at, take-append-drop}
 use Rattle.std.specs.Int.{w64, from_be_bytes}
+use Rattle.std.proofs.lemmas.List.{append_cancel_right}
 use Rattle.des.specs.Bits.{bits_of_word, bits_of_bytes, number_of, select, zeros}
 use Rattle.des.specs.Blocks.{IsKey}
 use Rattle.des.specs.Tables.{permuted_choice_1}
@@ -14,25 +15,38 @@ use Rattle.des.proofs.Rotation.{rotate-rotate}
 use Rattle.des.proofs.RoundKeys.{length-c_half, length-d_half}
 
 -- the word holds two halves of 28 bits, in its first 56 bits
-abbrev HoldsHalves : ℕ → List Bool → List Bool → Type 0
-HoldsHalves word c d = bits_of_word word ≡ (c ++ d) ++ zeros 8
+record HoldsHalves (word : ℕ) (c d : List Bool) : Type 0 where
+  pub fits : word < 2 ^ 64
+  pub c_size : length c ≡ 28
+  pub d_size : length d ≡ 28
+  pub bits : bits_of_word word ≡ (c ++ d) ++ zeros 8
+
+-- permuted choice 1 of a key is its halves
+HoldsHalves-permuted_choice_1 : (key : List ℕ) (key_word word : ℕ) → IsKey 8 key → key_word ≡ from_be_bytes w64 key
+    → word < 2 ^ 64 → bits_of_word word ≡ select permuted_choice_1 (bits_of_word key_word) ++ zeros 8
+    → HoldsHalves word (c_half (bits_of_bytes key)) (d_half (bits_of_bytes key))
+unfolding c_half d_half
+HoldsHalves-permuted_choice_1 key key_word word is_key same fits chosen = record {
+  fits = fits;
+  c_size = length-c_half (bits_of_bytes key);
+  d_size = length-d_half (bits_of_bytes key);
+  bits = rw (bits_of_bytes-from_be key is_key.0 (slice_index-lt key is_key.1), ← same, take-append-drop) chosen;
+}
 
 -- the one word holds the halves of the other, each rotated left by one
 abbrev Rotates : ℕ → ℕ → Type 0
 Rotates word once =
-    (c d : List Bool) → length c ≡ 28 → length d ≡ 28 → HoldsHalves word c d
-    → HoldsHalves once (rotate c 1) (rotate d 1)
+    (c d : List Bool) → length c ≡ 28 → length d ≡ 28 → bits_of_word word ≡ (c ++ d) ++ zeros 8
+    → bits_of_word once ≡ (rotate c 1 ++ rotate d 1) ++ zeros 8
 
--- permuted choice 1 of a key is its halves
-HoldsHalves-permuted_choice_1 : (key : List ℕ) (key_word word : ℕ) → IsKey 8 key → key_word ≡ from_be_bytes w64 key
-    → bits_of_word word ≡ select permuted_choice_1 (bits_of_word key_word) ++ zeros 8
-    → HoldsHalves word (c_half (bits_of_bytes key)) (d_half (bits_of_bytes key))
-unfolding c_half d_half
-HoldsHalves-permuted_choice_1 key key_word word is_key same chosen =
-    let bits : bits_of_bytes key ≡ bits_of_word key_word =
-    rw same (bits_of_bytes-from_be key is_key.0 (slice_index-lt key is_key.1)) in
-    rw bits (chosen ∙ ap (λ halves. halves ++ zeros 8)
-    (sym (take-append-drop 28 (select permuted_choice_1 (bits_of_word key_word)))))
+HoldsHalves-rotated : {word : ℕ} {c d : List Bool} (once : ℕ) → HoldsHalves word c d → once < 2 ^ 64 → Rotates word once
+    → HoldsHalves once (rotate c 1) (rotate d 1)
+HoldsHalves-rotated {word} {c} {d} once holds fits rotates = record {
+  fits = fits;
+  c_size = length-rotate c 1 ∙ holds.c_size;
+  d_size = length-rotate d 1 ∙ holds.d_size;
+  bits = rotates c d holds.c_size holds.d_size holds.bits;
+}
 
 -- words are equal where their bits are
 same_word : (a b : ℕ) → a < 2 ^ 64 → b < 2 ^ 64 → bits_of_word a ≡ bits_of_word b → a ≡ b
@@ -40,65 +54,22 @@ same_word a b a_small b_small same =
     sym (number_of-bits_of_word a a_small) ∙ ap number_of same ∙ number_of-bits_of_word b b_small
 
 -- two words that hold halves are equal exactly where the halves are
-same_halves : (a b : ℕ) (c d c_other d_other : List Bool) → a < 2 ^ 64 → b < 2 ^ 64 → length c ≡ 28 → length d ≡ 28
-    → length c_other ≡ 28 → length d_other ≡ 28 → HoldsHalves a c d → HoldsHalves b c_other d_other
+same_halves : {a b : ℕ} {c d c_other d_other : List Bool} → HoldsHalves a c d → HoldsHalves b c_other d_other
     → (a ≡ b) ↔ ((c ≡ c_other) × (d ≡ d_other))
-same_halves a b c d c_other d_other a_small b_small c_size d_size c_other_size d_other_size a_holds b_holds = (
+same_halves {a} {b} {c} {d} {c_other} {d_other} first second = (
   λ same.
-      let bits : (c ++ d) ++ zeros 8 ≡ (c_other ++ d_other) ++ zeros 8 = sym a_holds ∙ ap bits_of_word same ∙ b_holds in
-      let both : c ++ d ≡ c_other ++ d_other =
-      sym (take_at (c ++ d) (zeros 8) 56 (length-append c d ∙ omega arith))
-      ∙ ap (take 56) bits
-      ∙ take_at (c_other ++ d_other) (zeros 8) 56 (length-append c_other d_other ∙ omega arith) in (
-        sym (take_at c d 28 c_size) ∙ ap (take 28) both ∙ take_at c_other d_other 28 c_other_size,
-        sym (drop_at c d 28 c_size) ∙ ap (drop 28) both ∙ drop_at c_other d_other 28 c_other_size,
+      let whole : (c ++ d) ++ zeros 8 ≡ (c_other ++ d_other) ++ zeros 8 =
+      sym first.bits ∙ ap bits_of_word same ∙ second.bits in
+      let both : c ++ d ≡ c_other ++ d_other = append_cancel_right (c ++ d) (c_other ++ d_other) (zeros 8) whole in (
+        sym (take_at c d 28 first.c_size) ∙ ap (take 28) both ∙ take_at c_other d_other 28 second.c_size,
+        sym (drop_at c d 28 first.c_size) ∙ ap (drop 28) both ∙ drop_at c_other d_other 28 second.c_size,
       ),
-  λ same. same_word a b a_small b_small
-      (a_holds ∙ ap₂ (λ (x y : List Bool). (x ++ y) ++ zeros 8) same.0 same.1 ∙ sym b_holds),
+  λ same. same_word a b first.fits second.fits
+      (first.bits ∙ ap₂ (λ (x y : List Bool). (x ++ y) ++ zeros 8) same.0 same.1 ∙ sym second.bits),
 )
 
--- the words of the halves of a key, of the halves rotated by one and by one more, and of the halves of another key,
--- tell whether the other key is the partner
-ArePartners-words : (key partner : List ℕ) (halves once twice other : ℕ)
-    → halves < 2 ^ 64 → once < 2 ^ 64 → twice < 2 ^ 64 → other < 2 ^ 64
-    → HoldsHalves halves (c_half (bits_of_bytes key)) (d_half (bits_of_bytes key))
-    → HoldsHalves once (rotate (c_half (bits_of_bytes key)) 1) (rotate (d_half (bits_of_bytes key)) 1)
-    → HoldsHalves twice (rotate (rotate (c_half (bits_of_bytes key)) 1) 1)
-    (rotate (rotate (d_half (bits_of_bytes key)) 1) 1)
-    → HoldsHalves other (c_half (bits_of_bytes partner)) (d_half (bits_of_bytes partner))
-    → ArePartners key partner ↔ ((twice ≡ halves) × (other ≡ once))
-ArePartners-words key partner halves once twice other halves_small once_small twice_small other_small
-    holds holds_once holds_twice holds_other =
-    let c : List Bool = c_half (bits_of_bytes key) in
-    let d : List Bool = d_half (bits_of_bytes key) in
-    let c_size : length c ≡ 28 = length-c_half (bits_of_bytes key) in
-    let d_size : length d ≡ 28 = length-d_half (bits_of_bytes key) in
-    let c_twice : rotate (rotate c 1) 1 ≡ rotate c 2 = rotate-rotate 1 1 c (omega arith) in
-    let d_twice : rotate (rotate d 1) 1 ≡ rotate d 2 = rotate-rotate 1 1 d (omega arith) in
-    let by_two =
-    same_halves twice halves _ _ c d twice_small halves_small
-    (length-rotate (rotate c 1) 1 ∙ length-rotate c 1 ∙ c_size)
-    (length-rotate (rotate d 1) 1 ∙ length-rotate d 1 ∙ d_size)
-    c_size d_size holds_twice holds in
-    let by_one =
-    same_halves other once _ _ _ _ other_small once_small
-    (length-c_half (bits_of_bytes partner)) (length-d_half (bits_of_bytes partner))
-    (length-rotate c 1 ∙ c_size) (length-rotate d 1 ∙ d_size) holds_other holds_once in (
-      λ partners. (
-        by_two.1 (c_twice ∙ partners.repeats.0, d_twice ∙ partners.repeats.1),
-        by_one.1 (partners.c_rotated, partners.d_rotated),
-      ),
-      λ same.
-          let repeats = by_two.0 same.0 in
-          let rotated = by_one.0 same.1 in
-          record {
-            repeats = (sym c_twice ∙ repeats.0, sym d_twice ∙ repeats.1);
-            c_rotated = rotated.0;
-            d_rotated = rotated.1;
-          },
-    )
-
--- the same of two keys of eight bytes, by what permuted choice 1 and the rotation by one make of their words
+-- the words of the halves of two keys of eight bytes, and those of the first rotated by one and by one more, tell whether
+-- the second key is the partner of the first
 pub ArePartners-by_words : (key partner : List ℕ) (key_word partner_word halves other once twice : ℕ)
     → length key ≡ 8 → length partner ≡ 8 → ((i : ℕ) → slice_index key i < 256)
     → ((i : ℕ) → slice_index partner i < 256)
@@ -113,18 +84,25 @@ ArePartners-by_words key partner key_word partner_word halves other once twice e
     halves_small once_small twice_small other_small halves_chosen other_chosen rotates_once rotates_twice =
     let is_key = IsKey-array 8 key eight small in
     let partner_is_key = IsKey-array 8 partner partner_eight partner_small in
-    let c : List Bool = c_half (bits_of_bytes key) in
-    let d : List Bool = d_half (bits_of_bytes key) in
-    let c_size : length c ≡ 28 = length-c_half (bits_of_bytes key) in
-    let d_size : length d ≡ 28 = length-d_half (bits_of_bytes key) in
-    let holds : HoldsHalves halves c d =
-    HoldsHalves-permuted_choice_1 key key_word halves is_key key_same halves_chosen in
-    let holds_once : HoldsHalves once (rotate c 1) (rotate d 1) = rotates_once c d c_size d_size holds in
-    let holds_twice : HoldsHalves twice (rotate (rotate c 1) 1) (rotate (rotate d 1) 1) =
-    rotates_twice (rotate c 1) (rotate d 1) (length-rotate c 1 ∙ c_size) (length-rotate d 1 ∙ d_size) holds_once in (
+    let holds = HoldsHalves-permuted_choice_1 key key_word halves is_key key_same halves_small halves_chosen in
+    let holds_other =
+    HoldsHalves-permuted_choice_1 partner partner_word other partner_is_key partner_same other_small other_chosen in
+    let holds_once = HoldsHalves-rotated once holds once_small rotates_once in
+    let c_twice = rotate-rotate 1 1 (c_half (bits_of_bytes key)) (omega (arith, holds.c_size)) in
+    let d_twice = rotate-rotate 1 1 (d_half (bits_of_bytes key)) (omega (arith, holds.d_size)) in
+    let by_two = same_halves (HoldsHalves-rotated twice holds_once twice_small rotates_twice) holds in
+    let by_one = same_halves holds_other holds_once in (
       is_key,
       partner_is_key,
-      ArePartners-words key partner halves once twice other halves_small once_small twice_small other_small holds
-          holds_once holds_twice
-          (HoldsHalves-permuted_choice_1 partner partner_word other partner_is_key partner_same other_chosen),
+      (
+        λ partners. (
+          by_two.1 (c_twice ∙ partners.repeats.0, d_twice ∙ partners.repeats.1),
+          by_one.1 (partners.c_rotated, partners.d_rotated),
+        ),
+        λ same. record {
+          repeats = (sym c_twice ∙ (by_two.0 same.0).0, sym d_twice ∙ (by_two.0 same.0).1);
+          c_rotated = (by_one.0 same.1).0;
+          d_rotated = (by_one.0 same.1).1;
+        },
+      ),
     )

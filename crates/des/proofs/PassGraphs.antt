@@ -55,8 +55,7 @@ Joined First Second Third x y = (u : List ℕ) × ((v : List ℕ) × (First x u 
 
 -- the graph of three passes is the relations joined
 pub IsGraphOf-through : (f1 b1 f2 b2 f3 : List ℕ → List ℕ) (First Second Third : List ℕ → List ℕ → Type 0)
-    → IsPass f1 b1 → IsPass f2 b2
-    → IsGraphOf f1 First → IsGraphOf f2 Second → IsGraphOf f3 Third
+    → IsPass f1 b1 → IsPass f2 b2 → IsGraphOf f1 First → IsGraphOf f2 Second → IsGraphOf f3 Third
     → IsGraphOf (through f1 f2 f3) (Joined First Second Third)
 IsGraphOf-through f1 b1 f2 b2 f3 First Second Third p1 p2 g1 g2 g3 = λ x y. (
   λ joined.

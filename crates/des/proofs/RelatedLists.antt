@@ -62,8 +62,7 @@ map-agreeing {f} {g} agree (block ∷ blocks) are_blocks =
     (map-agreeing agree blocks (All-tail IsBlock block blocks are_blocks))
 
 pub IsTheOne-map_agreeing : {f g : List ℕ → List ℕ} (Answers : List ℕ → List ℕ → Type 0) → IsGraphOf f Answers
-    → Agree g f
-    → (blocks : List (List ℕ)) → All IsBlock blocks
+    → Agree g f → (blocks : List (List ℕ)) → All IsBlock blocks
     → IsTheOne (λ answers. AnswersEach Answers blocks answers) (map g blocks)
 IsTheOne-map_agreeing {f} Answers graph agree blocks are_blocks =
     rw (map-agreeing agree blocks are_blocks) (IsTheOne-map f Answers graph blocks are_blocks)

@@ -1,9 +1,10 @@
 -- Lists of bits that repeat their first bits, and tests at all lists of some bits.
-use Rattle.std.proofs.Common.{◌≡◌, ℕ, zero, suc, ◌+◌, ◌*◌, ◌<◌, ◌≤◌, ◌/◌, ◌%◌, ◌&&◌, List, [], ◌∷◌, ◌++◌, Bool, true, false, map, length, take, drop, refl, sym, ap, ◌∙◌, arith, mul-suc, take-append-drop}
+use Rattle.std.proofs.Common.{◌≡◌, ℕ, zero, suc, ◌+◌, ◌*◌, ◌&&◌, List, [], ◌∷◌, ◌++◌, Bool, true, false, map, length, take, drop, get_or, refl, subst, sym, ap, ◌∙◌, arith, mul-suc, take-append-drop}
 use Rattle.std.proofs.lemmas.List.{length-map, length-drop, length-take-le, drop-append-le, take-append-le, take_at, drop_at, map-append}
 use Rattle.std.proofs.lemmas.Bool.{and_parts}
+use Rattle.std.specs.List.{range_with_len}
+use Rattle.std.proofs.lemmas.List.FromFn.{fill_by_all}
 use Rattle.des.specs.KeySchedule.{rotate}
-use Rattle.des.proofs.Rotation.{rotate-rotate}
 
 -- bits, and after them the same bits, and so on, n times in all, with a step taken at each bit from each time to
 -- the next
@@ -44,24 +45,6 @@ repeated_from_rotate step n count bits size same =
     (omega (arith, length-drop n bits))
     (same ∙ ap (map step) (sym (take-append-drop n bits))))
 
--- where rotation by n places changes nothing, rotation by more is rotation by the rest
-rotate_on : (n q r : ℕ) (bits : List Bool) → rotate bits n ≡ bits → n * q + r ≤ length bits
-    → rotate bits (n * q + r) ≡ rotate bits r
-rotate_on n zero r bits same within = ap (rotate bits) (omega arith)
-rotate_on n (suc q) r bits same within =
-    let whole : n * suc q + r ≡ n + (n * q + r) = omega (arith, mul-suc n q) in
-    ap (rotate bits) whole
-    ∙ sym (rotate-rotate n (n * q + r) bits (omega arith))
-    ∙ ap (λ (b : List Bool). rotate b (n * q + r)) same
-    ∙ rotate_on n q r bits same (omega arith)
-
--- and so any rotation is one by the remainder
-pub rotate_remainder : (n m : ℕ) (bits : List Bool) → 0 < n → rotate bits n ≡ bits → m ≤ length bits
-    → rotate bits m ≡ rotate bits (m % n)
-rotate_remainder n m bits positive same within =
-    let parts : n * (m / n) + m % n ≡ m = omega arith in
-    ap (rotate bits) (sym parts) ∙ rotate_on n (m / n) (m % n) bits same (omega arith)
-
 -- whether a test is true at each list of n bits
 abbrev pub at_all_bits : ℕ → (List Bool → Bool) → Bool
 at_all_bits zero test = test []
@@ -77,3 +60,10 @@ at_bits (suc n) test (true ∷ bits) each size =
     at_bits n (λ rest. test (true ∷ rest)) bits (and_parts _ _ each).0 (omega arith)
 at_bits (suc n) test (false ∷ bits) each size =
     at_bits n (λ rest. test (false ∷ rest)) bits (and_parts _ _ each).1 (omega arith)
+
+-- what holds of n bits with any values holds of all lists of n bits
+pub from_values : (n : ℕ) (P : List Bool → Type 0) → ((value : ℕ → Bool) → P (map value (range_with_len 0 n)))
+    → (bits : List Bool) → length bits ≡ n → P bits
+from_values n P each bits size =
+    let value : ℕ → Bool = λ i. get_or bits i false in
+    subst P (sym (fill_by_all value bits n false size (λ i below. refl))) (each value)

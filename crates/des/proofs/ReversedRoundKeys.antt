@@ -5,7 +5,7 @@ use Rattle.std.specs.List.{range_with_len, zip, flat_map}
 use Rattle.std.proofs.lemmas.List.{map-id, length-take-le}
 use Rattle.des.specs.Bits.{select}
 use Rattle.des.specs.KeySchedule.{rotate}
-use Rattle.des.proofs.RoundKeyPlaces.{schedule_of_halves, schedule_places, schedule-placed, c_places, d_places, from_places}
+use Rattle.des.proofs.RoundKeyPlaces.{schedule_of_halves, schedule_places, schedule-placed, c_places, d_places, from_places_of_two}
 use Rattle.des.proofs.Repeating.{repeated, repeated_from_rotate}
 use Rattle.des.proofs.Walks.{Link, IsSameAlong, IsSameAlong-zip, share_walks, walks_same}
 
@@ -97,11 +97,6 @@ turned-placed value other reversed =
 -- halves that give the round keys in the opposite order are turned
 pub turned_from_reversed : (c d c_other d_other : List Bool) → length c ≡ 28 → length d ≡ 28 → length c_other ≡ 28
     → length d_other ≡ 28 → AreReversed c d c_other d_other → AreTurned c d c_other d_other
-turned_from_reversed c d c_other d_other c_size d_size c_other_size d_other_size =
-    let Turns : List Bool → List Bool → List Bool → List Bool → Type 0 =
-    λ c d c_other d_other. AreReversed c d c_other d_other → AreTurned c d c_other d_other in
-    from_places (λ c d. Turns c d c_other d_other)
-    (λ value.
-    from_places (λ c_other d_other. Turns (map value c_places) (map value d_places) c_other d_other)
-    (turned-placed value) c_other d_other c_other_size d_other_size)
-    c d c_size d_size
+turned_from_reversed =
+    from_places_of_two (λ c d c_other d_other. AreReversed c d c_other d_other → AreTurned c d c_other d_other)
+    turned-placed

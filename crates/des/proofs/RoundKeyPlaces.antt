@@ -69,3 +69,15 @@ pub from_places : (P : List Bool → List Bool → Type 0)
 from_places P each c d c_size d_size =
     subst (λ h. P h d) (c_placed c d c_size)
     (subst (λ h. P (map (bit (c ++ d)) c_places) h) (d_placed c d c_size d_size) (each (bit (c ++ d))))
+
+-- and of two pairs of halves
+pub from_places_of_two : (P : List Bool → List Bool → List Bool → List Bool → Type 0)
+    → ((value other : ℕ → Bool)
+    → P (map value c_places) (map value d_places) (map other c_places) (map other d_places))
+    → (c d c_other d_other : List Bool) → length c ≡ 28 → length d ≡ 28 → length c_other ≡ 28 → length d_other ≡ 28
+    → P c d c_other d_other
+from_places_of_two P each c d c_other d_other c_size d_size c_other_size d_other_size =
+    from_places (λ c d. P c d c_other d_other)
+    (λ value.
+    from_places (P (map value c_places) (map value d_places)) (each value) c_other d_other c_other_size d_other_size)
+    c d c_size d_size

@@ -7,8 +7,8 @@ use Rattle.des.specs.Tables.{expansion, permuted_choice_2, permutation}
 use Rattle.des.specs.TermForms.{term_form_of_e, term_form_of_pc2, term_form_of_p}
 use Rattle.des.proofs.Places.{select-take}
 use Rattle.des.proofs.LinearWords.{IsLinear-id, IsLinear-shl, IsLinear-shr, select-from_units}
-use Rattle.des.proofs.LinearUnder.{IsLinearUnder, IsLinearUnder-mask, IsLinearUnder-rotate, IsLinearUnder-or}
-use Rattle.des.proofs.Gathers.{IsLinearUnder-shifted_left, IsLinearUnder-shifted_right, IsLinearUnder-gathered}
+use Rattle.des.proofs.LinearUnder.{IsLinearUnder, IsLinearUnder-mask, IsLinearUnder-shl, IsLinearUnder-shr, IsLinearUnder-rotate, IsLinearUnder-or}
+use Rattle.des.proofs.Gathers.{IsLinearUnder-gathered}
 
 -- a word whose last k bits are zero is under the mask of the others
 high_mask-same : (k x : ℕ) → k ≤ 64 → x < 2 ^ 64 → x % 2 ^ k ≡ 0 → bit_and x (2 ^ 64 - 2 ^ k) ≡ x
@@ -46,10 +46,10 @@ linear-pc2 =
     let word = IsLinearUnder-rotate 61 refl (IsLinearUnder-mask 0xffffffffffffff00 IsLinear-id) in
     IsLinearUnder-or (IsLinearUnder-or (IsLinearUnder-or (IsLinearUnder-or (IsLinearUnder-or
     (IsLinearUnder-or (IsLinearUnder-or (IsLinearUnder-or (IsLinearUnder-or
-    (IsLinearUnder-shifted_right 0x0021000002000000 7 refl word)
-    (IsLinearUnder-shifted_left 0x0008020010080000 1 refl word) refl)
+    (IsLinearUnder-shr 7 (IsLinearUnder-mask 0x0021000002000000 word.linear))
+    (IsLinearUnder-shl 1 (IsLinearUnder-mask 0x0008020010080000 word.linear)) refl)
     (IsLinearUnder-mask 0x0002200000000000 word.linear) refl)
-    (IsLinearUnder-shifted_left 0x0000000000100020 19 refl word) refl)
+    (IsLinearUnder-shl 19 (IsLinearUnder-mask 0x0000000000100020 word.linear)) refl)
     (IsLinearUnder-gathered 0x0005312400000011 0x0000000094200201 0xea40100880000000 refl
     (IsLinearUnder-rotate 54 refl word)) refl)
     (IsLinearUnder-gathered 0x0022110000012001 0x0001000000610006 0x1185004400000000 refl
@@ -79,13 +79,13 @@ linear-p =
     let word = IsLinearUnder-rotate 44 refl (IsLinearUnder-mask 0xffffffff00000000 IsLinear-id) in
     IsLinearUnder-or (IsLinearUnder-or (IsLinearUnder-or (IsLinearUnder-or (IsLinearUnder-or
     (IsLinearUnder-or (IsLinearUnder-or (IsLinearUnder-or (IsLinearUnder-or
-    (IsLinearUnder-shifted_left 0x0000000000200000 32 refl word)
-    (IsLinearUnder-shifted_left 0x0000000000480000 13 refl word) refl)
-    (IsLinearUnder-shifted_left 0x0000088000000000 12 refl word) refl)
-    (IsLinearUnder-shifted_left 0x0000002020120000 25 refl word) refl)
-    (IsLinearUnder-shifted_left 0x0000000442000000 14 refl word) refl)
-    (IsLinearUnder-shifted_left 0x0000000001800000 37 refl word) refl)
-    (IsLinearUnder-shifted_left 0x0000000004000000 24 refl word) refl)
+    (IsLinearUnder-shl 32 (IsLinearUnder-mask 0x0000000000200000 word.linear))
+    (IsLinearUnder-shl 13 (IsLinearUnder-mask 0x0000000000480000 word.linear)) refl)
+    (IsLinearUnder-shl 12 (IsLinearUnder-mask 0x0000088000000000 word.linear)) refl)
+    (IsLinearUnder-shl 25 (IsLinearUnder-mask 0x0000002020120000 word.linear)) refl)
+    (IsLinearUnder-shl 14 (IsLinearUnder-mask 0x0000000442000000 word.linear)) refl)
+    (IsLinearUnder-shl 37 (IsLinearUnder-mask 0x0000000001800000 word.linear)) refl)
+    (IsLinearUnder-shl 24 (IsLinearUnder-mask 0x0000000004000000 word.linear)) refl)
     (IsLinearUnder-gathered 0x0000020280015000 0x0000020080800083 0x02000a6400000000 refl word) refl)
     (IsLinearUnder-gathered 0x01001400000000aa 0x0000210210008081 0x0902c01200000000 refl
     (IsLinearUnder-rotate 29 refl word)) refl)

@@ -7,12 +7,12 @@ use Rattle.des.specs.Rounds.{after_rounds}
 use Rattle.des.specs.Laws.RoundsUndone.{next_half, length-next_half}
 
 -- the half blocks that a round for each round key makes of two
-following : List (List Bool) → List Bool → List Bool → List (List Bool)
+abbrev following : List (List Bool) → List Bool → List Bool → List (List Bool)
 following [] left right = []
 following (key ∷ keys) left right = next_half left right key ∷ following keys right (next_half left right key)
 
 -- two half blocks, and after them those that the rounds make
-pub trace : List (List Bool) → List Bool → List Bool → List (List Bool)
+abbrev pub trace : List (List Bool) → List Bool → List Bool → List (List Bool)
 trace keys left right = left ∷ right ∷ following keys left right
 
 -- from the third on, each half block is made of the two before it, by the round keys in their order
@@ -23,26 +23,13 @@ IsRun keys h = (i : ℕ) → i < length keys
 -- a trace has two half blocks more than rounds
 length-trace : (keys : List (List Bool)) (left right : List Bool)
     → length (trace keys left right) ≡ suc (suc (length keys))
-unfolding trace following
 length-trace [] left right = refl
 length-trace (key ∷ keys) left right = ap suc (length-trace keys right (next_half left right key))
 
--- its first is the first half that it begins with
-pub half_block-trace_first : (keys : List (List Bool)) (left right : List Bool)
-    → half_block (trace keys left right) 0 ≡ left
-unfolding trace
-half_block-trace_first keys left right = refl
-
--- its second is the other half
-pub half_block-trace_second : (keys : List (List Bool)) (left right : List Bool)
-    → half_block (trace keys left right) 1 ≡ right
-unfolding trace
-half_block-trace_second keys left right = refl
-
--- its last but one is the first half after the rounds
+-- its last but one half block is the first half after the rounds
 pub half_block-trace_before_last : (keys : List (List Bool)) (left right : List Bool)
     → half_block (trace keys left right) (length keys) ≡ (after_rounds keys left right).0
-unfolding trace following after_rounds
+unfolding after_rounds
 half_block-trace_before_last [] left right = refl
 half_block-trace_before_last (key ∷ keys) left right =
     half_block-trace_before_last keys right (next_half left right key)
@@ -50,14 +37,13 @@ half_block-trace_before_last (key ∷ keys) left right =
 -- its last is the other half after the rounds
 pub half_block-trace_last : (keys : List (List Bool)) (left right : List Bool)
     → half_block (trace keys left right) (suc (length keys)) ≡ (after_rounds keys left right).1
-unfolding trace following after_rounds
+unfolding after_rounds
 half_block-trace_last [] left right = refl
 half_block-trace_last (key ∷ keys) left right = half_block-trace_last keys right (next_half left right key)
 
 -- each half block of a trace has 32 bits
 length-half_block-trace : (keys : List (List Bool)) (left right : List Bool) → length left ≡ 32 → length right ≡ 32
     → (i : ℕ) → i < suc (suc (length keys)) → length (half_block (trace keys left right) i) ≡ 32
-unfolding trace following
 length-half_block-trace keys left right left_width right_width zero below = left_width
 length-half_block-trace keys left right left_width right_width (suc zero) below = right_width
 length-half_block-trace [] left right left_width right_width (suc (suc i)) below = absurd (omega arith)
@@ -67,7 +53,6 @@ length-half_block-trace (key ∷ keys) left right left_width right_width (suc (s
 
 -- a trace is a run of its round keys
 IsRun-trace : (keys : List (List Bool)) (left right : List Bool) → IsRun keys (trace keys left right)
-unfolding trace following
 IsRun-trace [] left right i below = absurd (omega arith)
 IsRun-trace (key ∷ keys) left right zero below = refl
 IsRun-trace (key ∷ keys) left right (suc i) below = IsRun-trace keys right (next_half left right key) i (omega arith)
@@ -75,7 +60,6 @@ IsRun-trace (key ∷ keys) left right (suc i) below = IsRun-trace keys right (ne
 -- a run is the trace from its first two half blocks
 trace_from_run : (keys h : List (List Bool)) → length h ≡ suc (suc (length keys)) → IsRun keys h
     → h ≡ trace keys (half_block h 0) (half_block h 1)
-unfolding trace following
 trace_from_run [] (left ∷ right ∷ []) size run = refl
 trace_from_run (key ∷ keys) (left ∷ right ∷ next ∷ h) size run =
     let rest : right ∷ next ∷ h ≡ trace keys right next =

@@ -1,7 +1,8 @@
 -- Walks along links between positions: a value that is the same at both ends of each link is the same all along a walk.
-use Rattle.std.proofs.Common.{◌≡◌, ℕ, ◌==◌, ◌&&◌, ◌||◌, List, [], ◌∷◌, Bool, true, false, map, refl, sym, ap, ap₂, ◌∙◌, inl, inr}
+use Rattle.std.proofs.Common.{◌≡◌, ℕ, ◌==◌, ◌&&◌, ◌||◌, List, [], ◌∷◌, Bool, true, false, map, refl, sym, ap, ap₂, ◌∙◌, arith, inl, inr}
 use Rattle.std.specs.List.{All, zip, list_all, list_any}
 use Rattle.std.proofs.lemmas.List.Elements.{All-nil, All-cons, All-head, All-tail}
+use Rattle.std.proofs.lemmas.Bool.Decides.{nat_tests}
 use Rattle.std.proofs.lemmas.Bool.{eqb-true, and_parts, or_cases}
 use Rattle.des.proofs.Places.{is_among}
 
@@ -45,14 +46,7 @@ IsSameAlong-zip value (here ∷ heres) (there ∷ theres) same =
 -- a link between two positions makes their values equal
 value_at_link : (value : ℕ → Bool) (here there : ℕ) (link : Link) → value link.0 ≡ value link.1
     → joins here there link ≡ true → value here ≡ value there
-value_at_link value here there link same joined = elim (or_cases _ _ joined) [
-  | inl forth ↦
-      let ends = and_parts _ _ forth in
-      ap value (sym (eqb-true link.0 here ends.0)) ∙ same ∙ ap value (eqb-true link.1 there ends.1)
-  | inr back ↦
-      let ends = and_parts _ _ back in
-      ap value (sym (eqb-true link.1 here ends.1)) ∙ sym same ∙ ap value (eqb-true link.0 there ends.0)
-]
+value_at_link value here there link same joined = grind (arith, nat_tests)
 
 -- and so does one among links
 value_at_links : (value : ℕ → Bool) (here there : ℕ) (links : List Link) → IsSameAlong value links

@@ -30,8 +30,7 @@ term_form_of_e word =
     bit_and (word / 2 ^ 11) 0x00000003f0000000 ∷
     bit_and (word / 2 ^ 13) 0x000000000fc00000 ∷
     bit_and (word / 2 ^ 15) 0x00000000003e0000 ∷
-    bit_and (word / 2 ^ 47) 0x0000000000010000 ∷
-    [])
+    bit_and (word / 2 ^ 47) 0x0000000000010000 ∷ [])
 
 -- permuted choice 2 of the halves in the first 56 bits of a word whose last 8 bits are zero
 unfoldable pub term_form_of_pc2 : ℕ → ℕ
@@ -47,8 +46,7 @@ term_form_of_pc2 halves =
     gathered (rotate_left w64 word 6) 0x0000520040200002 0x00000080000000c1 0x0028811000200000 ∷
     gathered word 0x01000004c0011100 0x0000000000004284 0x0400082244400000 ∷
     gathered (rotate_left w64 word 60) 0x0000000000820280 0x0000000000089001 0x0000000110880000 ∷
-    gathered (rotate_left w64 word 49) 0x0000000000024084 0x0000000002040005 0x000000000a030000 ∷
-    [])
+    gathered (rotate_left w64 word 49) 0x0000000000024084 0x0000000002040005 0x000000000a030000 ∷ [])
 
 -- the permutation P of the first 32 bits of a word whose last 32 bits are zero
 unfoldable pub term_form_of_p : ℕ → ℕ
@@ -64,5 +62,4 @@ term_form_of_p input =
     shifted_left word 0x0000000004000000 24 ∷
     gathered word 0x0000020280015000 0x0000020080800083 0x02000a6400000000 ∷
     gathered (rotate_left w64 word 29) 0x01001400000000aa 0x0000210210008081 0x0902c01200000000 ∷
-    gathered word 0x0000000910040000 0x0000000c04000020 0x8410010000000000 ∷
-    [])
+    gathered word 0x0000000910040000 0x0000000c04000020 0x8410010000000000 ∷ [])

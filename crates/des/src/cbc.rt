@@ -54,22 +54,12 @@ pub fn decrypt<C: BlockCipherDecrypt>(cipher: &C, iv: &[u8; 8], blocks: &mut [[u
     let mut before = *iv;
     let mut from = 0;
     'parts: while from < blocks.len() {
-        let count = next_count(blocks.len() - from);
+        let count = TOGETHER.min(blocks.len() - from);
         let last = blocks[from + count - 1];
         decrypt_part(cipher, &before, &mut blocks[from..from + count]);
         before = last;
         from += count;
     }
-}
-
-// How many blocks are decrypted next: as many as go together, or those that are left.
-fn next_count(left: usize) -> usize
-    requires { 1 ≤ left }
-    ensures some { 1 ≤ result }
-    ensures there { result ≤ left }
-    ensures within { result ≤ 24 }
-{
-    if left < TOGETHER { left } else { TOGETHER }
 }
 
 // Makes the first blocks of an array what decryption makes of these blocks.

@@ -6,6 +6,7 @@
 
 ghost use Rattle.std.specs.Prelude.{◌≡◌, ◌↔◌, ◌≤◌, ℕ, List, length, map, codes, Some, IsSome, IfSome, IsOk, IfOk, OnOk, OnErr};
 ghost use Rattle.std.specs.List.{All};
+ghost use Rattle.std.specs.Mem.{type_size};
 ghost use Rattle.des.specs.Blocks.{AreBytes, IsKey, IsBlock, AnswersEach};
 ghost use Rattle.des.specs.Relations.{IsTheOne};
 ghost use Rattle.des.specs.Complement.{complement};
@@ -70,9 +71,14 @@ pub trait KeyBytes: Copy {
 
     // Two keys of the same bytes are one.
     ghost bytes_determine: { (key other : Self) → bytes_of key ≡ bytes_of other → key ≡ other };
+
+    // A key takes few bytes, so that an array of keys fits in memory.
+    ghost few_bytes: { type_size Self.row ≤ 32 };
 }
 
 impl KeyBytes for [u8; 8] {
+    ghost use Rattle.std.proofs.Common.{lit≤};
+
     const LEN: usize = 8;
 
     ghost LEN = { 8 };
@@ -80,6 +86,8 @@ impl KeyBytes for [u8; 8] {
     ghost bytes_of = { λ key. key };
 
     ghost bytes_determine = { λ _ _ same. same };
+
+    ghost few_bytes = { lit≤ tt };
 
     fn as_bytes(&self) -> &[u8] {
         self.as_slice()
@@ -91,6 +99,8 @@ impl KeyBytes for [u8; 8] {
 }
 
 impl KeyBytes for [u8; 16] {
+    ghost use Rattle.std.proofs.Common.{lit≤};
+
     const LEN: usize = 16;
 
     ghost LEN = { 16 };
@@ -98,6 +108,8 @@ impl KeyBytes for [u8; 16] {
     ghost bytes_of = { λ key. key };
 
     ghost bytes_determine = { λ _ _ same. same };
+
+    ghost few_bytes = { lit≤ tt };
 
     fn as_bytes(&self) -> &[u8] {
         self.as_slice()
@@ -109,6 +121,8 @@ impl KeyBytes for [u8; 16] {
 }
 
 impl KeyBytes for [u8; 24] {
+    ghost use Rattle.std.proofs.Common.{lit≤};
+
     const LEN: usize = 24;
 
     ghost LEN = { 24 };
@@ -116,6 +130,8 @@ impl KeyBytes for [u8; 24] {
     ghost bytes_of = { λ key. key };
 
     ghost bytes_determine = { λ _ _ same. same };
+
+    ghost few_bytes = { lit≤ tt };
 
     fn as_bytes(&self) -> &[u8] {
         self.as_slice()

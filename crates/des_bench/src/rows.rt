@@ -2,8 +2,8 @@
 //! which all that was answered is joined, so that no compiler can leave a timed call out.
 
 use crate::runs::{
-    BLOCKS, Blocks, Decrypt, Encrypt, EncryptBySpread, EncryptMany, EncryptRecordsEach,
-    EncryptRecordsEachAlone, EncryptSideBySide, KEYS, Key, Keys, MakeCiphers, RECORD, Records,
+    BLOCKS, Blocks, Decrypt, Encrypt, EncryptBlocks, EncryptBySpread, EncryptMany,
+    EncryptRecordsEach, EncryptRecordsEachAlone, KEYS, Key, Keys, MakeCiphers, RECORD, Records,
     SPREADINGS, Spread, Tag, TestKeys, cipher_of_key,
 };
 use crate::stopwatch::{Run, tenths_of_call};
@@ -12,7 +12,6 @@ use des::cipher::{
     AlgorithmName, BlockCipherDecrypt, BlockCipherEncrypt, KeyBytes, KeyInit, KeyedCipher,
 };
 use des_fast::many::{KeyForEach, ManyBlocks, SpreadOnce};
-use des_fast::quiet::SideBySide;
 use des_mac::{CbcMac, Cmac, Mac, Method2, RetailMac};
 use std::alloc::AllocGlobal;
 use std::io;
@@ -43,7 +42,7 @@ pub fn write_cipher<C: KeyInit + BlockCipherEncrypt + BlockCipherDecrypt + Algor
 
 /// Writes the row of a list of few blocks: the time of a block one by one, by the cipher of `quiet`
 /// four side by side, and by `encrypt_many`, which takes a batch where there are more than eight.
-pub fn write_few<C: KeyInit + ManyBlocks + Drop, Q: KeyInit + SideBySide + Drop>(
+pub fn write_few<C: KeyInit + ManyBlocks + Drop, Q: KeyInit + BlockCipherEncrypt + Drop>(
     rt: &(impl AllocGlobal + Clock + CpuClock),
     keys: &Keys,
     length: usize,
@@ -53,7 +52,7 @@ pub fn write_few<C: KeyInit + ManyBlocks + Drop, Q: KeyInit + SideBySide + Drop>
     let quiet: Q = cipher_of(&keys[0])?;
     let mut blocks = zero_blocks(rt, length)?;
     let tables = tenths_of_call(rt, length, &Encrypt(&cipher), &mut blocks)?;
-    let quiet = tenths_of_call(rt, length, &EncryptSideBySide(&quiet), &mut blocks)?;
+    let quiet = tenths_of_call(rt, length, &EncryptBlocks(&quiet), &mut blocks)?;
     let many = tenths_of_call(rt, length, &EncryptMany(&cipher), &mut blocks)?;
     write_length_row(out, length, &[tables, quiet, many])?;
     Ok(joined(&blocks))

@@ -11,7 +11,6 @@ use des::{cbc, weak_key_test};
 use des_fast::many::{
     EachKey, Equal, KeyForEach, ManyBlocks, RecordKeys, Slice, SpreadKeys, SpreadOnce,
 };
-use des_fast::quiet::SideBySide;
 use des_mac::Mac;
 use std::marker::PhantomData;
 
@@ -79,13 +78,13 @@ impl<C: ManyBlocks> Run<Blocks> for EncryptMany<'_, C> {
     }
 }
 
-/// `encrypt_side_by_side`.
+/// `encrypt_blocks`.
 #[derive(Drop)]
-pub struct EncryptSideBySide<'a, C>(pub &'a C);
+pub struct EncryptBlocks<'a, C>(pub &'a C);
 
-impl<C: SideBySide> Run<Blocks> for EncryptSideBySide<'_, C> {
+impl<C: BlockCipherEncrypt> Run<Blocks> for EncryptBlocks<'_, C> {
     fn run(&self, blocks: &mut Blocks) {
-        self.0.encrypt_side_by_side(blocks.as_mut_slice());
+        self.0.encrypt_blocks(blocks.as_mut_slice());
     }
 }
 

@@ -10,6 +10,10 @@ const MOST_RUNS: u32 = 1000;
 // some three seconds at most, with fewer runs on a machine that is slow or busy.
 const SHARE_MILLIS: u64 = 50;
 
+// The fewest calls between two readings of the clock, so that the clock's own 0.9 µs are little of
+// each.
+const CALLS: usize = 1024;
+
 /// Calls of one kind that write to an `A`.
 pub trait Run<A> {
     /// Makes the calls of a run.
@@ -17,7 +21,7 @@ pub trait Run<A> {
 }
 
 /// The tenths of a nanosecond of processor time that each of the `calls` of a run takes, in the
-/// quickest of some runs. What other processes take meanwhile does not count.
+/// quickest of some rounds of runs. What other processes take meanwhile does not count.
 pub fn tenths_of_call<A, K: Clock + CpuClock>(
     clock: &K,
     calls: usize,
@@ -25,15 +29,19 @@ pub fn tenths_of_call<A, K: Clock + CpuClock>(
     answers: &mut A,
 ) -> io::Result<u128> {
     let share = Duration::from_millis(SHARE_MILLIS);
+    let runs = CALLS.div_ceil(calls.max(1));
     let begun = Instant::now(clock)?;
     let mut least = Duration::MAX;
     for _ in 0..MOST_RUNS {
         let start = clock.thread_cpu_time()?;
-        timed.run(answers);
+        for _ in 0..runs {
+            timed.run(answers);
+        }
         least = least.min(clock.thread_cpu_time()?.saturating_sub(start));
         if begun.elapsed(clock)? > share {
             break;
         }
     }
-    Ok(least.as_nanos().saturating_mul(10) / calls.max(1) as u128)
+    let calls = runs.saturating_mul(calls).max(1);
+    Ok(least.as_nanos().saturating_mul(10) / calls as u128)
 }

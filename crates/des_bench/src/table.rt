@@ -11,11 +11,10 @@ use crate::rows::{
 };
 use crate::runs::{KEYS, Keys};
 use crate::text::write_head;
-use des::cipher::{AlgorithmName, KeyInit};
+use des::cipher::{AlgorithmName, BlockCipherEncrypt, KeyInit};
 use des::tdes::{Ede3, SingleDes};
 use des::{Des, cbc};
 use des_fast::many::ManyBlocks;
-use des_fast::quiet::SideBySide;
 use des_fast::{TdesEde3, quiet};
 use std::alloc::AllocGlobal;
 use std::io;
@@ -60,7 +59,7 @@ fn write_ciphers<D: SingleDes + AlgorithmName>(
 }
 
 // Writes the rows of lists of few blocks.
-fn write_few_blocks<C: KeyInit + ManyBlocks + Drop, Q: KeyInit + SideBySide + Drop>(
+fn write_few_blocks<C: KeyInit + ManyBlocks + Drop, Q: KeyInit + BlockCipherEncrypt + Drop>(
     rt: &(impl AllocGlobal + Clock + CpuClock),
     name: &str,
     keys: &Keys,

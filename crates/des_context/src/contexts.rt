@@ -9,8 +9,7 @@ ghost use Rattle.des_context.specs.Contexts.{IsDesContextOf, IsEde3ContextOf, Is
 use des::cipher::{KeyInit, KeySizeUser, Relating};
 use des::tdes::{joined, key_part};
 use des_fast::many::SpreadOnce;
-use des_fast::quiet::SideBySide;
-use des_fast::words::{from_round_key_words, quiet_from_round_key_words, round_key_words};
+use des_fast::words::{from_round_key_words, round_key_words};
 use des_fast::{Des, TdesEde2, TdesEde3, quiet};
 
 /// What a caller keeps of a cipher between calls.
@@ -19,7 +18,7 @@ pub trait Context: KeyInit {
     type Cipher: Relating + SpreadOnce + Drop;
 
     /// The cipher with the same round keys that reads no table.
-    type Quiet: Relating + SideBySide + Drop;
+    type Quiet: Relating + Drop;
 
     // Whether its calls are to read no table at an index that depends on the key or a block.
     ghost reads_no_table: { Self → Type 0 };
@@ -113,7 +112,7 @@ impl Context for DesContext {
     }
 
     fn to_quiet(&self) -> quiet::Des {
-        quiet_from_round_key_words(&self.round_keys)
+        from_round_key_words(&self.round_keys)
     }
 
     fn is_quiet(&self) -> bool {
@@ -197,9 +196,9 @@ impl Context for TdesEde3Context {
 
     fn to_quiet(&self) -> quiet::TdesEde3 {
         joined::of_three(
-            quiet_from_round_key_words(&self.first),
-            quiet_from_round_key_words(&self.second),
-            quiet_from_round_key_words(&self.third),
+            from_round_key_words(&self.first),
+            from_round_key_words(&self.second),
+            from_round_key_words(&self.third),
         )
     }
 
@@ -272,8 +271,8 @@ impl Context for TdesEde2Context {
 
     fn to_quiet(&self) -> quiet::TdesEde2 {
         joined::of_two(
-            quiet_from_round_key_words(&self.first),
-            quiet_from_round_key_words(&self.second),
+            from_round_key_words(&self.first),
+            from_round_key_words(&self.second),
         )
     }
 

@@ -11,7 +11,6 @@ use crate::ways;
 use des::cbc;
 use des::cipher::{Relating, are_blocks};
 use des_fast::many::{ManyBlocks, Slice};
-use des_fast::quiet::SideBySide;
 
 /// Encrypts each block. A quiet list reads no table at a secret index: tested, not proved.
 pub fn encrypt<S: Slice, C: Relating + ManyBlocks>(cipher: &C, quiet: bool, blocks: &mut [[u8; 8]])
@@ -36,24 +35,24 @@ pub fn decrypt<S: Slice, C: Relating + ManyBlocks>(cipher: &C, quiet: bool, bloc
 }
 
 /// Encrypts each block of a short list by a cipher that reads no table.
-pub fn encrypt_few<C: Relating + SideBySide>(cipher: &C, blocks: &mut [[u8; 8]])
+pub fn encrypt_few<C: Relating>(cipher: &C, blocks: &mut [[u8; 8]])
     ensures blocks { All IsBlock blocks.new }
     ensures answered { (key : List ℕ) → C.is_made_from cipher.now key
         → IsTheOne (λ answers. AnswersEach (C.relation key) blocks.old answers) blocks.new }
 {
     cipher.relate_lists();
-    ways::encrypt_few(cipher, blocks);
+    cipher.encrypt_blocks(blocks);
     are_blocks(blocks);
 }
 
 /// Decrypts each block of a short list by a cipher that reads no table.
-pub fn decrypt_few<C: Relating + SideBySide>(cipher: &C, blocks: &mut [[u8; 8]])
+pub fn decrypt_few<C: Relating>(cipher: &C, blocks: &mut [[u8; 8]])
     ensures blocks { All IsBlock blocks.new }
     ensures answered { (key : List ℕ) → C.is_made_from cipher.now key
         → IsTheOne (λ answers. AnswersEach (C.relation key) answers blocks.old) blocks.new }
 {
     cipher.relate_lists();
-    ways::decrypt_few(cipher, blocks);
+    cipher.decrypt_blocks(blocks);
     are_blocks(blocks);
 }
 
@@ -90,7 +89,7 @@ pub fn decrypt_cbc<S: Slice, C: Relating + ManyBlocks>(
     *vector = next;
 }
 
-/// Decrypts a short list that CBC chained from the vector, block by block, as `decrypt_cbc` does.
+/// Decrypts a short list that CBC chained from the vector, as `decrypt_cbc` does.
 pub fn decrypt_cbc_few<C: Relating>(cipher: &C, vector: &mut [u8; 8], blocks: &mut [[u8; 8]])
     ensures blocks { All IsBlock blocks.new }
     ensures chained { (key : List ℕ) → C.is_made_from cipher.now key

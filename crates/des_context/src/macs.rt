@@ -173,16 +173,6 @@ fn retail_macs_each_by<S: Slice>(
 // their own.
 const GROUP: usize = 256;
 
-// How many of such messages are treated next: a group, or those that are left over.
-fn next_count(left: usize) -> usize
-    requires { 1 ≤ left }
-    ensures some { 1 ≤ result }
-    ensures there { result ≤ left }
-    ensures within { result ≤ 256 }
-{
-    if left < GROUP { left } else { GROUP }
-}
-
 // Half `number`, from 1, of each key of a group.
 fn key_halves(keys: &[[u8; 16]], number: usize) -> [[u8; 8]; GROUP]
     requires few { length keys.now ≤ 256 }
@@ -244,7 +234,7 @@ pub fn retail_macs_each<S: Slice>(
     }
     let mut from = 0;
     'groups: while from < tags.len() {
-        let end = from + next_count(tags.len() - from);
+        let end = from + GROUP.min(tags.len() - from);
         write_retail_group::<S>(
             &keys[from..end],
             padding,

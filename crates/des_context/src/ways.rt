@@ -9,14 +9,12 @@ ghost use Rattle.des.specs.Cbc.{Unchains, next_vector};
 use des::cbc;
 use des::cipher::are_blocks;
 use des_fast::many::{ManyBlocks, Slice};
-use des_fast::quiet::SideBySide;
 
 /// The fewest blocks that are quicker in a batch than by tables, whatever the cipher, the direction
 /// and the width.
 pub const FEWEST: usize = 32;
 
-/// The fewest blocks of a quiet context that go in a batch: fewer go four side by side, or one by
-/// one where CBC is decrypted.
+/// The fewest blocks of a quiet context that go in a batch: fewer go four side by side.
 pub const FEWEST_QUIET: usize = 11;
 
 // How many blocks of a list go in batches: the whole batches, and also what is left over where that
@@ -30,30 +28,6 @@ fn batched<S: Slice>(count: usize, quiet: bool) -> usize
         count
     } else {
         count - left
-    }
-}
-
-/// Encrypts each block by a cipher that reads no table: a single one by itself, more side by side.
-pub fn encrypt_few<C: SideBySide>(cipher: &C, blocks: &mut [[u8; 8]])
-    ensures blocks { All IsBlock blocks.old }
-    ensures encrypted { blocks.new ≡ map (C.encrypted cipher.now) blocks.old }
-{
-    if blocks.len() == 1 {
-        cipher.encrypt_blocks(blocks);
-    } else {
-        cipher.encrypt_side_by_side(blocks);
-    }
-}
-
-/// Decrypts each block by a cipher that reads no table, as `encrypt_few` encrypts it.
-pub fn decrypt_few<C: SideBySide>(cipher: &C, blocks: &mut [[u8; 8]])
-    ensures blocks { All IsBlock blocks.old }
-    ensures decrypted { blocks.new ≡ map (C.decrypted cipher.now) blocks.old }
-{
-    if blocks.len() == 1 {
-        cipher.decrypt_blocks(blocks);
-    } else {
-        cipher.decrypt_side_by_side(blocks);
     }
 }
 

@@ -1,15 +1,6 @@
 -- Blocks answered in place, batch after batch.
-use Rattle.std.proofs.Common.{◌≡◌, ℕ, ◌+◌, ◌<◌, ◌≤◌, Bool, List, [], ◌++◌, length, take, drop, map, get_or, ap, ap₂, sym, ◌∙◌, arith, append_assoc, length-take-le, take-add, take_at, drop_at}
-use Rattle.std.proofs.lemmas.List.{length-append, length-drop, length-map, get_or-map, ext_get_or, get_or-take, get_or_append_left, map-append, drop-drop, take_all, drop_all, append-nil}
-use Rattle.des_fast.specs.declared.slices.keys.PassSlices.{PassSlices}
-use Rattle.des_fast.specs.Passes.{HoldPasses, block_through_passes}
-use Rattle.des_fast.specs.SpreadKeys.{AreSlicesFor}
-
--- passes that hold the same keys for each block answer in all lanes as these
-pub AreSlicesFor-held : {A : Type 0} (batch : ℕ) (bit : ℕ → A → Bool) (passes : List (PassSlices A))
-    (keys : List (List (List Bool))) → HoldPasses batch bit passes keys
-    → AreSlicesFor batch bit passes (block_through_passes keys)
-AreSlicesFor-held batch bit passes keys hold b inside = ap block_through_passes (hold b inside)
+use Rattle.std.proofs.Common.{◌≡◌, ℕ, ◌+◌, ◌<◌, ◌≤◌, List, [], ◌++◌, length, take, drop, map, get_or, ap, ap₂, sym, ◌∙◌, arith, append_assoc, length-take-le, take-add, take_at, drop_at}
+use Rattle.std.proofs.lemmas.List.{length-map, get_or-map, ext_get_or, map-append, drop-drop, take_all, drop_all, append-nil}
 
 -- answers, one by one
 pub answered-at : (f : List ℕ → List ℕ) (old new : List (List ℕ)) → length new ≡ length old
@@ -42,15 +33,3 @@ pub answered-all : (f : List ℕ → List ℕ) (m : ℕ) (old : List (List ℕ))
 answered-all f m old all =
     ap₂ (λ (front back : List (List ℕ)). map f front ++ back) (take_all m old all) (drop_all m old all)
     ∙ append-nil (map f old)
-
--- a list written over the beginning of a longer one leaves room for a batch
-pub batch-le_filled : {n : ℕ} (batch : ℕ) (part filling : List (List ℕ)) → length part ≤ batch → batch ≤ 256
-    → length part ≡ n → length filling ≡ 256 → batch ≤ length (part ++ drop n filling)
-batch-le_filled {n} batch part filling fits most in_part long =
-    omega (arith, length-append part (drop n filling), length-drop n filling)
-
--- and the batch is whole
-pub length-filled : {n : ℕ} (batch : ℕ) (part filling : List (List ℕ)) → length part ≤ batch → batch ≤ 256
-    → length part ≡ n → length filling ≡ 256 → length (take batch (part ++ drop n filling)) ≡ batch
-length-filled {n} batch part filling fits most in_part long =
-    length-take-le batch (part ++ drop n filling) (batch-le_filled batch part filling fits most in_part long)

@@ -1,16 +1,16 @@
 -- Blocks as rows, and the bits of transposed rows.
-use Rattle.std.proofs.Common.{◌≡◌, ℕ, zero, suc, ◌+◌, ◌*◌, ◌/◌, ◌%◌, ◌<◌, ◌≢◌, Bool, false, List, [], ◌∷◌, length, map, get_or, refl, ap, ap₂, sym, subst, ◌∙◌, arith, zero-add, inl, inr}
+use Rattle.std.proofs.Common.{◌≡◌, ℕ, zero, suc, ◌+◌, ◌*◌, ◌/◌, ◌%◌, ◌<◌, ◌≤◌, ◌≢◌, Bool, false, List, [], ◌∷◌, length, map, get_or, w64, refl, ap, ap₂, sym, subst, ◌∙◌, arith, zero-add, inl, inr}
+use Rattle.std.specs.Int.{to_le_bytes}
 use Rattle.std.proofs.Math.ListN.{set}
+use Rattle.std.proofs.Math.Nat.{div-add-mod, div-lt_iff_lt-mul, mod-lt}
 use Rattle.std.proofs.lemmas.Bool.{cases_eq}
 use Rattle.std.specs.List.{range_with_len}
 use Rattle.std.proofs.lemmas.List.{length-map, length-set, get_or-map, map-set, get_or-set_same, get_or-set_other}
 use Rattle.std.proofs.lemmas.List.FromFn.{fill_by_all, length-map-range_with_len, get_or-map-range_with_len}
-use Rattle.des.specs.Bits.{bits_of_word, bits_of_bytes}
+use Rattle.des.specs.Bits.{bits_of_bytes}
 use Rattle.des.specs.Blocks.{block_of_bits}
-use Rattle.des.specs.Laws.BitLists.{length-bits_of}
-use Rattle.des_fast.specs.Slices.{bit_of_block}
+use Rattle.des_fast.specs.Slices.{place_of_block}
 use Rattle.des_fast.specs.Transposition.{bits_of_lane, bits_of_row, AreRowsOf, AreBlocksOfRows, AreTransposed, AreSlicesOf, AreBlocksOf}
-use Rattle.des_fast.proofs.WordPlaces.{bit_of_block-at, bit_in}
 
 -- two functions that agree below n give the same lists
 pub map-same : (f g : ℕ → Bool) (n : ℕ) → ((m : ℕ) → m < n → f m ≡ g m)
@@ -18,19 +18,6 @@ pub map-same : (f g : ℕ → Bool) (n : ℕ) → ((m : ℕ) → m < n → f m �
 map-same f g n each =
     fill_by_all g (map f (range_with_len 0 n)) n false (length-map-range_with_len f 0 n)
     (λ m below. get_or-map-range_with_len f 0 n m m false below (zero-add m) ∙ each m below)
-
--- the bits of a word of a vector
-pub bits_of_word-lane : (words : List ℕ) (lane : ℕ)
-    → bits_of_word (get_or words lane 0) ≡ bits_of_lane bit_of_block words lane
-bits_of_word-lane words lane =
-    let word : ℕ = get_or words lane 0 in
-    fill_by_all (λ (p : ℕ). bit_of_block (64 * lane + p) words) (bits_of_word word) 64 false (length-bits_of 64 word)
-    (λ p below.
-    let same : (64 * lane + p) / 64 ≡ lane = omega arith in
-    let place : (64 * lane + p) % 64 ≡ p = omega arith in
-    sym (bit_of_block-at words (64 * lane + p)
-    ∙ ap (λ (l : ℕ). bit_in (get_or words l 0) ((64 * lane + p) % 64)) same
-    ∙ ap (bit_in word) place))
 
 -- what holds of two words holds of each
 pub each_of_two : (P : ℕ → ℕ → Type 0) (x y : ℕ) → P 0 x → P 1 y → (lane : ℕ) → lane < 2
@@ -48,9 +35,9 @@ each_of_four P x y z w p q r s (suc (suc zero)) below = r
 each_of_four P x y z w p q r s (suc (suc (suc zero))) below = s
 each_of_four P x y z w p q r s (suc (suc (suc (suc lane)))) below = absurd (omega arith)
 
--- the word of row n and a lane has the bits of its block
-abbrev pub HasBlock : List (List ℕ) → ℕ → ℕ → ℕ → Type 0
-HasBlock blocks n lane word = bits_of_word word ≡ bits_of_bytes (get_or blocks (64 * lane + n) [])
+-- the word of a lane has the bytes of its block, one of n side by side after m such rows
+abbrev pub HasBlock : List (List ℕ) → ℕ → ℕ → ℕ → ℕ → Type 0
+HasBlock blocks n m lane word = to_le_bytes w64 word ≡ get_or blocks (n * m + lane) []
 
 -- the bits of a word of row m
 abbrev pub row_lane : {A : Type 0} → (ℕ → A → Bool) → List A → ℕ → ℕ → List Bool
@@ -93,70 +80,108 @@ bits_of_lane-row bit rows m lane d inside =
     map-same (λ p. bit (64 * lane + p) (get_or rows m d)) (λ p. get_or (map (bit (64 * lane + p)) rows) m false) 64
     (λ p below. sym (get_or-map (bit (64 * lane + p)) rows m d false inside))
 
--- the blocks of the first words of a row are written, and no other block is
-abbrev pub AreWordsWritten : {A : Type 0} → (ℕ → A → Bool) → A → ℕ → List (List ℕ) → List (List ℕ) → ℕ → Type 0
-AreWordsWritten bit row n old new count =
-    ((lane : ℕ) → lane < count → get_or new (64 * lane + n) [] ≡ block_of_bits (bits_of_lane bit row lane))
-    × (((k : ℕ) → k % 64 ≢ n → get_or new k [] ≡ get_or old k [])
+-- the blocks of the first words of a row are written, n side by side after m such rows, and no other block is
+abbrev pub AreWordsWritten : {A : Type 0} → (ℕ → A → Bool) → ℕ → A → ℕ → List (List ℕ) → List (List ℕ) → ℕ → Type 0
+AreWordsWritten bit n row m old new count =
+    ((k : ℕ) → k / n ≡ m → k % n < count → get_or new k [] ≡ block_of_bits (bits_of_lane bit row (k % n)))
+    × (((k : ℕ) → k / n ≢ m → get_or new k [] ≡ get_or old k [])
     × (length new ≡ length old))
 
 -- none is
-pub AreWordsWritten-none : {A : Type 0} (bit : ℕ → A → Bool) (row : A) (n : ℕ) (old : List (List ℕ))
-    → AreWordsWritten bit row n old old 0
-AreWordsWritten-none bit row n old = (λ lane below. absurd (omega arith), (λ k other. refl, refl))
+pub AreWordsWritten-none : {A : Type 0} (bit : ℕ → A → Bool) (n : ℕ) (row : A) (m : ℕ) (old : List (List ℕ))
+    → AreWordsWritten bit n row m old old 0
+AreWordsWritten-none bit n row m old = (λ k at below. absurd (omega arith), (λ k other. refl, refl))
+
+-- a number by its quotient and its remainder
+same-parts : (n k i : ℕ) → k / n ≡ i / n → k % n ≡ i % n → k ≡ i
+same-parts n k i quotient remainder =
+    sym (div-add-mod k n) ∙ ap₂ (λ (q r : ℕ). n * q + r) quotient remainder ∙ div-add-mod i n
 
 -- one more
-pub AreWordsWritten-more : {A : Type 0} (bit : ℕ → A → Bool) (row : A) (n : ℕ) (old new : List (List ℕ)) (count i : ℕ)
-    (block : List ℕ) (word : ℕ)
-    → i ≡ 64 * count + n → n < 64 → i < length old → bits_of_word word ≡ bits_of_lane bit row count
-    → block ≡ block_of_bits (bits_of_word word)
-    → AreWordsWritten bit row n old new count → AreWordsWritten bit row n old (set new i block) (count + 1)
-AreWordsWritten-more bit row n old new count i block word at low inside bits made are =
+pub AreWordsWritten-more : {A : Type 0} (bit : ℕ → A → Bool) (n : ℕ) (row : A) (m : ℕ) (old new : List (List ℕ))
+    (count i : ℕ) (block : List ℕ) (word : ℕ)
+    → i / n ≡ m → i % n ≡ count → i < length old → bits_of_bytes (to_le_bytes w64 word) ≡ bits_of_lane bit row count
+    → block ≡ block_of_bits (bits_of_bytes (to_le_bytes w64 word))
+    → AreWordsWritten bit n row m old new count → AreWordsWritten bit n row m old (set new i block) (count + 1)
+AreWordsWritten-more bit n row m old new count i block word at_row at_lane inside bits made are =
     let room : i < length new = omega (arith, are.1.1) in (
-      λ lane below. elim (cases_eq lane count) [
+      λ k at below. elim (cases_eq (k % n) count) [
         | inl same ↦
-            ap (λ (l : ℕ). get_or (set new i block) (64 * l + n) []) same
-            ∙ ap (λ (k : ℕ). get_or (set new i block) k []) (sym at)
+            let here : k ≡ i = same-parts n k i (at ∙ sym at_row) (same ∙ sym at_lane) in
+            ap (λ (j : ℕ). get_or (set new i block) j []) here
             ∙ get_or-set_same new i block [] room
             ∙ made
             ∙ ap block_of_bits (bits ∙ ap (bits_of_lane bit row) (sym same))
         | inr other ↦
-            let elsewhere : 64 * lane + n ≢ i = λ q. other (omega arith) in
-            get_or-set_other new i (64 * lane + n) block [] elsewhere
-            ∙ are.0 lane (omega arith)
+            let elsewhere : k ≢ i = λ q. other (ap (λ (j : ℕ). j % n) q ∙ at_lane) in
+            get_or-set_other new i k block [] elsewhere
+            ∙ are.0 k at (omega (arith, below, other))
       ],
       (
         λ k other.
-            let elsewhere : k ≢ i = λ q. other (omega arith) in
+            let elsewhere : k ≢ i = λ q. other (ap (λ (j : ℕ). j / n) q ∙ at_row) in
             get_or-set_other new i k block [] elsewhere ∙ are.1.0 k other,
         length-set new i block ∙ are.1.1,
       ),
     )
 
+-- the place of a block in slices of n words
+pub record IsPlaced (n k : ℕ) : Type 0 where
+  pub row : k / n < 64
+  pub inside : place_of_block n k < 64 * n
+  pub at_lane : place_of_block n k / 64 ≡ k % n
+  pub at_row : place_of_block n k % 64 ≡ k / n
+
+-- of any numbers u and v of a word and a row
+placed-parts : (n u v : ℕ) → u < n → v < 64 → ((64 * u + v < 64 * n) × ((64 * u + v) / 64 ≡ u)) × ((64 * u + v) % 64 ≡ v)
+placed-parts n u v in_words in_rows = ((omega arith, omega arith), omega arith)
+
+pub IsPlaced-block : (n k : ℕ) → 1 ≤ n → k < 64 * n → IsPlaced n k
+IsPlaced-block n k some within =
+    let below : k / n < 64 = (div-lt_iff_lt-mul some).1 within in
+    let parts = placed-parts n (k % n) (k / n) (mod-lt k some) below in
+    record { row = below; inside = parts.0.0; at_lane = parts.0.1; at_row = parts.1 }
+
+-- the bits of block k of slices are those at its place
+map-placed : {A : Type 0} (f g : A → Bool) (xs : List A) → ((x : A) → f x ≡ g x) → map f xs ≡ map g xs
+map-placed f g [] same = refl
+map-placed f g (x ∷ xs) same = ap₂ ◌∷◌ (same x) (map-placed f g xs same)
+
 -- the slices of blocks, from their rows
-pub AreSlicesOf-rows : {A : Type 0} (batch : ℕ) (bit : ℕ → A → Bool) (blocks : List (List ℕ)) (rows slices : List A)
+pub AreSlicesOf-rows : {A : Type 0} (n : ℕ) (bit place_bit : ℕ → A → Bool) (blocks : List (List ℕ))
+    (rows slices : List A) → 1 ≤ n → ((b : ℕ) → (slice : A) → bit b slice ≡ place_bit (place_of_block n b) slice)
     → length slices ≡ 64
-    → AreRowsOf batch bit blocks rows → AreTransposed batch bit rows slices → AreSlicesOf batch bit blocks slices
-AreSlicesOf-rows batch bit blocks rows slices size are transposed k within =
-    fill_by_all (λ (m : ℕ). get_or (map (bit (64 * (k / 64) + m)) rows) (k % 64) false) (map (bit k) slices) 64 false
+    → AreRowsOf (64 * n) n place_bit blocks rows → AreTransposed (64 * n) place_bit rows slices
+    → AreSlicesOf (64 * n) bit blocks slices
+AreSlicesOf-rows n bit place_bit blocks rows slices some placed size are transposed k within =
+    let place : ℕ = place_of_block n k in
+    let at = IsPlaced-block n k some within in
+    fill_by_all (λ (m : ℕ). get_or (map (place_bit (64 * (k % n) + m)) rows) (k / n) false) (map (bit k) slices) 64 false
     (length-map slices (bit k) ∙ size)
-    (λ m below. transposed m below k within)
+    (λ m below.
+    ap (λ (bits : List Bool). get_or bits m false) (map-placed (bit k) (place_bit place) slices (placed k))
+    ∙ transposed m below place at.inside
+    ∙ ap₂ (λ (u v : ℕ). get_or (map (place_bit (64 * u + m)) rows) v false) at.at_lane at.at_row)
     ∙ are k within
 
 -- the blocks of slices, from the rows
-pub AreBlocksOf-rows : {A : Type 0} (batch : ℕ) (bit : ℕ → A → Bool) (slices rows : List A) (blocks : List (List ℕ))
-    → batch % 64 ≡ 0 → length slices ≡ 64
-    → AreTransposed batch bit slices rows → AreBlocksOfRows batch bit rows blocks → AreBlocksOf batch bit slices blocks
-AreBlocksOf-rows batch bit slices rows blocks whole size transposed are k within =
-    let here : bits_of_row bit rows k ≡ map (bit k) slices =
-    map-same (λ p. get_or (map (bit (64 * (k / 64) + p)) rows) (k % 64) false)
+pub AreBlocksOf-rows : {A : Type 0} (n : ℕ) (bit place_bit : ℕ → A → Bool) (slices rows : List A)
+    (blocks : List (List ℕ)) → 1 ≤ n → ((b : ℕ) → (slice : A) → bit b slice ≡ place_bit (place_of_block n b) slice)
+    → length slices ≡ 64
+    → AreTransposed (64 * n) place_bit slices rows → AreBlocksOfRows (64 * n) n place_bit rows blocks
+    → AreBlocksOf (64 * n) bit slices blocks
+AreBlocksOf-rows n bit place_bit slices rows blocks some placed size transposed are k within =
+    let at = IsPlaced-block n k some within in
+    let u : ℕ = k % n in
+    let here : bits_of_row n place_bit rows k ≡ map (bit k) slices =
+    map-same (λ p. get_or (map (place_bit (64 * u + p)) rows) (k / n) false)
     (λ p. get_or (map (bit k) slices) p false) 64
     (λ p below.
-    let c : ℕ = 64 * (k / 64) + p in
-    let row : c % 64 ≡ p = omega arith in
-    let place : 64 * (c / 64) + k % 64 ≡ k = omega arith in
-    transposed (k % 64) (omega arith) c (omega arith)
-    ∙ ap₂ (λ (n d : ℕ). get_or (map (bit d) slices) n false) row place)
+    let parts = placed-parts n u p (mod-lt k some) below in
+    transposed (k / n) at.row (64 * u + p) parts.0.0
+    ∙ ap₂ (λ (v l : ℕ). get_or (map (place_bit (64 * l + k / n)) slices) v false) parts.1 parts.0.1
+    ∙ ap (λ (bits : List Bool). get_or bits p false)
+    (sym (map-placed (bit k) (place_bit (place_of_block n k)) slices (placed k))))
     ∙ sym (fill_by_all (λ (p : ℕ). get_or (map (bit k) slices) p false) (map (bit k) slices) 64 false
     (length-map slices (bit k) ∙ size) (λ p below. refl)) in
     are k within ∙ ap block_of_bits here

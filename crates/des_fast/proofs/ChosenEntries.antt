@@ -1,15 +1,15 @@
 -- The entry of a box that the six bits of a group choose, one after another.
-use Rattle.std.proofs.Common.{◌≡◌, ℕ, zero, suc, ◌+◌, ◌*◌, ◌^◌, ◌<◌, ◌==◌, cond, Bool, true, List, [], ◌++◌, take, drop, flat_map, slice_index_or, lit≤, refl, sym, ap, ap₂, ◌∙◌}
+use Rattle.std.proofs.Common.{◌≡◌, ℕ, zero, suc, ◌+◌, ◌*◌, ◌^◌, ◌<◌, cond, Bool, List, [], take, drop, flat_map, slice_index_or, lit≤, refl, sym, ap, ◌∙◌}
 use Rattle.std.specs.Int.{w64, to_be_bytes}
-use Rattle.std.proofs.lemmas.Bool.{eqb-true, agree_below, agree_below_at}
 use Rattle.des.specs.Bits.{bits_of, bits_of_word, number_of, select}
 use Rattle.des.specs.Tables.{selection_functions, expansion, permutation}
 use Rattle.des.specs.CipherFunction.{box_entry, substitute}
 use Rattle.des.specs.Laws.Selections.{length-select}
 use Rattle.des_fast.specs.declared.quiet.boxes.TheConstants.{ENTRIES}
 use Rattle.des_fast.specs.Groups.{IsOfGroups, bits_of_groups, positions_in_word}
-use Rattle.des_fast.specs.GroupBytes.{box_of_byte, in_order}
+use Rattle.des_fast.specs.GroupBytes.{box_of_byte, byte_order, in_order}
 use Rattle.des_fast.proofs.ByteTests.{has}
+use Rattle.des_fast.proofs.TableTests.{same_entries}
 use Rattle.des_fast.proofs.CipherFunctionByGroups.{substitute_by-groups}
 use Rattle.des_fast.proofs.GroupBytes.{bytes-lt, bits_of-in_order}
 use Rattle.des_fast.proofs.GroupWords.{IsExpansionOf, IsExpansionOf-Holds}
@@ -34,10 +34,7 @@ choice i byte =
 pub choice-entry : (i byte : ℕ) → i < 8 → byte < 64 → choice i byte ≡ box_entry (box_of_byte i) (bits_of 6 byte)
 unfolding bits_of number_of box_entry
 choice-entry i byte within below =
-    let agrees : ℕ → ℕ → Bool = λ n x. choice n x == box_entry (box_of_byte n) (bits_of 6 x) in
-    let each : agree_below (agrees i) (λ x. true) 64 ≡ true =
-    agree_below_at (λ n. agree_below (agrees n) (λ x. true) 64) (λ n. true) 8 i refl within in
-    eqb-true _ _ (agree_below_at (agrees i) (λ x. true) 64 byte each below)
+    same_entries choice (λ k group. box_entry (box_of_byte k) (bits_of 6 group)) 8 64 i byte within below refl
 
 -- so where the byte is that of a word of groups
 pub choice-at : (word byte i : ℕ) → IsOfGroups word → i < 8 → byte ≡ slice_index_or (to_be_bytes w64 word) i 0
@@ -48,39 +45,28 @@ choice-at word byte i of_groups within same =
 
 -- ---- the entries of a word
 
--- the entries for the bytes of a word of groups, in the order of the boxes, are the substitution of its groups
-pub entries-substitute : (word : ℕ) (entries : List ℕ)
-    → ((i : ℕ) → i < 8
-    → slice_index_or entries i 0 ≡ box_entry (box_of_byte i) (bits_of 6 (slice_index_or (to_be_bytes w64 word) i 0)))
-    → flat_map (bits_of 4) (in_order entries) ≡ substitute (bits_of_groups word)
-entries-substitute word entries each =
-    let bits : List Bool = bits_of_groups word in
-    let at : (i n : ℕ) → i < 8 → n < 8
-    → slice_index_or (in_order (to_be_bytes w64 word)) n 0 ≡ slice_index_or (to_be_bytes w64 word) i 0
-    → bits_of 4 (slice_index_or entries i 0) ≡ bits_of 4 (box_entry (box_of_byte i) (take 6 (drop (6 * n) bits))) =
-    λ i n within below same.
-    ap (bits_of 4) (each i within ∙ ap (λ (byte : ℕ). box_entry (box_of_byte i) (bits_of 6 byte)) (sym same)
-    ∙ ap (box_entry (box_of_byte i)) (bits_of-in_order word n below)) in
-    ap₂ ◌++◌ (at 0 0 (lit≤ tt) (lit≤ tt) refl)
-    (ap₂ ◌++◌ (at 4 1 (lit≤ tt) (lit≤ tt) refl)
-    (ap₂ ◌++◌ (at 1 2 (lit≤ tt) (lit≤ tt) refl)
-    (ap₂ ◌++◌ (at 5 3 (lit≤ tt) (lit≤ tt) refl)
-    (ap₂ ◌++◌ (at 2 4 (lit≤ tt) (lit≤ tt) refl)
-    (ap₂ ◌++◌ (at 6 5 (lit≤ tt) (lit≤ tt) refl)
-    (ap₂ ◌++◌ (at 3 6 (lit≤ tt) (lit≤ tt) refl)
-    (ap₂ ◌++◌ (at 7 7 (lit≤ tt) (lit≤ tt) refl) refl)))))))
-    ∙ sym (substitute_by-groups selection_functions 0 bits)
+-- the entry of the box of a byte, for the byte of a word of groups
+abbrev pub entry_of : ℕ → ℕ → ℕ
+entry_of word i = box_entry (box_of_byte i) (bits_of 6 (slice_index_or (to_be_bytes w64 word) i 0))
 
--- a word whose bits are those of E of P of these entries is a word of groups of that
-pub IsExpansionOf-entries : (entries : List ℕ) (word result : ℕ) → result < 2 ^ 64
-    → ((i : ℕ) → i < 8
-    → slice_index_or entries i 0 ≡ box_entry (box_of_byte i) (bits_of 6 (slice_index_or (to_be_bytes w64 word) i 0)))
-    → bits_of_word result
-    ≡ select positions_in_word (select expansion (select permutation (flat_map (bits_of 4) (in_order entries))))
+-- four bits for each byte that are those of its entry are, in the order of the boxes, the substitution of the groups
+pub in_order-substitute : (word : ℕ) (four : ℕ → List Bool) → ((i : ℕ) → i < 8 → four i ≡ bits_of 4 (entry_of word i))
+    → flat_map four byte_order ≡ substitute (bits_of_groups word)
+in_order-substitute word four each =
+    let group : (n : ℕ) → n < 8 → bits_of 6 (slice_index_or (in_order (to_be_bytes w64 word)) n 0)
+    ≡ take 6 (drop (6 * n) (bits_of_groups word)) = bits_of-in_order word in
+    rw (each 0 (lit≤ tt), each 4 (lit≤ tt), each 1 (lit≤ tt), each 5 (lit≤ tt)) (
+    rw (each 2 (lit≤ tt), each 6 (lit≤ tt), each 3 (lit≤ tt), each 7 (lit≤ tt)) (
+    rw (group 0 (lit≤ tt), group 1 (lit≤ tt), group 2 (lit≤ tt), group 3 (lit≤ tt)) (
+    rw (group 4 (lit≤ tt), group 5 (lit≤ tt), group 6 (lit≤ tt), group 7 (lit≤ tt))
+    (sym (substitute_by-groups selection_functions 0 (bits_of_groups word))))))
+
+-- a word whose bits are those of E of P of them is a word of groups of that
+pub IsExpansionOf-substitute : (word result : ℕ) (replaced : List Bool) → result < 2 ^ 64
+    → bits_of_word result ≡ select positions_in_word (select expansion (select permutation replaced))
+    → replaced ≡ substitute (bits_of_groups word)
     → IsExpansionOf result (select permutation (substitute (bits_of_groups word)))
-IsExpansionOf-entries entries word result below each holds =
+IsExpansionOf-substitute word result replaced below holds same =
     IsExpansionOf-Holds result (select permutation (substitute (bits_of_groups word))) below
     (length-select permutation _)
-    (holds
-    ∙ ap (λ bits. select positions_in_word (select expansion (select permutation bits)))
-    (entries-substitute word entries each))
+    (holds ∙ ap (λ bits. select positions_in_word (select expansion (select permutation bits))) same)

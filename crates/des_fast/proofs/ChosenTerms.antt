@@ -1,59 +1,46 @@
 -- The entry of a box as a sum of terms, those that the six bits of a group choose.
-use Rattle.std.proofs.Common.{◌≡◌, ℕ, zero, suc, ◌+◌, ◌-◌, ◌*◌, ◌/◌, ◌%◌, ◌^◌, ◌<◌, ◌==◌, List, Bool, true, length, nat_lt, replicate, slice_index_or, subst, refl, sym, ap, ◌∙◌, arith}
+use Rattle.std.proofs.Common.{◌≡◌, ℕ, suc, ◌+◌, ◌-◌, ◌*◌, ◌/◌, ◌%◌, ◌^◌, ◌<◌, List, Bool, true, length, nat_lt, replicate, slice_index_or, refl, ap, ◌∙◌, arith}
 use Rattle.std.specs.Int.{w64, to_be_bytes}
 use Rattle.std.specs.Simd.Lanes.{digits_l, number_l, Each1}
 use Rattle.std.proofs.lemmas.List.{get_or-replicate}
 use Rattle.std.proofs.lemmas.Simd.{get_or_narrower, Each1-replicate}
-use Rattle.std.proofs.lemmas.Bool.{eqb-true, ltb-true, agree_below, agree_below_at}
+use Rattle.std.proofs.lemmas.Bool.{ltb-true, agree_below_at}
 use Rattle.des.specs.Bits.{bits_of, number_of, select}
 use Rattle.des.specs.CipherFunction.{box_entry}
-use Rattle.des.specs.Laws.BitLists.{bits_of-number_of}
 use Rattle.des.specs.Laws.Selections.{length-select}
+use Rattle.des.proofs.BitParts.{same_below}
 use Rattle.des_fast.specs.declared.quiet.fours.TheConstants.{TERMS}
 use Rattle.des_fast.specs.Groups.{IsOfGroups}
 use Rattle.des_fast.specs.GroupBytes.{box_of_byte}
 use Rattle.des_fast.specs.ChosenTerms.{choice, term, AreSums, AreChoices}
 use Rattle.des_fast.specs.JoinedEntries.{entry_order, entry_bits}
+use Rattle.des_fast.proofs.TableTests.{bits_of-written, same_entries}
 use Rattle.des_fast.proofs.GroupBytes.{bytes-lt}
 
 -- an entry has four bits
 length-entry_bits : (i byte : ℕ) → i < 8 → length (entry_bits i byte) ≡ 4
 length-entry_bits i byte within =
     length-select (entry_order i) (bits_of 4 byte)
-    ∙ eqb-true _ _ (agree_below_at (λ n. length (entry_order n) == 4) (λ n. true) 8 i refl within)
+    ∙ same_below (λ k. length (entry_order k)) (λ k. 4) 8 i refl within
 
 -- the entry of the box of that byte, in the order that is kept
 choice-entry : (i byte : ℕ) → i < 8 → byte < 64
     → entry_bits i (choice (term TERMS i) byte) ≡ bits_of 4 (box_entry (box_of_byte i) (bits_of 6 byte))
 unfolding bits_of number_of select box_entry
 choice-entry i byte within below =
-    let agrees : ℕ → ℕ → Bool =
-    λ n x. number_of (entry_bits n (choice (term TERMS n) x)) == box_entry (box_of_byte n) (bits_of 6 x) in
-    let each : agree_below (agrees i) (λ x. true) 64 ≡ true =
-    agree_below_at (λ n. agree_below (agrees n) (λ x. true) 64) (λ n. true) 8 i refl within in
-    let same : number_of (entry_bits i (choice (term TERMS i) byte)) ≡ box_entry (box_of_byte i) (bits_of 6 byte) =
-    eqb-true _ _ (agree_below_at (agrees i) (λ x. true) 64 byte each below) in
-    subst (λ (n : ℕ). entry_bits i (choice (term TERMS i) byte) ≡ bits_of n (box_entry (box_of_byte i) (bits_of 6 byte)))
-    (length-entry_bits i (choice (term TERMS i) byte) within)
-    (sym (bits_of-number_of (entry_bits i (choice (term TERMS i) byte)))
-    ∙ ap (bits_of (length (entry_bits i (choice (term TERMS i) byte)))) same)
+    bits_of-written 4 _ (entry_bits i (choice (term TERMS i) byte)) (length-entry_bits i _ within)
+    (same_entries (λ k group. number_of (entry_bits k (choice (term TERMS k) group)))
+    (λ k group. box_entry (box_of_byte k) (bits_of 6 group)) 8 64 i byte within below refl)
 
 -- ---- bytes of vectors
 
 -- a word's bytes, the last one first
 byte-at : (word i : ℕ) → i < 8 → word / 256 ^ (7 - i) % 256 ≡ slice_index_or (to_be_bytes w64 word) i 0
-byte-at word zero below = refl
-byte-at word (suc zero) below = refl
-byte-at word (suc (suc zero)) below = refl
-byte-at word (suc (suc (suc zero))) below = refl
-byte-at word (suc (suc (suc (suc zero)))) below = refl
-byte-at word (suc (suc (suc (suc (suc zero))))) below = refl
-byte-at word (suc (suc (suc (suc (suc (suc zero)))))) below = refl
-byte-at word (suc (suc (suc (suc (suc (suc (suc zero))))))) below = omega arith
 byte-at word (suc (suc (suc (suc (suc (suc (suc (suc i)))))))) below = absurd (omega arith)
+byte-at word i below = omega arith
 
 -- byte i of word q of four stands at index 8 * q + 7 - i
-pub vector_byte-at : (words : List ℕ) (q i j : ℕ) → Each1 (λ x. x < 2 ^ 64) words → q < 4 → i < 8 → j + i ≡ 8 * q + 7
+vector_byte-at : (words : List ℕ) (q i j : ℕ) → Each1 (λ x. x < 2 ^ 64) words → q < 4 → i < 8 → j + i ≡ 8 * q + 7
     → slice_index_or (digits_l 256 32 (number_l (2 ^ 64) words)) j 0
     ≡ slice_index_or (to_be_bytes w64 (slice_index_or words q 0)) i 0
 vector_byte-at words q i j below word within place =

@@ -1,12 +1,14 @@
--- Circuits of gates as data, and what they make of the bits of one block.
-use Rattle.std.proofs.Common.{◌≡◌, ℕ, ◌^◌, ◌<◌, ◌==◌, Bool, true, not, ◌&&◌, ◌||◌, List, [], ◌∷◌, ◌++◌, length, map, get_or, subst, refl, sym, ap, ◌∙◌, arith}
-use Rattle.std.proofs.lemmas.Bool.{eqb-true, agree_below, agree_below_at}
+-- Circuits of gates as data, and what they make of the bits of each block of a batch.
+use Rattle.std.proofs.Common.{◌≡◌, ℕ, ◌==◌, Bool, true, not, ◌&&◌, ◌||◌, List, [], ◌∷◌, ◌++◌, length, map, get_or, refl, ap, ◌∙◌, arith}
+use Rattle.std.proofs.lemmas.Bool.{eqb-true}
 use Rattle.des.specs.Bits.{bit, bits_of, number_of, select, xor as xor_bit}
 use Rattle.des.specs.Tables.{Box}
 use Rattle.des.specs.CipherFunction.{box_entry}
-use Rattle.des.specs.Laws.BitLists.{bits_of-number_of, number_of-lt}
 use Rattle.des.specs.Laws.Selections.{length-select}
+use Rattle.des_fast.specs.Slices.{InEachBlock}
+use Rattle.des_fast.proofs.TableTests.{in_all_ways, in_all_ways-at, bits_of-written}
 
+infixr 5 ◌▸◌
 -- a gate, of the values at positions from 1
 pub data Gate : Type 0 where
   complement : ℕ → Gate
@@ -37,65 +39,50 @@ run (gate ∷ gates) bits = run gates (bits ++ on_bits gate bits ∷ [])
 abbrev pub output_bits : Circuit → List Bool → List Bool
 output_bits circuit inputs = select circuit.outputs (run circuit.gates inputs)
 
--- the bits before the gates and after them, where each gate makes the next bit
-pub data Makes : List Gate → List Bool → List Bool → Type 0 where
-  done : {bits : List Bool} → Makes [] bits bits
-  next : {gate : Gate} {gates : List Gate} {bits all : List Bool} {made : Bool}
-      → made ≡ on_bits gate bits → Makes gates (bits ++ made ∷ []) all → Makes (gate ∷ gates) bits all
+-- the bits of each block before the gates and after them, where each gate makes the next bit
+pub data Makes : ℕ → List Gate → (ℕ → List Bool) → (ℕ → List Bool) → Type 0 where
+  done : {batch : ℕ} {bits : ℕ → List Bool} → Makes batch [] bits bits
+  ◌▸◌ : {batch : ℕ} {gate : Gate} {gates : List Gate} {bits all : ℕ → List Bool} {made : ℕ → Bool}
+      → InEachBlock batch (λ b. made b ≡ on_bits gate (bits b))
+      → Makes batch gates (λ b. bits b ++ made b ∷ []) all → Makes batch (gate ∷ gates) bits all
 
 -- they are what the gates make
-run-makes : (gates : List Gate) (bits all : List Bool) → Makes gates bits all → all ≡ run gates bits
-run-makes _ _ _ (done {bits}) = refl
-run-makes _ _ _ (next {gate} {gates} {bits} {all} {made} is rest) =
-    run-makes gates (bits ++ made ∷ []) all rest ∙ ap (λ (value : Bool). run gates (bits ++ value ∷ [])) is
+run-makes : (batch : ℕ) (gates : List Gate) (bits all : ℕ → List Bool) → Makes batch gates bits all
+    → InEachBlock batch (λ b. all b ≡ run gates (bits b))
+run-makes _ _ _ _ (done {batch} {bits}) b within = refl
+run-makes _ _ _ _ (◌▸◌ {batch} {gate} {gates} {bits} {all} {made} is rest) b within =
+    run-makes batch gates _ all rest b within
+    ∙ ap (λ (value : Bool). run gates (bits b ++ value ∷ [])) (is b within)
 
--- whether a circuit makes the entry of a box of each of the 64 groups of six bits
+-- whether a circuit makes the entry of a box of each group of six bits
 abbrev pub is_circuit_of : Box → Circuit → Bool
 is_circuit_of box circuit =
-    agree_below (λ group. number_of (output_bits circuit (bits_of 6 group)) == box_entry box (bits_of 6 group))
-    (λ group. true) 64
-
--- n bits are those of the number that they write
-bits_of-number_of_n : (n : ℕ) (bits : List Bool) → length bits ≡ n → bits_of n (number_of bits) ≡ bits
-bits_of-number_of_n n bits size = subst (λ (k : ℕ). bits_of k (number_of bits) ≡ bits) size (bits_of-number_of bits)
+    in_all_ways 6 (λ group. number_of (output_bits circuit group) == box_entry box group)
 
 -- such a circuit makes the bits of the entry of any group
 output_bits-entry : (box : Box) (circuit : Circuit) (group : List Bool) → is_circuit_of box circuit ≡ true
     → length circuit.outputs ≡ 4 → length group ≡ 6 → output_bits circuit group ≡ bits_of 4 (box_entry box group)
 output_bits-entry box circuit group each four six =
     let agrees : List Bool → Bool = λ bits. number_of (output_bits circuit bits) == box_entry box bits in
-    let below : number_of group < 64 = subst (λ (n : ℕ). number_of group < 2 ^ n) six (number_of-lt group) in
-    let listed : agrees (bits_of 6 (number_of group)) ≡ true =
-    agree_below_at (λ n. agrees (bits_of 6 n)) (λ n. true) 64 _ each below in
-    let agreed : agrees group ≡ true =
-    subst (λ (bits : List Bool). agrees bits ≡ true) (bits_of-number_of_n 6 group six) listed in
-    sym (bits_of-number_of_n 4 (output_bits circuit group) (length-select _ _ ∙ four))
-    ∙ ap (bits_of 4) (eqb-true _ _ agreed)
+    bits_of-written 4 _ (output_bits circuit group) (length-select _ _ ∙ four)
+    (eqb-true _ _ (in_all_ways-at 6 agrees each group six))
 
 -- six elements, one by one
 six_listed : {A : Type 0} (xs : List A) (d0 d1 d2 d3 d4 d5 : A) → length xs ≡ 6
     → get_or xs 0 d0 ∷ get_or xs 1 d1 ∷ get_or xs 2 d2 ∷ get_or xs 3 d3 ∷ get_or xs 4 d4 ∷ get_or xs 5 d5 ∷ [] ≡ xs
-six_listed [] d0 d1 d2 d3 d4 d5 six = absurd (omega arith)
-six_listed (x0 ∷ []) d0 d1 d2 d3 d4 d5 six = absurd (omega arith)
-six_listed (x0 ∷ x1 ∷ []) d0 d1 d2 d3 d4 d5 six = absurd (omega arith)
-six_listed (x0 ∷ x1 ∷ x2 ∷ []) d0 d1 d2 d3 d4 d5 six = absurd (omega arith)
-six_listed (x0 ∷ x1 ∷ x2 ∷ x3 ∷ []) d0 d1 d2 d3 d4 d5 six = absurd (omega arith)
-six_listed (x0 ∷ x1 ∷ x2 ∷ x3 ∷ x4 ∷ []) d0 d1 d2 d3 d4 d5 six = absurd (omega arith)
 six_listed (x0 ∷ x1 ∷ x2 ∷ x3 ∷ x4 ∷ x5 ∷ []) d0 d1 d2 d3 d4 d5 six = refl
-six_listed (x0 ∷ x1 ∷ x2 ∷ x3 ∷ x4 ∷ x5 ∷ x6 ∷ xs) d0 d1 d2 d3 d4 d5 six = absurd (omega arith)
+six_listed xs d0 d1 d2 d3 d4 d5 six = absurd (omega arith)
 
 -- so do bits that its gates make of the six of a group
-pub made-entry : {A : Type 0} (bit : A → Bool) (box : Box) (circuit : Circuit) (group : List A) (d0 d1 d2 d3 d4 d5 : A)
-    (all : List Bool)
+pub made-entry : {A : Type 0} (batch : ℕ) (bit : ℕ → A → Bool) (box : Box) (circuit : Circuit) (group : List A)
+    (d0 d1 d2 d3 d4 d5 : A) (all : ℕ → List Bool)
     → is_circuit_of box circuit ≡ true → length circuit.outputs ≡ 4 → length group ≡ 6
-    → Makes circuit.gates (map bit
+    → Makes batch circuit.gates (λ b. map (bit b)
     (get_or group 0 d0 ∷ get_or group 1 d1 ∷ get_or group 2 d2 ∷ get_or group 3 d3 ∷ get_or group 4 d4
     ∷ get_or group 5 d5 ∷ [])) all
-    → select circuit.outputs all ≡ bits_of 4 (box_entry box (map bit group))
-made-entry {A = A} bit box circuit group d0 d1 d2 d3 d4 d5 all each four six made =
-    let listed : List Bool = map bit
-    (get_or group 0 d0 ∷ get_or group 1 d1 ∷ get_or group 2 d2 ∷ get_or group 3 d3 ∷ get_or group 4 d4
-    ∷ get_or group 5 d5 ∷ []) in
-    ap (select circuit.outputs) (run-makes circuit.gates listed all made)
-    ∙ output_bits-entry box circuit listed each four refl
-    ∙ ap (λ (elements : List A). bits_of 4 (box_entry box (map bit elements))) (six_listed group d0 d1 d2 d3 d4 d5 six)
+    → InEachBlock batch (λ b. select circuit.outputs (all b) ≡ bits_of 4 (box_entry box (map (bit b) group)))
+made-entry {A = A} batch bit box circuit group d0 d1 d2 d3 d4 d5 all each four six made b within =
+    let listed = six_listed group d0 d1 d2 d3 d4 d5 six in
+    ap (select circuit.outputs) (run-makes batch circuit.gates _ all made b within)
+    ∙ output_bits-entry box circuit _ each four refl
+    ∙ ap (λ (elements : List A). bits_of 4 (box_entry box (map (bit b) elements))) listed

@@ -1,10 +1,9 @@
--- Eight rows that exchange bits in pairs.
-use Rattle.std.proofs.Common.{◌≡◌, ℕ, zero, suc, ◌+◌, ◌-◌, ◌*◌, ◌/◌, ◌%◌, ◌<◌, ◌≢◌, Bool, false, List, [], ◌∷◌, length, map, get_or, ap, sym, ◌∙◌, arith, inl, inr}
+-- Eight rows of which pairs make pairs.
+use Rattle.std.proofs.Common.{◌≡◌, ℕ, zero, suc, ◌+◌, ◌*◌, ◌/◌, ◌%◌, ◌<◌, ◌≢◌, Bool, false, List, [], ◌∷◌, length, map, get_or, ap, sym, ◌∙◌, arith, inl, inr}
 use Rattle.std.proofs.Math.ListN.{set}
 use Rattle.std.proofs.lemmas.Bool.{cases_eq}
 use Rattle.std.proofs.lemmas.List.{get_or-map, get_or-set_same, get_or-set_other, length-map, map-set}
-use Rattle.des_fast.specs.Transposition.{second, ArePairwiseExchanged}
-use Rattle.des_fast.proofs.ExchangedRows.{mod-lt_two}
+use Rattle.des_fast.specs.Transposition.{ArePairwise}
 
 -- the bit of one of a pair of rows is that of the row of all
 bit-of_pair : {A : Type 0} (read : A → Bool) (rows : List A) (i t : ℕ) (d0 d1 : A) → t < 2 → 4 + i < length rows
@@ -16,51 +15,58 @@ bit-of_pair read rows i (suc zero) d0 d1 below inside =
     sym (get_or-map read rows (4 + i) d1 false inside) ∙ ap (λ (k : ℕ). get_or (map read rows) k false) (omega arith)
 bit-of_pair read rows i (suc (suc t)) d0 d1 below inside = absurd (omega arith)
 
+-- what a step takes a bit from is one of two rows
+abbrev pub TakesFromPair : (ℕ → ℕ → ℕ × ℕ) → Type 0
+TakesFromPair step = (t b : ℕ) → (step t b).0 < 2
+
 -- a bit of a row of a pair, by the rows of all
-at_pair : {A : Type 0} (batch : ℕ) (bit : ℕ → A → Bool) (d : ℕ) (rows answer : List A) (i n : ℕ) (d0 d1 e : A)
-    → n < 2 → 4 + i < length rows → length answer ≡ 2
-    → ArePairwiseExchanged batch bit 1 d (get_or rows i d0 ∷ get_or rows (4 + i) d1 ∷ []) answer
+at_pair : {A : Type 0} (batch : ℕ) (bit : ℕ → A → Bool) (step : ℕ → ℕ → ℕ × ℕ) (rows answer : List A) (i n : ℕ)
+    (d0 d1 e : A) → TakesFromPair step → n < 2 → 4 + i < length rows → length answer ≡ 2
+    → ArePairwise batch bit 1 step (get_or rows i d0 ∷ get_or rows (4 + i) d1 ∷ []) answer
     → (b : ℕ) → b < batch
-    → bit b (get_or answer n e) ≡ get_or (map (bit (b - d * second d b + d * (n % 2))) rows) (4 * second d b + i) false
-at_pair batch bit d rows answer i zero d0 d1 e below inside two pair b within =
+    → bit b (get_or answer n e) ≡ get_or (map (bit (step (n % 2) b).1) rows) (4 * (step (n % 2) b).0 + i) false
+at_pair batch bit step rows answer i zero d0 d1 e takes below inside two pair b within =
     sym (get_or-map (bit b) answer 0 e false (omega arith))
     ∙ pair 0 (omega arith) b within
-    ∙ bit-of_pair (bit (b - d * second d b + d * 0)) rows i (second d b) d0 d1 (mod-lt_two (b % 64 / d)) inside
-at_pair batch bit d rows answer i (suc zero) d0 d1 e below inside two pair b within =
+    ∙ bit-of_pair (bit (step 0 b).1) rows i (step 0 b).0 d0 d1 (takes 0 b) inside
+at_pair batch bit step rows answer i (suc zero) d0 d1 e takes below inside two pair b within =
     sym (get_or-map (bit b) answer 1 e false (omega arith))
     ∙ pair 1 (omega arith) b within
-    ∙ bit-of_pair (bit (b - d * second d b + d * 1)) rows i (second d b) d0 d1 (mod-lt_two (b % 64 / d)) inside
-at_pair batch bit d rows answer i (suc (suc n)) d0 d1 e below inside two pair b within = absurd (omega arith)
+    ∙ bit-of_pair (bit (step 1 b).1) rows i (step 1 b).0 d0 d1 (takes 1 b) inside
+at_pair batch bit step rows answer i (suc (suc n)) d0 d1 e takes below inside two pair b within = absurd (omega arith)
 
 -- the rows of four pairs, side by side
-pub ArePairwiseExchanged-pairs : {A : Type 0} (batch : ℕ) (bit : ℕ → A → Bool) (d : ℕ) (rows p q r s : List A)
-    (a0 a1 a2 a3 a4 a5 a6 a7 e0 e1 e2 e3 e4 e5 e6 e7 : A) → length rows ≡ 8
+pub ArePairwise-pairs : {A : Type 0} (batch : ℕ) (bit : ℕ → A → Bool) (step : ℕ → ℕ → ℕ × ℕ) (rows p q r s : List A)
+    (a0 a1 a2 a3 a4 a5 a6 a7 e0 e1 e2 e3 e4 e5 e6 e7 : A) → TakesFromPair step → length rows ≡ 8
     → length p ≡ 2 → length q ≡ 2 → length r ≡ 2 → length s ≡ 2
-    → ArePairwiseExchanged batch bit 1 d (get_or rows 0 a0 ∷ get_or rows 4 a4 ∷ []) p
-    → ArePairwiseExchanged batch bit 1 d (get_or rows 1 a1 ∷ get_or rows 5 a5 ∷ []) q
-    → ArePairwiseExchanged batch bit 1 d (get_or rows 2 a2 ∷ get_or rows 6 a6 ∷ []) r
-    → ArePairwiseExchanged batch bit 1 d (get_or rows 3 a3 ∷ get_or rows 7 a7 ∷ []) s
-    → ArePairwiseExchanged batch bit 4 d rows
+    → ArePairwise batch bit 1 step (get_or rows 0 a0 ∷ get_or rows 4 a4 ∷ []) p
+    → ArePairwise batch bit 1 step (get_or rows 1 a1 ∷ get_or rows 5 a5 ∷ []) q
+    → ArePairwise batch bit 1 step (get_or rows 2 a2 ∷ get_or rows 6 a6 ∷ []) r
+    → ArePairwise batch bit 1 step (get_or rows 3 a3 ∷ get_or rows 7 a7 ∷ []) s
+    → ArePairwise batch bit 4 step rows
     (get_or p 0 e0 ∷ get_or p 1 e1 ∷ get_or q 0 e2 ∷ get_or q 1 e3 ∷ get_or r 0 e4 ∷ get_or r 1 e5 ∷ get_or s 0 e6
     ∷ get_or s 1 e7 ∷ [])
-ArePairwiseExchanged-pairs batch bit d rows p q r s a0 a1 a2 a3 a4 a5 a6 a7 e0 e1 e2 e3 e4 e5 e6 e7 eight lp lq lr ls
+ArePairwise-pairs batch bit step rows p q r s a0 a1 a2 a3 a4 a5 a6 a7 e0 e1 e2 e3 e4 e5 e6 e7 takes eight lp lq lr ls
     is_p is_q is_r is_s m below b within =
     elim m as (λ k. k < 8 → get_or (map (bit b) (get_or p 0 e0 ∷ get_or p 1 e1 ∷ get_or q 0 e2 ∷ get_or q 1 e3
     ∷ get_or r 0 e4 ∷ get_or r 1 e5 ∷ get_or s 0 e6 ∷ get_or s 1 e7 ∷ [])) k false
-    ≡ get_or (map (bit (b - d * second d b + d * (k % 2))) rows) (4 * second d b + k / 2) false) [
-      | zero ↦ λ under. at_pair batch bit d rows p 0 0 a0 a4 e0 (omega arith) (omega arith) lp is_p b within
-      | suc zero ↦ λ under. at_pair batch bit d rows p 0 1 a0 a4 e1 (omega arith) (omega arith) lp is_p b within
-      | suc (suc zero) ↦ λ under. at_pair batch bit d rows q 1 0 a1 a5 e2 (omega arith) (omega arith) lq is_q b within
+    ≡ get_or (map (bit (step (k % 2) b).1) rows) (4 * (step (k % 2) b).0 + k / 2) false) [
+      | zero ↦
+          λ under. at_pair batch bit step rows p 0 0 a0 a4 e0 takes (omega arith) (omega arith) lp is_p b within
+      | suc zero ↦
+          λ under. at_pair batch bit step rows p 0 1 a0 a4 e1 takes (omega arith) (omega arith) lp is_p b within
+      | suc (suc zero) ↦
+          λ under. at_pair batch bit step rows q 1 0 a1 a5 e2 takes (omega arith) (omega arith) lq is_q b within
       | suc (suc (suc zero)) ↦
-          λ under. at_pair batch bit d rows q 1 1 a1 a5 e3 (omega arith) (omega arith) lq is_q b within
+          λ under. at_pair batch bit step rows q 1 1 a1 a5 e3 takes (omega arith) (omega arith) lq is_q b within
       | suc (suc (suc (suc zero))) ↦
-          λ under. at_pair batch bit d rows r 2 0 a2 a6 e4 (omega arith) (omega arith) lr is_r b within
+          λ under. at_pair batch bit step rows r 2 0 a2 a6 e4 takes (omega arith) (omega arith) lr is_r b within
       | suc (suc (suc (suc (suc zero)))) ↦
-          λ under. at_pair batch bit d rows r 2 1 a2 a6 e5 (omega arith) (omega arith) lr is_r b within
+          λ under. at_pair batch bit step rows r 2 1 a2 a6 e5 takes (omega arith) (omega arith) lr is_r b within
       | suc (suc (suc (suc (suc (suc zero))))) ↦
-          λ under. at_pair batch bit d rows s 3 0 a3 a7 e6 (omega arith) (omega arith) ls is_s b within
+          λ under. at_pair batch bit step rows s 3 0 a3 a7 e6 takes (omega arith) (omega arith) ls is_s b within
       | suc (suc (suc (suc (suc (suc (suc zero)))))) ↦
-          λ under. at_pair batch bit d rows s 3 1 a3 a7 e7 (omega arith) (omega arith) ls is_s b within
+          λ under. at_pair batch bit step rows s 3 1 a3 a7 e7 takes (omega arith) (omega arith) ls is_s b within
       | suc (suc (suc (suc (suc (suc (suc (suc n))))))) ↦ λ under. absurd (omega arith)
     ] below
 

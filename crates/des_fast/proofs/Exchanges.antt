@@ -3,8 +3,8 @@ use Rattle.std.proofs.Common.{◌≡◌, ℕ, ◌+◌, ◌-◌, ◌*◌, ◌/◌
 use Rattle.std.proofs.lemmas.Bool.{cases_lt}
 use Rattle.std.proofs.Math.Bool.{and-false}
 use Rattle.des.specs.Bits.{xor}
-use Rattle.des_fast.proofs.WordPlaces.{bit_in, bit_in-bitwise, bit_in-shr, bit_in-shl, bit_in-past}
-use Rattle.des_fast.proofs.SliceBits.{IsBitwise-and, IsBitwise-xor}
+use Rattle.des_fast.proofs.WordPlaces.{bit_in-shr, bit_in-shl, bit_in-past}
+use Rattle.des_fast.proofs.SliceBits.{IsBitwise-and, IsBitwise-xor, bit_in, bit_in-bitwise}
 use Rattle.des_fast.proofs.XoredLists.{xor-false}
 
 -- the bits that two words exchange, at the places of the second

@@ -1,5 +1,5 @@
 -- The bytes of a word of groups: each is the number that its group writes.
-use Rattle.std.proofs.Common.{◌≡◌, ℕ, zero, suc, ◌-◌, ◌*◌, ◌/◌, ◌%◌, ◌^◌, ◌<◌, ◌≤◌, List, [], ◌∷◌, ◌++◌, length, lit≤, take, drop, slice_index, slice_index_or, bit_and, refl, ap, ap₂, ◌∙◌, arith, div-one}
+use Rattle.std.proofs.Common.{◌≡◌, ℕ, suc, ◌-◌, ◌*◌, ◌/◌, ◌%◌, ◌^◌, ◌<◌, ◌≤◌, List, [], ◌∷◌, ◌++◌, length, lit≤, take, drop, slice_index, slice_index_or, bit_and, refl, ap, ◌∙◌, arith}
 use Rattle.std.specs.Int.{w64, to_be_bytes}
 use Rattle.std.specs.Simd.Lanes.{digits_l, number_l}
 use Rattle.std.proofs.lemmas.List.{get_or_append_left}
@@ -7,59 +7,32 @@ use Rattle.std.proofs.lemmas.Nat.{and_le_r, and_mask, and_shr, and_mod}
 use Rattle.des.specs.Bits.{bits_of, bits_of_bytes, select}
 use Rattle.des.specs.Laws.BitLists.{bits_of_bytes-to_be}
 use Rattle.des_fast.specs.Groups.{group_positions, bits_of_groups, IsOfGroups}
-use Rattle.des_fast.specs.GroupBytes.{in_order}
-
--- a number under six bits is below 64
-masked-lt : (n : ℕ) → bit_and n 63 < 64
-masked-lt n = omega (arith, and_le_r n 63)
+use Rattle.des_fast.specs.GroupBytes.{byte_order, in_order}
 
 -- eight bits of a word of groups, from a place where the mask has six ones after two zeros
 place-lt : (k word : ℕ) → 0x3f3f3f3f3f3f3f3f / 2 ^ k % 2 ^ 8 ≡ 63 → IsOfGroups word → word / 2 ^ k % 2 ^ 8 < 64
 place-lt k word six of_groups =
     rw (← of_groups, and_shr word 0x3f3f3f3f3f3f3f3f k, and_mod (word / 2 ^ k) (0x3f3f3f3f3f3f3f3f / 2 ^ k) 8, six)
-    (masked-lt (word / 2 ^ k % 2 ^ 8))
+    (omega (arith, and_le_r (word / 2 ^ k % 2 ^ 8) 63))
 
 -- each byte of a word of groups is below 64
+pub bytes-lt : (word : ℕ) → IsOfGroups word → (i d : ℕ) → i < 8 → slice_index_or (to_be_bytes w64 word) i d < 64
+bytes-lt word of_groups (suc (suc (suc (suc (suc (suc (suc (suc i)))))))) d below = absurd (omega arith)
+bytes-lt word of_groups i d below = omega (arith, place-lt (8 * (7 - i)) word refl of_groups)
+
+-- so is each in the order of the boxes
 pub in_order-lt : (word : ℕ) → IsOfGroups word → (i d : ℕ) → i < 8
     → slice_index_or (in_order (to_be_bytes w64 word)) i d < 64
-in_order-lt word of_groups zero d below = place-lt 56 word refl of_groups
-in_order-lt word of_groups (suc zero) d below = place-lt 24 word refl of_groups
-in_order-lt word of_groups (suc (suc zero)) d below = place-lt 48 word refl of_groups
-in_order-lt word of_groups (suc (suc (suc zero))) d below = place-lt 16 word refl of_groups
-in_order-lt word of_groups (suc (suc (suc (suc zero)))) d below = place-lt 40 word refl of_groups
-in_order-lt word of_groups (suc (suc (suc (suc (suc zero))))) d below = place-lt 8 word refl of_groups
-in_order-lt word of_groups (suc (suc (suc (suc (suc (suc zero)))))) d below = place-lt 32 word refl of_groups
-in_order-lt word of_groups (suc (suc (suc (suc (suc (suc (suc zero))))))) d below =
-    rw div-one at (place-lt 0 word refl of_groups)
 in_order-lt word of_groups (suc (suc (suc (suc (suc (suc (suc (suc i)))))))) d below = absurd (omega arith)
-
--- so is each of the bytes in their own order
-pub bytes-lt : (word : ℕ) → IsOfGroups word → (i d : ℕ) → i < 8 → slice_index_or (to_be_bytes w64 word) i d < 64
-bytes-lt word of_groups zero d below = in_order-lt word of_groups 0 d (lit≤ tt)
-bytes-lt word of_groups (suc zero) d below = in_order-lt word of_groups 2 d (lit≤ tt)
-bytes-lt word of_groups (suc (suc zero)) d below = in_order-lt word of_groups 4 d (lit≤ tt)
-bytes-lt word of_groups (suc (suc (suc zero))) d below = in_order-lt word of_groups 6 d (lit≤ tt)
-bytes-lt word of_groups (suc (suc (suc (suc zero)))) d below = in_order-lt word of_groups 1 d (lit≤ tt)
-bytes-lt word of_groups (suc (suc (suc (suc (suc zero))))) d below = in_order-lt word of_groups 3 d (lit≤ tt)
-bytes-lt word of_groups (suc (suc (suc (suc (suc (suc zero)))))) d below = in_order-lt word of_groups 5 d (lit≤ tt)
-bytes-lt word of_groups (suc (suc (suc (suc (suc (suc (suc zero))))))) d below =
-    in_order-lt word of_groups 7 d (lit≤ tt)
-bytes-lt word of_groups (suc (suc (suc (suc (suc (suc (suc (suc i)))))))) d below = absurd (omega arith)
+in_order-lt word of_groups i d below = bytes-lt word of_groups (slice_index byte_order i) d (lit≤ tt)
 
 -- the lowest six bits of each are six of all their bits
 bits_of-byte : (word i : ℕ) → i < 8
     → let bytes = to_be_bytes w64 word in
     bits_of 6 (slice_index (in_order bytes) i) ≡ take 6 (drop (6 * i) (select group_positions (bits_of_bytes bytes)))
 unfolding bits_of bits_of_bytes select
-bits_of-byte word zero below = refl
-bits_of-byte word (suc zero) below = refl
-bits_of-byte word (suc (suc zero)) below = refl
-bits_of-byte word (suc (suc (suc zero))) below = refl
-bits_of-byte word (suc (suc (suc (suc zero)))) below = refl
-bits_of-byte word (suc (suc (suc (suc (suc zero))))) below = refl
-bits_of-byte word (suc (suc (suc (suc (suc (suc zero)))))) below = refl
-bits_of-byte word (suc (suc (suc (suc (suc (suc (suc zero))))))) below = refl
 bits_of-byte word (suc (suc (suc (suc (suc (suc (suc (suc i)))))))) below = absurd (omega arith)
+bits_of-byte word i below = refl
 
 -- so each has the bits of its group
 pub bits_of-in_order : (word i : ℕ) → i < 8
@@ -76,30 +49,20 @@ masked_bytes word =
 
 pub masked_bytes-in_order : (word : ℕ) → masked_bytes word ≡ in_order (to_be_bytes w64 word)
 masked_bytes-in_order word =
-    let byte : (k : ℕ) → bit_and (word / 2 ^ k) 0x00000000000000ff ≡ word / 2 ^ k % 2 ^ 8 =
-    λ k. and_mask (word / 2 ^ k) 8 in
-    ap₂ ◌∷◌ (byte 56) (ap₂ ◌∷◌ (byte 24) (ap₂ ◌∷◌ (byte 48) (ap₂ ◌∷◌ (byte 16)
-    (ap₂ ◌∷◌ (byte 40) (ap₂ ◌∷◌ (byte 8) (ap₂ ◌∷◌ (byte 32) (ap₂ ◌∷◌ (and_mask word 8) refl)))))))
+    let masked : (byte : ℕ) → bit_and byte 0x00000000000000ff ≡ byte % 2 ^ 8 = λ byte. and_mask byte 8 in
+    simp masked
 
 -- more after the bytes changes none of them
 pub in_order-append : (bytes more : List ℕ) → 8 ≤ length bytes → in_order (bytes ++ more) ≡ in_order bytes
 in_order-append bytes more long =
     let same : (i : ℕ) → i < 8 → slice_index_or (bytes ++ more) i 0 ≡ slice_index_or bytes i 0 =
     λ i below. get_or_append_left bytes more 0 i (omega arith) in
-    ap₂ ◌∷◌ (same 0 (lit≤ tt)) (ap₂ ◌∷◌ (same 4 (lit≤ tt)) (ap₂ ◌∷◌ (same 1 (lit≤ tt)) (ap₂ ◌∷◌ (same 5 (lit≤ tt))
-    (ap₂ ◌∷◌ (same 2 (lit≤ tt)) (ap₂ ◌∷◌ (same 6 (lit≤ tt)) (ap₂ ◌∷◌ (same 3 (lit≤ tt))
-    (ap₂ ◌∷◌ (same 7 (lit≤ tt)) refl)))))))
+    rw (same 0 (lit≤ tt), same 1 (lit≤ tt), same 2 (lit≤ tt), same 3 (lit≤ tt)) (
+    rw (same 4 (lit≤ tt), same 5 (lit≤ tt), same 6 (lit≤ tt), same 7 (lit≤ tt)))
 
 -- the digits of a word in base 256 are its bytes, from the last to the first
 pub digits-to_be : (word i : ℕ) → i < 8
     → slice_index_or (digits_l 256 8 (number_l (2 ^ 64) (word ∷ []))) (7 - i) 0
     ≡ slice_index_or (to_be_bytes w64 word) i 0
-digits-to_be word zero below = omega arith
-digits-to_be word (suc zero) below = omega arith
-digits-to_be word (suc (suc zero)) below = omega arith
-digits-to_be word (suc (suc (suc zero))) below = omega arith
-digits-to_be word (suc (suc (suc (suc zero)))) below = omega arith
-digits-to_be word (suc (suc (suc (suc (suc zero))))) below = omega arith
-digits-to_be word (suc (suc (suc (suc (suc (suc zero)))))) below = omega arith
-digits-to_be word (suc (suc (suc (suc (suc (suc (suc zero))))))) below = omega arith
 digits-to_be word (suc (suc (suc (suc (suc (suc (suc (suc i)))))))) below = absurd (omega arith)
+digits-to_be word i below = omega arith

@@ -1,14 +1,13 @@
 -- Round keys that are kept as plain words.
 use Rattle.std.proofs.Common.{◌≡◌, ℕ, ◌<◌, ◌^◌, List, [], length, slice_index_or, bit_and, map, sym, ◌∙◌, arith}
-use Rattle.std.proofs.lemmas.Nat.{and_le_r}
 use Rattle.std.proofs.lemmas.List.{length-map, get_or-map}
 use Rattle.des.specs.Bits.{bits_of_word}
 use Rattle.des.specs.Laws.Selections.{length-select}
 use Rattle.des_fast.specs.declared.halves.RoundKey.{RoundKey}
-use Rattle.des_fast.specs.Groups.{group_positions, bits_of_groups, IsOfGroups}
+use Rattle.des_fast.specs.Groups.{group_positions, bits_of_groups}
 use Rattle.des_fast.specs.HalfBlocks.{round_keys_of}
 use Rattle.des_fast.specs.Words.{round_keys_in}
-use Rattle.des_fast.proofs.GroupWords.{bits_of_word-mask, bits_of_groups-Holds, IsOfGroups-Holds}
+use Rattle.des_fast.proofs.GroupWords.{bits_of_word-mask, bits_of_groups-Holds}
 use Rattle.des_fast.proofs.RoundKeysByPlace.{round_keys_of-by_index}
 
 -- a mask keeps the groups of a word
@@ -18,13 +17,6 @@ bits_of_groups-mask word below =
     bits_of_groups-Holds (bit_and word 0x3f3f3f3f3f3f3f3f) (bits_of_groups word)
     (length-select group_positions (bits_of_word word))
     (bits_of_word-mask word below)
-
--- and what it leaves is a word of groups
-pub IsOfGroups-mask : (word : ℕ) → word < 2 ^ 64 → IsOfGroups (bit_and word 0x3f3f3f3f3f3f3f3f)
-IsOfGroups-mask word below =
-    IsOfGroups-Holds (bit_and word 0x3f3f3f3f3f3f3f3f) (bits_of_groups word)
-    (omega (arith, and_le_r word 0x3f3f3f3f3f3f3f3f))
-    (length-select group_positions (bits_of_word word)) (bits_of_word-mask word below)
 
 -- words and round keys with the same groups, place by place, are the same round keys
 pub round_keys_in-by_place : (words : List ℕ) (round_keys : List RoundKey) → length words ≡ length round_keys

@@ -8,7 +8,7 @@ use Rattle.des.specs.Bits.{bit, select}
 use Rattle.des.proofs.BitParts.{get_or-bits_of}
 use Rattle.des_fast.specs.declared.slices.keys.TheConstants.{HALVES}
 use Rattle.des_fast.specs.RoundKeySlices.{c_positions, d_positions}
-use Rattle.des_fast.proofs.WordPlaces.{bit_in}
+use Rattle.des_fast.proofs.SliceBits.{bit_in}
 
 -- a bit of a word, shifted to the end
 pub bit_in-shifted : (word place : ℕ) → place < 64 → bit_in word place ≡ (bit_and (word / 2 ^ (63 - place)) 1 == 1)

@@ -29,6 +29,4 @@ IsOfGroups-keyed half key is_expansion of_groups =
 pub bits_of_groups-keyed : (half key : ℕ) → IsExpansion (bit_xor half key)
     → bits_of_groups half ≡ xor_bits (select expansion (half_of (bit_xor half key))) (bits_of_groups key)
 bits_of_groups-keyed half key is_expansion =
-    ap bits_of_groups (sym (xor-out half key))
-    ∙ bits_of_groups-xor (bit_xor half key) key
-    ∙ ap (λ bits. xor_bits bits (bits_of_groups key)) is_expansion.expanded
+    rw (← is_expansion.expanded, ← bits_of_groups-xor (bit_xor half key) key, xor-out half key)

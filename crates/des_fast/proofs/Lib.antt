@@ -7,7 +7,9 @@ pub mod WordPlaces
 pub mod Exchanges
 pub mod ExchangedRows
 pub mod EightRows
-pub mod ThreeExchanges
+pub mod RowSteps
+pub mod PlacedBytes
+pub mod PermutedHalves
 pub mod Stages
 pub mod BlockRows
 pub mod PassesOnSlices
@@ -20,6 +22,8 @@ pub mod CipherFunctionByGroups
 pub mod XoredLists
 pub mod GroupWords
 pub mod GroupBytes
+pub mod TableTests
+pub mod WordMaps
 pub mod CombinedEntries
 pub mod HalfMaps
 pub mod KeyedHalves
@@ -49,5 +53,4 @@ pub mod JoinedEntries
 pub mod EachByte
 pub mod ChosenTerms
 pub mod ExpandedEntries
-pub mod FourAnswers
 pub mod PassDirections

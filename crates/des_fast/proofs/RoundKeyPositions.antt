@@ -1,5 +1,5 @@
 -- The round keys as selections from the word of the halves C and D, by lists of positions.
-use Rattle.std.proofs.Common.{◌≡◌, ℕ, ◌+◌, ◌≤◌, List, ◌++◌, Bool, length, take, drop, ap, ap₂, sym, ◌∙◌, arith}
+use Rattle.std.proofs.Common.{◌≡◌, ℕ, ◌+◌, ◌≤◌, List, ◌++◌, Bool, length, take, drop, ap, sym, ◌∙◌, arith}
 use Rattle.std.specs.Prelude.{sum}
 use Rattle.std.specs.List.{range_with_len}
 use Rattle.std.proofs.lemmas.List.{map-append, take-append-le, drop-append-le, take_at}
@@ -26,9 +26,7 @@ halves_positions i = composed 65 permuted_choice_2 (rotated_halves i)
 rotate-range : (k n places : ℕ) (bits : List Bool) → k + n ≤ length bits
     → rotate (take n (drop k bits)) places ≡ select (rotated (range_with_len (k + 1) n) places) bits
 rotate-range k n places bits inside =
-    let positions : List ℕ = range_with_len (k + 1) n in
-    let taken : take n (drop k bits) ≡ select positions bits = sym (select-range_with_len k n bits inside) in
-    ap (λ half. rotate half places) taken ∙ rotate-select positions bits places
+    rw (← select-range_with_len k n bits inside) (rotate-select (range_with_len (k + 1) n) bits places)
 
 -- C and D in the bits of their word
 c_half-in_bits : (key : List Bool) → take 28 (drop 0 (select permuted_choice_1 key ++ zeros 8)) ≡ c_half key
@@ -51,13 +49,13 @@ round_key-halves i halves key holds =
     let bits : List Bool = bits_of_word halves in
     let width : length bits ≡ 64 = length-bits_of 64 halves in
     let shifts : ℕ = sum (take i left_shifts) in
-    let c : rotate (c_half key) shifts ≡ select (rotated (range_with_len 1 28) shifts) bits =
-    ap (λ half. rotate half shifts) (sym (ap (λ b. take 28 (drop 0 b)) holds ∙ c_half-in_bits key))
-    ∙ rotate-range 0 28 shifts bits (omega arith) in
-    let d : rotate (d_half key) shifts ≡ select (rotated (range_with_len 29 28) shifts) bits =
-    ap (λ half. rotate half shifts) (sym (ap (λ b. take 28 (drop 28 b)) holds ∙ d_half-in_bits key))
-    ∙ rotate-range 28 28 shifts bits (omega arith) in
-    sym (ap (select permuted_choice_2)
-    (ap₂ ◌++◌ c d ∙ sym (map-append (bit bits) (rotated (range_with_len 1 28) shifts)
-    (rotated (range_with_len 29 28) shifts)))
-    ∙ select-select 65 permuted_choice_2 (rotated_halves i) bits (omega arith))
+    let c : c_half key ≡ take 28 (drop 0 bits) = rw holds (sym (c_half-in_bits key)) in
+    let d : d_half key ≡ take 28 (drop 28 bits) = rw holds (sym (d_half-in_bits key)) in
+    rw (
+      c,
+      d,
+      rotate-range 0 28 shifts bits (omega arith),
+      rotate-range 28 28 shifts bits (omega arith),
+      ← map-append (bit bits) (rotated (range_with_len 1 28) shifts) (rotated (range_with_len 29 28) shifts),
+    )
+    (sym (select-select 65 permuted_choice_2 (rotated_halves i) bits (omega arith)))

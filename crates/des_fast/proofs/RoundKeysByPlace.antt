@@ -1,5 +1,5 @@
 -- The round keys that the code holds, by their places.
-use Rattle.std.proofs.Common.{◌≡◌, ℕ, ◌+◌, ◌-◌, ◌<◌, List, [], Bool, length, reverse, slice_index_or, refl, ap, sym, ◌∙◌, arith}
+use Rattle.std.proofs.Common.{◌≡◌, ℕ, ◌+◌, ◌-◌, ◌<◌, List, [], Bool, length, reverse, slice_index_or, refl, sym, ◌∙◌, arith}
 use Rattle.std.proofs.lemmas.List.{length-map, ext_get_or, get_or-map, get_or-reverse}
 use Rattle.des_fast.specs.declared.halves.RoundKey.{RoundKey}
 use Rattle.des_fast.specs.Groups.{bits_of_groups}
@@ -24,24 +24,21 @@ round_keys_of-at_reverse round_keys m n d count =
     let keys : List (List Bool) = round_keys_of round_keys in
     let size : length keys ≡ length round_keys = length-round_keys_of round_keys in
     let place : length keys - 1 - m ≡ n = omega arith in
-    round_keys_of-at round_keys n d (omega arith)
-    ∙ sym (get_or-reverse keys m [] (omega arith) ∙ ap (λ (k : ℕ). slice_index_or keys k []) place)
+    rw (get_or-reverse keys m [] (omega arith), place) (round_keys_of-at round_keys n d (omega arith))
 
 -- a round key that the code took from a place, and the place of its bits
 pub bits_of_groups-at : (round_keys : List RoundKey) (round_key : RoundKey) (n m : ℕ) (d : RoundKey)
     → round_key ≡ slice_index_or round_keys n d
     → n < length round_keys → n ≡ m → bits_of_groups round_key.groups ≡ slice_index_or (round_keys_of round_keys) m []
 bits_of_groups-at round_keys round_key n m d taken below same =
-    ap (λ (key : RoundKey). bits_of_groups key.groups) taken
-    ∙ round_keys_of-at round_keys n d below
-    ∙ ap (λ (k : ℕ). slice_index_or (round_keys_of round_keys) k []) same
+    rw (taken, ← same) (round_keys_of-at round_keys n d below)
 
 pub bits_of_groups-at_reverse : (round_keys : List RoundKey) (round_key : RoundKey) (n m : ℕ) (d : RoundKey)
     → round_key ≡ slice_index_or round_keys n d
     → m + n + 1 ≡ length round_keys
     → bits_of_groups round_key.groups ≡ slice_index_or (reverse (round_keys_of round_keys)) m []
 bits_of_groups-at_reverse round_keys round_key n m d taken count =
-    ap (λ (key : RoundKey). bits_of_groups key.groups) taken ∙ round_keys_of-at_reverse round_keys m n d count
+    rw taken (round_keys_of-at_reverse round_keys m n d count)
 
 -- round keys with these bits, place by place, are those of the list
 pub round_keys_of-by_index : (round_keys : List RoundKey) (keys : List (List Bool)) → length round_keys ≡ length keys

@@ -1,8 +1,11 @@
 -- Rounds taken two at a time.
-use Rattle.std.proofs.Common.{◌≡◌, ℕ, ◌+◌, ◌*◌, ◌%◌, ◌<◌, List, [], ◌∷◌, ◌++◌, Bool, length, take, slice_index_or, ap, ap₂, sym, ◌∙◌, arith}
-use Rattle.std.proofs.lemmas.List.{append_assoc, take_more}
+use Rattle.std.proofs.Common.{◌≡◌, ℕ, ◌+◌, ◌*◌, ◌%◌, ◌<◌, ◌≤◌, List, [], ◌∷◌, ◌++◌, Bool, length, take, slice_index_or, ap, ap₂, sym, ◌∙◌, arith}
+use Rattle.std.proofs.lemmas.List.{append_assoc, take_all, take_more}
 use Rattle.des.specs.Rounds.{after_rounds}
 use Rattle.des.specs.Laws.RoundsUndone.{next_half, after_rounds-append}
+use Rattle.des_fast.specs.declared.halves.KeyedHalf.{KeyedHalf}
+use Rattle.des_fast.specs.Groups.{bits_of_groups}
+use Rattle.des_fast.specs.HalfBlocks.{keyed_half}
 
 -- two elements more
 take-two_more : {X : Type 0} (xs : List X) (n : ℕ) (d : X) → n + 1 < length xs
@@ -29,21 +32,33 @@ after_rounds-two_more keys i first second left right next_left next_right below 
     ∙ sym (after_rounds-append (take (2 * i) keys) (k1 ∷ k2 ∷ []) first second)
     ∙ ap (λ ks. after_rounds ks first second) (sym (ap (λ n. take n keys) count ∙ take-two_more keys (2 * i) [] below))
 
--- the same where each half brings the round key that it meets
-pub after_rounds-keyed : (keys : List (List Bool)) (i : ℕ)
-    (first second left right next_left next_right left_key right_key : List Bool)
-    → length keys ≡ 16 → i < 8
-    → (left, right) ≡ after_rounds (take (2 * i) keys) first second
-    → left_key ≡ slice_index_or keys ((2 * i + 1) % 16) []
-    → right_key ≡ slice_index_or keys (2 * i % 16) []
-    → next_left ≡ next_half left right right_key
-    → next_right ≡ next_half right next_left left_key
-    → (next_left, next_right) ≡ after_rounds (take (2 * (i + 1)) keys) first second
-after_rounds-keyed keys i first second left right next_left next_right left_key right_key size below so_far has_left
-    has_right makes_left makes_right =
-    let key : ℕ → List Bool = λ n. slice_index_or keys n [] in
+-- two halves after an even number of rounds, each with the round key in it that meets it next
+pub record AreKeyed (keys : List (List Bool)) (i : ℕ) (first second : List Bool) (left right : KeyedHalf) : Type 0 where
+  pub halves : (keyed_half left, keyed_half right) ≡ after_rounds (take (2 * i) keys) first second
+  pub left_key : bits_of_groups left.round_key.groups ≡ slice_index_or keys ((2 * i + 1) % 16) []
+  pub right_key : bits_of_groups right.round_key.groups ≡ slice_index_or keys (2 * i % 16) []
+
+-- two rounds more, after which the halves take other round keys
+pub after_rounds-keyed : (keys : List (List Bool)) (i : ℕ) (first second : List Bool)
+    (left right made right_changed next left_changed : KeyedHalf)
+    → length keys ≡ 16 → i < 8 → AreKeyed keys i first second left right
+    → keyed_half made ≡ next_half (keyed_half left) (keyed_half right) (bits_of_groups right.round_key.groups)
+    → made.round_key ≡ left.round_key
+    → keyed_half right_changed ≡ keyed_half right
+    → keyed_half next ≡ next_half (keyed_half right_changed) (keyed_half made) (bits_of_groups made.round_key.groups)
+    → keyed_half left_changed ≡ keyed_half made
+    → (keyed_half left_changed, keyed_half next) ≡ after_rounds (take (2 * (i + 1)) keys) first second
+after_rounds-keyed keys i first second left right made right_changed next left_changed size below are makes_left keeps
+    changes_right makes_right changes_left =
     let even : 2 * i % 16 ≡ 2 * i = omega arith in
     let odd : (2 * i + 1) % 16 ≡ 2 * i + 1 = omega arith in
-    after_rounds-two_more keys i first second left right next_left next_right (omega arith) so_far
-    (makes_left ∙ ap (next_half left right) (has_right ∙ ap key even))
-    (makes_right ∙ ap (next_half right next_left) (has_left ∙ ap key odd))
+    after_rounds-two_more keys i first second (keyed_half left) (keyed_half right) (keyed_half left_changed)
+    (keyed_half next) (omega arith) are.halves (cc) (cc)
+
+-- and all of them
+pub after_rounds-all : (keys : List (List Bool)) (i : ℕ) (first second : List Bool) (left right : KeyedHalf)
+    → length keys ≡ 16 → 8 ≤ i → AreKeyed keys i first second left right
+    → (keyed_half left, keyed_half right) ≡ after_rounds keys first second
+after_rounds-all keys i first second left right size last are =
+    let all : length keys ≤ 2 * i = omega arith in
+    rw take_all at are.halves

@@ -1,5 +1,5 @@
 -- Three passes, one after another.
-use Rattle.std.proofs.Common.{◌≡◌, ℕ, List, [], ◌∷◌, Bool, length, map, refl, ap, sym, ◌∙◌, arith}
+use Rattle.std.proofs.Common.{◌≡◌, ℕ, List, [], ◌∷◌, Bool, length, refl, ap, sym, ◌∙◌, arith}
 use Rattle.std.proofs.Math.ListN.{set}
 use Rattle.std.proofs.Math.Path.{fun_ext}
 use Rattle.des.specs.Bits.{bits_of_bytes}
@@ -30,14 +30,11 @@ block_through_passes-three first second third =
     bits_of_bytes-answer_by second (answer_by first block) ∙ ap (through_rounds second) one in
     ap (λ (bits : List Bool). block_of_bits (through_rounds third bits)) (sym two))
 
--- a list that three passes answered, by what each of them answers
-pub map-through : (a b c d e f : List ℕ → List ℕ) (old new : List (List ℕ)) → new ≡ map (through a b c) old
-    → a ≡ d → b ≡ e → c ≡ f → new ≡ map (through d e f) old
-map-through a b c d e f old new made first second third =
-    made
-    ∙ ap (λ x. map (through x b c) old) first
-    ∙ ap (λ x. map (through d x c) old) second
-    ∙ ap (λ x. map (through d e x) old) third
+-- and one pass is one
+pub block_through_passes-one : (keys : List (List Bool))
+    → block_through_passes (keys ∷ []) ≡ (λ block. answer_by keys block)
+unfolding through_rounds
+block_through_passes-one keys = refl
 
 -- a list of three, of which each is written
 pub three-written : {X : Type 0} (xs : List X) (x y z : X) → length xs ≡ 3

@@ -7,19 +7,8 @@ use Rattle.std.proofs.lemmas.Bool.{cases_lt}
 use Rattle.des.specs.Bits.{bits_of, bits_of_word, zeros}
 use Rattle.des.specs.Laws.BitLists.{length-bits_of}
 use Rattle.des.proofs.BitParts.{get_or-bits_of, bits_of-shl}
-use Rattle.des_fast.specs.Slices.{bit_of_block}
-use Rattle.des_fast.proofs.SliceBits.{IsBitwise}
-
--- the bit at a place of a word, from 0, the most significant first
-abbrev pub bit_in : ℕ → ℕ → Bool
-bit_in word place = get_or (bits_of_word word) place false
-
--- the bit at a place under an operation that makes each bit of two bits at one place
-pub bit_in-bitwise : (on_words : ℕ → ℕ → ℕ) (on_bits : Bool → Bool → Bool) → IsBitwise on_words on_bits → (x y p : ℕ)
-    → p < 64 → bit_in (on_words x y) p ≡ on_bits (bit_in x p) (bit_in y p)
-bit_in-bitwise on_words on_bits is x y p within =
-    get_or-bits_of 64 (on_words x y) p within ∙ is.0 x y (63 - p)
-    ∙ sym (ap₂ on_bits (get_or-bits_of 64 x p within) (get_or-bits_of 64 y p within))
+use Rattle.des_fast.specs.Slices.{bits_of_slice}
+use Rattle.des_fast.proofs.SliceBits.{bit_in}
 
 -- a shift to the right takes a place from the one at this distance before it
 pub bit_in-shr : (y d p : ℕ) → p < 64 → d ≤ p → bit_in (y / 2 ^ d) p ≡ bit_in y (p - d)
@@ -54,11 +43,12 @@ bit_in-shl x d p small within =
 pub bit_in-past : (x p : ℕ) → 64 ≤ p → bit_in x p ≡ false
 bit_in-past x p past = get_or_past (bits_of_word x) p false (omega (arith, length-bits_of 64 x))
 
--- the bit of a block stands in a word, at a place
-pub bit_of_block-at : (slice : List ℕ) (b : ℕ) → bit_of_block b slice ≡ bit_in (get_or slice (b / 64) 0) (b % 64)
-bit_of_block-at [] b =
+-- a bit of words, one after another, stands in a word, at a place
+pub bit_of_words-at : (words : List ℕ) (b : ℕ)
+    → get_or (bits_of_slice words) b false ≡ bit_in (get_or words (b / 64) 0) (b % 64)
+bit_of_words-at [] b =
     sym (get_or-bits_of 64 0 (b % 64) (omega arith) ∙ ap (λ (k : ℕ). k == 1) (bit_at-zero (63 - b % 64)))
-bit_of_block-at (word ∷ words) b =
+bit_of_words-at (word ∷ words) b =
     elim (cases_lt b 64) [
       | inl low ↦
           let lane : b / 64 ≡ 0 = omega arith in
@@ -69,6 +59,6 @@ bit_of_block-at (word ∷ words) b =
           let lane : b / 64 ≡ suc ((b - 64) / 64) = omega arith in
           let place : b % 64 ≡ (b - 64) % 64 = omega arith in
           get_or-append_right (bits_of_word word) _ 64 b false (length-bits_of 64 word) high
-          ∙ bit_of_block-at words (b - 64)
+          ∙ bit_of_words-at words (b - 64)
           ∙ ap₂ (λ (l p : ℕ). bit_in (get_or (word ∷ words) l 0) p) (sym lane) (sym place)
     ]

@@ -1,6 +1,6 @@
 -- The combined tables: for each box and each group of six bits, what P and then E make of the box's
 -- entry.
-use Rattle.std.specs.Prelude.{ℕ, ◌+◌, List, [], ◌∷◌, map}
+use Rattle.std.specs.Prelude.{ℕ, ◌+◌, List, [], map, slice_index_or}
 use Rattle.std.specs.List.{range_with_len}
 use Rattle.des.specs.Bits.{bits_of, select}
 use Rattle.des.specs.Tables.{Box, selection_functions, expansion, permutation}
@@ -18,11 +18,6 @@ combined_entry n box group =
 abbrev pub combined_table : ℕ → Box → List ℕ
 combined_table n box = map (combined_entry n box) (range_with_len 0 64)
 
--- those of the boxes from box n on
-abbrev pub combined_tables_from : ℕ → List Box → List (List ℕ)
-combined_tables_from n [] = []
-combined_tables_from n (box ∷ boxes) = combined_table n box ∷ combined_tables_from (n + 1) boxes
-
 -- those of S1 to S8
 abbrev pub combined_tables : List (List ℕ)
-combined_tables = combined_tables_from 1 selection_functions
+combined_tables = map (λ i. combined_table (1 + i) (slice_index_or selection_functions i [])) (range_with_len 0 8)

@@ -9,14 +9,14 @@ use Rattle.des_fast.specs.declared.single.Des.{Des}
 use Rattle.des_fast.specs.HalfBlocks.{round_keys_of}
 
 -- the cipher is a DES of the key of eight bytes: it holds the key's sixteen round keys
-abbrev pub IsDesOf : Des → List ℕ → Type 0
+abbrev pub IsDesOf : {W : Type 0} → Des W → List ℕ → Type 0
 IsDesOf cipher key =
     IsKey 8 key × (round_keys_of cipher.schedule.round_keys ≡ key_schedule (bits_of_bytes key))
 
 -- the block that the cipher makes of a block by encryption, with the round keys that it holds
-abbrev pub encrypted : Des → List ℕ → List ℕ
+abbrev pub encrypted : {W : Type 0} → Des W → List ℕ → List ℕ
 encrypted cipher block = answer_by (round_keys_of cipher.schedule.round_keys) block
 
 -- the block that the cipher makes of a block by decryption
-abbrev pub decrypted : Des → List ℕ → List ℕ
+abbrev pub decrypted : {W : Type 0} → Des W → List ℕ → List ℕ
 decrypted cipher block = answer_by (reverse (round_keys_of cipher.schedule.round_keys)) block

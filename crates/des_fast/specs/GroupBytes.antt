@@ -1,6 +1,6 @@
 -- The bytes of a word of groups, each with the group of one box: the boxes S1, S3, S5 and S7, then S2,
 -- S4, S6 and S8.
-use Rattle.std.specs.Prelude.{ℕ, List, [], ◌∷◌, slice_index_or}
+use Rattle.std.specs.Prelude.{ℕ, List, [], ◌∷◌, map, slice_index_or}
 use Rattle.des.specs.Tables.{Box, s1, s2, s3, s4, s5, s6, s7, s8}
 
 -- the box of a byte, from 0
@@ -8,7 +8,8 @@ abbrev pub box_of_byte : ℕ → Box
 box_of_byte i = slice_index_or (s1 ∷ s3 ∷ s5 ∷ s7 ∷ s2 ∷ s4 ∷ s6 ∷ s8 ∷ []) i []
 
 -- what stands in the bytes, in the order of the boxes
+abbrev pub byte_order : List ℕ
+byte_order = 0 ∷ 4 ∷ 1 ∷ 5 ∷ 2 ∷ 6 ∷ 3 ∷ 7 ∷ []
+
 abbrev pub in_order : List ℕ → List ℕ
-in_order bytes =
-    let byte : ℕ → ℕ = λ i. slice_index_or bytes i 0 in
-    byte 0 ∷ byte 4 ∷ byte 1 ∷ byte 5 ∷ byte 2 ∷ byte 6 ∷ byte 3 ∷ byte 7 ∷ []
+in_order bytes = map (λ i. slice_index_or bytes i 0) byte_order

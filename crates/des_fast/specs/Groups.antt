@@ -1,34 +1,24 @@
 -- Words of groups: 48 bits in eight groups of six, each in the last six bits of a byte of a word,
 -- with zeros before it. The groups 1, 3, 5 and 7 stand in bytes 1 to 4, the groups 2, 4, 6 and 8 in
 -- bytes 5 to 8.
-use Rattle.std.specs.Prelude.{◌≡◌, ℕ, ◌-◌, ◌*◌, List, [], ◌∷◌, ◌++◌, Bool, bit_and}
+use Rattle.std.specs.Prelude.{◌≡◌, ℕ, ◌+◌, ◌-◌, ◌*◌, List, [], ◌∷◌, ◌++◌, Bool, bit_and}
+use Rattle.std.specs.List.{flat_map, range_with_len}
 use Rattle.des.specs.Bits.{bits_of_word, number_of, zeros, select}
 use Rattle.des.specs.Tables.{expansion}
 
--- the positions of the groups in the 64 bits of a word, a group a row
-abbrev pub group_positions : List ℕ
-group_positions =
-    3 ∷ 4 ∷ 5 ∷ 6 ∷ 7 ∷ 8 ∷
-    35 ∷ 36 ∷ 37 ∷ 38 ∷ 39 ∷ 40 ∷
-    11 ∷ 12 ∷ 13 ∷ 14 ∷ 15 ∷ 16 ∷
-    43 ∷ 44 ∷ 45 ∷ 46 ∷ 47 ∷ 48 ∷
-    19 ∷ 20 ∷ 21 ∷ 22 ∷ 23 ∷ 24 ∷
-    51 ∷ 52 ∷ 53 ∷ 54 ∷ 55 ∷ 56 ∷
-    27 ∷ 28 ∷ 29 ∷ 30 ∷ 31 ∷ 32 ∷
-    59 ∷ 60 ∷ 61 ∷ 62 ∷ 63 ∷ 64 ∷ []
+-- the first positions of the groups in the 64 bits of a word
+abbrev group_starts : List ℕ
+group_starts = 3 ∷ 35 ∷ 11 ∷ 43 ∷ 19 ∷ 51 ∷ 27 ∷ 59 ∷ []
 
--- the bits of such a word by their positions in the 48, a byte a row: 49 is past the last, and
--- stands for a zero
+-- and all their positions, six a group
+abbrev pub group_positions : List ℕ
+group_positions = flat_map (λ start. range_with_len start 6) group_starts
+
+-- the bits of such a word by their positions in the 48, a byte after another: 49 is past the last,
+-- and stands for a zero
 abbrev pub positions_in_word : List ℕ
 positions_in_word =
-    49 ∷ 49 ∷ 1 ∷ 2 ∷ 3 ∷ 4 ∷ 5 ∷ 6 ∷
-    49 ∷ 49 ∷ 13 ∷ 14 ∷ 15 ∷ 16 ∷ 17 ∷ 18 ∷
-    49 ∷ 49 ∷ 25 ∷ 26 ∷ 27 ∷ 28 ∷ 29 ∷ 30 ∷
-    49 ∷ 49 ∷ 37 ∷ 38 ∷ 39 ∷ 40 ∷ 41 ∷ 42 ∷
-    49 ∷ 49 ∷ 7 ∷ 8 ∷ 9 ∷ 10 ∷ 11 ∷ 12 ∷
-    49 ∷ 49 ∷ 19 ∷ 20 ∷ 21 ∷ 22 ∷ 23 ∷ 24 ∷
-    49 ∷ 49 ∷ 31 ∷ 32 ∷ 33 ∷ 34 ∷ 35 ∷ 36 ∷
-    49 ∷ 49 ∷ 43 ∷ 44 ∷ 45 ∷ 46 ∷ 47 ∷ 48 ∷ []
+    flat_map (λ first. 49 ∷ 49 ∷ range_with_len first 6) (1 ∷ 13 ∷ 25 ∷ 37 ∷ 7 ∷ 19 ∷ 31 ∷ 43 ∷ [])
 
 -- the word whose groups are these 48 bits
 abbrev pub word_of_groups : List Bool → ℕ
@@ -37,15 +27,7 @@ word_of_groups bits = number_of (select positions_in_word bits)
 -- the middle four positions of each group: those of a half block, where the groups are those of its
 -- expansion E
 abbrev pub half_positions : List ℕ
-half_positions =
-    4 ∷ 5 ∷ 6 ∷ 7 ∷
-    36 ∷ 37 ∷ 38 ∷ 39 ∷
-    12 ∷ 13 ∷ 14 ∷ 15 ∷
-    44 ∷ 45 ∷ 46 ∷ 47 ∷
-    20 ∷ 21 ∷ 22 ∷ 23 ∷
-    52 ∷ 53 ∷ 54 ∷ 55 ∷
-    28 ∷ 29 ∷ 30 ∷ 31 ∷
-    60 ∷ 61 ∷ 62 ∷ 63 ∷ []
+half_positions = flat_map (λ start. range_with_len (start + 1) 4) group_starts
 
 -- the 48 bits in the groups of a word
 abbrev pub bits_of_groups : ℕ → List Bool

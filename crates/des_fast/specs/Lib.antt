@@ -17,8 +17,6 @@ pub mod RecordStates
 pub mod Laws
 pub mod GroupBytes
 pub mod SideBySide
-pub mod QuietDes
 pub mod Threes
 pub mod JoinedEntries
-pub mod KeyedPasses
 pub mod ChosenTerms

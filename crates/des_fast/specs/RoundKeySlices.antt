@@ -59,12 +59,9 @@ round_keys_in bit slices = round_keys_by (map bit slices.halves) slices.decipher
 
 -- ---- round keys of one key
 
--- the words of the last two of sixteen round keys
-abbrev pub last_words : List RoundKey → List ℕ
-last_words round_keys =
-    let words = map (λ round_key. round_key.groups) round_keys in
-    slice_index_or words 14 0 ∷ slice_index_or words 15 0 ∷ []
-
--- all are those of the halves C and D that the last two have
+-- all are those of the halves C and D that the words of the last two have
 abbrev pub AreScheduled : List RoundKey → Type 0
-AreScheduled round_keys = round_keys_by (halves_in (last_words round_keys)) false ≡ round_keys_of round_keys
+AreScheduled round_keys =
+    let words = map (λ round_key. round_key.groups) round_keys in
+    let last = slice_index_or words 14 0 ∷ slice_index_or words 15 0 ∷ [] in
+    round_keys_by (halves_in last) false ≡ round_keys_of round_keys

@@ -1,6 +1,6 @@
 -- Bit slices of a batch of blocks. A slice has one bit of each block of the batch; `bit b slice` is
 -- that of block b, from 0.
-use Rattle.std.specs.Prelude.{◌≡◌, ℕ, ◌<◌, Bool, false, List, [], ◌∷◌, map, slice_index_or, slice_set}
+use Rattle.std.specs.Prelude.{◌≡◌, ℕ, ◌+◌, ◌-◌, ◌*◌, ◌/◌, ◌%◌, ◌<◌, Bool, false, List, [], ◌∷◌, map, slice_index_or, slice_set}
 use Rattle.std.specs.List.{flat_map}
 use Rattle.des.specs.Bits.{bit, bits_of, bits_of_word, xor}
 use Rattle.des.specs.Tables.{Box}
@@ -25,10 +25,26 @@ xor_at bits (index ∷ indexes) (change ∷ changes) =
 
 -- ---- vectors of words
 
--- the bits of a vector, word after word
+-- the bits of words, word after word
 abbrev pub bits_of_slice : List ℕ → List Bool
 bits_of_slice words = flat_map bits_of_word words
 
--- the bit of block b in a vector: bit b % 64 + 1 of word b / 64
-abbrev pub bit_of_block : ℕ → List ℕ → Bool
-bit_of_block b words = slice_index_or (bits_of_slice words) b false
+-- which bit of its word stands at a place of a vector, from 0, the most significant first: at places
+-- side by side stand the bits of bytes, and of a word the least significant byte is the first, as in
+-- memory
+abbrev pub number_in_word : ℕ → ℕ
+number_in_word place = 56 - 8 * (place / 8 % 8) + place % 8
+
+-- the bit at a place of a vector, from 0
+abbrev pub bit_at_place : ℕ → List ℕ → Bool
+bit_at_place place words =
+    slice_index_or (bits_of_word (slice_index_or words (place / 64) 0)) (number_in_word place) false
+
+-- the place of block b in slices of n words: blocks side by side stand in one row, each in a word of
+-- its own
+abbrev pub place_of_block : ℕ → ℕ → ℕ
+place_of_block n b = 64 * (b % n) + b / n
+
+-- the bit of block b in a vector of n words
+abbrev pub bit_of_block : ℕ → ℕ → List ℕ → Bool
+bit_of_block n b words = bit_at_place (place_of_block n b) words

@@ -1,26 +1,29 @@
--- The transposition of 64 rows of bits in each word of slices. `bit b slice` is bit b of a slice,
--- from 0, which stands in its word b / 64, at place b % 64.
-use Rattle.std.specs.Prelude.{◌≡◌, ℕ, ◌+◌, ◌-◌, ◌*◌, ◌/◌, ◌%◌, ◌<◌, ◌==◌, ◌&&◌, if◌then◌else◌, not, Bool, false, List, [], map, nat_lt, slice_index_or}
+-- The transposition of 64 rows of bits in each word of slices. `bit b slice` is the bit at place b of a
+-- slice, from 0: place b % 64 of its word b / 64.
+use Rattle.std.specs.Prelude.{◌≡◌, ℕ, ◌+◌, ◌-◌, ◌*◌, ◌/◌, ◌%◌, ◌<◌, ◌==◌, ◌&&◌, if◌then◌else◌, not, Bool, false, List, [], ◌∷◌, map, nat_lt, slice_index_or}
 use Rattle.std.specs.List.{range_with_len, list_all}
 use Rattle.des.specs.Bits.{bits_of_word, bits_of_bytes}
 use Rattle.des.specs.Blocks.{block_of_bits}
-use Rattle.des_fast.specs.Slices.{InEachBlock}
+use Rattle.des_fast.specs.Slices.{InEachBlock, number_in_word}
 
 -- 1 where bit b is the second of its pair in its word and 0 where it is the first, with the bits
 -- taken in pairs at a distance
 abbrev pub second : ℕ → ℕ → ℕ
 second distance b = b % 64 / distance % 2
 
--- the mask has the place where it is second in its pair, and then its partner lies in the same
--- word; and where it is first, the mask has its partner and not the place
+-- the mask has the bit of a word at a place that is second in its pair, and not the one at its
+-- partner's; the two bits have the distance of the places
 abbrev pub pairs_place : ℕ → ℕ → ℕ → Bool
 pairs_place distance mask place =
     let masked = λ (p : ℕ). slice_index_or (bits_of_word mask) p false in
+    let number = number_in_word place in
     if place / distance % 2 == 1
-    then (masked place && not (nat_lt place distance) && not (masked (place + distance)))
-    else (not (masked place) && masked (place + distance))
+    then ((masked number && not (masked (number + distance)))
+    && (not (nat_lt place distance) && (number_in_word (place - distance) + distance == number)))
+    else ((not (masked number) && masked (number + distance))
+    && (nat_lt (place + distance) 64 && (number_in_word (place + distance) == number + distance)))
 
--- the mask has the places that are second in their pair
+-- the same for all places of a word
 abbrev pub pairs_places : ℕ → ℕ → Bool
 pairs_places distance mask = list_all (pairs_place distance mask) (range_with_len 0 64)
 
@@ -30,19 +33,31 @@ IsFrom bit rows answer m b from =
     slice_index_or (map (bit b) answer) m false
     ≡ slice_index_or (map (bit from.1) rows) from.0 false
 
--- where bit b of row m comes from, where rows i and `half` + i exchange bits at a distance and come
--- out as rows 2 * i and 2 * i + 1: from the second of the two rows where bit b is second, and there
--- from the bit that is second where row m is
-abbrev pub exchanged_from : ℕ → ℕ → ℕ → ℕ → ℕ × ℕ
-exchanged_from half distance m b =
-    (half * second distance b + m / 2, b - distance * second distance b + distance * (m % 2))
+-- ---- steps that make a pair of rows of a pair: where bit b of row t of the answer comes from
 
--- the rows so exchanged, in pairs
-abbrev pub ArePairwiseExchanged : {A : Type 0} → ℕ → (ℕ → A → Bool) → ℕ → ℕ → List A → List A
+-- an exchange of bits at a distance: from the second row where bit b is second, and there from the bit
+-- that is second where t is 1
+abbrev pub exchanged : ℕ → ℕ → ℕ → ℕ × ℕ
+exchanged distance t b = (second distance b, b - distance * second distance b + distance * t)
+
+-- the bytes of the two by turns, in each 16 bytes: of the first halves, and of the second ones
+abbrev pub interleaved : ℕ → ℕ → ℕ × ℕ
+interleaved t b = (b / 8 % 2, 128 * (b / 128) + 64 * t + 8 * (b % 128 / 16) + b % 8)
+
+-- the words of the two by turns, in each 16 bytes: the first ones, and the second ones
+abbrev pub joined : ℕ → ℕ → ℕ × ℕ
+joined t b = (b / 64 % 2, 128 * (b / 128) + 64 * t + b % 64)
+
+-- where bit b of row m comes from, where each of the first rows, as many as a half, so makes a pair with
+-- the row that many rows on, and comes out side by side with it
+abbrev pub pairwise : ℕ → (ℕ → ℕ → ℕ × ℕ) → ℕ → ℕ → ℕ × ℕ
+pairwise half step m b = (half * (step (m % 2) b).0 + m / 2, (step (m % 2) b).1)
+
+-- the rows after such a step, in pairs
+abbrev pub ArePairwise : {A : Type 0} → ℕ → (ℕ → A → Bool) → ℕ → (ℕ → ℕ → ℕ × ℕ) → List A → List A
     → Type 0
-ArePairwiseExchanged batch bit half distance rows answer =
-    (m : ℕ) → m < 2 * half
-    → InEachBlock batch (λ b. IsFrom bit rows answer m b (exchanged_from half distance m b))
+ArePairwise batch bit half step rows answer =
+    (m : ℕ) → m < 2 * half → InEachBlock batch (λ b. IsFrom bit rows answer m b (pairwise half step m b))
 
 -- byte i of row m comes from byte m of row i
 abbrev pub bytes_from : ℕ → ℕ → ℕ × ℕ
@@ -68,22 +83,27 @@ AreTransposed batch bit rows answer =
     (m : ℕ) → m < 64
     → InEachBlock batch (λ b. IsFrom bit rows answer m b (b % 64, 64 * (b / 64) + m))
 
--- ---- three exchanges of eight rows, computed
+-- ---- steps of eight rows, computed
+
+-- the steps that transpose the bytes, the last one first
+abbrev pub byte_steps : List (ℕ → ℕ → ℕ × ℕ)
+byte_steps = joined ∷ interleaved ∷ interleaved ∷ interleaved ∷ []
+
+-- those that transpose the bits of bytes
+abbrev pub bit_steps : List (ℕ → ℕ → ℕ × ℕ)
+bit_steps = exchanged 1 ∷ exchanged 2 ∷ exchanged 4 ∷ []
 
 -- whether bit b of row m comes from a place
-abbrev pub comes_from : ℕ → ℕ → ℕ → ℕ → (ℕ → ℕ → ℕ × ℕ) → ℕ → ℕ → Bool
-comes_from batch d e f from m b =
-    let third = exchanged_from 4 f m b in
-    let second = exchanged_from 4 e third.0 third.1 in
-    let first = exchanged_from 4 d second.0 second.1 in
-    (nat_lt third.0 8 && nat_lt third.1 batch)
-    && ((nat_lt second.0 8 && nat_lt second.1 batch)
-    && (first.0 == (from m b).0 && (first.1 == (from m b).1)))
+abbrev pub comes_from : ℕ → List (ℕ → ℕ → ℕ × ℕ) → ℕ × ℕ → ℕ → ℕ → Bool
+comes_from batch [] from m b = (m == from.0) && (b == from.1)
+comes_from batch (step ∷ steps) from m b =
+    let before = pairwise 4 step m b in
+    (nat_lt before.0 8 && nat_lt before.1 batch) && comes_from batch steps from before.0 before.1
 
 -- the same for all bits of the rows
-abbrev pub all_come_from : ℕ → ℕ → ℕ → ℕ → (ℕ → ℕ → ℕ × ℕ) → Bool
-all_come_from batch d e f from =
-    list_all (λ m. list_all (comes_from batch d e f from m) (range_with_len 0 batch))
+abbrev pub all_come_from : ℕ → List (ℕ → ℕ → ℕ × ℕ) → (ℕ → ℕ → ℕ × ℕ) → Bool
+all_come_from batch steps from =
+    list_all (λ m. list_all (λ b. comes_from batch steps (from m b) m b) (range_with_len 0 batch))
     (range_with_len 0 8)
 
 -- ---- blocks as rows
@@ -96,21 +116,21 @@ block_at blocks k = slice_index_or blocks k []
 abbrev pub bits_of_lane : {A : Type 0} → (ℕ → A → Bool) → A → ℕ → List Bool
 bits_of_lane bit slice lane = map (λ p. bit (64 * lane + p) slice) (range_with_len 0 64)
 
--- the bits of the word of block k, which is word k / 64 of row k % 64
-abbrev pub bits_of_row : {A : Type 0} → (ℕ → A → Bool) → List A → ℕ → List Bool
-bits_of_row bit rows k =
-    map (λ p. slice_index_or (map (bit (64 * (k / 64) + p)) rows) (k % 64) false)
+-- the bits of the word of block k, which is word k % n of row k / n in vectors of n words
+abbrev pub bits_of_row : {A : Type 0} → ℕ → (ℕ → A → Bool) → List A → ℕ → List Bool
+bits_of_row n bit rows k =
+    map (λ p. slice_index_or (map (bit (64 * (k % n) + p)) rows) (k / n) false)
     (range_with_len 0 64)
 
 -- the words of the rows have the bits of the blocks
-abbrev pub AreRowsOf : {A : Type 0} → ℕ → (ℕ → A → Bool) → List (List ℕ) → List A → Type 0
-AreRowsOf batch bit blocks rows =
-    InEachBlock batch (λ k. bits_of_row bit rows k ≡ bits_of_bytes (block_at blocks k))
+abbrev pub AreRowsOf : {A : Type 0} → ℕ → ℕ → (ℕ → A → Bool) → List (List ℕ) → List A → Type 0
+AreRowsOf batch n bit blocks rows =
+    InEachBlock batch (λ k. bits_of_row n bit rows k ≡ bits_of_bytes (block_at blocks k))
 
 -- the blocks are those of the words of the rows
-abbrev pub AreBlocksOfRows : {A : Type 0} → ℕ → (ℕ → A → Bool) → List A → List (List ℕ) → Type 0
-AreBlocksOfRows batch bit rows blocks =
-    InEachBlock batch (λ k. block_at blocks k ≡ block_of_bits (bits_of_row bit rows k))
+abbrev pub AreBlocksOfRows : {A : Type 0} → ℕ → ℕ → (ℕ → A → Bool) → List A → List (List ℕ) → Type 0
+AreBlocksOfRows batch n bit rows blocks =
+    InEachBlock batch (λ k. block_at blocks k ≡ block_of_bits (bits_of_row n bit rows k))
 
 -- the slices have the bits of the blocks
 abbrev pub AreSlicesOf : {A : Type 0} → ℕ → (ℕ → A → Bool) → List (List ℕ) → List A → Type 0

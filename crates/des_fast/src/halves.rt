@@ -14,14 +14,14 @@ use des::utils;
 
 /// A round key, 48 bits in a word of groups.
 #[derive(Clone, Copy)]
-pub(crate) struct RoundKey {
+pub struct RoundKey {
     pub(crate) groups: u64,
     ghost of_groups: { IsOfGroups groups },
 }
 
 /// A half block, kept as its expansion E in a word of groups.
 #[derive(Clone, Copy)]
-pub(crate) struct HalfBlock {
+pub struct HalfBlock {
     pub(crate) groups: u64,
     ghost expansion: { IsExpansion groups },
 }
@@ -40,7 +40,7 @@ impl HalfBlock {
 
 /// The two halves of a block between two rounds.
 #[derive(Clone, Copy)]
-pub(crate) struct Halves {
+pub struct Halves {
     pub(crate) left: HalfBlock,
     pub(crate) right: HalfBlock,
 }

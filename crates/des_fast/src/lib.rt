@@ -15,6 +15,7 @@
 
 mod boxes;
 mod halves;
+mod lists;
 pub mod many;
 pub mod quiet;
 mod schedule;
@@ -23,7 +24,11 @@ mod slices;
 mod tables;
 pub mod tdes;
 mod threes;
+mod ways;
 pub mod words;
 
-pub use single::Des;
 pub use tdes::{TdesEde2, TdesEde3, TdesEee2, TdesEee3};
+use ways::Tables;
+
+/// DES under one key, by tables.
+pub type Des = single::Des<Tables>;

@@ -11,8 +11,8 @@
 //! or on a block.
 //!
 //! Many short messages go together, each in a lane of a batch: `KeyForEach` takes a key for each
-//! block of a list, chains messages in step (those of MACs), and takes records that CBC chained,
-//! each under a key of its own; the keys of `spread_keys` take records under one key.
+//! block of a list, and chains messages in step (those of MACs); `RecordKeys` takes records that CBC
+//! chained, under one key, that of `spread_keys`, or each under a key of its own, by `EachKey`.
 
 ghost use Rattle.std.specs.Prelude.{◌≡◌, ◌≤◌, ℕ, List, map};
 ghost use Rattle.std.specs.List.{All};
@@ -58,16 +58,6 @@ fn xored(block: &[u8; 8], other: &[u8; 8]) -> [u8; 8]
     answer
 }
 
-// How many blocks go through the rounds next: a batch, or those that are left over.
-fn next_count<S: Slice>(left: usize) -> usize
-    requires { 1 ≤ left }
-    ensures some { 1 ≤ result }
-    ensures there { result ≤ left }
-    ensures within { result ≤ S.BATCH }
-{
-    if left < S::BATCH { left } else { S::BATCH }
-}
-
 // Takes blocks through passes, batch after batch, and then what is left over.
 fn answer<S: Slice>(blocks: &mut [[u8; 8]], passes: &[PassSlices<S>])
     ensures { (answer : List ℕ → List ℕ) → AreSlicesFor S.BATCH S.bit passes.now answer
@@ -75,7 +65,7 @@ fn answer<S: Slice>(blocks: &mut [[u8; 8]], passes: &[PassSlices<S>])
 {
     let mut from = 0;
     'parts: while from < blocks.len() {
-        let count = next_count::<S>(blocks.len() - from);
+        let count = S::BATCH.min(blocks.len() - from);
         answer_lanes_part(&mut blocks[from..from + count], passes);
         from += count;
     }

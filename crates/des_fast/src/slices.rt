@@ -1,15 +1,15 @@
 //! Bit slices: a batch of blocks at a time, a vector for each of their 64 bits, with one bit of
-//! each block. Block b of a batch, from 0, has the same place b in all of them.
+//! each block. A block of a batch has the same place in all of them.
 //!
 //! All is written once, over the width: what a slice must be is said by the trait `Slice`.
 
-ghost use Rattle.std.specs.Prelude.{◌≡◌, ◌<◌, ◌*◌, ◌+◌, ◌%◌, ◌≤◌, ◌≢◌, ◌&&◌, ◌||◌, Bool, true, ℕ, [], ◌∷◌, IsTrue, length, not, slice_index_or};
+ghost use Rattle.std.specs.Prelude.{◌≡◌, ◌<◌, ◌*◌, ◌/◌, ◌%◌, ◌≤◌, ◌≢◌, ◌&&◌, ◌||◌, Bool, true, ℕ, [], ◌∷◌, IsTrue, length, not, slice_index_or};
 ghost use Rattle.std.specs.Align.{type_align};
 ghost use Rattle.std.specs.Mem.{type_size};
-ghost use Rattle.des.specs.Bits.{bits_of_bytes, bits_of_word, xor};
+ghost use Rattle.des.specs.Bits.{bits_of_bytes, xor};
 ghost use Rattle.des.specs.Blocks.{block_of_bits};
-ghost use Rattle.des_fast.specs.Slices.{InEachBlock};
-ghost use Rattle.des_fast.specs.Transposition.{AreSlicesOf, AreBlocksOf, ArePairwiseExchanged, all_come_from, bits_from, bytes_from, pairs_places, bits_of_lane};
+ghost use Rattle.des_fast.specs.Slices.{InEachBlock, place_of_block};
+ghost use Rattle.des_fast.specs.Transposition.{AreSlicesOf, AreBlocksOf, ArePairwise, all_come_from, exchanged, interleaved, joined, bit_steps, byte_steps, bits_from, bytes_from, pairs_places, bits_of_lane};
 
 mod keys;
 mod passes;
@@ -33,8 +33,14 @@ pub trait Slice: Copy {
 
     ghost BATCH: { ℕ };
 
+    // The number of words.
+    ghost words: { ℕ };
+
     // The bit of block b.
     ghost bit: { ℕ → Self → Bool };
+
+    // The bit at a place: those of word w stand at the 64 places from 64 * w on.
+    ghost place_bit: { ℕ → Self → Bool };
 
     /// The slice with the same bit for each block.
     fn same(value: bool) -> Self
@@ -65,36 +71,42 @@ pub trait Slice: Copy {
     fn exchange(self, lower: Self, distance: u64, mask: u64) -> [Self; 2]
         requires within { distance < 64 }
         requires pairs { IsTrue (pairs_places distance mask) }
-        ensures { ArePairwiseExchanged BATCH bit 1 distance (self ∷ lower ∷ []) result };
+        ensures { ArePairwise BATCH place_bit 1 (exchanged distance) (self ∷ lower ∷ []) result };
 
-    /// The blocks n, 64 + n, 128 + n and so on of a batch, a block in each word.
+    /// Takes bytes of the two by turns: in each 16 bytes those of the first halves, and those of
+    /// the second ones.
+    fn interleave_bytes(self, other: Self) -> [Self; 2]
+        ensures { ArePairwise BATCH place_bit 1 interleaved (self ∷ other ∷ []) result };
+
+    /// Takes words of the two by turns: in each 16 bytes the first ones, and the second ones.
+    fn join_words(self, other: Self) -> [Self; 2]
+        ensures { ArePairwise BATCH place_bit 1 joined (self ∷ other ∷ []) result };
+
+    /// Blocks side by side, one in each word: those after n such rows.
     fn row_of(blocks: &[[u8; 8]], n: usize) -> Self
         requires batch { length blocks.now ≡ BATCH }
         requires within { n < 64 }
-        ensures { (lane : ℕ) → 64 * lane < BATCH → bits_of_lane bit result lane
-            ≡ bits_of_bytes (slice_index_or blocks.now (64 * lane + n) []) };
+        ensures { (k : ℕ) → k < BATCH → k / words ≡ n → bits_of_lane place_bit result (k % words)
+            ≡ bits_of_bytes (slice_index_or blocks.now k []) };
 
-    /// Writes the blocks n, 64 + n, 128 + n and so on of a batch, a block of each word. All others
-    /// stay.
+    /// Writes blocks side by side, those after n such rows, a block of each word. All others stay.
     fn write_row(&self, blocks: &mut [[u8; 8]], n: usize)
         requires batch { length blocks.old ≡ BATCH }
         requires within { n < 64 }
-        ensures written { (lane : ℕ) → 64 * lane < BATCH
-            → slice_index_or blocks.new (64 * lane + n) []
-            ≡ block_of_bits (bits_of_lane bit self.now lane) }
-        ensures kept { (k : ℕ) → k % 64 ≢ n
+        ensures written { (k : ℕ) → k < BATCH → k / words ≡ n
+            → slice_index_or blocks.new k []
+            ≡ block_of_bits (bits_of_lane place_bit self.now (k % words)) }
+        ensures kept { (k : ℕ) → k / words ≢ n
             → slice_index_or blocks.new k [] ≡ slice_index_or blocks.old k [] }
         ensures count { length blocks.new ≡ length blocks.old };
 
-    /// A word.
-    fn word(&self, lane: usize) -> u64
-        requires { 64 * lane < BATCH }
-        ensures { bits_of_word result ≡ bits_of_lane bit self.now lane };
+    // Rows of blocks side by side, transposed in each word, have the blocks at these places.
+    ghost placed: { (b : ℕ) → (slice : Self) → bit b slice ≡ place_bit (place_of_block words b) slice };
 
     // A batch is not empty, has whole words, and is at most the largest one.
     ghost some_blocks: { 1 ≤ BATCH };
 
-    ghost whole_words: { BATCH % 64 ≡ 0 };
+    ghost whole_words: { BATCH ≡ 64 * words };
 
     ghost at_most: { BATCH ≤ 256 };
 
@@ -103,10 +115,10 @@ pub trait Slice: Copy {
 
     ghost small_gaps: { type_align Self.row ≤ 64 };
 
-    // Exchanges in words transpose bytes, and bits of bytes.
-    ghost bytes: { all_come_from BATCH 32 16 8 bytes_from ≡ true };
+    // These steps transpose the bytes of words, and the bits of bytes.
+    ghost bytes: { all_come_from BATCH byte_steps bytes_from ≡ true };
 
-    ghost bits: { all_come_from BATCH 4 2 1 bits_from ≡ true };
+    ghost bits: { all_come_from BATCH bit_steps bits_from ≡ true };
 }
 
 /// Makes slices those of a batch of blocks.

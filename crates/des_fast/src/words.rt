@@ -8,13 +8,12 @@
 ghost use Rattle.std.specs.Prelude.{◌≡◌, ℕ, List};
 ghost use Rattle.des_fast.specs.Des.{IsDesOf};
 ghost use Rattle.des_fast.specs.Groups.{bits_of_groups};
-ghost use Rattle.des_fast.specs.QuietDes.{IsDesOf as IsQuietDesOf};
 ghost use Rattle.des_fast.specs.Words.{AreRoundKeysOf};
 
 use crate::halves::RoundKey;
-use crate::quiet;
 use crate::schedule::KeySchedule;
 use crate::single::Des;
+use std::marker::PhantomData;
 
 // The word of a round key.
 fn word_of(round_key: RoundKey) -> u64
@@ -33,7 +32,7 @@ fn round_key_of(word: u64) -> RoundKey
 }
 
 /// The sixteen round keys of a cipher, as words.
-pub fn round_key_words(cipher: &Des) -> [u64; 16]
+pub fn round_key_words<W>(cipher: &Des<W>) -> [u64; 16]
     ensures { (key : List ℕ) → IsDesOf cipher.now key → AreRoundKeysOf result key }
 {
     cipher.schedule.round_keys.map(word_of)
@@ -41,7 +40,7 @@ pub fn round_key_words(cipher: &Des) -> [u64; 16]
 
 /// The cipher with the round keys in sixteen words, which are those of a key: it is made from that
 /// key.
-pub fn from_round_key_words(words: &[u64; 16]) -> Des
+pub fn from_round_key_words<W>(words: &[u64; 16]) -> Des<W>
     requires { (key : List ℕ) × AreRoundKeysOf words.now key }
     ensures { (key : List ℕ) → AreRoundKeysOf words.now key → IsDesOf result key }
 {
@@ -49,16 +48,6 @@ pub fn from_round_key_words(words: &[u64; 16]) -> Des
         schedule: KeySchedule {
             round_keys: words.map(round_key_of),
         },
-    }
-}
-
-/// The cipher of `quiet` with the round keys in sixteen words, which are those of a key: it is made
-/// from that key.
-pub fn quiet_from_round_key_words(words: &[u64; 16]) -> quiet::Des
-    requires { (key : List ℕ) × AreRoundKeysOf words.now key }
-    ensures { (key : List ℕ) → AreRoundKeysOf words.now key → IsQuietDesOf result key }
-{
-    quiet::Des {
-        keyed: from_round_key_words(words),
+        way: PhantomData,
     }
 }

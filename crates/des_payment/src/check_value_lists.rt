@@ -4,7 +4,7 @@ ghost use Rattle.std.specs.Prelude.{◌≡◌, ◌↔◌, ◌≤◌, length, map
 ghost use Rattle.std.specs.Simd.Lanes.{zip2};
 
 use crate::check_values::first_bytes;
-use crate::passes::{GROUP, encrypt_each_of, next_count};
+use crate::passes::{GROUP, encrypt_each_of};
 use des::cipher::NotEqualError;
 use des_fast::many::{KeyForEach, Slice};
 
@@ -49,7 +49,7 @@ pub fn check_values_by<S: Slice, C: KeyForEach>(
     }
     let mut from = 0;
     'groups: while from < values.len() {
-        let count = next_count(values.len() - from);
+        let count = GROUP.min(values.len() - from);
         check_group::<C, S>(&keys[from..from + count], &mut values[from..from + count]);
         from += count;
     }

@@ -102,13 +102,3 @@ pub(crate) fn encrypt_many_of<C: KeyedCipher + ManyBlocks + Drop, S: Slice>(
 
 // The most elements of a list that are treated together.
 pub(crate) const GROUP: usize = 256;
-
-// How many elements of a list are treated next: a group, or those that are left over.
-pub(crate) fn next_count(left: usize) -> usize
-    requires { 1 ≤ left }
-    ensures some { 1 ≤ result }
-    ensures there { result ≤ left }
-    ensures within { result ≤ 256 }
-{
-    if left < GROUP { left } else { GROUP }
-}

@@ -21,7 +21,7 @@ ghost use Rattle.des_payment.specs.Dukpt.{transaction_key as transaction_key_of,
 use crate::dukpt::{
     COUNTER_BITS, COUNTERS, DERIVATION_MASK, first_bytes, joined, last_bytes, masked,
 };
-use crate::passes::{GROUP, encrypt_each_of, encrypt_many_of, next_count};
+use crate::passes::{GROUP, encrypt_each_of, encrypt_many_of};
 use crate::xor::xored;
 use des::cipher::{NotEqualError, are_bytes};
 use des::tdes::key_part;
@@ -221,7 +221,7 @@ fn derive_keys_by<S: Slice>(
     }
     let mut from = 0;
     'groups: while from < keys.len() {
-        let count = next_count(keys.len() - from);
+        let count = GROUP.min(keys.len() - from);
         derive_group::<S>(&serials[from..from + count], &mut keys[from..from + count]);
         from += count;
     }
@@ -290,7 +290,7 @@ fn initial_keys_by<S: Slice>(
     }
     let mut from = 0;
     'groups: while from < keys.len() {
-        let count = next_count(keys.len() - from);
+        let count = GROUP.min(keys.len() - from);
         initial_group::<S>(
             base,
             &serials[from..from + count],

@@ -3,7 +3,11 @@
 #![tactic(auto)]
 
 pub mod chaining;
+pub mod lists;
 pub mod odd_ciphers;
 #[cfg(test)]
 mod tests;
-pub mod there_and_back;
+
+pub use chaining::{chain, unchain};
+pub use lists::there_and_back;
+pub use odd_ciphers::{Reverse, XorKey};

@@ -6,10 +6,9 @@ ghost use Rattle.des.specs.Cbc.{Chains};
 ghost use Rattle.des.specs.Enciphering.{Enciphers};
 ghost use Rattle.des.specs.Relations.{IsTheOne};
 
-use des::cipher::{KeyInit, Relating};
-use des_fast::Des;
+use des::cipher::{BlockCipherDecrypt, BlockCipherEncrypt, KeyInit, Relating};
 use des_fast::many::ManyBlocks;
-use des_fast::quiet::{self, SideBySide};
+use des_fast::{Des, quiet};
 
 /// Encrypts in place each block of a list under a key: each is related to the one at its place, and
 /// no other list is so related.
@@ -51,7 +50,7 @@ pub fn encrypt_list_side_by_side(key: &[u8; 8], blocks: &mut [[u8; 8]])
 {
     let cipher = quiet::Des::new(key);
     cipher.relate_lists();
-    cipher.encrypt_side_by_side(blocks);
+    cipher.encrypt_blocks(blocks);
 }
 
 /// Decrypts in place each block of a list under a key, four side by side and with no table read:
@@ -62,5 +61,5 @@ pub fn decrypt_list_side_by_side(key: &[u8; 8], blocks: &mut [[u8; 8]])
 {
     let cipher = quiet::Des::new(key);
     cipher.relate_lists();
-    cipher.decrypt_side_by_side(blocks);
+    cipher.decrypt_blocks(blocks);
 }

@@ -1,9 +1,10 @@
-//! What stands above the ciphers of `des` and `des_fast`, the MACs and the streams: callers that
-//! rest on their contracts and laws alone, and a single DES of one's own. Nothing here is part of
-//! the product.
+//! What stands above the ciphers of `des` and `des_fast`, the MACs, the streams and the payment
+//! formats: callers that rest on their contracts and laws alone, and a single DES of one's own.
+//! Nothing here is part of the product.
 #![tactic(auto)]
 
 pub mod both_libraries;
+pub mod buffers;
 pub mod by_relation;
 pub mod clones;
 pub mod complements;
@@ -18,6 +19,7 @@ pub mod macs_by_type;
 pub mod many_macs;
 pub mod own_des;
 pub mod partners;
+pub mod payment;
 pub mod records;
 pub mod related_lists;
 pub mod round_keys;

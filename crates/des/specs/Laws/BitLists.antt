@@ -33,21 +33,14 @@ bits_of-split (suc m) n x = rw (suc-add m n, bits_of-split m n x, shr-shr x n m,
 pub bits_of-mod : (n x : ℕ) → bits_of n (x % 2 ^ n) ≡ bits_of n x
 bits_of-mod n x =
     bits_of-same n (x % 2 ^ n) x
-    (λ i below.
-    sym (bit_at_cat_low (x / 2 ^ n) n (x % 2 ^ n) i below)
-    ∙ ap (λ (y : ℕ). bit_at y i) (shr_split x n))
+    (λ i below. rw (← bit_at_cat_low (x / 2 ^ n) n (x % 2 ^ n) i below, shr_split x n))
 
 -- a number made of a high and a low part has the bits of the two, one after the other
 pub bits_of-cat : (m n high low : ℕ) → low < 2 ^ n
     → bits_of (m + n) (high * 2 ^ n + low) ≡ bits_of m high ++ bits_of n low
 bits_of-cat m n high low fits =
     let number : ℕ = high * 2 ^ n + low in
-    rw (
-      bits_of-split m n number,
-      shr_high high n low fits,
-      ← bits_of-mod n number,
-      mod_low high n low fits,
-    )
+    rw (bits_of-split m n number, shr_high, ← bits_of-mod n number, mod_low)
 
 -- ---- the number that bits write
 

@@ -61,10 +61,7 @@ number_of-bits_of_block : (block : List ℕ) → IsBlock block
     → number_of (bits_of_bytes block) ≡ from_be_bytes w64 block
 number_of-bits_of_block block is_block =
     let small : (i : ℕ) → slice_index block i < 256 = slice_index-lt block is_block.1 in
-    rw (
-      bits_of_bytes-from_be block is_block.0 small,
-      number_of-bits_of 64 (from_be_bytes w64 block),
-    )
+    rw (bits_of_bytes-from_be block is_block.0 small, number_of-bits_of)
     (mod-eq_of_lt (from_be_bytes-lt block is_block))
 
 -- a block is the block of its bits

@@ -1,11 +1,11 @@
 -- Complements of bits and of bytes, and what selections and additions make of them.
-use Rattle.std.proofs.Common.{◌≡◌, ℕ, ◌-◌, ◌<◌, ◌==◌, nat_lt, not, List, [], ◌∷◌, ◌++◌, Bool, true, false, length, refl, ap₂, ◌∙◌, sym, arith}
+use Rattle.std.proofs.Common.{◌≡◌, ℕ, ◌-◌, ◌<◌, ◌==◌, nat_lt, not, List, [], ◌∷◌, ◌++◌, Bool, true, false, length, slice_index_or, refl, ap₂, ◌∙◌, sym, arith}
 use Rattle.std.specs.List.{list_all}
 use Rattle.std.proofs.lemmas.List.{length-map, map-append, get_or-map}
-use Rattle.std.proofs.lemmas.List.Elements.{All-nil, All-cons}
+use Rattle.std.proofs.lemmas.List.Elements.{All-map}
 use Rattle.std.proofs.lemmas.Bool.{eqb-true, agree_below_at}
 use Rattle.std.proofs.lemmas.Bool.Decides.{nat_tests}
-use Rattle.des.specs.Bits.{bit, bits_of, bits_of_bytes, number_of, select, xor, xor_bits}
+use Rattle.des.specs.Bits.{bits_of, bits_of_bytes, number_of, select, xor, xor_bits}
 use Rattle.des.specs.Blocks.{AreBytes, IsKey, block_of_bits}
 use Rattle.des.specs.Complement.{complement_bits, complement_of_byte, complement}
 use Rattle.des.specs.Laws.BitLists.{bits_of-number_of, number_of-lt}
@@ -38,11 +38,9 @@ bits_of_bytes-complement (byte ∷ bytes) =
 -- it is bytes
 AreBytes-complement : (bytes : List ℕ) → AreBytes (complement bytes)
 unfolding bits_of complement_of_byte
-AreBytes-complement [] = All-nil (λ byte. byte < 256)
-AreBytes-complement (byte ∷ bytes) =
-    All-cons (λ byte. byte < 256) (complement_of_byte byte) (complement bytes)
-    (number_of-lt (complement_bits (bits_of 8 byte)))
-    (AreBytes-complement bytes)
+AreBytes-complement bytes =
+    All-map (λ byte. byte < 256) complement_of_byte bytes
+    (λ k d within. number_of-lt (complement_bits (bits_of 8 (slice_index_or bytes k d))))
 
 -- and as many
 pub IsKey-complement : (n : ℕ) (key : List ℕ) → IsKey n key → IsKey n (complement key)
@@ -55,11 +53,7 @@ pub block_of_bits-complement : (bits : List Bool) → length bits ≡ 64
 block_of_bits-complement bits width =
     let other : List ℕ = complement (block_of_bits bits) in
     let its_bits : bits_of_bytes other ≡ complement_bits bits =
-    rw (
-      bits_of_bytes-complement (block_of_bits bits),
-      bits_of_bytes-block_of_bits bits width,
-    )
-    refl in
+    rw (bits_of_bytes-complement, bits_of_bytes-block_of_bits bits width) refl in
     rw (← its_bits)
     (block_of_bits-bits_of_bytes other
     (IsKey-complement 8 (block_of_bits bits) (IsBlock-block_of_bits bits)))
@@ -70,11 +64,6 @@ block_of_bits-complement bits width =
 abbrev are_within : ℕ → List ℕ → Bool
 are_within n positions = list_all (λ position. nat_lt (position - 1) n) positions
 
--- a bit of the complement is the other one
-bit-complement : (bits : List Bool) (position : ℕ) → position - 1 < length bits
-    → bit (complement_bits bits) position ≡ not (bit bits position)
-bit-complement bits position within = get_or-map not bits (position - 1) false false within
-
 -- a selection from the complement is the complement of the selection
 pub select-complement : (n : ℕ) (positions : List ℕ) (bits : List Bool) → length bits ≡ n
     → are_within n positions ≡ true
@@ -83,7 +72,7 @@ unfolding select
 select-complement n [] bits width within = refl
 select-complement n (position ∷ positions) bits width within =
     let parts : (position - 1 < n) × (are_within n positions ≡ true) = grind (arith, nat_tests) in
-    ap₂ ◌∷◌ (bit-complement bits position (omega (arith, parts.0)))
+    ap₂ ◌∷◌ (get_or-map not bits (position - 1) false false (omega (arith, parts.0)))
     (select-complement n positions bits width parts.1)
 
 -- complements cancel in an addition of two

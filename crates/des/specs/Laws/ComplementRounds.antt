@@ -1,7 +1,7 @@
 -- Complements of key and block, taken through the rounds: the expansion of a complemented half
 -- block cancels with the complemented round key, so the cipher function does not change, and each
 -- half block is complemented.
-use Rattle.std.proofs.Common.{◌≡◌, ℕ, ◌+◌, not, List, [], ◌∷◌, ◌++◌, Bool, length, map, take, drop, refl, ap, ◌∙◌, sym, arith, length-append, take-append-drop}
+use Rattle.std.proofs.Common.{◌≡◌, ℕ, ◌+◌, not, List, [], ◌∷◌, ◌++◌, Bool, length, map, take, drop, refl, ap, ◌∙◌, sym, arith, length-append, length-take, length-drop}
 use Rattle.std.specs.List.{range_with_len}
 use Rattle.std.proofs.lemmas.List.{map-append, take-map, drop-map}
 use Rattle.std.proofs.lemmas.Simd.{map-map}
@@ -30,69 +30,37 @@ rotate-complement half n =
 -- rotation keeps the length
 pub length-rotate : (half : List Bool) (n : ℕ) → length (rotate half n) ≡ length half
 unfolding rotate
-length-rotate half n =
-    let parts : length (take n half ++ drop n half) ≡ length half =
-    ap length (take-append-drop n half) in
-    omega (
-      arith,
-      parts,
-      length-append (drop n half) (take n half),
-      length-append (take n half) (drop n half),
-    )
+length-rotate half n = simp (length-append, length-drop, length-take) (omega arith)
 
 -- C and D have 56 bits
 length-halves : (key : List Bool) → length (c_half key) + length (d_half key) ≡ 56
 unfolding c_half d_half
 length-halves key =
-    let chosen : List Bool = select permuted_choice_1 key in
-    let parts : length (take 28 chosen ++ drop 28 chosen) ≡ length chosen =
-    ap length (take-append-drop 28 chosen) in
-    omega (
-      arith,
-      parts,
-      length-append (take 28 chosen) (drop 28 chosen),
-      length-select permuted_choice_1 key,
-    )
+    simp (length-take, length-drop, length-select permuted_choice_1 key) (omega arith)
 
 -- the halves of a complemented key are the complements of its halves
-c_half-complement : (key : List Bool) → length key ≡ 64
-    → c_half (complement_bits key) ≡ complement_bits (c_half key)
-unfolding c_half
-c_half-complement key width =
-    rw (select-complement 64 permuted_choice_1 key width refl)
-    (take-map not 28 (select permuted_choice_1 key))
-
-d_half-complement : (key : List Bool) → length key ≡ 64
-    → d_half (complement_bits key) ≡ complement_bits (d_half key)
-unfolding d_half
-d_half-complement key width =
-    rw (select-complement 64 permuted_choice_1 key width refl)
-    (drop-map not 28 (select permuted_choice_1 key))
+halves-complement : (key : List Bool) → length key ≡ 64
+    → (c_half (complement_bits key) ≡ complement_bits (c_half key))
+    × (d_half (complement_bits key) ≡ complement_bits (d_half key))
+unfolding c_half d_half
+halves-complement key width =
+    let chosen = select-complement 64 permuted_choice_1 key width refl in (
+      ap (take 28) chosen ∙ take-map not 28 (select permuted_choice_1 key),
+      ap (drop 28) chosen ∙ drop-map not 28 (select permuted_choice_1 key),
+    )
 
 -- a round key of a complemented key is the complement of the round key
 round_key-complement : (key : List Bool) (i : ℕ) → length key ≡ 64
     → round_key (complement_bits key) i ≡ complement_bits (round_key key i)
 unfolding round_key
 round_key-complement key i width =
-    let shifts : ℕ = shifts_through i in
-    let c : List Bool = rotate (c_half key) shifts in
-    let d : List Bool = rotate (d_half key) shifts in
-    let size : length (c ++ d) ≡ 56 =
-    omega (
-      arith,
-      length-append c d,
-      length-halves key,
-      length-rotate (c_half key) shifts,
-      length-rotate (d_half key) shifts,
-    ) in
-    rw (
-      c_half-complement key width,
-      d_half-complement key width,
-      rotate-complement (c_half key) shifts,
-      rotate-complement (d_half key) shifts,
-      ← map-append not c d,
-    )
-    (select-complement 56 permuted_choice_2 (c ++ d) size refl)
+    let c : List Bool = rotate (c_half key) (shifts_through i) in
+    let d : List Bool = rotate (d_half key) (shifts_through i) in
+    let size : length (c ++ d) ≡ 56 = simp (length-append, length-rotate) (length-halves key) in
+    let halves = halves-complement key width in
+    rw (halves.0, halves.1)
+    (simp rotate-complement (rw (← map-append not c d)
+    (select-complement 56 permuted_choice_2 (c ++ d) size refl)))
 
 -- the round keys of a complemented key are the complements of its round keys
 pub key_schedule-complement : (key : List Bool) → length key ≡ 64
@@ -111,20 +79,13 @@ cipher_function-complement : (half round_key : List Bool) → length half ≡ 32
     ≡ cipher_function half round_key
 unfolding cipher_function
 cipher_function-complement half round_key width =
-    rw (
-      select-complement 32 expansion half width refl,
-      xor_bits-complements (select expansion half) round_key,
-    )
-    refl
+    rw (select-complement 32 expansion half width refl, xor_bits-complements) refl
 
 -- so the rounds complement each half
 after_rounds-complement : (keys : List (List Bool)) (left right : List Bool)
-    → AreHalves (left, right)
-    → after_rounds (map complement_bits keys) (complement_bits left) (complement_bits right)
-    ≡ (
-      complement_bits (after_rounds keys left right).0,
-      complement_bits (after_rounds keys left right).1,
-    )
+    → AreHalves (left, right) → let last = after_rounds keys left right in
+    after_rounds (map complement_bits keys) (complement_bits left) (complement_bits right)
+    ≡ (complement_bits last.0, complement_bits last.1)
 unfolding after_rounds
 after_rounds-complement [] left right halves = refl
 after_rounds-complement (key ∷ keys) left right halves =

@@ -1,7 +1,8 @@
 -- Words that hold the round keys of a key answer as the key does.
-use Rattle.std.proofs.Common.{◌≡◌, ℕ, List, [], ◌∷◌, ◌++◌, Bool, length, map, take, refl, ap, ap₂, sym, ◌∙◌, take_at}
+use Rattle.std.proofs.Common.{◌≡◌, ℕ, List, Bool, length, map, take, ap, sym, ◌∙◌, take_at}
 use Rattle.std.specs.List.{range_with_len}
 use Rattle.std.proofs.lemmas.Simd.{map-map}
+use Rattle.std.proofs.Math.Path.{fun_ext}
 use Rattle.des.specs.Bits.{bits_of_word, bits_of_bytes, zeros}
 use Rattle.des.specs.Tables.{permuted_choice_2}
 use Rattle.des.specs.KeySchedule.{key_schedule, round_key}
@@ -14,15 +15,6 @@ length-round_key : (key : List Bool) (i : ℕ) → length (round_key key i) ≡ 
 unfolding round_key
 length-round_key key i = length-select permuted_choice_2 _
 
--- the first 48 bits of round keys with zeros after them are the round keys
-take-round_keys : (key : List Bool) (numbers : List ℕ)
-    → map (take 48) (map (λ bits. bits ++ zeros 16) (map (round_key key) numbers))
-    ≡ map (round_key key) numbers
-take-round_keys key [] = refl
-take-round_keys key (i ∷ numbers) =
-    ap₂ ◌∷◌ (take_at (round_key key i) (zeros 16) 48 (length-round_key key i))
-    (take-round_keys key numbers)
-
 -- words that hold the round keys of a key have them in their first 48 bits
 pub round_keys_of-HoldRoundKeys : (words : List ℕ) (key : List Bool) → HoldRoundKeys words key
     → round_keys_of words ≡ key_schedule key
@@ -30,12 +22,12 @@ unfolding round_keys_of key_schedule
 round_keys_of-HoldRoundKeys words key held =
     sym (map-map (take 48) (λ word. bits_of_word word) words)
     ∙ ap (map (take 48)) held
-    ∙ take-round_keys key (range_with_len 1 16)
+    ∙ ap (λ (keys : ℕ → List Bool). map keys (range_with_len 1 16))
+    (fun_ext (λ i. take_at (round_key key i) (zeros 16) 48 (length-round_key key i)))
 
 -- they answer a block as the key does, in each order of the round keys
 pub answer_by-held : (order : List (List Bool) → List (List Bool)) (words key block : List ℕ)
-    → HoldRoundKeys words (bits_of_bytes key)
-    → answer_by (order (round_keys_of words)) block
+    → HoldRoundKeys words (bits_of_bytes key) → answer_by (order (round_keys_of words)) block
     ≡ answer_by (order (key_schedule (bits_of_bytes key))) block
 answer_by-held order words key block held =
     ap (λ keys. answer_by (order keys) block)

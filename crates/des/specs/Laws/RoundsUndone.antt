@@ -1,5 +1,5 @@
 -- The rounds, and that the round keys in the opposite order undo them, whatever the round keys are.
-use Rattle.std.proofs.Common.{◌≡◌, ℕ, List, [], ◌∷◌, ◌++◌, Bool, length, take, drop, reverse, refl, sym, ap, ap₂, ◌∙◌, length-append, length-drop, length-take-le, take-append-drop, take_at, drop_at, arith}
+use Rattle.std.proofs.Common.{◌≡◌, ℕ, List, [], ◌∷◌, ◌++◌, Bool, length, take, drop, reverse, refl, sym, ap, ◌∙◌, length-append, length-drop, length-take-le, take-append-drop, take_at, drop_at, arith}
 use Rattle.std.proofs.lemmas.List.{reverse-append, reverse-reverse}
 use Rattle.des.specs.Bits.{bits_of_bytes, select, xor_bits}
 use Rattle.des.specs.Tables.{initial_permutation, final_permutation}
@@ -27,8 +27,7 @@ AreHalves halves = (length halves.0 ≡ 32) × (length halves.1 ≡ 32)
 
 -- the rounds keep the widths of the halves
 pub AreHalves-after_rounds : (keys : List (List Bool)) (left right : List Bool)
-    → AreHalves (left, right)
-    → AreHalves (after_rounds keys left right)
+    → AreHalves (left, right) → AreHalves (after_rounds keys left right)
 unfolding after_rounds
 AreHalves-after_rounds [] left right halves = halves
 AreHalves-after_rounds (key ∷ keys) left right halves =
@@ -65,8 +64,7 @@ after_rounds-reverse (key ∷ keys) left right halves =
     ∙ ap (λ (half : List Bool). (right, half)) back
 
 -- the halves of a block after the initial permutation
-pub AreHalves-permuted : (block : List Bool)
-    → AreHalves
+pub AreHalves-permuted : (block : List Bool) → AreHalves
     (take 32 (select initial_permutation block), drop 32 (select initial_permutation block))
 AreHalves-permuted block =
     let permuted : List Bool = select initial_permutation block in
@@ -80,17 +78,11 @@ length-swapped halves widths = length-append halves.1 halves.0 ∙ omega arith
 
 -- what the rounds make of a block, from its halves after the initial permutation
 pub through_rounds-from_halves : (keys : List (List Bool)) (block left right : List Bool)
-    → length left ≡ 32
-    → select initial_permutation block ≡ left ++ right
+    → length left ≡ 32 → select initial_permutation block ≡ left ++ right
     → through_rounds keys block ≡ select final_permutation (swapped (after_rounds keys left right))
 unfolding through_rounds
 through_rounds-from_halves keys block left right width begins =
-    let first : take 32 (select initial_permutation block) ≡ left =
-    ap (take 32) begins ∙ take_at left right 32 width in
-    let second : drop 32 (select initial_permutation block) ≡ right =
-    ap (drop 32) begins ∙ drop_at left right 32 width in
-    ap₂
-    (λ (l r : List Bool). select final_permutation (swapped (after_rounds keys l r))) first second
+    rw (begins, take_at left right 32 width, drop_at left right 32 width) refl
 
 -- what the rounds make of a block has 64 bits
 pub length-through_rounds : (keys : List (List Bool)) (block : List Bool)
@@ -109,9 +101,7 @@ through_rounds-reverse keys block width =
     let last : List Bool × List Bool = after_rounds keys left right in
     let halves : AreHalves (left, right) = AreHalves-permuted block in
     let ends : AreHalves last = AreHalves-after_rounds keys left right halves in
-    let begins : select initial_permutation (select final_permutation (swapped last))
-    ≡ swapped last =
-    select-initial_permutation (swapped last) (length-swapped last ends) in
+    let begins = select-initial_permutation (swapped last) (length-swapped last ends) in
     through_rounds-from_halves (reverse keys)
     (select final_permutation (swapped last)) last.1 last.0 ends.1 begins
     ∙ ap (λ h. select final_permutation (swapped h)) (after_rounds-reverse keys left right halves)

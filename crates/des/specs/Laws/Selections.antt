@@ -78,8 +78,7 @@ select-range_with_len k (suc n) bits within =
 
 -- a selection from a selection whose composed positions count up from 1 is the list of bits
 select-composed : (outer inner : List ℕ) (n : ℕ) (bits : List Bool) → length bits ≡ n
-    → composed (suc n) outer inner ≡ range_with_len 1 n
-    → select outer (select inner bits) ≡ bits
+    → composed (suc n) outer inner ≡ range_with_len 1 n → select outer (select inner bits) ≡ bits
 select-composed outer inner n bits size counts =
     rw (
       select-select (suc n) outer inner bits (omega arith),

@@ -9,25 +9,26 @@ use Rattle.des_fast.specs.declared.single.Des.{Des}
 use Rattle.des_fast.specs.HalfBlocks.{round_keys_of}
 use Rattle.des_fast.specs.Des.{IsDesOf, encrypted, decrypted}
 
--- a cipher is a pass
-pub IsPass-Des : (cipher : Des) → IsPass (encrypted cipher) (decrypted cipher)
-IsPass-Des cipher = IsPass-answer_by (round_keys_of cipher.schedule.round_keys)
+module _ {W : Type 0} where
+  -- a cipher is a pass
+  pub IsPass-Des : (cipher : Des W) → IsPass (encrypted cipher) (decrypted cipher)
+  IsPass-Des cipher = IsPass-answer_by (round_keys_of cipher.schedule.round_keys)
 
--- a cipher of a key answers as the key does, in each direction
-pub Agree-encrypted : (cipher : Des) (key : List ℕ) → IsDesOf cipher key
-    → Agree (encrypted cipher) (encryption key)
-Agree-encrypted cipher key made =
-    record { at = λ block is_block. ap (λ keys. answer_by keys block) made.1 }
+  -- a cipher of a key answers as the key does, in each direction
+  pub Agree-encrypted : (cipher : Des W) (key : List ℕ) → IsDesOf cipher key
+      → Agree (encrypted cipher) (encryption key)
+  Agree-encrypted cipher key made =
+      record { at = λ block is_block. ap (λ keys. answer_by keys block) made.1 }
 
-pub Agree-decrypted : (cipher : Des) (key : List ℕ) → IsDesOf cipher key
-    → Agree (decrypted cipher) (decryption key)
-Agree-decrypted cipher key made =
-    record { at = λ block is_block. ap (λ keys. answer_by (reverse keys) block) made.1 }
+  pub Agree-decrypted : (cipher : Des W) (key : List ℕ) → IsDesOf cipher key
+      → Agree (decrypted cipher) (decryption key)
+  Agree-decrypted cipher key made =
+      record { at = λ block is_block. ap (λ keys. answer_by (reverse keys) block) made.1 }
 
--- all that a triple cipher asks of a single one
-pub AnswersAsDes-Des : AnswersAsDes IsDesOf encrypted decrypted
-AnswersAsDes-Des = record {
-  is_pass = IsPass-Des;
-  encrypts_as_des = Agree-encrypted;
-  decrypts_as_des = Agree-decrypted;
-}
+  -- all that a triple cipher asks of a single one
+  pub AnswersAsDes-Des : AnswersAsDes (IsDesOf {W = W}) encrypted decrypted
+  AnswersAsDes-Des = record {
+    is_pass = IsPass-Des;
+    encrypts_as_des = Agree-encrypted;
+    decrypts_as_des = Agree-decrypted;
+  }

@@ -6,9 +6,10 @@ ghost use Rattle.des.specs.Cbc.{Unchains};
 ghost use Rattle.des_fast.specs.SpreadKeys.{AreSlicesFor};
 
 use super::lanes::write_answers;
-use super::{FEW, LARGEST_BATCH, Slice, next_count};
-use crate::quiet::lists::{self, AnswersFour};
+use super::{FEW, LARGEST_BATCH, Slice};
+use crate::lists::{self, Answers};
 use crate::slices::PassSlices;
+use crate::ways::Quiet;
 use des::cbc;
 
 // Takes blocks out of the chain that begins with `iv`, by what deciphering makes of each.
@@ -28,18 +29,18 @@ fn unchain_by(blocks: &mut [[u8; 8]], iv: &[u8; 8], answers: &[[u8; 8]])
 }
 
 // Makes the first blocks of an array what passes make of a few blocks.
-fn write_few<P: AnswersFour>(answers: &mut [[u8; 8]; FEW], blocks: &[[u8; 8]], passes: &P)
+fn write_few<P: Answers>(answers: &mut [[u8; 8]; FEW], blocks: &[[u8; 8]], passes: &P)
     requires { length blocks.now ≤ 8 }
     ensures { take (length blocks.now) answers.new ≡ map (P.answered passes.now) blocks.now }
 {
     let part = &mut answers[..blocks.len()];
     part.copy_from_slice(blocks);
-    lists::answer(part, passes);
+    lists::answer::<Quiet, P>(part, passes);
 }
 
 /// Takes a few blocks through passes, four side by side, and out of the chain that begins with
 /// `iv`.
-pub(super) fn unchain_few<P: AnswersFour>(blocks: &mut [[u8; 8]], iv: &[u8; 8], passes: &P)
+pub(super) fn unchain_few<P: Answers>(blocks: &mut [[u8; 8]], iv: &[u8; 8], passes: &P)
     requires { length blocks.old ≤ 8 }
     ensures { Unchains (P.answered passes.now) iv.now blocks.old blocks.new }
 {
@@ -68,7 +69,7 @@ pub(super) fn unchain<S: Slice>(blocks: &mut [[u8; 8]], iv: &[u8; 8], passes: &[
     let mut before = *iv;
     let mut from = 0;
     'parts: while from < blocks.len() {
-        let count = next_count::<S>(blocks.len() - from);
+        let count = S::BATCH.min(blocks.len() - from);
         let last = blocks[from + count - 1];
         unchain_part(&mut blocks[from..from + count], &before, passes);
         before = last;

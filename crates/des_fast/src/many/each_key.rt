@@ -1,18 +1,18 @@
 //! Lists in which each block, each chain or each record has a key of its own.
 
 ghost use Rattle.std.specs.Prelude.{◌≡◌, ◌↔◌, ◌≤◌, ◌*◌, IsOk, OnOk, OnErr, length, map};
-ghost use Rattle.std.specs.Mem.{type_size};
 ghost use Rattle.std.specs.Simd.Lanes.{zip2};
 ghost use Rattle.des_fast.specs.Slices.{InEachBlock};
 ghost use Rattle.des_fast.specs.SpreadKeys.{used};
-ghost use Rattle.des_fast.specs.EachKey.{lane_answer};
+ghost use Rattle.des_fast.specs.EachKey.{lane_answer, last_part, triple_parts};
 ghost use Rattle.des_fast.specs.LaneKeys.{AnswerLanes, answer_in};
 ghost use Rattle.des_fast.specs.ChainEnds.{AreEnds, under_key};
 
 use super::lanes::{LaneKeys, Part, answer_lanes_part};
-use super::{BlockLists, LARGEST_BATCH, Slice, ends, next_count};
-use crate::{Des, TdesEde2, TdesEde3, TdesEee2, TdesEee3};
+use super::{BlockLists, LARGEST_BATCH, Slice, ends};
+use crate::Des;
 use des::cipher::{KeyedCipher, NotEqualError, are_blocks};
+use des::tdes::{Form, Parts, Triple};
 
 /// A block cipher that takes a list in which each block has a key of its own. Nothing is kept of
 /// the keys, and no call reads a table at an index that depends on a key or a block.
@@ -23,9 +23,6 @@ pub trait KeyForEach: KeyedCipher {
         ensures { AnswerLanes S.bit lanes.new
             (answer_in deciphers Self.encryption Self.decryption)
             (map Self.Key.bytes_of keys.now) };
-
-    // A key takes few bytes, so that an array of keys fits in memory.
-    ghost few_bytes: { type_size Self.Key.row ≤ 32 };
 
     /// Encrypts each block of 8 bytes in place under the key at its place, `S::BATCH` blocks at a
     /// time. Where the two lists differ in length, the answer is `NotEqualError`, and the blocks
@@ -132,7 +129,7 @@ fn answer_each<S: Slice, C: KeyForEach>(keys: &[C::Key], blocks: &mut [[u8; 8]],
 {
     let mut from = 0;
     'parts: while from < blocks.len() {
-        let count = next_count::<S>(blocks.len() - from);
+        let count = S::BATCH.min(blocks.len() - from);
         let part = &keys[from..from + count];
         answer_part::<S, C>(part, &mut blocks[from..from + count], deciphers);
         from += count;
@@ -157,121 +154,43 @@ fn answer_equal<S: Slice, C: KeyForEach>(
     Ok(())
 }
 
-// The passes under each part of a key, and those that undo them.
-const FIRST: Part = Part {
-    number: 1,
-    deciphers: false,
-};
-
-const FIRST_UNDONE: Part = Part {
-    number: 1,
-    deciphers: true,
-};
-
-const SECOND: Part = Part {
-    number: 2,
-    deciphers: false,
-};
-
-const SECOND_UNDONE: Part = Part {
-    number: 2,
-    deciphers: true,
-};
-
-const THIRD: Part = Part {
-    number: 3,
-    deciphers: false,
-};
-
-const THIRD_UNDONE: Part = Part {
-    number: 3,
-    deciphers: true,
-};
-
-// The passes of the ciphers, each under a part of the key.
-const EDE2: [Part; 3] = [FIRST, SECOND_UNDONE, FIRST];
-
-const EDE2_UNDONE: [Part; 3] = [FIRST_UNDONE, SECOND, FIRST_UNDONE];
-
-const EDE3: [Part; 3] = [FIRST, SECOND_UNDONE, THIRD];
-
-const EDE3_UNDONE: [Part; 3] = [THIRD_UNDONE, SECOND, FIRST_UNDONE];
-
-const EEE2: [Part; 3] = [FIRST, SECOND, FIRST];
-
-const EEE2_UNDONE: [Part; 3] = [FIRST_UNDONE, SECOND_UNDONE, FIRST_UNDONE];
-
-const EEE3: [Part; 3] = [FIRST, SECOND, THIRD];
-
-const EEE3_UNDONE: [Part; 3] = [THIRD_UNDONE, SECOND_UNDONE, FIRST_UNDONE];
-
 impl KeyForEach for Des {
-    ghost use Rattle.std.proofs.Common.{lit≤};
-
-    ghost few_bytes = { lit≤ tt };
-
     fn spread_each<S: Slice>(keys: &[[u8; 8]], deciphers: bool, lanes: &mut LaneKeys<S>) {
         are_blocks(keys);
-        if deciphers {
-            lanes.spread_one(keys, FIRST_UNDONE);
-        } else {
-            lanes.spread_one(keys, FIRST);
-        }
+        lanes.spread_one(keys, deciphers);
     }
 }
 
-impl KeyForEach for TdesEde2 {
-    ghost use Rattle.std.proofs.Common.{lit≤};
+// The number of the part of a third pass, which of two parts is the first again.
+fn last_part<P: Parts>() -> usize
+    ensures { result ≡ last_part P.has_three }
+{
+    if P::KEY_SIZE == 24 { 3 } else { 1 }
+}
 
-    ghost few_bytes = { lit≤ tt };
-
-    fn spread_each<S: Slice>(keys: &[[u8; 16]], deciphers: bool, lanes: &mut LaneKeys<S>) {
-        if deciphers {
-            lanes.spread_three(keys, &EDE2_UNDONE);
-        } else {
-            lanes.spread_three(keys, &EDE2);
-        }
+// The parts of a key under which the passes of a triple cipher are, in order.
+fn parts_of<P: Parts, F: Form>(deciphers: bool) -> [Part; 3]
+    ensures { result ≡ triple_parts P.has_three F.DECIPHERS_SECOND deciphers }
+{
+    let last = last_part::<P>();
+    let second = F::DECIPHERS_SECOND;
+    if deciphers {
+        [
+            Part::new(last, true),
+            Part::new(2, !second),
+            Part::new(1, true),
+        ]
+    } else {
+        [
+            Part::new(1, false),
+            Part::new(2, second),
+            Part::new(last, false),
+        ]
     }
 }
 
-impl KeyForEach for TdesEde3 {
-    ghost use Rattle.std.proofs.Common.{lit≤};
-
-    ghost few_bytes = { lit≤ tt };
-
-    fn spread_each<S: Slice>(keys: &[[u8; 24]], deciphers: bool, lanes: &mut LaneKeys<S>) {
-        if deciphers {
-            lanes.spread_three(keys, &EDE3_UNDONE);
-        } else {
-            lanes.spread_three(keys, &EDE3);
-        }
-    }
-}
-
-impl KeyForEach for TdesEee2 {
-    ghost use Rattle.std.proofs.Common.{lit≤};
-
-    ghost few_bytes = { lit≤ tt };
-
-    fn spread_each<S: Slice>(keys: &[[u8; 16]], deciphers: bool, lanes: &mut LaneKeys<S>) {
-        if deciphers {
-            lanes.spread_three(keys, &EEE2_UNDONE);
-        } else {
-            lanes.spread_three(keys, &EEE2);
-        }
-    }
-}
-
-impl KeyForEach for TdesEee3 {
-    ghost use Rattle.std.proofs.Common.{lit≤};
-
-    ghost few_bytes = { lit≤ tt };
-
-    fn spread_each<S: Slice>(keys: &[[u8; 24]], deciphers: bool, lanes: &mut LaneKeys<S>) {
-        if deciphers {
-            lanes.spread_three(keys, &EEE3_UNDONE);
-        } else {
-            lanes.spread_three(keys, &EEE3);
-        }
+impl<P: Parts<Single = Des>, F: Form> KeyForEach for Triple<P, F> {
+    fn spread_each<S: Slice>(keys: &[P::Key], deciphers: bool, lanes: &mut LaneKeys<S>) {
+        lanes.spread_three(keys, &parts_of::<P, F>(deciphers));
     }
 }

@@ -11,7 +11,7 @@ ghost use Rattle.des_fast.specs.ChainEnds.{AreEnds, under_key};
 
 use super::each_key::KeyForEach;
 use super::lanes::{LaneKeys, answer_filled};
-use super::{LARGEST_BATCH, Slice, next_count, xored};
+use super::{LARGEST_BATCH, Slice, xored};
 use crate::slices::PassSlices;
 
 /// Lists of blocks of 8 bytes, one for each of many chains, of which a call reads block after
@@ -141,7 +141,7 @@ pub(super) fn end<S: Slice, L: BlockLists>(
 {
     let mut from = 0;
     'groups: while from < chains.len() {
-        let count = next_count::<S>(chains.len() - from);
+        let count = S::BATCH.min(chains.len() - from);
         end_group(&mut chains[from..from + count], lists, from, passes);
         from += count;
     }
@@ -184,7 +184,7 @@ pub(super) fn end_each<S: Slice, C: KeyForEach, L: BlockLists>(
 {
     let mut from = 0;
     'groups: while from < chains.len() {
-        let count = next_count::<S>(chains.len() - from);
+        let count = S::BATCH.min(chains.len() - from);
         let part = &keys[from..from + count];
         end_group_each::<S, C, L>(part, &mut chains[from..from + count], lists, from);
         from += count;

@@ -14,6 +14,7 @@ ghost use Rattle.des_fast.specs.EachKey.{round_keys_under, round_keys_of_parts, 
 
 use super::{LARGEST_BATCH, Slice};
 use crate::slices::{PassSlices, read_blocks, slices_through_passes, write_blocks};
+use des::cipher::KeyBytes;
 use des::tdes::key_part;
 
 /// A pass of DES under a part of a key.
@@ -23,6 +24,15 @@ pub(super) struct Part {
     pub(super) number: usize,
     /// Whether the pass deciphers.
     pub(super) deciphers: bool,
+}
+
+impl Part {
+    /// The pass under a part that deciphers, or enciphers.
+    pub(super) fn new(number: usize, deciphers: bool) -> Part
+        ensures { result ≡ record { number = number; deciphers = deciphers } }
+    {
+        Part { number, deciphers }
+    }
 }
 
 /// The keys of the lanes of a batch, spread over slices for one direction: each lane's own. It takes
@@ -60,25 +70,25 @@ impl<S: Slice> LaneKeys<S> {
     }
 
     /// Makes the lanes' keys one pass under these keys of 8 bytes.
-    pub(super) fn spread_one(&mut self, keys: &[[u8; 8]], by: Part)
-        requires first { by.number ≡ 1 }
+    pub(super) fn spread_one(&mut self, keys: &[[u8; 8]], deciphers: bool)
         requires batch { length keys.now ≤ S.BATCH }
         ensures { (k : ℕ) → k < length keys.now
             → map (round_keys_in (S.bit k)) (used self.new.is_triple self.new.passes)
-            ≡ round_keys_of_parts (by ∷ []) (block_at keys.now k) }
+            ≡ round_keys_of_parts (record { number = 1; deciphers = deciphers } ∷ [])
+            (block_at keys.now k) }
     {
-        spread_part(&mut self.passes[0], keys, by);
+        spread_part(&mut self.passes[0], keys, Part::new(1, deciphers));
         self.is_triple = false;
     }
 
     /// Makes the lanes' keys three passes under parts of these keys.
-    pub(super) fn spread_three<const N: usize>(&mut self, keys: &[[u8; N]], parts: &[Part; 3])
+    pub(super) fn spread_three<K: KeyBytes>(&mut self, keys: &[K], parts: &[Part; 3])
         requires batch { length keys.now ≤ S.BATCH }
         requires there { IsTrue (list_all
-            (λ p. nat_lt 0 p.number && nat_lt (8 * p.number) (N + 1)) parts.now) }
+            (λ p. nat_lt 0 p.number && nat_lt (8 * p.number) (K.LEN + 1)) parts.now) }
         ensures { (k : ℕ) → k < length keys.now
             → map (round_keys_in (S.bit k)) (used self.new.is_triple self.new.passes)
-            ≡ round_keys_of_parts parts.now (block_at keys.now k) }
+            ≡ round_keys_of_parts parts.now (block_at (map K.bytes_of keys.now) k) }
     {
         spread_parts(&mut self.passes, keys, parts);
         self.is_triple = true;
@@ -86,29 +96,25 @@ impl<S: Slice> LaneKeys<S> {
 }
 
 // Makes the first blocks those of a part of each key.
-fn write_parts<const N: usize>(
-    parts: &mut [[u8; 8]; LARGEST_BATCH],
-    keys: &[[u8; N]],
-    number: usize,
-)
+fn write_parts<K: KeyBytes>(parts: &mut [[u8; 8]; LARGEST_BATCH], keys: &[K], number: usize)
     requires from_one { 1 ≤ number }
-    requires within { 8 * number ≤ N }
+    requires within { 8 * number ≤ K.LEN }
     requires batch { length keys.now ≤ 256 }
     ensures { (k : ℕ) → k < length keys.now
-        → block_at parts.new k ≡ part number (block_at keys.now k) }
+        → block_at parts.new k ≡ part number (block_at (map K.bytes_of keys.now) k) }
 {
     'keys: for k in 0..keys.len() {
-        parts[k] = key_part(&keys[k], number);
+        parts[k] = key_part(keys[k].as_bytes(), number);
     }
 }
 
 // Makes the slices those of a pass under a part of each key.
-fn spread_part<S: Slice, const N: usize>(pass: &mut PassSlices<S>, keys: &[[u8; N]], by: Part)
+fn spread_part<S: Slice, K: KeyBytes>(pass: &mut PassSlices<S>, keys: &[K], by: Part)
     requires from_one { 1 ≤ by.number }
-    requires within { 8 * by.number ≤ N }
+    requires within { 8 * by.number ≤ K.LEN }
     requires batch { length keys.now ≤ S.BATCH }
     ensures { (k : ℕ) → k < length keys.now → round_keys_in (S.bit k) pass.new
-        ≡ round_keys_under by.deciphers (part by.number (block_at keys.now k)) }
+        ≡ round_keys_under by.deciphers (part by.number (block_at (map K.bytes_of keys.now) k)) }
 {
     let mut parts = [[0; 8]; LARGEST_BATCH];
     write_parts(&mut parts, keys, by.number);
@@ -117,19 +123,19 @@ fn spread_part<S: Slice, const N: usize>(pass: &mut PassSlices<S>, keys: &[[u8; 
 
 // Makes pass i, from 0, that of its part of each key, where those before it are. A third pass that
 // is the first again is copied.
-fn spread_pass<S: Slice, const N: usize>(
+fn spread_pass<S: Slice, K: KeyBytes>(
     passes: &mut [PassSlices<S>; 3],
-    keys: &[[u8; N]],
+    keys: &[K],
     parts: &[Part; 3],
     i: usize,
 )
     requires within { i < 3 }
     requires batch { length keys.now ≤ S.BATCH }
-    requires there { IsTrue (list_all (λ p. nat_lt 0 p.number && nat_lt (8 * p.number) (N + 1))
+    requires there { IsTrue (list_all (λ p. nat_lt 0 p.number && nat_lt (8 * p.number) (K.LEN + 1))
         parts.now) }
-    requires before { AreSpreadBelow S.bit parts.now keys.now passes.old i }
+    requires before { AreSpreadBelow S.bit parts.now (map K.bytes_of keys.now) passes.old i }
     ensures count { length passes.new ≡ length passes.old }
-    ensures spread { AreSpreadBelow S.bit parts.now keys.now passes.new (i + 1) }
+    ensures spread { AreSpreadBelow S.bit parts.now (map K.bytes_of keys.now) passes.new (i + 1) }
 {
     if i == 2 && parts[2].number == parts[0].number && parts[2].deciphers == parts[0].deciphers {
         passes[2] = passes[0];
@@ -139,16 +145,16 @@ fn spread_pass<S: Slice, const N: usize>(
 }
 
 // Makes passes those under parts of each key.
-fn spread_parts<S: Slice, const N: usize>(
+fn spread_parts<S: Slice, K: KeyBytes>(
     passes: &mut [PassSlices<S>; 3],
-    keys: &[[u8; N]],
+    keys: &[K],
     parts: &[Part; 3],
 )
     requires batch { length keys.now ≤ S.BATCH }
-    requires there { IsTrue (list_all (λ p. nat_lt 0 p.number && nat_lt (8 * p.number) (N + 1))
+    requires there { IsTrue (list_all (λ p. nat_lt 0 p.number && nat_lt (8 * p.number) (K.LEN + 1))
         parts.now) }
     ensures { (k : ℕ) → k < length keys.now → map (round_keys_in (S.bit k)) passes.new
-        ≡ round_keys_of_parts parts.now (block_at keys.now k) }
+        ≡ round_keys_of_parts parts.now (block_at (map K.bytes_of keys.now) k) }
 {
     'passes: for i in 0..3 {
         spread_pass(passes, keys, parts, i);

@@ -12,7 +12,7 @@ ghost use Rattle.des_fast.specs.Transposition.{block_at};
 use super::each_key::KeyForEach;
 use super::lanes::{LaneKeys, write_answers};
 use super::records::{Group, Record, Sizes, add_up_to, chain_group, record_with, take_out};
-use super::{LARGEST_BATCH, Slice, next_count};
+use super::{LARGEST_BATCH, Slice};
 use crate::slices::PassSlices;
 use des::cipher::{NotEqualError, are_blocks};
 use std::marker::PhantomData;
@@ -183,7 +183,7 @@ fn chain<K: RecordKeys, Z: Sizes>(
     let mut from = 0;
     let mut start = 0;
     'groups: while from < vectors.len() {
-        let count = next_count::<K::Slices>(vectors.len() - from);
+        let count = <K::Slices as Slice>::BATCH.min(vectors.len() - from);
         let group = Group { from, count, start };
         let extent = group.extent(sizes);
         let passes = keys.encryption(from, count, &mut room);
@@ -253,7 +253,7 @@ fn unchain<K: RecordKeys, Z: Sizes>(
     };
     let mut from = 0;
     'parts: while from < blocks.len() {
-        let count = next_count::<K::Slices>(blocks.len() - from);
+        let count = <K::Slices as Slice>::BATCH.min(blocks.len() - from);
         record = unchain_part(keys, vectors, sizes, blocks, from, count, record);
         from += count;
     }

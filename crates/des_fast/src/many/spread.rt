@@ -7,13 +7,14 @@ ghost use Rattle.des.specs.Cbc.{Unchains};
 ghost use Rattle.des_fast.specs.SpreadKeys.{AreSlicesFor, AreSpreadKeys, used};
 
 use super::lanes::{LaneKeys, used};
+use super::passes::{spread_one, spread_three};
 use super::record_keys::RecordKeys;
 use super::records::{Record, Sizes};
 use super::{ManyBlocks, Slice, answer, chains};
 use crate::Des;
 use crate::slices::PassSlices;
 use des::cipher::are_blocks;
-use des::tdes::{BatchedTriple, Form, Parts, Triple};
+use des::tdes::{Form, Parts, Triple};
 
 /// The keys of a cipher, spread over slices of a width, for those who have many short lists under
 /// one key: a list then takes the time of its batches alone. They answer as the cipher does, and take some 11,000 bytes over vectors of two words, and 22,000 over four.
@@ -106,35 +107,30 @@ pub trait SpreadOnce: ManyBlocks {
             (Self.decrypted self.now) };
 }
 
-// The keys of a triple cipher.
-fn spread_triple<S: Slice, C: BatchedTriple<Des>>(cipher: &C) -> SpreadKeys<S>
-    ensures { AreSpreadKeys S.BATCH S.bit result (C.encrypted cipher.now) (C.decrypted cipher.now) }
-{
-    let mut keys = SpreadKeys {
-        encryption: [PassSlices::unwritten(); 3],
-        decryption: [PassSlices::unwritten(); 3],
-        is_triple: true,
-    };
-    cipher.encryption_passes().spread(&mut keys.encryption);
-    cipher.decryption_passes().spread(&mut keys.decryption);
-    keys
-}
-
 impl SpreadOnce for Des {
     fn spread_keys<S: Slice>(&self) -> SpreadKeys<S> {
-        let mut keys = SpreadKeys {
-            encryption: [PassSlices::unwritten(); 3],
-            decryption: [PassSlices::unwritten(); 3],
+        let mut encryption = [PassSlices::unwritten(); 3];
+        let mut decryption = [PassSlices::unwritten(); 3];
+        spread_one(&mut encryption, &self.pass(false));
+        spread_one(&mut decryption, &self.pass(true));
+        SpreadKeys {
+            encryption,
+            decryption,
             is_triple: false,
-        };
-        keys.encryption[0].spread(&self.keyed_pass(false).last_keys());
-        keys.decryption[0].spread(&self.keyed_pass(true).last_keys());
-        keys
+        }
     }
 }
 
 impl<P: Parts<Single = Des>, F: Form> SpreadOnce for Triple<P, F> {
     fn spread_keys<S: Slice>(&self) -> SpreadKeys<S> {
-        spread_triple(self)
+        let mut encryption = [PassSlices::unwritten(); 3];
+        let mut decryption = [PassSlices::unwritten(); 3];
+        spread_three(&mut encryption, &self.encryption_passes());
+        spread_three(&mut decryption, &self.decryption_passes());
+        SpreadKeys {
+            encryption,
+            decryption,
+            is_triple: true,
+        }
     }
 }

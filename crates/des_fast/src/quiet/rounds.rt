@@ -2,7 +2,7 @@
 //!
 //! A half block is kept as its expansion E in a word of groups, as in `halves`.
 
-ghost use Rattle.std.specs.Prelude.{◌≡◌, ◌<◌, ℕ, [], bit_xor, slice_index_or};
+ghost use Rattle.std.specs.Prelude.{◌≡◌, ◌<◌, ◌≤◌, ◌-◌, ℕ, [], bit_xor, min, slice_index_or};
 ghost use Rattle.des.specs.Bits.{select, xor_bits};
 ghost use Rattle.des.specs.Tables.{permutation};
 ghost use Rattle.des.specs.CipherFunction.{substitute, cipher_function};
@@ -17,33 +17,52 @@ use crate::halves::{HalfBlock, Halves, RoundKey};
 use std::simd::prelude::*;
 
 /// A word of groups of each of some blocks.
-pub(crate) trait Groups: Copy {
-    // How many blocks there are.
-    ghost blocks: { ℕ };
+pub trait Groups: Copy {
+    /// How many blocks there are.
+    const BLOCKS: usize;
+
+    ghost BLOCKS: { ℕ };
 
     // The word of block b, from 0.
     ghost word: { ℕ → Self → ℕ };
 
     /// The same word for each block.
     fn same(groups: u64) -> Self
-        ensures { InEachBlock blocks (λ b. word b result ≡ groups) };
+        ensures { InEachBlock BLOCKS (λ b. word b result ≡ groups) };
 
     /// `self ^ other`.
     fn xor(self, other: Self) -> Self
-        ensures { InEachBlock blocks (λ b. word b result ≡ bit_xor (word b self) (word b other)) };
+        ensures { InEachBlock BLOCKS (λ b. word b result ≡ bit_xor (word b self) (word b other)) };
 
     /// The substitution by S1 to S8 of the 48 bits of each block, and P after it, as the word of
     /// groups of its expansion E (FIPS 46-3, cipher function).
     fn substitute(self) -> Self
-        requires { InEachBlock blocks (λ b. IsOfGroups (word b self)) }
-        ensures expansion { InEachBlock blocks (λ b. IsExpansion (word b result)) }
-        ensures substituted { InEachBlock blocks (λ b. half_of (word b result)
+        requires { InEachBlock BLOCKS (λ b. IsOfGroups (word b self)) }
+        ensures expansion { InEachBlock BLOCKS (λ b. IsExpansion (word b result)) }
+        ensures substituted { InEachBlock BLOCKS (λ b. half_of (word b result)
             ≡ select permutation (substitute (bits_of_groups (word b self)))) };
+
+    /// The first of these words, one for each block.
+    fn of_words(words: [u64; 4]) -> Self
+        ensures { InEachBlock BLOCKS (λ b. word b result ≡ slice_index_or words b 0) };
+
+    /// The words of the blocks, and then the last of them again.
+    fn into_words(self) -> [u64; 4]
+        ensures { (b : ℕ) → b < 4 → slice_index_or result b 0 ≡ word (min b (BLOCKS - 1)) self };
+
+    // There are some blocks, and at most four.
+    ghost some_blocks: { 1 ≤ BLOCKS };
+
+    ghost at_most: { BLOCKS ≤ 4 };
 }
 
 /// One block.
 impl Groups for u64 {
-    ghost blocks = { 1 };
+    ghost use Rattle.std.proofs.Common.{lit≤};
+
+    const BLOCKS: usize = 1;
+
+    ghost BLOCKS = { 1 };
 
     ghost word = { λ b groups. groups };
 
@@ -61,11 +80,29 @@ impl Groups for u64 {
     fn substitute(self) -> u64 {
         boxes::substitute(self)
     }
+
+    #[inline(always)]
+    fn of_words(words: [u64; 4]) -> u64 {
+        words[0]
+    }
+
+    #[inline(always)]
+    fn into_words(self) -> [u64; 4] {
+        [self; 4]
+    }
+
+    ghost some_blocks = { lit≤ tt };
+
+    ghost at_most = { lit≤ tt };
 }
 
 /// Four blocks.
 impl Groups for u64x4 {
-    ghost blocks = { 4 };
+    ghost use Rattle.std.proofs.Common.{lit≤};
+
+    const BLOCKS: usize = 4;
+
+    ghost BLOCKS = { 4 };
 
     ghost word = { λ b groups. slice_index_or groups b 0 };
 
@@ -83,16 +120,30 @@ impl Groups for u64x4 {
     fn substitute(self) -> u64x4 {
         fours::substitute(self)
     }
+
+    #[inline(always)]
+    fn of_words(words: [u64; 4]) -> u64x4 {
+        u64x4::from_array(words)
+    }
+
+    #[inline(always)]
+    fn into_words(self) -> [u64; 4] {
+        self.to_array()
+    }
+
+    ghost some_blocks = { lit≤ tt };
+
+    ghost at_most = { lit≤ tt };
 }
 
 // The half block that a round makes: the left half, xor f of the right half and the round key (FIPS
 // 46-3, enciphering).
 #[inline(always)]
 fn next<G: Groups>(left: G, right: G, round_key: RoundKey) -> G
-    requires left { AreExpansions G.blocks G.word left }
-    requires right { AreExpansions G.blocks G.word right }
-    ensures expansions { AreExpansions G.blocks G.word result }
-    ensures halves { InEachBlock G.blocks (λ b. half_of (G.word b result)
+    requires left { AreExpansions G.BLOCKS G.word left }
+    requires right { AreExpansions G.BLOCKS G.word right }
+    ensures expansions { AreExpansions G.BLOCKS G.word result }
+    ensures halves { InEachBlock G.BLOCKS (λ b. half_of (G.word b result)
         ≡ xor_bits (half_of (G.word b left))
         (cipher_function (half_of (G.word b right)) (bits_of_groups round_key.groups))) }
 {
@@ -122,11 +173,11 @@ pub(crate) fn after_rounds<G: Groups>(
     round_keys: &[RoundKey; 16],
     deciphers: bool,
 ) -> (G, G)
-    requires left { AreExpansions G.blocks G.word left }
-    requires right { AreExpansions G.blocks G.word right }
-    ensures left { AreExpansions G.blocks G.word result.0 }
-    ensures right { AreExpansions G.blocks G.word result.1 }
-    ensures halves { InEachBlock G.blocks (λ b.
+    requires left { AreExpansions G.BLOCKS G.word left }
+    requires right { AreExpansions G.BLOCKS G.word right }
+    ensures left { AreExpansions G.BLOCKS G.word result.0 }
+    ensures right { AreExpansions G.BLOCKS G.word result.1 }
+    ensures halves { InEachBlock G.BLOCKS (λ b.
         (half_of (G.word b result.0), half_of (G.word b result.1))
         ≡ after_rounds (in_direction deciphers (round_keys_of round_keys.now))
         (half_of (G.word b left)) (half_of (G.word b right))) }

@@ -1,34 +1,36 @@
-//! Blocks as rows of bits: block b of a batch, from 0, is word b / 64 of row b % 64.
+//! Blocks as rows of bits: the first row has the first blocks of a batch, one in each word, the
+//! next row the next ones.
 
 ghost use Rattle.std.specs.Prelude.{◌≡◌, length};
-ghost use Rattle.des.specs.Bits.{bits_of_bytes, bits_of_word};
+ghost use Rattle.std.specs.Int.{to_le_bytes, w64};
+ghost use Rattle.des.specs.Bits.{bits_of_bytes};
 ghost use Rattle.des.specs.Blocks.{block_of_bits};
 ghost use Rattle.des_fast.specs.Transposition.{AreRowsOf, AreBlocksOfRows};
 
 use super::Slice;
 use super::transposition::Rows;
 
-/// The word of the bits of a block. This and the next are functions for the proof's sake: of an
-/// element of a list of blocks it knows nothing but that it is one.
+/// The word of the bytes of a block, as they stand in memory. This and the next are functions for
+/// the proof's sake: of an element of a list of blocks it knows nothing but that it is one.
 #[inline(always)]
 pub(super) fn word_of(block: &[u8; 8]) -> u64
-    ensures { bits_of_word result ≡ bits_of_bytes block.now }
+    ensures { to_le_bytes w64 result ≡ block.now }
 {
-    u64::from_be_bytes(*block)
+    u64::from_le_bytes(*block)
 }
 
-/// The block of the bits of a word.
+/// The block of the bytes of a word.
 #[inline(always)]
 pub(super) fn block_of(word: u64) -> [u8; 8]
-    ensures { result ≡ block_of_bits (bits_of_word word) }
+    ensures { result ≡ block_of_bits (bits_of_bytes (to_le_bytes w64 word)) }
 {
-    word.to_be_bytes()
+    word.to_le_bytes()
 }
 
 /// Makes rows those of a batch of blocks.
 pub(super) fn read_rows<S: Slice>(rows: &mut Rows<S>, blocks: &[[u8; 8]])
     requires { length blocks.now ≡ S.BATCH }
-    ensures { AreRowsOf S.BATCH S.bit blocks.now rows.new }
+    ensures { AreRowsOf S.BATCH S.words S.place_bit blocks.now rows.new }
 {
     'rows: for n in 0..64usize {
         rows[n] = S::row_of(blocks, n);
@@ -38,7 +40,7 @@ pub(super) fn read_rows<S: Slice>(rows: &mut Rows<S>, blocks: &[[u8; 8]])
 /// Writes the batch of blocks of the rows.
 pub(super) fn write_rows<S: Slice>(blocks: &mut [[u8; 8]], rows: &Rows<S>)
     requires { length blocks.old ≡ S.BATCH }
-    ensures written { AreBlocksOfRows S.BATCH S.bit rows.now blocks.new }
+    ensures written { AreBlocksOfRows S.BATCH S.words S.place_bit rows.now blocks.new }
     ensures count { length blocks.new ≡ length blocks.old }
 {
     'rows: for n in 0..64usize {

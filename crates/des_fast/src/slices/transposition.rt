@@ -4,7 +4,7 @@
 
 ghost use Rattle.std.specs.Prelude.{◌≡◌, ◌<◌, ◌≢◌, ◌*◌, ◌+◌, ◌/◌, ◌%◌, ℕ, false, IsTrue, length, map, slice_index_or};
 ghost use Rattle.des_fast.specs.Slices.{InEachBlock};
-ghost use Rattle.des_fast.specs.Transposition.{pairs_places, ArePairwiseExchanged, AreBytesExchanged, AreBitsExchanged, AreTransposed};
+ghost use Rattle.des_fast.specs.Transposition.{pairs_places, ArePairwise, exchanged, interleaved, joined, AreBytesExchanged, AreBitsExchanged, AreTransposed};
 
 use super::Slice;
 
@@ -18,7 +18,7 @@ pub(crate) type Rows<S> = [S; 64];
 fn exchange_pairs<S: Slice>(rows: [S; 8], distance: u64, mask: u64) -> [S; 8]
     requires within { distance < 64 }
     requires pairs { IsTrue (pairs_places distance mask) }
-    ensures { ArePairwiseExchanged S.BATCH S.bit 4 distance rows result }
+    ensures { ArePairwise S.BATCH S.place_bit 4 (exchanged distance) rows result }
 {
     let [a, b] = rows[0].exchange(rows[4], distance, mask);
     let [c, d] = rows[1].exchange(rows[5], distance, mask);
@@ -27,20 +27,43 @@ fn exchange_pairs<S: Slice>(rows: [S; 8], distance: u64, mask: u64) -> [S; 8]
     [a, b, c, d, e, f, g, h]
 }
 
-// Transposes the eight bytes of each word of eight rows.
+// Takes bytes of the first four rows and of rows 4, 5, 6 and 7 by turns.
+#[inline(always)]
+fn interleave_pairs<S: Slice>(rows: [S; 8]) -> [S; 8]
+    ensures { ArePairwise S.BATCH S.place_bit 4 interleaved rows result }
+{
+    let [a, b] = rows[0].interleave_bytes(rows[4]);
+    let [c, d] = rows[1].interleave_bytes(rows[5]);
+    let [e, f] = rows[2].interleave_bytes(rows[6]);
+    let [g, h] = rows[3].interleave_bytes(rows[7]);
+    [a, b, c, d, e, f, g, h]
+}
+
+// Takes words of the first four rows and of rows 4, 5, 6 and 7 by turns.
+#[inline(always)]
+fn join_pairs<S: Slice>(rows: [S; 8]) -> [S; 8]
+    ensures { ArePairwise S.BATCH S.place_bit 4 joined rows result }
+{
+    let [a, b] = rows[0].join_words(rows[4]);
+    let [c, d] = rows[1].join_words(rows[5]);
+    let [e, f] = rows[2].join_words(rows[6]);
+    let [g, h] = rows[3].join_words(rows[7]);
+    [a, b, c, d, e, f, g, h]
+}
+
+// Transposes the eight bytes of each word of eight rows. Three steps give each 16 bytes the bytes of
+// eight rows at one place of each of two words, and the last one divides these words.
 #[inline(always)]
 fn exchange_bytes<S: Slice>(rows: [S; 8]) -> [S; 8]
-    ensures { AreBytesExchanged S.BATCH S.bit rows result }
+    ensures { AreBytesExchanged S.BATCH S.place_bit rows result }
 {
-    let rows = exchange_pairs(rows, 32, 0x00000000ffffffff);
-    let rows = exchange_pairs(rows, 16, 0x0000ffff0000ffff);
-    exchange_pairs(rows, 8, 0x00ff00ff00ff00ff)
+    join_pairs(interleave_pairs(interleave_pairs(interleave_pairs(rows))))
 }
 
 // Transposes the bits of each square of eight rows of eight bits.
 #[inline(always)]
 fn exchange_bits<S: Slice>(rows: [S; 8]) -> [S; 8]
-    ensures { AreBitsExchanged S.BATCH S.bit rows result }
+    ensures { AreBitsExchanged S.BATCH S.place_bit rows result }
 {
     let rows = exchange_pairs(rows, 4, 0x0f0f0f0f0f0f0f0f);
     let rows = exchange_pairs(rows, 2, 0x3333333333333333);
@@ -52,8 +75,8 @@ fn exchange_bits<S: Slice>(rows: [S; 8]) -> [S; 8]
 fn every_eighth<S: Slice>(rows: &Rows<S>, i: usize) -> [S; 8]
     requires { i < 8 }
     ensures { InEachBlock S.BATCH (λ b. (j : ℕ) → j < 8
-        → slice_index_or (map (S.bit b) result) j false
-        ≡ slice_index_or (map (S.bit b) rows.now) (8 * j + i) false) }
+        → slice_index_or (map (S.place_bit b) result) j false
+        ≡ slice_index_or (map (S.place_bit b) rows.now) (8 * j + i) false) }
 {
     [
         rows[i],
@@ -72,11 +95,11 @@ fn every_eighth<S: Slice>(rows: &Rows<S>, i: usize) -> [S; 8]
 fn write_every_eighth<S: Slice>(rows: &mut Rows<S>, i: usize, eight: [S; 8])
     requires { i < 8 }
     ensures written { InEachBlock S.BATCH (λ b. (j : ℕ) → j < 8
-        → slice_index_or (map (S.bit b) rows.new) (8 * j + i) false
-        ≡ slice_index_or (map (S.bit b) eight) j false) }
+        → slice_index_or (map (S.place_bit b) rows.new) (8 * j + i) false
+        ≡ slice_index_or (map (S.place_bit b) eight) j false) }
     ensures kept { InEachBlock S.BATCH (λ b. (m : ℕ) → m % 8 ≢ i
-        → slice_index_or (map (S.bit b) rows.new) m false
-        ≡ slice_index_or (map (S.bit b) rows.old) m false) }
+        → slice_index_or (map (S.place_bit b) rows.new) m false
+        ≡ slice_index_or (map (S.place_bit b) rows.old) m false) }
     ensures count { length rows.new ≡ 64 }
 {
     for j in 0..8usize {
@@ -89,8 +112,8 @@ fn write_every_eighth<S: Slice>(rows: &mut Rows<S>, i: usize, eight: [S; 8])
 fn eight_rows<S: Slice>(rows: &Rows<S>, i: usize) -> [S; 8]
     requires { i < 8 }
     ensures { InEachBlock S.BATCH (λ b. (j : ℕ) → j < 8
-        → slice_index_or (map (S.bit b) result) j false
-        ≡ slice_index_or (map (S.bit b) rows.now) (8 * i + j) false) }
+        → slice_index_or (map (S.place_bit b) result) j false
+        ≡ slice_index_or (map (S.place_bit b) rows.now) (8 * i + j) false) }
 {
     [
         rows[8 * i],
@@ -109,11 +132,11 @@ fn eight_rows<S: Slice>(rows: &Rows<S>, i: usize) -> [S; 8]
 fn write_eight<S: Slice>(rows: &mut Rows<S>, i: usize, eight: [S; 8])
     requires { i < 8 }
     ensures written { InEachBlock S.BATCH (λ b. (j : ℕ) → j < 8
-        → slice_index_or (map (S.bit b) rows.new) (8 * i + j) false
-        ≡ slice_index_or (map (S.bit b) eight) j false) }
+        → slice_index_or (map (S.place_bit b) rows.new) (8 * i + j) false
+        ≡ slice_index_or (map (S.place_bit b) eight) j false) }
     ensures kept { InEachBlock S.BATCH (λ b. (m : ℕ) → m / 8 ≢ i
-        → slice_index_or (map (S.bit b) rows.new) m false
-        ≡ slice_index_or (map (S.bit b) rows.old) m false) }
+        → slice_index_or (map (S.place_bit b) rows.new) m false
+        ≡ slice_index_or (map (S.place_bit b) rows.old) m false) }
     ensures count { length rows.new ≡ 64 }
 {
     for j in 0..8usize {
@@ -123,7 +146,7 @@ fn write_eight<S: Slice>(rows: &mut Rows<S>, i: usize, eight: [S; 8])
 
 /// Transposes the rows in each word: bit n of row m becomes bit m of row n.
 pub(crate) fn transpose<S: Slice>(rows: &mut Rows<S>)
-    ensures transposed { AreTransposed S.BATCH S.bit rows.old rows.new }
+    ensures transposed { AreTransposed S.BATCH S.place_bit rows.old rows.new }
     ensures count { length rows.new ≡ 64 }
 {
     'bytes: for i in 0..8usize {

@@ -2,12 +2,62 @@
 
 ghost use Rattle.std.specs.Prelude.{refl};
 ghost use Rattle.std.proofs.Common.{lit≤};
-ghost use Rattle.des.specs.Bits.{bits_of_bytes, bits_of_word};
-ghost use Rattle.des_fast.specs.Slices.{bit_of_block};
+ghost use Rattle.des.specs.Bits.{bits_of_bytes};
+ghost use Rattle.des_fast.specs.Slices.{bit_at_place, bit_of_block};
 
 use super::Slice;
 use super::rows::{block_of, word_of};
 use std::simd::prelude::*;
+
+// Positions of the bytes of two vectors of 16 bytes, those of the second counted on from 16: by turns a
+// byte of each, in each 16 those of the first halves, and those of the second halves.
+#[rattlefmt::skip]
+const FIRST_BYTES_OF_16: [usize; 16] = [
+    0, 16, 1, 17, 2, 18, 3, 19, 4, 20, 5, 21, 6, 22, 7, 23,
+];
+
+#[rattlefmt::skip]
+const SECOND_BYTES_OF_16: [usize; 16] = [
+    8, 24, 9, 25, 10, 26, 11, 27, 12, 28, 13, 29, 14, 30, 15, 31,
+];
+
+// The same of words of eight bytes.
+#[rattlefmt::skip]
+const FIRST_WORDS_OF_16: [usize; 16] = [
+    0, 1, 2, 3, 4, 5, 6, 7, 16, 17, 18, 19, 20, 21, 22, 23,
+];
+
+#[rattlefmt::skip]
+const SECOND_WORDS_OF_16: [usize; 16] = [
+    8, 9, 10, 11, 12, 13, 14, 15, 24, 25, 26, 27, 28, 29, 30, 31,
+];
+
+// Positions of the bytes of two vectors of 32 bytes, those of the second counted on from 32: by turns a
+// byte of each, in each 16 those of the first halves, and those of the second halves.
+#[rattlefmt::skip]
+const FIRST_BYTES_OF_32: [usize; 32] = [
+    0, 32, 1, 33, 2, 34, 3, 35, 4, 36, 5, 37, 6, 38, 7, 39,
+    16, 48, 17, 49, 18, 50, 19, 51, 20, 52, 21, 53, 22, 54, 23, 55,
+];
+
+#[rattlefmt::skip]
+const SECOND_BYTES_OF_32: [usize; 32] = [
+    8, 40, 9, 41, 10, 42, 11, 43, 12, 44, 13, 45, 14, 46, 15, 47,
+    24, 56, 25, 57, 26, 58, 27, 59, 28, 60, 29, 61, 30, 62, 31, 63,
+];
+
+// The same of words of eight bytes.
+#[rattlefmt::skip]
+const FIRST_WORDS_OF_32: [usize; 32] = [
+    0, 1, 2, 3, 4, 5, 6, 7, 32, 33, 34, 35, 36, 37, 38, 39,
+    16, 17, 18, 19, 20, 21, 22, 23, 48, 49, 50, 51, 52, 53, 54, 55,
+];
+
+#[rattlefmt::skip]
+const SECOND_WORDS_OF_32: [usize; 32] = [
+    8, 9, 10, 11, 12, 13, 14, 15, 40, 41, 42, 43, 44, 45, 46, 47,
+    24, 25, 26, 27, 28, 29, 30, 31, 56, 57, 58, 59, 60, 61, 62, 63,
+];
 
 /// Slices of 128 blocks.
 impl Slice for u64x2 {
@@ -15,7 +65,11 @@ impl Slice for u64x2 {
 
     ghost BATCH = { 128 };
 
-    ghost bit = { bit_of_block };
+    ghost words = { 2 };
+
+    ghost bit = { bit_of_block 2 };
+
+    ghost place_bit = { bit_at_place };
 
     #[inline(always)]
     fn same(value: bool) -> Self {
@@ -54,20 +108,38 @@ impl Slice for u64x2 {
     }
 
     #[inline(always)]
+    fn interleave_bytes(self, other: Self) -> [Self; 2] {
+        let first = self.to_le_bytes();
+        let second = other.to_le_bytes();
+        [
+            Self::from_le_bytes(first.shuffle(second, FIRST_BYTES_OF_16)),
+            Self::from_le_bytes(first.shuffle(second, SECOND_BYTES_OF_16)),
+        ]
+    }
+
+    #[inline(always)]
+    fn join_words(self, other: Self) -> [Self; 2] {
+        let first = self.to_le_bytes();
+        let second = other.to_le_bytes();
+        [
+            Self::from_le_bytes(first.shuffle(second, FIRST_WORDS_OF_16)),
+            Self::from_le_bytes(first.shuffle(second, SECOND_WORDS_OF_16)),
+        ]
+    }
+
+    #[inline(always)]
     fn row_of(blocks: &[[u8; 8]], n: usize) -> Self {
-        Self::from_array([word_of(&blocks[n]), word_of(&blocks[64 + n])])
+        Self::from_array([word_of(&blocks[2 * n]), word_of(&blocks[2 * n + 1])])
     }
 
     #[inline(always)]
     fn write_row(&self, blocks: &mut [[u8; 8]], n: usize) {
-        blocks[n] = block_of(self.word(0));
-        blocks[64 + n] = block_of(self.word(1));
+        let [a, b] = self.to_array();
+        blocks[2 * n] = block_of(a);
+        blocks[2 * n + 1] = block_of(b);
     }
 
-    #[inline(always)]
-    fn word(&self, lane: usize) -> u64 {
-        self.as_array()[lane]
-    }
+    ghost placed = { λ b slice. refl };
 
     ghost some_blocks = { lit≤ tt };
 
@@ -90,7 +162,11 @@ impl Slice for u64x4 {
 
     ghost BATCH = { 256 };
 
-    ghost bit = { bit_of_block };
+    ghost words = { 4 };
+
+    ghost bit = { bit_of_block 4 };
+
+    ghost place_bit = { bit_at_place };
 
     #[inline(always)]
     fn same(value: bool) -> Self {
@@ -129,27 +205,45 @@ impl Slice for u64x4 {
     }
 
     #[inline(always)]
+    fn interleave_bytes(self, other: Self) -> [Self; 2] {
+        let first = self.to_le_bytes();
+        let second = other.to_le_bytes();
+        [
+            Self::from_le_bytes(first.shuffle(second, FIRST_BYTES_OF_32)),
+            Self::from_le_bytes(first.shuffle(second, SECOND_BYTES_OF_32)),
+        ]
+    }
+
+    #[inline(always)]
+    fn join_words(self, other: Self) -> [Self; 2] {
+        let first = self.to_le_bytes();
+        let second = other.to_le_bytes();
+        [
+            Self::from_le_bytes(first.shuffle(second, FIRST_WORDS_OF_32)),
+            Self::from_le_bytes(first.shuffle(second, SECOND_WORDS_OF_32)),
+        ]
+    }
+
+    #[inline(always)]
     fn row_of(blocks: &[[u8; 8]], n: usize) -> Self {
         Self::from_array([
-            word_of(&blocks[n]),
-            word_of(&blocks[64 + n]),
-            word_of(&blocks[128 + n]),
-            word_of(&blocks[192 + n]),
+            word_of(&blocks[4 * n]),
+            word_of(&blocks[4 * n + 1]),
+            word_of(&blocks[4 * n + 2]),
+            word_of(&blocks[4 * n + 3]),
         ])
     }
 
     #[inline(always)]
     fn write_row(&self, blocks: &mut [[u8; 8]], n: usize) {
-        blocks[n] = block_of(self.word(0));
-        blocks[64 + n] = block_of(self.word(1));
-        blocks[128 + n] = block_of(self.word(2));
-        blocks[192 + n] = block_of(self.word(3));
+        let [a, b, c, d] = self.to_array();
+        blocks[4 * n] = block_of(a);
+        blocks[4 * n + 1] = block_of(b);
+        blocks[4 * n + 2] = block_of(c);
+        blocks[4 * n + 3] = block_of(d);
     }
 
-    #[inline(always)]
-    fn word(&self, lane: usize) -> u64 {
-        self.as_array()[lane]
-    }
+    ghost placed = { λ b slice. refl };
 
     ghost some_blocks = { lit≤ tt };
 

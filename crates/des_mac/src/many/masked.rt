@@ -20,16 +20,6 @@ use des_fast::many::{BlockLists, KeyForEach, Slice};
 // The most messages with keys of their own that are treated together.
 const GROUP: usize = 256;
 
-// How many of such messages are treated next: a group, or those that are left over.
-fn next_count(left: usize) -> usize
-    requires { 1 ≤ left }
-    ensures some { 1 ≤ result }
-    ensures there { result ≤ left }
-    ensures within { result ≤ 256 }
-{
-    if left < GROUP { left } else { GROUP }
-}
-
 // What goes after a message of which `count` bytes stand in its last block: nothing where that is
 // whole, and else a one bit and zeros.
 fn mask_padding(count: usize) -> &'static [u8]
@@ -221,7 +211,7 @@ pub fn cmacs_each_by<S: Slice, C: KeyForEach + Drop>(
     }
     let mut from = 0;
     'groups: while from < tags.len() {
-        let end = from + next_count(tags.len() - from);
+        let end = from + GROUP.min(tags.len() - from);
         write_group::<S, C>(&keys[from..end], &messages[from..end], &mut tags[from..end]);
         from = end;
     }

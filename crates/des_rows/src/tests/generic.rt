@@ -4,9 +4,9 @@
 ghost use Rattle.std.specs.Prelude.{◌≤◌};
 
 use crate::chaining::{chain, unchain};
+use crate::lists::there_and_back;
 use crate::odd_ciphers::{Reverse, XorKey};
 use crate::tests::known::{IV, Known, PLAINTEXT, blocks};
-use crate::there_and_back::{block_there_and_back, decrypt_into, encrypt_into, there_and_back};
 use des::cipher::{BlockCipher, BlockCipherDecrypt, BlockCipherEncrypt, KeyInit};
 
 type List = [[u8; 8]; 3];
@@ -48,46 +48,28 @@ fn go_there_and_back<C: BlockCipher>(cipher: &C, answers: &List, chained: &List)
     true
 }
 
-// A block as no call has written it.
-const FILLED: [[u8; 8]; 1] = [[0xa5; 8]];
-
-// Whether lists of two lengths leave the output, and those of one are answered; and a block is.
-fn answers_into_others<C: BlockCipher>(cipher: &C, answer: [u8; 8]) -> bool {
-    let mut output = FILLED;
-    let are_left = !encrypt_into(cipher, &PLAINTEXT, &mut output)
-        && !decrypt_into(cipher, &PLAINTEXT, &mut output)
-        && output == FILLED;
-    let is_encrypted = encrypt_into(cipher, &PLAINTEXT[..1], &mut output) && output == [answer];
-    let is_decrypted = decrypt_into(cipher, &[answer], &mut output) && output == [PLAINTEXT[0]];
-    let (mut there, mut back) = ([0xa5; 8], [0xa5; 8]);
-    block_there_and_back(cipher, &PLAINTEXT[0], &mut there, &mut back);
-    are_left && is_encrypted && is_decrypted && there == answer && back == PLAINTEXT[0]
-}
-
 /// Whether a cipher of which so much is known passes.
 pub fn passes<C: BlockCipher>(cipher: &C, known: &Known) -> bool {
-    let answers: List = blocks(known.ciphertext);
-    go_there_and_back(cipher, &answers, &blocks(known.chained))
-        && answers_into_others(cipher, answers[0])
+    go_there_and_back(cipher, &blocks(known.ciphertext), &blocks(known.chained))
 }
 
 // ---- ciphers that hide nothing
 
-// Whether the key of equal bytes answers so to the block of equal bytes, and back.
-fn answers(key: u8, block: u8, answer: u8) -> bool {
-    let cipher = XorKey::new(&[key; 8]);
-    let mut bytes = [block; 8];
+// Whether a cipher answers so to a block, and back.
+fn answers<C: BlockCipher>(cipher: &C, block: [u8; 8], answer: [u8; 8]) -> bool {
+    let mut bytes = block;
     cipher.encrypt_block(&mut bytes);
-    let is_answer = bytes == [answer; 8];
+    let is_answer = bytes == answer;
     cipher.decrypt_block(&mut bytes);
-    is_answer && bytes == [block; 8]
+    is_answer && bytes == block
 }
 
 // By hand. The second key and block are the complements of the first, and the answer is the same
 // one: no complement.
 #[test]
 fn xor_answers_with_the_block_xor_the_key(rt: HostRuntime) {
-    assert!(rt; answers(0x0f, 0x00, 0x0f) && answers(0xf0, 0xff, 0x0f));
+    assert!(rt; answers(&XorKey::new(&[0x0f; 8]), [0x00; 8], [0x0f; 8]));
+    assert!(rt; answers(&XorKey::new(&[0xf0; 8]), [0xff; 8], [0x0f; 8]));
 }
 
 // By hand: the bytes of the text xor 0f; and each block of it xor 0f, xor the answer before it.
@@ -127,7 +109,7 @@ fn chains_by_reversal() -> bool {
 fn lists_are_reversed() -> bool {
     list_goes_there_and_back(&Reverse, 3, &REVERSED)
         && list_goes_there_and_back(&Reverse, 0, &REVERSED)
-        && answers_into_others(&Reverse, REVERSED[0])
+        && answers(&Reverse, ONE_TO_EIGHT, EIGHT_TO_ONE)
 }
 
 #[test]

@@ -10,24 +10,24 @@ pub parts-preserved : goal.parts-preserved
 parts-preserved g c =
     let f : List ℕ → List ℕ = g.C.BlockCipherDecrypt.decrypted c.args.cipher.now in
     let m : ℕ = c.parts.from in
-    let count : ℕ = c.next_count-count.result in
+    let count : ℕ = c.min-count.result in
     let n : ℕ = m + count - m in
     let iv : List ℕ = c.args.iv.now in
     let old : List (List ℕ) = c.args.blocks.now in
     let now : List (List ℕ) = c.parts.blocks in
     let part : List (List ℕ) = c.decrypt_part.new.blocks in
     let next : m + n ≡ m + count = omega arith in
-    let index : m + count - 1 ≡ m + (count - 1) = omega (arith, c.next_count-count.ensures.some) in
-    let last : suc (m + (count - 1)) ≡ m + count = omega (arith, c.next_count-count.ensures.some) in
+    let index : m + count - 1 ≡ m + (count - 1) = omega (arith, c.min-count.ensures) in
+    let last : suc (m + (count - 1)) ≡ m + count = omega (arith, c.min-count.ensures) in
     let same : drop m now ≡ drop m old = c.parts.invariant.rest in record {
-      within = omega (arith, c.next_count-count.ensures.there);
+      within = omega (arith, c.min-count.ensures);
       chained =
           ap (λ (k : ℕ). get_or now k []) index
           ∙ sym (get_or-drop m now (count - 1) [])
           ∙ ap (λ (xs : List (List ℕ)). get_or xs (count - 1) []) same
           ∙ get_or-drop m old (count - 1) []
           ∙ sym (next_vector-take iv old (m + (count - 1))
-          (omega (arith, c.next_count-count.ensures.some, c.next_count-count.ensures.there)))
+          (omega (arith, c.min-count.ensures)))
           ∙ ap (λ (k : ℕ). next_vector iv (take k old)) last;
       answered =
           unchained-more f iv m n old now part (omega (arith, c.parts.invariant.within)) c.parts.invariant.answered

@@ -11,13 +11,13 @@ returns c =
     let a_key = IsKey-array 8 a c.told-first c.fits-first in
     let b_key = IsKey-array 8 b c.told-second c.fits-second in
     let agree =
-    AgreeOutsideParity-masked a b c.from_be_bytes.result c.from_be_bytes-2.result c.told-first c.told-second
-    c.fits-first c.fits-second c.from_be_bytes.ensures c.from_be_bytes-2.ensures in
+    AgreeOutsideParity-masked a b c.from_be_bytes.result c.from_be_bytes-2.result a_key b_key c.from_be_bytes.ensures
+    c.from_be_bytes-2.ensures in
     record {
       agree = agree;
       same_round_keys = (
-        λ equal. key_schedule-agreeing a b a_key b_key (agree.0 equal),
-        λ same. agree.1 (AgreeOutsideParity-key_schedule a b a_key b_key same),
+        λ equal. key_schedule-agreeing a b (agree.0 equal),
+        λ same. agree.1 (AgreeOutsideParity-key_schedule a b same),
       );
       same_relation = λ equal x y. Enciphers-agreeing a b x y a_key b_key (agree.0 equal);
       first_parts_undone = λ equal key x y. Ede3-first_parts_agree a b key x y a_key b_key (agree.0 equal);

@@ -18,7 +18,7 @@ mapped-part f m n xs = sym (ap (take n) (drop-map f m xs) ∙ take-map f n (drop
 pub groups-preserved : goal.groups-preserved
 groups-preserved g c =
     let m : ℕ = c.groups.from in
-    let count : ℕ = c.next_count.result in
+    let count : ℕ = c.min.result in
     let n : ℕ = m + count - m in
     let f : List ℕ → List ℕ → List ℕ =
     λ key text. retail_mac_of 8 encryption decryption key (padded (padding_by c.args.padding) text) in
@@ -28,7 +28,7 @@ groups-preserved g c =
     let as_messages : length messages ≡ length old =
     length-map c.args.messages.now (λ message. message.now) ∙ c.if-messages-tags.false in
     let next : m + n ≡ m + count = omega arith in record {
-      within = omega (arith, c.next_count.ensures.there);
+      within = omega (arith, c.min.ensures);
       made =
           answers-more f m n keys messages old c.groups.tags c.write_retail_group.new.tags c.if-keys-tags.false
           as_messages (omega (arith, c.groups.invariant.within)) c.groups.invariant.made

@@ -3,7 +3,7 @@ use Rattle.std.proofs.Common.{[], ◌∷◌, refl, arith}
 use Rattle.des.specs.Bits.{bits_of, number_of, select}
 use Rattle.des.specs.Tables.{s1}
 use Rattle.des.specs.CipherFunction.{box_entry}
-use Rattle.des_fast.proofs.Circuits.{complement, and, and_not, or, xor, Circuit, next, done, made-entry}
+use Rattle.des_fast.proofs.Circuits.{complement, and, and_not, or, xor, Circuit, done, ◌▸◌, made-entry}
 use Rattle.des_fast.proofs.boxes.s1.Goals as goal
 
 -- its gates, in the order of the code
@@ -22,25 +22,16 @@ circuit = record {
 
 pub returns : goal.returns
 unfolding bits_of number_of select box_entry
-returns g c b within =
-    made-entry (g.S.Slice.bit b) s1 circuit c.args.group _ _ _ _ _ _ _ refl refl (omega arith) (
-    next (c.not-x7.ensures b within) (next (c.xor-x8.ensures b within) (next (c.and-x9.ensures b within) (
-    next (c.xor-x10.ensures b within) (next (c.xor-x11.ensures b within) (next (c.xor-x12.ensures b within) (
-    next (c.or-x13.ensures b within) (next (c.and-x14.ensures b within) (next (c.or-x15.ensures b within) (
-    next (c.xor-x16.ensures b within) (next (c.and-x17.ensures b within) (next (c.xor-x18.ensures b within) (
-    next (c.xor-x19.ensures b within) (next (c.and_not-x20.ensures b within) (
-    next (c.and_not-x21.ensures b within) (next (c.xor-x22.ensures b within) (next (c.or-x23.ensures b within) (
-    next (c.and-x24.ensures b within) (next (c.or-x25.ensures b within) (next (c.xor-x26.ensures b within) (
-    next (c.xor-x27.ensures b within) (next (c.xor-x28.ensures b within) (next (c.or-x29.ensures b within) (
-    next (c.and-x30.ensures b within) (next (c.xor-x31.ensures b within) (next (c.xor-x32.ensures b within) (
-    next (c.and_not-x33.ensures b within) (next (c.or-x34.ensures b within) (next (c.and-x35.ensures b within) (
-    next (c.xor-x36.ensures b within) (next (c.and_not-x37.ensures b within) (next (c.xor-x38.ensures b within) (
-    next (c.and_not-x39.ensures b within) (next (c.and_not-x40.ensures b within) (
-    next (c.xor-x41.ensures b within) (next (c.and_not-x42.ensures b within) (next (c.xor-x43.ensures b within) (
-    next (c.and_not-x44.ensures b within) (next (c.and-x45.ensures b within) (next (c.xor-x46.ensures b within) (
-    next (c.xor-x47.ensures b within) (next (c.and_not-x48.ensures b within) (
-    next (c.and_not-x49.ensures b within) (next (c.xor-x50.ensures b within) (next (c.xor-x51.ensures b within) (
-    next (c.xor-x52.ensures b within) (next (c.and_not-x53.ensures b within) (
-    next (c.and_not-x54.ensures b within) (next (c.xor-x55.ensures b within) (
-    next (c.and_not-x56.ensures b within) (next (c.xor-x57.ensures b within) (next (c.xor-x58.ensures b within) (
-    next (c.xor-x59.ensures b within) (done))))))))))))))))))))))))))))))))))))))))))))))))))))))
+returns g c =
+    made-entry _ g.S.Slice.bit s1 circuit c.args.group _ _ _ _ _ _ _ refl refl (omega arith) (
+    c.not-x7.ensures ▸ c.xor-x8.ensures ▸ c.and-x9.ensures ▸ c.xor-x10.ensures ▸ c.xor-x11.ensures ▸
+    c.xor-x12.ensures ▸ c.or-x13.ensures ▸ c.and-x14.ensures ▸ c.or-x15.ensures ▸ c.xor-x16.ensures ▸
+    c.and-x17.ensures ▸ c.xor-x18.ensures ▸ c.xor-x19.ensures ▸ c.and_not-x20.ensures ▸ c.and_not-x21.ensures ▸
+    c.xor-x22.ensures ▸ c.or-x23.ensures ▸ c.and-x24.ensures ▸ c.or-x25.ensures ▸ c.xor-x26.ensures ▸
+    c.xor-x27.ensures ▸ c.xor-x28.ensures ▸ c.or-x29.ensures ▸ c.and-x30.ensures ▸ c.xor-x31.ensures ▸
+    c.xor-x32.ensures ▸ c.and_not-x33.ensures ▸ c.or-x34.ensures ▸ c.and-x35.ensures ▸ c.xor-x36.ensures ▸
+    c.and_not-x37.ensures ▸ c.xor-x38.ensures ▸ c.and_not-x39.ensures ▸ c.and_not-x40.ensures ▸ c.xor-x41.ensures ▸
+    c.and_not-x42.ensures ▸ c.xor-x43.ensures ▸ c.and_not-x44.ensures ▸ c.and-x45.ensures ▸ c.xor-x46.ensures ▸
+    c.xor-x47.ensures ▸ c.and_not-x48.ensures ▸ c.and_not-x49.ensures ▸ c.xor-x50.ensures ▸ c.xor-x51.ensures ▸
+    c.xor-x52.ensures ▸ c.and_not-x53.ensures ▸ c.and_not-x54.ensures ▸ c.xor-x55.ensures ▸ c.and_not-x56.ensures ▸
+    c.xor-x57.ensures ▸ c.xor-x58.ensures ▸ c.xor-x59.ensures ▸ done)

@@ -3,7 +3,7 @@ use Rattle.std.proofs.Common.{[], ◌∷◌, refl, arith}
 use Rattle.des.specs.Bits.{bits_of, number_of, select}
 use Rattle.des.specs.Tables.{s2}
 use Rattle.des.specs.CipherFunction.{box_entry}
-use Rattle.des_fast.proofs.Circuits.{complement, and, and_not, or, xor, Circuit, next, done, made-entry}
+use Rattle.des_fast.proofs.Circuits.{complement, and, and_not, or, xor, Circuit, done, ◌▸◌, made-entry}
 use Rattle.des_fast.proofs.boxes.s2.Goals as goal
 
 -- its gates, in the order of the code
@@ -21,23 +21,15 @@ circuit = record {
 
 pub returns : goal.returns
 unfolding bits_of number_of select box_entry
-returns g c b within =
-    made-entry (g.S.Slice.bit b) s2 circuit c.args.group _ _ _ _ _ _ _ refl refl (omega arith) (
-    next (c.xor-x7.ensures b within) (next (c.xor-x8.ensures b within) (next (c.and_not-x9.ensures b within) (
-    next (c.and_not-x10.ensures b within) (next (c.and-x11.ensures b within) (next (c.or-x12.ensures b within) (
-    next (c.and-x13.ensures b within) (next (c.or-x14.ensures b within) (next (c.xor-x15.ensures b within) (
-    next (c.and_not-x16.ensures b within) (next (c.xor-x17.ensures b within) (next (c.not-x18.ensures b within) (
-    next (c.and_not-x19.ensures b within) (next (c.xor-x20.ensures b within) (next (c.xor-x21.ensures b within) (
-    next (c.not-x22.ensures b within) (next (c.or-x23.ensures b within) (next (c.xor-x24.ensures b within) (
-    next (c.xor-x25.ensures b within) (next (c.or-x26.ensures b within) (next (c.xor-x27.ensures b within) (
-    next (c.or-x28.ensures b within) (next (c.and_not-x29.ensures b within) (next (c.xor-x30.ensures b within) (
-    next (c.or-x31.ensures b within) (next (c.and-x32.ensures b within) (next (c.xor-x33.ensures b within) (
-    next (c.xor-x34.ensures b within) (next (c.or-x35.ensures b within) (next (c.or-x36.ensures b within) (
-    next (c.xor-x37.ensures b within) (next (c.and_not-x38.ensures b within) (next (c.or-x39.ensures b within) (
-    next (c.and_not-x40.ensures b within) (next (c.xor-x41.ensures b within) (next (c.xor-x42.ensures b within) (
-    next (c.or-x43.ensures b within) (next (c.xor-x44.ensures b within) (next (c.and_not-x45.ensures b within) (
-    next (c.xor-x46.ensures b within) (next (c.xor-x47.ensures b within) (next (c.or-x48.ensures b within) (
-    next (c.and-x49.ensures b within) (next (c.or-x50.ensures b within) (next (c.and_not-x51.ensures b within) (
-    next (c.and_not-x52.ensures b within) (next (c.xor-x53.ensures b within) (next (c.xor-x54.ensures b within) (
-    next (c.or-x55.ensures b within)
-    (next (c.xor-x56.ensures b within) (done)))))))))))))))))))))))))))))))))))))))))))))))))))
+returns g c =
+    made-entry _ g.S.Slice.bit s2 circuit c.args.group _ _ _ _ _ _ _ refl refl (omega arith) (
+    c.xor-x7.ensures ▸ c.xor-x8.ensures ▸ c.and_not-x9.ensures ▸ c.and_not-x10.ensures ▸ c.and-x11.ensures ▸
+    c.or-x12.ensures ▸ c.and-x13.ensures ▸ c.or-x14.ensures ▸ c.xor-x15.ensures ▸ c.and_not-x16.ensures ▸
+    c.xor-x17.ensures ▸ c.not-x18.ensures ▸ c.and_not-x19.ensures ▸ c.xor-x20.ensures ▸ c.xor-x21.ensures ▸
+    c.not-x22.ensures ▸ c.or-x23.ensures ▸ c.xor-x24.ensures ▸ c.xor-x25.ensures ▸ c.or-x26.ensures ▸
+    c.xor-x27.ensures ▸ c.or-x28.ensures ▸ c.and_not-x29.ensures ▸ c.xor-x30.ensures ▸ c.or-x31.ensures ▸
+    c.and-x32.ensures ▸ c.xor-x33.ensures ▸ c.xor-x34.ensures ▸ c.or-x35.ensures ▸ c.or-x36.ensures ▸
+    c.xor-x37.ensures ▸ c.and_not-x38.ensures ▸ c.or-x39.ensures ▸ c.and_not-x40.ensures ▸ c.xor-x41.ensures ▸
+    c.xor-x42.ensures ▸ c.or-x43.ensures ▸ c.xor-x44.ensures ▸ c.and_not-x45.ensures ▸ c.xor-x46.ensures ▸
+    c.xor-x47.ensures ▸ c.or-x48.ensures ▸ c.and-x49.ensures ▸ c.or-x50.ensures ▸ c.and_not-x51.ensures ▸
+    c.and_not-x52.ensures ▸ c.xor-x53.ensures ▸ c.xor-x54.ensures ▸ c.or-x55.ensures ▸ c.xor-x56.ensures ▸ done)

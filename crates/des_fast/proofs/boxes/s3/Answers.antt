@@ -3,7 +3,7 @@ use Rattle.std.proofs.Common.{[], ◌∷◌, refl, arith}
 use Rattle.des.specs.Bits.{bits_of, number_of, select}
 use Rattle.des.specs.Tables.{s3}
 use Rattle.des.specs.CipherFunction.{box_entry}
-use Rattle.des_fast.proofs.Circuits.{complement, and, and_not, or, xor, Circuit, next, done, made-entry}
+use Rattle.des_fast.proofs.Circuits.{complement, and, and_not, or, xor, Circuit, done, ◌▸◌, made-entry}
 use Rattle.des_fast.proofs.boxes.s3.Goals as goal
 
 -- its gates, in the order of the code
@@ -21,23 +21,15 @@ circuit = record {
 
 pub returns : goal.returns
 unfolding bits_of number_of select box_entry
-returns g c b within =
-    made-entry (g.S.Slice.bit b) s3 circuit c.args.group _ _ _ _ _ _ _ refl refl (omega arith) (
-    next (c.xor-x7.ensures b within) (next (c.xor-x8.ensures b within) (next (c.xor-x9.ensures b within) (
-    next (c.or-x10.ensures b within) (next (c.and_not-x11.ensures b within) (next (c.or-x12.ensures b within) (
-    next (c.and-x13.ensures b within) (next (c.xor-x14.ensures b within) (next (c.xor-x15.ensures b within) (
-    next (c.xor-x16.ensures b within) (next (c.xor-x17.ensures b within) (next (c.not-x18.ensures b within) (
-    next (c.and-x19.ensures b within) (next (c.and_not-x20.ensures b within) (next (c.xor-x21.ensures b within) (
-    next (c.xor-x22.ensures b within) (next (c.and_not-x23.ensures b within) (next (c.xor-x24.ensures b within) (
-    next (c.and_not-x25.ensures b within) (next (c.xor-x26.ensures b within) (next (c.xor-x27.ensures b within) (
-    next (c.or-x28.ensures b within) (next (c.and-x29.ensures b within) (next (c.xor-x30.ensures b within) (
-    next (c.or-x31.ensures b within) (next (c.and-x32.ensures b within) (next (c.xor-x33.ensures b within) (
-    next (c.and_not-x34.ensures b within) (next (c.xor-x35.ensures b within) (
-    next (c.and_not-x36.ensures b within) (next (c.xor-x37.ensures b within) (next (c.and-x38.ensures b within) (
-    next (c.and-x39.ensures b within) (next (c.xor-x40.ensures b within) (next (c.and_not-x41.ensures b within) (
-    next (c.or-x42.ensures b within) (next (c.and_not-x43.ensures b within) (next (c.xor-x44.ensures b within) (
-    next (c.xor-x45.ensures b within) (next (c.or-x46.ensures b within) (next (c.xor-x47.ensures b within) (
-    next (c.and-x48.ensures b within) (next (c.xor-x49.ensures b within) (next (c.and_not-x50.ensures b within) (
-    next (c.xor-x51.ensures b within) (next (c.xor-x52.ensures b within) (next (c.and_not-x53.ensures b within) (
-    next (c.xor-x54.ensures b within)
-    (next (c.xor-x55.ensures b within) (done))))))))))))))))))))))))))))))))))))))))))))))))))
+returns g c =
+    made-entry _ g.S.Slice.bit s3 circuit c.args.group _ _ _ _ _ _ _ refl refl (omega arith) (
+    c.xor-x7.ensures ▸ c.xor-x8.ensures ▸ c.xor-x9.ensures ▸ c.or-x10.ensures ▸ c.and_not-x11.ensures ▸
+    c.or-x12.ensures ▸ c.and-x13.ensures ▸ c.xor-x14.ensures ▸ c.xor-x15.ensures ▸ c.xor-x16.ensures ▸
+    c.xor-x17.ensures ▸ c.not-x18.ensures ▸ c.and-x19.ensures ▸ c.and_not-x20.ensures ▸ c.xor-x21.ensures ▸
+    c.xor-x22.ensures ▸ c.and_not-x23.ensures ▸ c.xor-x24.ensures ▸ c.and_not-x25.ensures ▸ c.xor-x26.ensures ▸
+    c.xor-x27.ensures ▸ c.or-x28.ensures ▸ c.and-x29.ensures ▸ c.xor-x30.ensures ▸ c.or-x31.ensures ▸
+    c.and-x32.ensures ▸ c.xor-x33.ensures ▸ c.and_not-x34.ensures ▸ c.xor-x35.ensures ▸ c.and_not-x36.ensures ▸
+    c.xor-x37.ensures ▸ c.and-x38.ensures ▸ c.and-x39.ensures ▸ c.xor-x40.ensures ▸ c.and_not-x41.ensures ▸
+    c.or-x42.ensures ▸ c.and_not-x43.ensures ▸ c.xor-x44.ensures ▸ c.xor-x45.ensures ▸ c.or-x46.ensures ▸
+    c.xor-x47.ensures ▸ c.and-x48.ensures ▸ c.xor-x49.ensures ▸ c.and_not-x50.ensures ▸ c.xor-x51.ensures ▸
+    c.xor-x52.ensures ▸ c.and_not-x53.ensures ▸ c.xor-x54.ensures ▸ c.xor-x55.ensures ▸ done)

@@ -3,7 +3,7 @@ use Rattle.std.proofs.Common.{[], ◌∷◌, refl, arith}
 use Rattle.des.specs.Bits.{bits_of, number_of, select}
 use Rattle.des.specs.Tables.{s4}
 use Rattle.des.specs.CipherFunction.{box_entry}
-use Rattle.des_fast.proofs.Circuits.{complement, and, and_not, or, xor, Circuit, next, done, made-entry}
+use Rattle.des_fast.proofs.Circuits.{complement, and, and_not, or, xor, Circuit, done, ◌▸◌, made-entry}
 use Rattle.des_fast.proofs.boxes.s4.Goals as goal
 
 -- its gates, in the order of the code
@@ -19,17 +19,12 @@ circuit = record {
 
 pub returns : goal.returns
 unfolding bits_of number_of select box_entry
-returns g c b within =
-    made-entry (g.S.Slice.bit b) s4 circuit c.args.group _ _ _ _ _ _ _ refl refl (omega arith) (
-    next (c.and_not-x7.ensures b within) (next (c.xor-x8.ensures b within) (next (c.xor-x9.ensures b within) (
-    next (c.and-x10.ensures b within) (next (c.xor-x11.ensures b within) (next (c.not-x12.ensures b within) (
-    next (c.xor-x13.ensures b within) (next (c.xor-x14.ensures b within) (next (c.or-x15.ensures b within) (
-    next (c.xor-x16.ensures b within) (next (c.and-x17.ensures b within) (next (c.or-x18.ensures b within) (
-    next (c.xor-x19.ensures b within) (next (c.xor-x20.ensures b within) (next (c.or-x21.ensures b within) (
-    next (c.xor-x22.ensures b within) (next (c.and-x23.ensures b within) (next (c.or-x24.ensures b within) (
-    next (c.xor-x25.ensures b within) (next (c.xor-x26.ensures b within) (next (c.xor-x27.ensures b within) (
-    next (c.and-x28.ensures b within) (next (c.and-x29.ensures b within) (next (c.xor-x30.ensures b within) (
-    next (c.and_not-x31.ensures b within) (next (c.xor-x32.ensures b within) (next (c.xor-x33.ensures b within) (
-    next (c.xor-x34.ensures b within) (next (c.or-x35.ensures b within) (next (c.and_not-x36.ensures b within) (
-    next (c.xor-x37.ensures b within) (next (c.xor-x38.ensures b within) (next (c.and_not-x39.ensures b within) (
-    next (c.xor-x40.ensures b within) (next (c.xor-x41.ensures b within) (done))))))))))))))))))))))))))))))))))))
+returns g c =
+    made-entry _ g.S.Slice.bit s4 circuit c.args.group _ _ _ _ _ _ _ refl refl (omega arith) (
+    c.and_not-x7.ensures ▸ c.xor-x8.ensures ▸ c.xor-x9.ensures ▸ c.and-x10.ensures ▸ c.xor-x11.ensures ▸
+    c.not-x12.ensures ▸ c.xor-x13.ensures ▸ c.xor-x14.ensures ▸ c.or-x15.ensures ▸ c.xor-x16.ensures ▸
+    c.and-x17.ensures ▸ c.or-x18.ensures ▸ c.xor-x19.ensures ▸ c.xor-x20.ensures ▸ c.or-x21.ensures ▸
+    c.xor-x22.ensures ▸ c.and-x23.ensures ▸ c.or-x24.ensures ▸ c.xor-x25.ensures ▸ c.xor-x26.ensures ▸
+    c.xor-x27.ensures ▸ c.and-x28.ensures ▸ c.and-x29.ensures ▸ c.xor-x30.ensures ▸ c.and_not-x31.ensures ▸
+    c.xor-x32.ensures ▸ c.xor-x33.ensures ▸ c.xor-x34.ensures ▸ c.or-x35.ensures ▸ c.and_not-x36.ensures ▸
+    c.xor-x37.ensures ▸ c.xor-x38.ensures ▸ c.and_not-x39.ensures ▸ c.xor-x40.ensures ▸ c.xor-x41.ensures ▸ done)

@@ -3,7 +3,7 @@ use Rattle.std.proofs.Common.{[], ◌∷◌, refl, arith}
 use Rattle.des.specs.Bits.{bits_of, number_of, select}
 use Rattle.des.specs.Tables.{s5}
 use Rattle.des.specs.CipherFunction.{box_entry}
-use Rattle.des_fast.proofs.Circuits.{complement, and, and_not, or, xor, Circuit, next, done, made-entry}
+use Rattle.des_fast.proofs.Circuits.{complement, and, and_not, or, xor, Circuit, done, ◌▸◌, made-entry}
 use Rattle.des_fast.proofs.boxes.s5.Goals as goal
 
 -- its gates, in the order of the code
@@ -21,24 +21,16 @@ circuit = record {
 
 pub returns : goal.returns
 unfolding bits_of number_of select box_entry
-returns g c b within =
-    made-entry (g.S.Slice.bit b) s5 circuit c.args.group _ _ _ _ _ _ _ refl refl (omega arith) (
-    next (c.xor-x7.ensures b within) (next (c.or-x8.ensures b within) (next (c.and_not-x9.ensures b within) (
-    next (c.xor-x10.ensures b within) (next (c.or-x11.ensures b within) (next (c.or-x12.ensures b within) (
-    next (c.xor-x13.ensures b within) (next (c.xor-x14.ensures b within) (next (c.xor-x15.ensures b within) (
-    next (c.or-x16.ensures b within) (next (c.xor-x17.ensures b within) (next (c.xor-x18.ensures b within) (
-    next (c.not-x19.ensures b within) (next (c.xor-x20.ensures b within) (next (c.and_not-x21.ensures b within) (
-    next (c.and_not-x22.ensures b within) (next (c.or-x23.ensures b within) (
-    next (c.and_not-x24.ensures b within) (next (c.xor-x25.ensures b within) (next (c.xor-x26.ensures b within) (
-    next (c.and_not-x27.ensures b within) (next (c.xor-x28.ensures b within) (next (c.xor-x29.ensures b within) (
-    next (c.xor-x30.ensures b within) (next (c.and_not-x31.ensures b within) (next (c.xor-x32.ensures b within) (
-    next (c.and-x33.ensures b within) (next (c.xor-x34.ensures b within) (next (c.xor-x35.ensures b within) (
-    next (c.and-x36.ensures b within) (next (c.and_not-x37.ensures b within) (next (c.xor-x38.ensures b within) (
-    next (c.or-x39.ensures b within) (next (c.and_not-x40.ensures b within) (next (c.xor-x41.ensures b within) (
-    next (c.and_not-x42.ensures b within) (next (c.and_not-x43.ensures b within) (
-    next (c.and_not-x44.ensures b within) (next (c.xor-x45.ensures b within) (next (c.and-x46.ensures b within) (
-    next (c.xor-x47.ensures b within) (next (c.and-x48.ensures b within) (next (c.xor-x49.ensures b within) (
-    next (c.xor-x50.ensures b within) (next (c.xor-x51.ensures b within) (next (c.xor-x52.ensures b within) (
-    next (c.and-x53.ensures b within) (next (c.or-x54.ensures b within) (next (c.xor-x55.ensures b within) (
-    next (c.xor-x56.ensures b within)
-    (next (c.xor-x57.ensures b within) (done))))))))))))))))))))))))))))))))))))))))))))))))))))
+returns g c =
+    made-entry _ g.S.Slice.bit s5 circuit c.args.group _ _ _ _ _ _ _ refl refl (omega arith) (
+    c.xor-x7.ensures ▸ c.or-x8.ensures ▸ c.and_not-x9.ensures ▸ c.xor-x10.ensures ▸ c.or-x11.ensures ▸
+    c.or-x12.ensures ▸ c.xor-x13.ensures ▸ c.xor-x14.ensures ▸ c.xor-x15.ensures ▸ c.or-x16.ensures ▸
+    c.xor-x17.ensures ▸ c.xor-x18.ensures ▸ c.not-x19.ensures ▸ c.xor-x20.ensures ▸ c.and_not-x21.ensures ▸
+    c.and_not-x22.ensures ▸ c.or-x23.ensures ▸ c.and_not-x24.ensures ▸ c.xor-x25.ensures ▸ c.xor-x26.ensures ▸
+    c.and_not-x27.ensures ▸ c.xor-x28.ensures ▸ c.xor-x29.ensures ▸ c.xor-x30.ensures ▸ c.and_not-x31.ensures ▸
+    c.xor-x32.ensures ▸ c.and-x33.ensures ▸ c.xor-x34.ensures ▸ c.xor-x35.ensures ▸ c.and-x36.ensures ▸
+    c.and_not-x37.ensures ▸ c.xor-x38.ensures ▸ c.or-x39.ensures ▸ c.and_not-x40.ensures ▸ c.xor-x41.ensures ▸
+    c.and_not-x42.ensures ▸ c.and_not-x43.ensures ▸ c.and_not-x44.ensures ▸ c.xor-x45.ensures ▸ c.and-x46.ensures ▸
+    c.xor-x47.ensures ▸ c.and-x48.ensures ▸ c.xor-x49.ensures ▸ c.xor-x50.ensures ▸ c.xor-x51.ensures ▸
+    c.xor-x52.ensures ▸ c.and-x53.ensures ▸ c.or-x54.ensures ▸ c.xor-x55.ensures ▸ c.xor-x56.ensures ▸
+    c.xor-x57.ensures ▸ done)

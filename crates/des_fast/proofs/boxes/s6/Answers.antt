@@ -3,7 +3,7 @@ use Rattle.std.proofs.Common.{[], ◌∷◌, refl, arith}
 use Rattle.des.specs.Bits.{bits_of, number_of, select}
 use Rattle.des.specs.Tables.{s6}
 use Rattle.des.specs.CipherFunction.{box_entry}
-use Rattle.des_fast.proofs.Circuits.{complement, and, and_not, or, xor, Circuit, next, done, made-entry}
+use Rattle.des_fast.proofs.Circuits.{complement, and, and_not, or, xor, Circuit, done, ◌▸◌, made-entry}
 use Rattle.des_fast.proofs.boxes.s6.Goals as goal
 
 -- its gates, in the order of the code
@@ -21,24 +21,15 @@ circuit = record {
 
 pub returns : goal.returns
 unfolding bits_of number_of select box_entry
-returns g c b within =
-    made-entry (g.S.Slice.bit b) s6 circuit c.args.group _ _ _ _ _ _ _ refl refl (omega arith) (
-    next (c.not-x7.ensures b within) (next (c.and-x8.ensures b within) (next (c.or-x9.ensures b within) (
-    next (c.or-x10.ensures b within) (next (c.and-x11.ensures b within) (next (c.xor-x12.ensures b within) (
-    next (c.or-x13.ensures b within) (next (c.xor-x14.ensures b within) (next (c.xor-x15.ensures b within) (
-    next (c.xor-x16.ensures b within) (next (c.xor-x17.ensures b within) (next (c.and_not-x18.ensures b within) (
-    next (c.xor-x19.ensures b within) (next (c.and_not-x20.ensures b within) (
-    next (c.and_not-x21.ensures b within) (next (c.and_not-x22.ensures b within) (
-    next (c.xor-x23.ensures b within) (next (c.and-x24.ensures b within) (next (c.xor-x25.ensures b within) (
-    next (c.and-x26.ensures b within) (next (c.xor-x27.ensures b within) (next (c.xor-x28.ensures b within) (
-    next (c.and_not-x29.ensures b within) (next (c.xor-x30.ensures b within) (next (c.or-x31.ensures b within) (
-    next (c.and_not-x32.ensures b within) (next (c.and-x33.ensures b within) (next (c.xor-x34.ensures b within) (
-    next (c.and_not-x35.ensures b within) (next (c.xor-x36.ensures b within) (next (c.and-x37.ensures b within) (
-    next (c.or-x38.ensures b within) (next (c.and_not-x39.ensures b within) (next (c.xor-x40.ensures b within) (
-    next (c.and_not-x41.ensures b within) (next (c.or-x42.ensures b within) (
-    next (c.and_not-x43.ensures b within) (next (c.xor-x44.ensures b within) (
-    next (c.and_not-x45.ensures b within) (next (c.xor-x46.ensures b within) (next (c.and-x47.ensures b within) (
-    next (c.xor-x48.ensures b within) (next (c.xor-x49.ensures b within) (next (c.xor-x50.ensures b within) (
-    next (c.xor-x51.ensures b within) (next (c.and_not-x52.ensures b within) (
-    next (c.and_not-x53.ensures b within)
-    (next (c.xor-x54.ensures b within) (done)))))))))))))))))))))))))))))))))))))))))))))))))
+returns g c =
+    made-entry _ g.S.Slice.bit s6 circuit c.args.group _ _ _ _ _ _ _ refl refl (omega arith) (
+    c.not-x7.ensures ▸ c.and-x8.ensures ▸ c.or-x9.ensures ▸ c.or-x10.ensures ▸ c.and-x11.ensures ▸
+    c.xor-x12.ensures ▸ c.or-x13.ensures ▸ c.xor-x14.ensures ▸ c.xor-x15.ensures ▸ c.xor-x16.ensures ▸
+    c.xor-x17.ensures ▸ c.and_not-x18.ensures ▸ c.xor-x19.ensures ▸ c.and_not-x20.ensures ▸ c.and_not-x21.ensures ▸
+    c.and_not-x22.ensures ▸ c.xor-x23.ensures ▸ c.and-x24.ensures ▸ c.xor-x25.ensures ▸ c.and-x26.ensures ▸
+    c.xor-x27.ensures ▸ c.xor-x28.ensures ▸ c.and_not-x29.ensures ▸ c.xor-x30.ensures ▸ c.or-x31.ensures ▸
+    c.and_not-x32.ensures ▸ c.and-x33.ensures ▸ c.xor-x34.ensures ▸ c.and_not-x35.ensures ▸ c.xor-x36.ensures ▸
+    c.and-x37.ensures ▸ c.or-x38.ensures ▸ c.and_not-x39.ensures ▸ c.xor-x40.ensures ▸ c.and_not-x41.ensures ▸
+    c.or-x42.ensures ▸ c.and_not-x43.ensures ▸ c.xor-x44.ensures ▸ c.and_not-x45.ensures ▸ c.xor-x46.ensures ▸
+    c.and-x47.ensures ▸ c.xor-x48.ensures ▸ c.xor-x49.ensures ▸ c.xor-x50.ensures ▸ c.xor-x51.ensures ▸
+    c.and_not-x52.ensures ▸ c.and_not-x53.ensures ▸ c.xor-x54.ensures ▸ done)

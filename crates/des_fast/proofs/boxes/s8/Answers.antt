@@ -3,7 +3,7 @@ use Rattle.std.proofs.Common.{[], ◌∷◌, refl, arith}
 use Rattle.des.specs.Bits.{bits_of, number_of, select}
 use Rattle.des.specs.Tables.{s8}
 use Rattle.des.specs.CipherFunction.{box_entry}
-use Rattle.des_fast.proofs.Circuits.{complement, and, and_not, or, xor, Circuit, next, done, made-entry}
+use Rattle.des_fast.proofs.Circuits.{complement, and, and_not, or, xor, Circuit, done, ◌▸◌, made-entry}
 use Rattle.des_fast.proofs.boxes.s8.Goals as goal
 
 -- its gates, in the order of the code
@@ -20,20 +20,14 @@ circuit = record {
 
 pub returns : goal.returns
 unfolding bits_of number_of select box_entry
-returns g c b within =
-    made-entry (g.S.Slice.bit b) s8 circuit c.args.group _ _ _ _ _ _ _ refl refl (omega arith) (
-    next (c.or-x7.ensures b within) (next (c.xor-x8.ensures b within) (next (c.xor-x9.ensures b within) (
-    next (c.and_not-x10.ensures b within) (next (c.or-x11.ensures b within) (next (c.xor-x12.ensures b within) (
-    next (c.or-x13.ensures b within) (next (c.and-x14.ensures b within) (next (c.xor-x15.ensures b within) (
-    next (c.xor-x16.ensures b within) (next (c.or-x17.ensures b within) (next (c.and-x18.ensures b within) (
-    next (c.and_not-x19.ensures b within) (next (c.xor-x20.ensures b within) (
-    next (c.and_not-x21.ensures b within) (next (c.xor-x22.ensures b within) (next (c.and-x23.ensures b within) (
-    next (c.and-x24.ensures b within) (next (c.or-x25.ensures b within) (next (c.and-x26.ensures b within) (
-    next (c.xor-x27.ensures b within) (next (c.and_not-x28.ensures b within) (next (c.xor-x29.ensures b within) (
-    next (c.xor-x30.ensures b within) (next (c.xor-x31.ensures b within) (next (c.or-x32.ensures b within) (
-    next (c.and-x33.ensures b within) (next (c.or-x34.ensures b within) (next (c.xor-x35.ensures b within) (
-    next (c.xor-x36.ensures b within) (next (c.xor-x37.ensures b within) (next (c.or-x38.ensures b within) (
-    next (c.xor-x39.ensures b within) (next (c.xor-x40.ensures b within) (next (c.not-x41.ensures b within) (
-    next (c.or-x42.ensures b within) (next (c.xor-x43.ensures b within) (next (c.xor-x44.ensures b within) (
-    next (c.xor-x45.ensures b within) (next (c.xor-x46.ensures b within)
-    (next (c.xor-x47.ensures b within) (done))))))))))))))))))))))))))))))))))))))))))
+returns g c =
+    made-entry _ g.S.Slice.bit s8 circuit c.args.group _ _ _ _ _ _ _ refl refl (omega arith) (
+    c.or-x7.ensures ▸ c.xor-x8.ensures ▸ c.xor-x9.ensures ▸ c.and_not-x10.ensures ▸ c.or-x11.ensures ▸
+    c.xor-x12.ensures ▸ c.or-x13.ensures ▸ c.and-x14.ensures ▸ c.xor-x15.ensures ▸ c.xor-x16.ensures ▸
+    c.or-x17.ensures ▸ c.and-x18.ensures ▸ c.and_not-x19.ensures ▸ c.xor-x20.ensures ▸ c.and_not-x21.ensures ▸
+    c.xor-x22.ensures ▸ c.and-x23.ensures ▸ c.and-x24.ensures ▸ c.or-x25.ensures ▸ c.and-x26.ensures ▸
+    c.xor-x27.ensures ▸ c.and_not-x28.ensures ▸ c.xor-x29.ensures ▸ c.xor-x30.ensures ▸ c.xor-x31.ensures ▸
+    c.or-x32.ensures ▸ c.and-x33.ensures ▸ c.or-x34.ensures ▸ c.xor-x35.ensures ▸ c.xor-x36.ensures ▸
+    c.xor-x37.ensures ▸ c.or-x38.ensures ▸ c.xor-x39.ensures ▸ c.xor-x40.ensures ▸ c.not-x41.ensures ▸
+    c.or-x42.ensures ▸ c.xor-x43.ensures ▸ c.xor-x44.ensures ▸ c.xor-x45.ensures ▸ c.xor-x46.ensures ▸
+    c.xor-x47.ensures ▸ done)

@@ -6,24 +6,24 @@ use Rattle.des_fast.proofs.many.answer.Goals as goal
 
 pub parts-preserved : goal.parts-preserved
 parts-preserved g c = (
-  omega (arith, c.next_count-count.ensures.there),
+  omega (arith, c.min-count.ensures),
   λ f are.
       let m : ℕ = c.parts.from in
-      let count : ℕ = c.next_count-count.result in
+      let count : ℕ = c.min-count.result in
       let n : ℕ = m + count - m in
       let old : List (List ℕ) = c.args.blocks.now in
       let part : List (List ℕ) = take n (drop m c.parts.blocks) in
       let next : m + n ≡ m + count = omega arith in
       let in_part : length part ≡ n =
       length-take-le n (drop m c.parts.blocks)
-      (omega (arith, length-drop m c.parts.blocks, c.next_count-count.ensures.there)) in
+      (omega (arith, length-drop m c.parts.blocks, c.min-count.ensures)) in
       answered-more f m n old c.parts.blocks c.answer_lanes_part.new.blocks (omega (arith, c.parts.invariant.0))
       (c.parts.invariant.1 f are)
       (answered-at f part c.answer_lanes_part.new.blocks c.answer_lanes_part.ensures.count
       (λ k below.
       c.answer_lanes_part.ensures.lanes k below
       ∙ ap (λ (g : List ℕ → List ℕ). g (get_or part k []))
-      (are k (omega (arith, in_part, c.next_count-count.ensures.within)))))
+      (are k (omega (arith, in_part, c.min-count.ensures, c.BATCH.ensures)))))
       ∙ ap (λ (k : ℕ). map f (take k old) ++ drop k old) next,
 )
 

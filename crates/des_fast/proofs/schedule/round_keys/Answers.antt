@@ -6,7 +6,7 @@ use Rattle.des.proofs.Traces.{half_block-key_schedule, length-key_schedule}
 use Rattle.des_fast.specs.RoundKeyRows.{key_rows, transposed}
 use Rattle.des_fast.proofs.KeyRows.{IsRoundKey-row}
 use Rattle.des_fast.proofs.RoundKeysByPlace.{round_keys_of-by_index}
-use Rattle.des_fast.proofs.ScheduledHalves.{AreScheduled-key}
+use Rattle.des_fast.proofs.ScheduledHalves.{AreScheduled-schedule}
 use Rattle.des_fast.proofs.schedule.round_keys.Goals as goal
 
 pub invariant_of-round_keys-in-loop-i : goal.invariant_of-round_keys-in-loop-i
@@ -46,5 +46,5 @@ returns-clause-made c =
 
 pub returns-clause-scheduled : goal.returns-clause-scheduled
 returns-clause-scheduled c =
-    AreScheduled-key c.loop-i.round_keys c.pc1.result (bits_of_word c.args.key) c.loop-i.invariant.sixteen
-    c.pc1.ensures.selected (returns-clause-made c)
+    AreScheduled-schedule c.loop-i.round_keys (bits_of_word c.args.key) c.loop-i.invariant.sixteen
+    (returns-clause-made c)

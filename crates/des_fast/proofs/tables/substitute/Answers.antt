@@ -3,17 +3,9 @@ use Rattle.des_fast.specs.Groups.{bits_of_groups}
 use Rattle.des_fast.proofs.CombinedEntries.{TABLES-combined, IsExpansionOf-entries}
 use Rattle.des_fast.proofs.tables.substitute.Goals as goal
 
-pub returns-clause-tables : goal.returns-clause-tables
-returns-clause-tables c = TABLES-combined
-
-pub returns-clause-expansion : goal.returns-clause-expansion
-returns-clause-expansion c =
+pub returns : goal.returns
+returns c =
     let group = c.groups_of-group in
-    (IsExpansionOf-entries (bits_of_groups c.args.word) group.result group.ensures.within (omega arith)
-    group.ensures.groups).is_expansion
-
-pub returns-clause-substituted : goal.returns-clause-substituted
-returns-clause-substituted c =
-    let group = c.groups_of-group in
-    (IsExpansionOf-entries (bits_of_groups c.args.word) group.result group.ensures.within (omega arith)
-    group.ensures.groups).has_half
+    let is = IsExpansionOf-entries (bits_of_groups c.args.word) group.result group.ensures.within (omega arith)
+    group.ensures.groups in
+    record { tables = TABLES-combined; expansion = is.is_expansion; substituted = is.has_half }

@@ -6,7 +6,7 @@ use Rattle.des_fast.proofs.words.from_round_key_words.Goals as goal
 
 -- each round key has the groups of the word at its place: they are those of the key that there is
 pub invariant_of-result : goal.invariant_of-result
-invariant_of-result c =
+invariant_of-result g c =
     let same =
     round_keys_in-by_place c.args.words.now c.map.result (omega (arith, c.map.ensures.items.long))
     (λ i d e below. sym (c.map.ensures.items.at i d e (omega arith)).2.met) in
@@ -18,7 +18,7 @@ invariant_of-result c =
 
 -- and of any key whose round keys the words hold
 pub returns : goal.returns
-returns c key held =
+returns g c key held =
     let same =
     round_keys_in-by_place c.args.words.now c.map.result (omega (arith, c.map.ensures.items.long))
     (λ i d e below. sym (c.map.ensures.items.at i d e (omega arith)).2.met) in

@@ -5,7 +5,7 @@ use Rattle.des_fast.proofs.words.round_key_words.Goals as goal
 
 -- each word is the one of the round key at its place
 pub returns : goal.returns
-returns c key made =
+returns g c key made =
     let same =
     round_keys_in-by_place c.map.result c.args.cipher.now.schedule.round_keys (omega (arith, c.map.ensures.items.long))
     (λ i d e below. ap bits_of_groups (c.map.ensures.items.at i e d (omega arith)).2.met) in

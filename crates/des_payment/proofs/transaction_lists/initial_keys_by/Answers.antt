@@ -7,11 +7,11 @@ use Rattle.des_payment.proofs.transaction_lists.initial_keys_by.Goals as goal
 pub groups-preserved : goal.groups-preserved
 groups-preserved g c =
     let m : ℕ = c.groups.from in
-    let count : ℕ = c.next_count-count.result in
+    let count : ℕ = c.min-count.result in
     let n : ℕ = m + count - m in
     let f : List ℕ → List ℕ = initial_key c.args.base.now in
     let next : m + n ≡ m + count = omega arith in record {
-      within = omega (arith, c.next_count-count.ensures.there);
+      within = omega (arith, c.min-count.ensures);
       written =
           mapped-more f m n c.args.serials.now c.args.keys.now c.groups.keys c.initial_group.new.keys
           (omega arith) (omega (arith, c.groups.invariant.within)) c.groups.invariant.written c.initial_group.ensures

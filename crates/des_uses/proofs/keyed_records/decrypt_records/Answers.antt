@@ -1,4 +1,4 @@
-use Rattle.std.proofs.Common.{List, map, ap, sym}
+use Rattle.std.proofs.Common.{map, ap, sym}
 use Rattle.des_fast.specs.ChainEnds.{under_key}
 use Rattle.des_uses.proofs.keyed_records.decrypt_records.Goals as goal
 

@@ -2,13 +2,13 @@ use Rattle.des.specs.Blocks.{part}
 use Rattle.des_context.proofs.contexts.TdesEde2ContextContext.to_quiet.Goals as goal
 
 -- there is such a key, so that the words hold the round keys of each part
-pub quiet_from_round_key_words-requires : goal.quiet_from_round_key_words-requires
-quiet_from_round_key_words-requires c = (part 1 c.requires.0, c.requires.1.1)
+pub from_round_key_words-requires : goal.from_round_key_words-requires
+from_round_key_words-requires c = (part 1 c.requires.0, c.requires.1.1)
 
-pub quiet_from_round_key_words-requires-2 : goal.quiet_from_round_key_words-requires-2
-quiet_from_round_key_words-requires-2 c = (part 2 c.requires.0, c.requires.1.2)
+pub from_round_key_words-requires-2 : goal.from_round_key_words-requires-2
+from_round_key_words-requires-2 c = (part 2 c.requires.0, c.requires.1.2)
 
 pub returns : goal.returns
 returns c key is =
-    c.of_two.ensures key is.0 (c.quiet_from_round_key_words.ensures (part 1 key) is.1)
-    (c.quiet_from_round_key_words-2.ensures (part 2 key) is.2)
+    c.of_two.ensures key is.0 (c.from_round_key_words.ensures (part 1 key) is.1)
+    (c.from_round_key_words-2.ensures (part 2 key) is.2)

@@ -1,8 +1,5 @@
-use Rattle.std.proofs.Common.{ℕ, bit_xor, ap, ◌∙◌}
-use Rattle.des.specs.Bits.{select, xor_bits}
-use Rattle.des.specs.Tables.{permutation}
-use Rattle.des.specs.CipherFunction.{cipher_function, substitute}
-use Rattle.des_fast.specs.Groups.{half_of}
+use Rattle.std.proofs.Common.{bit_xor}
+use Rattle.des.specs.CipherFunction.{cipher_function}
 use Rattle.des_fast.proofs.GroupWords.{IsExpansion-xor, half_of-xor}
 use Rattle.des_fast.proofs.KeyedHalves.{xor-beside_key, IsOfGroups-keyed, bits_of_groups-keyed}
 use Rattle.des_fast.proofs.halves.KeyedHalf.next.Goals as goal
@@ -25,10 +22,10 @@ pub returns-clause-half : goal.returns-clause-half
 unfolding cipher_function
 returns-clause-half c =
     let left = c.args.self in
-    let half : ℕ = bit_xor left.groups left.round_key.groups in
-    ap half_of (xor-beside_key left.groups c.substitute.result left.round_key.groups)
-    ∙ half_of-xor half c.substitute.result
-    ∙ ap (xor_bits (half_of half))
-    (c.substitute.ensures.substituted
-    ∙ ap (λ bits. select permutation (substitute bits))
-    (bits_of_groups-keyed c.args.right.groups c.args.right.round_key.groups c.args.right.expansion))
+    let right = c.args.right in
+    rw (
+      xor-beside_key left.groups c.substitute.result left.round_key.groups,
+      half_of-xor (bit_xor left.groups left.round_key.groups) c.substitute.result,
+      c.substitute.ensures.substituted,
+      bits_of_groups-keyed right.groups right.round_key.groups right.expansion,
+    )

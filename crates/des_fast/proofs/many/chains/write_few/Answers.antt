@@ -5,7 +5,7 @@ use Rattle.des_fast.proofs.many.chains.write_few.Goals as goal
 
 pub returns : goal.returns
 returns g c =
-    let f : List ℕ → List ℕ = g.P.AnswersFour.answered c.args.passes.now in
+    let f : List ℕ → List ℕ = g.P.Answers.answered c.args.passes.now in
     take_at c.answer.new.blocks _ (length c.args.blocks.now)
     (ap length c.answer.ensures
     ∙ length-map c.copy_from_slice.new.self f

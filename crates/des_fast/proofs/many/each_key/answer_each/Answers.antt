@@ -9,7 +9,7 @@ use Rattle.des_fast.proofs.many.each_key.answer_each.Goals as goal
 pub parts-preserved : goal.parts-preserved
 parts-preserved g c =
     let m : ℕ = c.parts.from in
-    let count : ℕ = c.next_count-count.result in
+    let count : ℕ = c.min-count.result in
     let n : ℕ = m + count - m in
     let bytes = g.C.Key.KeyBytes.bytes_of in
     let f : List ℕ → List ℕ → List ℕ =
@@ -20,7 +20,7 @@ parts-preserved g c =
     let part_of_keys : map bytes (take n (drop m c.args.keys.now)) ≡ take n (drop m keys) =
     sym (ap (take n) (drop-map bytes m c.args.keys.now) ∙ take-map bytes n (drop m c.args.keys.now)) in
     let next : m + n ≡ m + count = omega arith in record {
-      within = omega (arith, c.next_count-count.ensures.there);
+      within = omega (arith, c.min-count.ensures);
       answered =
           zipped-more f m n keys old now c.answer_part.new.blocks
           (length-map c.args.keys.now bytes ∙ c.requires)

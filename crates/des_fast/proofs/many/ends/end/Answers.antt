@@ -8,13 +8,13 @@ use Rattle.des_fast.proofs.many.ends.end.Goals as goal
 pub groups-preserved : goal.groups-preserved
 groups-preserved g c =
     let m : ℕ = c.groups.from in
-    let n : ℕ = c.next_count-count.result in
+    let n : ℕ = c.min-count.result in
     let w : ℕ = m + n - m in
     let firsts : List (List ℕ) = c.args.chains.now in
     let now : List (List ℕ) = c.groups.chains in
     let part : List (List ℕ) = c.end_group.new.chains in
     let same : length now ≡ length firsts = c.groups.auto.chains in
-    let there : m + n ≤ length firsts = omega (arith, c.next_count-count.ensures.there, same) in
+    let there : m + n ≤ length firsts = omega (arith, c.min-count.ensures, same) in
     let is : w ≡ n = omega arith in
     let count : length part ≡ n =
     c.end_group.ensures.count ∙ length-take-le w (drop m now) (omega (arith, length-drop m now)) ∙ is in record {
@@ -23,7 +23,7 @@ groups-preserved g c =
           AreEnds-group (λ k. answer) (λ k. lane_answer (g.S.Slice.bit k) c.args.passes.now)
           (g.L.BlockLists.block_of c.args.lists.now) (g.L.BlockLists.count_of c.args.lists.now) m n w
           firsts now part there same is count
-          (λ j below. hold j (omega (arith, c.next_count-count.ensures.within)))
+          (λ j below. hold j (omega (arith, c.min-count.ensures, c.BATCH.ensures)))
           (c.groups.invariant.made answer hold) c.groups.invariant.rest c.end_group.ensures.ends;
       rest = λ k past.
           get_or-put_past m w now part k (omega arith) (omega arith) (count ∙ sym is)

@@ -9,7 +9,7 @@ use Rattle.des_fast.proofs.many.ends.end_each.Goals as goal
 pub groups-preserved : goal.groups-preserved
 groups-preserved g c =
     let m : ℕ = c.groups.from in
-    let n : ℕ = c.next_count-count.result in
+    let n : ℕ = c.min-count.result in
     let w : ℕ = m + n - m in
     let bytes = g.C.Key.KeyBytes.bytes_of in
     let encryption = g.C.KeyedCipher.encryption in
@@ -18,7 +18,7 @@ groups-preserved g c =
     let now : List (List ℕ) = c.groups.chains in
     let part : List (List ℕ) = c.end_group_each.new.chains in
     let same : length now ≡ length firsts = c.groups.auto.chains in
-    let there : m + n ≤ length firsts = omega (arith, c.next_count-count.ensures.there, same) in
+    let there : m + n ≤ length firsts = omega (arith, c.min-count.ensures, same) in
     let is : w ≡ n = omega arith in
     let count : length part ≡ n =
     c.end_group_each.ensures.count ∙ length-take-le w (drop m now) (omega (arith, length-drop m now)) ∙ is in

@@ -1,6 +1,6 @@
 -- The pass of one part more.
 use Rattle.std.proofs.Common.{◌≡◌, ℕ, List, [], Bool, false, map, get_or, sym, ◌∙◌, arith}
-use Rattle.std.proofs.lemmas.List.{get_or-map}
+use Rattle.std.proofs.lemmas.List.{get_or-map, length-map}
 use Rattle.des.specs.Blocks.{part}
 use Rattle.des_fast.specs.declared.many.lanes.Part.{Part}
 use Rattle.des_fast.specs.RoundKeySlices.{round_keys_in}
@@ -12,7 +12,7 @@ pub returns-then-parts-2-clause-spread : goal.returns-then-parts-2-clause-spread
 returns-then-parts-2-clause-spread g c m below k inside =
     let parts : List Part = c.args.parts.now in
     let passes = c.args.passes.now in
-    let key : List ℕ = get_or c.args.keys.now k [] in
+    let key : List ℕ = get_or (map g.K.KeyBytes.bytes_of c.args.keys.now) k [] in
     let read = round_keys_in (g.S.Slice.bit k) in
     let of_part : Part → List (List Bool) = λ p. round_keys_under p.deciphers (part p.number key) in
     let none : Part = record { number = 0; deciphers = false } in
@@ -32,11 +32,12 @@ returns-then-parts-2-clause-spread g c m below k inside =
 pub returns-else-i-eq2-clause-spread : goal.returns-else-i-eq2-clause-spread
 returns-else-i-eq2-clause-spread g c m below k inside =
     let parts : List Part = c.args.parts.now in
-    let key : List ℕ = get_or c.args.keys.now k [] in
+    let key : List ℕ = get_or (map g.K.KeyBytes.bytes_of c.args.keys.now) k [] in
     let of_part : Part → List (List Bool) = λ p. round_keys_under p.deciphers (part p.number key) in
     mapped_written_below (round_keys_in (g.S.Slice.bit k)) []
     (λ n keys. keys ≡ get_or (round_keys_of_parts parts key) n [])
     c.args.passes.now c.args.i _ (omega (arith, c.told-passes))
     (λ n low. c.requires.before n low k inside)
-    (c.spread_part.ensures k inside ∙ sym (get_or-map of_part parts c.args.i _ [] (omega (arith, c.told-parts))))
+    (c.spread_part.ensures k (omega (arith, inside, length-map c.args.keys.now g.K.KeyBytes.bytes_of))
+    ∙ sym (get_or-map of_part parts c.args.i _ [] (omega (arith, c.told-parts))))
     m below

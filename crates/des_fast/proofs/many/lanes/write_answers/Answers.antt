@@ -1,5 +1,5 @@
 -- The blocks are written over the beginning of the filling, and a batch of both is answered.
-use Rattle.std.proofs.Common.{◌≡◌, ℕ, ◌++◌, List, [], get_or, length, drop, ap, ◌∙◌, arith}
+use Rattle.std.proofs.Common.{◌≡◌, ℕ, List, [], get_or, length, drop, ap, ◌∙◌, arith}
 use Rattle.std.proofs.lemmas.List.{get_or_append_left}
 use Rattle.des_fast.specs.EachKey.{lane_answer}
 use Rattle.des_fast.proofs.many.lanes.write_answers.Goals as goal

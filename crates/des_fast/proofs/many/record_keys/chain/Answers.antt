@@ -21,11 +21,11 @@ encryption-passes-requires g c = (
   (
     omega (arith, pass_slices-le _ _ g.met.K.Slices.Slice.small_gaps g.met.K.Slices.Slice.few_bytes),
     (
-      omega (arith, c.next_count-count.ensures.within),
+      omega (arith, c.min-count.ensures, c.BATCH.ensures),
       (
         length c.args.vectors.now,
         c.requires.keys,
-        omega (arith, c.next_count-count.ensures.there, c.groups.invariant.in_vectors),
+        omega (arith, c.min-count.ensures, c.groups.invariant.in_vectors),
       ),
     ),
   ),
@@ -33,7 +33,7 @@ encryption-passes-requires g c = (
 
 pub groups-preserved : goal.groups-preserved
 groups-preserved g c = record {
-  within = omega (arith, c.next_count-count.ensures.there, c.groups.invariant.in_vectors);
+  within = omega (arith, c.min-count.ensures, c.groups.invariant.in_vectors);
   starts = c.extent-extent.ensures.end;
   in_vectors = c.chain_group.ensures.vectors ∙ c.groups.invariant.in_vectors;
   in_blocks = c.chain_group.ensures.count ∙ c.groups.invariant.in_blocks;

@@ -17,7 +17,7 @@ parts-init g c = record {
 
 pub parts-preserved : goal.parts-preserved
 parts-preserved g c = record {
-  within = omega (arith, c.next_count-count.ensures.there, c.parts.invariant.in_blocks);
+  within = omega (arith, c.min-count.ensures, c.parts.invariant.in_blocks);
   starts = c.unchain_part-record.ensures.starts;
   before = c.unchain_part-record.ensures.before;
   in_vectors = c.unchain_part-record.ensures.vectors ∙ c.parts.invariant.in_vectors;

@@ -1,7 +1,7 @@
 use Rattle.std.proofs.Common.{ℕ, ◌-◌, ◌^◌, ◌<◌, List, [], ◌∷◌, lit≤, arith}
 use Rattle.std.specs.Simd.Lanes.{digits_l, number_l, Each1}
 use Rattle.des_fast.specs.declared.quiet.fours.TheConstants.{TERMS}
-use Rattle.des_fast.specs.ChosenTerms.{AreSums, AreChoices}
+use Rattle.des_fast.specs.ChosenTerms.{AreChoices}
 use Rattle.des_fast.proofs.ChosenTerms.{choice-at}
 use Rattle.des_fast.proofs.quiet.fours.chosen.Goals as goal
 use Rattle.des_fast.proofs.quiet.fours.chosen.Goals.{After-in_half}
@@ -17,13 +17,12 @@ fit c = (omega arith, (omega arith, (omega arith, (omega arith, tt))))
 choices : (c : After-in_half) → AreChoices TERMS (digits_l 256 32 (number_l (2 ^ 64) (words c))) c.in_half.result
 choices c =
     let bytes : List ℕ = digits_l 256 32 (number_l (2 ^ 64) (words c)) in
-    let sixteen : AreSums 4 TERMS 0 bytes c.sum_of_sixteen-with_last.result =
-    c.sum_of_sixteen-with_last.ensures bytes c.mask-sixth.ensures c.mask-fifth.ensures c.mask-fourth.ensures
-    c.mask-third.ensures in
-    let more : AreSums 4 TERMS 16 bytes c.sum_of_sixteen-with_first.result =
-    c.sum_of_sixteen-with_first.ensures bytes c.mask-sixth.ensures c.mask-fifth.ensures c.mask-fourth.ensures
-    c.mask-third.ensures in
-    c.in_half.ensures bytes (c.sum.ensures 4 0 bytes sixteen c.mask-second.ensures more) c.mask-first.ensures
+    c.in_half.ensures bytes
+    (c.sum.ensures 4 0 bytes
+    (c.sum_of_sixteen-with_last.ensures bytes c.mask-sixth.ensures c.mask-fifth.ensures c.mask-fourth.ensures
+    c.mask-third.ensures) c.mask-second.ensures
+    (c.sum_of_sixteen-with_first.ensures bytes c.mask-sixth.ensures c.mask-fifth.ensures c.mask-fourth.ensures
+    c.mask-third.ensures)) c.mask-first.ensures
 
 pub returns-clause-first : goal.returns-clause-first
 returns-clause-first c i below =

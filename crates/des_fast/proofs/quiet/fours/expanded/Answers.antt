@@ -1,12 +1,12 @@
 use Rattle.std.proofs.Common.{zero, suc, arith}
-use Rattle.des_fast.proofs.ExpandedEntries.{expanded-earlier, expanded-later, IsOfGroups-earlier, IsOfGroups-later}
+use Rattle.des_fast.proofs.ExpandedEntries.{expanded-earlier, expanded-later, earlier, later, IsOfGroups-expanded}
 use Rattle.des_fast.proofs.quiet.fours.expanded.Goals as goal
 
 pub returns-clause-groups : goal.returns-clause-groups
-returns-clause-groups c zero within = IsOfGroups-earlier c.args.first
-returns-clause-groups c (suc zero) within = IsOfGroups-earlier c.args.second
-returns-clause-groups c (suc (suc zero)) within = IsOfGroups-later c.args.first
-returns-clause-groups c (suc (suc (suc zero))) within = IsOfGroups-later c.args.second
+returns-clause-groups c zero within = IsOfGroups-expanded earlier c.args.first
+returns-clause-groups c (suc zero) within = IsOfGroups-expanded earlier c.args.second
+returns-clause-groups c (suc (suc zero)) within = IsOfGroups-expanded later c.args.first
+returns-clause-groups c (suc (suc (suc zero))) within = IsOfGroups-expanded later c.args.second
 returns-clause-groups c (suc (suc (suc (suc b)))) within = absurd (omega arith)
 
 pub returns-clause-first : goal.returns-clause-first

@@ -10,9 +10,9 @@ use Rattle.des_fast.proofs.quiet.rounds.after_rounds.Given as goal
 abbrev pub invariant-loop-i : goal.invariant-loop-i
 invariant-loop-i g l =
     record {
-      left : AreExpansions g.G.Groups.blocks g.G.Groups.word l.next_left;
-      right : AreExpansions g.G.Groups.blocks g.G.Groups.word l.next_right;
-      halves : InEachBlock g.G.Groups.blocks (λ b.
+      left : AreExpansions g.G.Groups.BLOCKS g.G.Groups.word l.next_left;
+      right : AreExpansions g.G.Groups.BLOCKS g.G.Groups.word l.next_right;
+      halves : InEachBlock g.G.Groups.BLOCKS (λ b.
           (half_of (g.G.Groups.word b l.next_left), half_of (g.G.Groups.word b l.next_right))
           ≡ after_rounds (take (2 * l.i) (in_direction l.deciphers (round_keys_of l.round_keys)))
           (half_of (g.G.Groups.word b l.fn.left)) (half_of (g.G.Groups.word b l.fn.right)));

@@ -9,15 +9,15 @@ use Rattle.des.proofs.PassGraphs.{IsTheOne-answer}
 use Rattle.des_fast.proofs.single.DesBlockCipherEncrypt.encrypt_block.Goals as goal
 
 pub returns-clause-encrypted : goal.returns-clause-encrypted
-returns-clause-encrypted c =
+returns-clause-encrypted g c =
     let keys = round_keys_of c.args.self.now.schedule.round_keys in
     c.into_block.ensures
-    ∙ ap last_block (c.enciphered.ensures ∙ ap (after keys) c.of_block.ensures.halves)
+    ∙ ap last_block (c.after_rounds.ensures ∙ ap (after keys) c.of_block-halves.ensures.halves)
     ∙ sym (answer_by-halves keys c.args.block.now)
 
 pub returns-clause-enciphers : goal.returns-clause-enciphers
-returns-clause-enciphers c key made =
+returns-clause-enciphers g c key made =
     IsTheOne-answer (encryption key) (λ x y. Enciphers key x y) c.args.block.now c.into_block.result
-    (IsGraphOf-encryption key made.0) c.of_block.ensures.is_block
-    (returns-clause-encrypted c
-    ∙ (Agree-encrypted c.args.self.now key made).at c.args.block.now c.of_block.ensures.is_block)
+    (IsGraphOf-encryption key made.0) c.of_block-halves.ensures.is_block
+    (returns-clause-encrypted g c
+    ∙ (Agree-encrypted c.args.self.now key made).at c.args.block.now c.of_block-halves.ensures.is_block)

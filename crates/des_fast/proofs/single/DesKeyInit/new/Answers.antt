@@ -10,7 +10,7 @@ use Rattle.des.proofs.PassGraphs.{AnswerAlike-Agree}
 use Rattle.des_fast.proofs.single.DesKeyInit.new.Goals as goal
 
 pub returns-clause-made : goal.returns-clause-made
-returns-clause-made c = (
+returns-clause-made g c = (
   IsKey-array 8 c.args.key.now c.told-key c.fits-key,
   c.new.ensures
       ∙ ap (λ (word : ℕ). key_schedule (bits_of_word word)) c.from_be_bytes.ensures
@@ -18,20 +18,20 @@ returns-clause-made c = (
 )
 
 pub returns-clause-one_answer_each_way : goal.returns-clause-one_answer_each_way
-returns-clause-one_answer_each_way c = HasOneAnswerEachWay-key c.args.key.now (returns-clause-made c).0
+returns-clause-one_answer_each_way g c = HasOneAnswerEachWay-key c.args.key.now (returns-clause-made g c).0
 
 pub returns-clause-encryption : goal.returns-clause-encryption
-returns-clause-encryption c = IsGraphOf-encryption c.args.key.now (returns-clause-made c).0
+returns-clause-encryption g c = IsGraphOf-encryption c.args.key.now (returns-clause-made g c).0
 
 pub returns-clause-decryption : goal.returns-clause-decryption
-returns-clause-decryption c = IsGraphOf-decryption c.args.key.now (returns-clause-made c).0
+returns-clause-decryption g c = IsGraphOf-decryption c.args.key.now (returns-clause-made g c).0
 
 pub returns-clause-encrypts_alike : goal.returns-clause-encrypts_alike
-returns-clause-encrypts_alike c other made =
-    AnswerAlike-Agree (Agree-encrypted (record { schedule = c.new.result }) c.args.key.now (returns-clause-made c))
+returns-clause-encrypts_alike g c other made =
+    AnswerAlike-Agree (Agree-encrypted {W = g.row.W.Denot} (record { schedule = c.new.result; way = _ }) c.args.key.now (returns-clause-made g c))
     (port.Agree-encrypted other c.args.key.now made)
 
 pub returns-clause-decrypts_alike : goal.returns-clause-decrypts_alike
-returns-clause-decrypts_alike c other made =
-    AnswerAlike-Agree (Agree-decrypted (record { schedule = c.new.result }) c.args.key.now (returns-clause-made c))
+returns-clause-decrypts_alike g c other made =
+    AnswerAlike-Agree (Agree-decrypted {W = g.row.W.Denot} (record { schedule = c.new.result; way = _ }) c.args.key.now (returns-clause-made g c))
     (port.Agree-decrypted other c.args.key.now made)

@@ -48,7 +48,7 @@ returns g c b within =
     let passes : List (List (List Bool)) = map keys c.args.passes.now in
     let bits : List Bool = read c.args.slices.now in
     let all : length passes ≤ n = omega (arith, length-map c.args.passes.now keys) in
-    c.select_from_halves.ensures b within
+    c.permute_halves.ensures b within
     ∙ through_passes-joined (take n passes) bits (read c.passes.left) (read c.passes.right)
     (length-map c.args.slices.now (g.S.Slice.bit b) ∙ c.told-slices) (c.passes.invariant b within).1
     ∙ ap (λ (ks : List (List (List Bool))). through_passes ks bits) (take_all n passes all)

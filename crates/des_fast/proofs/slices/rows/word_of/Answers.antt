@@ -1,9 +1,6 @@
-use Rattle.std.proofs.Common.{ap, sym, ◌∙◌, arith}
-use Rattle.des.specs.Bits.{bits_of_word}
-use Rattle.des.specs.Laws.BitLists.{bits_of_bytes-from_be}
+use Rattle.std.proofs.Common.{arith}
+use Rattle.std.proofs.lemmas.Nat.{le_bytes_8}
 use Rattle.des_fast.proofs.slices.rows.word_of.Goals as goal
 
 pub returns : goal.returns
-returns c =
-    ap bits_of_word c.from_be_bytes.ensures
-    ∙ sym (bits_of_bytes-from_be c.args.block.now (omega arith) c.fits-block)
+returns c = le_bytes_8 c.args.block.now _ (omega arith) c.fits-block c.from_le_bytes.ensures

@@ -1,34 +1,36 @@
 -- Row by row.
-use Rattle.std.proofs.Common.{◌≡◌, ℕ, ◌+◌, ◌*◌, ◌/◌, ◌%◌, ◌<◌, ◌≢◌, [], get_or, ap, sym, ◌∙◌, arith, inl, inr}
+use Rattle.std.proofs.Common.{ℕ, ◌/◌, ◌%◌, ◌<◌, ap, sym, ◌∙◌, arith, inl, inr}
 use Rattle.std.proofs.lemmas.Bool.{cases_eq}
 use Rattle.des.specs.Blocks.{block_of_bits}
-use Rattle.des_fast.proofs.BlockRows.{bits_of_lane-row, row_lane}
+use Rattle.des_fast.proofs.BlockRows.{bits_of_lane-row, row_lane, IsPlaced-block}
 use Rattle.des_fast.proofs.slices.rows.write_rows.Goals as goal
 
 pub rows-preserved : goal.rows-preserved
 rows-preserved g c =
-    let bit = g.S.Slice.bit in
+    let bit = g.S.Slice.place_bit in
     let rows = c.args.rows.now in
     let n : ℕ = c.rows.n in (
       c.write_row.ensures.count ∙ c.rows.invariant.0,
-      λ lane within m below. elim (cases_eq m n) [
-        | inl same ↦
-            ap (λ (k : ℕ). get_or c.write_row.new.blocks (64 * lane + k) []) same
-            ∙ c.write_row.ensures.written lane within
-            ∙ ap block_of_bits (bits_of_lane-row bit rows n lane _ (omega arith)
-            ∙ ap (λ (k : ℕ). row_lane bit rows k lane) (sym same))
-        | inr other ↦
-            let low : m < n = omega arith in
-            let elsewhere : (64 * lane + m) % 64 ≢ n = λ q. other (omega arith) in
-            c.write_row.ensures.kept (64 * lane + m) elsewhere ∙ c.rows.invariant.1 lane within m low
-      ],
+      λ k within below.
+          let row : ℕ = k / g.S.Slice.words in
+          let lane : ℕ = k % g.S.Slice.words in
+          elim (cases_eq row n) [
+            | inl same ↦
+                c.write_row.ensures.written k within same
+                ∙ ap block_of_bits (bits_of_lane-row bit rows n lane _ (omega arith)
+                ∙ ap (λ (j : ℕ). row_lane bit rows j lane) (sym same))
+            | inr other ↦
+                let low : row < n = omega (arith, below, other) in
+                c.write_row.ensures.kept k other ∙ c.rows.invariant.1 k within low
+          ],
     )
 
 pub returns : goal.returns
 returns g c = record {
   written = λ k within.
-      let place : k ≡ 64 * (k / 64) + k % 64 = omega arith in
-      ap (λ (i : ℕ). get_or c.rows.blocks i []) place
-      ∙ c.rows.invariant.1 (k / 64) (omega arith) (k % 64) (omega arith);
+      let whole = g.met.S.Slice.whole_words in
+      let at =
+      IsPlaced-block g.S.Slice.words k (omega (arith, whole, g.met.S.Slice.some_blocks)) (omega (arith, whole)) in
+      c.rows.invariant.1 k within (omega (arith, at.row));
   count = omega arith;
 }

@@ -4,4 +4,4 @@ use Rattle.des_fast.proofs.slices.transposition.every_eighth.Goals as goal
 
 pub returns : goal.returns
 returns g c b within =
-    bits-every_eighth (g.S.Slice.bit b) c.args.rows.now c.args.i _ _ _ _ _ _ _ _ (omega arith) c.requires
+    bits-every_eighth (g.S.Slice.place_bit b) c.args.rows.now c.args.i _ _ _ _ _ _ _ _ (omega arith) c.requires

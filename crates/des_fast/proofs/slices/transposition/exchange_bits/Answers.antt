@@ -1,8 +1,8 @@
 -- Exchanges of half bytes, pairs of bits and bits transpose the bits of each byte.
 use Rattle.std.proofs.Common.{refl, arith}
 use Rattle.des.specs.Bits.{bits_of}
-use Rattle.des_fast.specs.Transposition.{bits_from}
-use Rattle.des_fast.proofs.ThreeExchanges.{IsFrom-exchanges}
+use Rattle.des_fast.specs.Transposition.{bit_steps, bits_from}
+use Rattle.des_fast.proofs.RowSteps.{IsFrom-steps}
 use Rattle.des_fast.proofs.slices.transposition.exchange_bits.Goals as goal
 
 pub exchange_pairs-rows-requires : goal.exchange_pairs-rows-requires
@@ -19,5 +19,5 @@ exchange_pairs-requires g c = (omega (arith, g.met.S.Slice.few_bytes), (omega ar
 
 pub returns : goal.returns
 returns g c =
-    IsFrom-exchanges g.S.Slice.BATCH g.S.Slice.bit 4 2 1 bits_from _ _ _ _ g.met.S.Slice.bits
-    c.exchange_pairs-rows.ensures c.exchange_pairs-rows-2.ensures c.exchange_pairs.ensures
+    IsFrom-steps g.S.Slice.BATCH g.S.Slice.place_bit bit_steps bits_from _ _ g.met.S.Slice.bits
+    (_, (c.exchange_pairs.ensures, (_, (c.exchange_pairs-rows-2.ensures, (_, (c.exchange_pairs-rows.ensures, refl))))))

@@ -1,23 +1,27 @@
--- Exchanges of half words, quarters and bytes transpose the bytes.
-use Rattle.std.proofs.Common.{refl, arith}
-use Rattle.des.specs.Bits.{bits_of}
-use Rattle.des_fast.specs.Transposition.{bytes_from}
-use Rattle.des_fast.proofs.ThreeExchanges.{IsFrom-exchanges}
+-- Three steps of bytes and one of words transpose the bytes.
+use Rattle.std.proofs.Common.{refl}
+use Rattle.des_fast.specs.Transposition.{byte_steps, bytes_from}
+use Rattle.des_fast.proofs.RowSteps.{IsFrom-steps}
 use Rattle.des_fast.proofs.slices.transposition.exchange_bytes.Goals as goal
-
-pub exchange_pairs-rows-requires : goal.exchange_pairs-rows-requires
-unfolding bits_of
-exchange_pairs-rows-requires g c = (omega (arith, g.met.S.Slice.few_bytes), (omega arith, refl))
-
-pub exchange_pairs-rows-requires-2 : goal.exchange_pairs-rows-requires-2
-unfolding bits_of
-exchange_pairs-rows-requires-2 g c = (omega (arith, g.met.S.Slice.few_bytes), (omega arith, refl))
-
-pub exchange_pairs-requires : goal.exchange_pairs-requires
-unfolding bits_of
-exchange_pairs-requires g c = (omega (arith, g.met.S.Slice.few_bytes), (omega arith, refl))
 
 pub returns : goal.returns
 returns g c =
-    IsFrom-exchanges g.S.Slice.BATCH g.S.Slice.bit 32 16 8 bytes_from _ _ _ _ g.met.S.Slice.bytes
-    c.exchange_pairs-rows.ensures c.exchange_pairs-rows-2.ensures c.exchange_pairs.ensures
+    IsFrom-steps g.S.Slice.BATCH g.S.Slice.place_bit byte_steps bytes_from _ _ g.met.S.Slice.bytes (
+      _,
+      (
+        c.join_pairs.ensures,
+        (
+          _,
+          (
+            c.interleave_pairs-3.ensures,
+            (
+              _,
+              (
+                c.interleave_pairs-2.ensures,
+                (_, (c.interleave_pairs.ensures, refl)),
+              ),
+            ),
+          ),
+        ),
+      ),
+    )

@@ -15,9 +15,9 @@ loop-j-preserved g c =
     let inside : beside_place i j < 64 = omega (arith, c.requires) in (
       length-set c.loop-j.rows (beside_place i j) _ ∙ c.loop-j.invariant.0,
       λ b within.
-          AreWrittenAt-more (g.S.Slice.bit b) (beside_place i) c.args.eight c.args.rows.now c.loop-j.rows j _
+          AreWrittenAt-more (g.S.Slice.place_bit b) (beside_place i) c.args.eight c.args.rows.now c.loop-j.rows j _
           (omega arith) (omega (arith, c.loop-j.invariant.0)) (λ k low q. absurd (omega arith))
-          (sym (get_or-map (g.S.Slice.bit b) c.args.eight j _ false (omega arith)))
+          (sym (get_or-map (g.S.Slice.place_bit b) c.args.eight j _ false (omega arith)))
           (c.loop-j.invariant.1 b within),
     )
 

@@ -9,4 +9,4 @@ abbrev pub invariant-loop-j : goal.invariant-loop-j
 invariant-loop-j g l =
     (length l.rows ≡ 64)
     × InEachBlock g.S.Slice.BATCH
-    (λ b. AreWrittenAt (g.S.Slice.bit b) (beside_place l.i) l.eight l.initial.rows l.rows l.j)
+    (λ b. AreWrittenAt (g.S.Slice.place_bit b) (beside_place l.i) l.eight l.initial.rows l.rows l.j)

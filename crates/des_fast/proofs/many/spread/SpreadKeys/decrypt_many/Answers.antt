@@ -1,4 +1,4 @@
-use Rattle.std.proofs.Common.{ℕ, List, map, ap, sym, subst, ◌∙◌, arith}
+use Rattle.std.proofs.Common.{sym, subst, arith}
 use Rattle.des_fast.specs.SpreadKeys.{AreSlicesFor}
 use Rattle.des_fast.proofs.SliceSizes.{pass_slices-le}
 use Rattle.des_fast.proofs.many.spread.SpreadKeys.decrypt_many.Goals as goal

@@ -1,5 +1,5 @@
 use Rattle.std.proofs.lemmas.Simd.{shifts_fit_splat}
-use Rattle.des_fast.proofs.ExchangedRows.{ArePairwiseExchanged-rows}
+use Rattle.des_fast.proofs.ExchangedRows.{ArePairwise-exchanged}
 use Rattle.des_fast.proofs.slices.vectors.U64x2Slice.exchange.Goals as goal
 
 pub overflow_shr-change : goal.overflow_shr-change
@@ -11,5 +11,5 @@ overflow_shl-result c = shifts_fit_splat 64 _ 2 _ c.requires.within
 pub returns : goal.returns
 returns c =
     let a = c.args in
-    ArePairwiseExchanged-rows 2 a.distance a.mask a.self a.lower c.requires.within c.requires.pairs c.fits-self.0
+    ArePairwise-exchanged 2 a.distance a.mask a.self a.lower c.requires.within c.requires.pairs c.fits-self.0
     c.fits-lower.0

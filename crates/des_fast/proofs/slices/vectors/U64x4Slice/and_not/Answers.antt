@@ -1,8 +1,9 @@
-use Rattle.std.proofs.Common.{bit_and, ◌&&◌, refl}
+use Rattle.std.proofs.Common.{arith, bit_and, ◌&&◌, refl}
+use Rattle.des_fast.specs.Slices.{place_of_block}
 use Rattle.des_fast.proofs.SliceBits.{IsBitwise-and, HasBit-bitwise, HasBit-not}
 use Rattle.des_fast.proofs.slices.vectors.U64x4Slice.and_not.Goals as goal
 
 pub returns : goal.returns
 returns c b within =
-    (HasBit-bitwise bit_and ◌&&◌ IsBitwise-and 4 b c.args.self _ _ _ within (c.fits-self, refl)
-    (HasBit-not 4 b c.args.other _ within (c.fits-other, refl))).1
+    (HasBit-bitwise bit_and ◌&&◌ IsBitwise-and 4 (place_of_block 4 b) c.args.self _ _ _ (omega arith) (c.fits-self, refl)
+    (HasBit-not 4 (place_of_block 4 b) c.args.other _ (omega arith) (c.fits-other, refl))).1

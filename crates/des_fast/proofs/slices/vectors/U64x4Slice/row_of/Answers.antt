@@ -1,16 +1,17 @@
 -- A block in each of four words.
-use Rattle.std.proofs.Common.{ℕ, List, [], ◌∷◌, get_or, ap, sym, ◌∙◌, arith}
+use Rattle.std.proofs.Common.{ℕ, ◌%◌, List, [], ◌∷◌, get_or, ap, sym, ◌∙◌, arith}
 use Rattle.des.specs.Bits.{bits_of_bytes}
-use Rattle.des_fast.proofs.BlockRows.{bits_of_word-lane, each_of_four, HasBlock}
+use Rattle.des_fast.proofs.BlockRows.{each_of_four, HasBlock}
+use Rattle.des_fast.proofs.PlacedBytes.{bits_of_lane-bytes}
 use Rattle.des_fast.proofs.slices.vectors.U64x4Slice.row_of.Goals as goal
 
 pub returns : goal.returns
-returns c lane within =
+returns c k within at =
     let blocks : List (List ℕ) = c.args.blocks.now in
-    sym (bits_of_word-lane (c.word_of.result ∷ c.word_of-2.result ∷ c.word_of-3.result ∷ c.word_of-4.result ∷ []) lane)
-    ∙ each_of_four (HasBlock blocks c.args.n) c.word_of.result c.word_of-2.result c.word_of-3.result c.word_of-4.result
-    (c.word_of.ensures ∙ ap (λ (k : ℕ). bits_of_bytes (get_or blocks k [])) (omega arith))
-    (c.word_of-2.ensures ∙ ap (λ (k : ℕ). bits_of_bytes (get_or blocks k [])) (omega arith))
-    (c.word_of-3.ensures ∙ ap (λ (k : ℕ). bits_of_bytes (get_or blocks k [])) (omega arith))
-    (c.word_of-4.ensures ∙ ap (λ (k : ℕ). bits_of_bytes (get_or blocks k [])) (omega arith))
-    lane (omega arith)
+    sym (bits_of_lane-bytes (c.word_of.result ∷ c.word_of-2.result ∷ c.word_of-3.result ∷ c.word_of-4.result ∷ []) (k % 4))
+    ∙ ap bits_of_bytes (each_of_four (HasBlock blocks 4 c.args.n) c.word_of.result c.word_of-2.result c.word_of-3.result c.word_of-4.result
+    (c.word_of.ensures ∙ ap (λ (k : ℕ). get_or blocks k []) (omega arith))
+    (c.word_of-2.ensures ∙ ap (λ (k : ℕ). get_or blocks k []) (omega arith))
+    (c.word_of-3.ensures ∙ ap (λ (k : ℕ). get_or blocks k []) (omega arith))
+    (c.word_of-4.ensures ∙ ap (λ (k : ℕ). get_or blocks k []) (omega arith))
+    (k % 4) (omega arith) ∙ ap (λ (i : ℕ). get_or blocks i []) (omega arith))

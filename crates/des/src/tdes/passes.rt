@@ -1,0 +1,54 @@
+//! Passes of a single cipher, one after another.
+
+ghost use Rattle.std.specs.Prelude.{◌≡◌, map};
+ghost use Rattle.des.specs.TripleCiphers.{passed_by, thrice_passed};
+
+use crate::cipher::BlockCipher;
+
+/// A pass: the cipher deciphers a block, or enciphers it.
+#[derive(Clone, Copy)]
+pub struct Pass<'a, D> {
+    pub cipher: &'a D,
+    pub deciphers: bool,
+}
+
+impl<'a, D: BlockCipher> Pass<'a, D> {
+    /// Takes a block of 8 bytes through the pass.
+    pub fn answer(&self, block: &mut [u8; 8])
+        ensures { block.new ≡ passed_by D.encrypted D.decrypted self.now block.old }
+    {
+        if self.deciphers {
+            self.cipher.decrypt_block(block);
+        } else {
+            self.cipher.encrypt_block(block);
+        }
+    }
+}
+
+/// Three passes.
+#[derive(Clone, Copy)]
+pub struct ThreePasses<'a, D> {
+    pub first: Pass<'a, D>,
+    pub second: Pass<'a, D>,
+    pub third: Pass<'a, D>,
+}
+
+impl<'a, D: BlockCipher> ThreePasses<'a, D> {
+    /// Takes a block of 8 bytes through the passes.
+    pub fn answer(&self, block: &mut [u8; 8])
+        ensures { block.new ≡ thrice_passed D.encrypted D.decrypted self.now block.old }
+    {
+        self.first.answer(block);
+        self.second.answer(block);
+        self.third.answer(block);
+    }
+
+    /// Takes each block of a list through the passes, in order.
+    pub fn answer_each(&self, blocks: &mut [[u8; 8]])
+        ensures { blocks.new ≡ map (thrice_passed D.encrypted D.decrypted self.now) blocks.old }
+    {
+        for block in blocks.iter_mut() {
+            self.answer(block);
+        }
+    }
+}

@@ -1,0 +1,70 @@
+-- Maps of words by shifts, masks and `|`, each with the mask under which its images are: where those that are joined
+-- share no bit the map is linear, so that the words with one bit tell which bits it selects.
+use Rattle.std.proofs.Common.{◌≡◌, ℕ, ◌*◌, ◌/◌, ◌%◌, ◌^◌, ◌<◌, List, ◌++◌, map, bit_and, bit_or, sym, ap, ◌∙◌, append-nil, add-zero, pow_pos}
+use Rattle.std.proofs.lemmas.Nat.{and_shr, and_mod, and_block}
+use Rattle.des.specs.Bits.{bits_of_word, zeros, select}
+use Rattle.des.proofs.LinearWords.{IsLinear, units, IsLinear-id, IsLinear-shl, IsLinear-shr, select-from_units}
+use Rattle.des.proofs.LinearUnder.{IsLinearUnder, IsLinearUnder-mask, IsLinearUnder-or}
+
+-- a linear map of words, and the mask
+pub record WordMap : Type 0 where
+  pub mask : ℕ
+  pub of : ℕ → ℕ
+  pub is : IsLinearUnder mask of
+
+-- the images of a linear map under a mask: of the word shifted to the left, or to the right, and of another such map
+abbrev masked : ℕ → (f : ℕ → ℕ) → IsLinear f → WordMap
+masked mask f linear = record { mask = mask; of = λ x. bit_and (f x) mask; is = IsLinearUnder-mask mask linear }
+
+abbrev pub left_under : ℕ → ℕ → WordMap
+left_under k mask = masked mask (λ x. x * 2 ^ k % 2 ^ 64) (IsLinear-shl k IsLinear-id)
+
+abbrev pub right_under : ℕ → ℕ → WordMap
+right_under k mask = masked mask (λ x. x / 2 ^ k) (IsLinear-shr k IsLinear-id)
+
+abbrev pub under : ℕ → WordMap → WordMap
+under mask first = masked mask first.of first.is.linear
+
+-- such a map shifted, and its mask with it
+pub and-shl : (x mask k : ℕ) → bit_and (x * 2 ^ k) (mask * 2 ^ k) ≡ bit_and x mask * 2 ^ k
+and-shl x mask k = simp add-zero at (and_block k x mask 0 0 (pow_pos k) (pow_pos k))
+
+abbrev pub left : ℕ → WordMap → WordMap
+left k first = record {
+  mask = first.mask * 2 ^ k % 2 ^ 64;
+  of = λ x. first.of x * 2 ^ k % 2 ^ 64;
+  is = record {
+    linear = IsLinear-shl k first.is.linear;
+    under = λ x. sym (and_mod (first.of x * 2 ^ k) (first.mask * 2 ^ k) 64)
+        ∙ ap (λ y. y % 2 ^ 64) (and-shl (first.of x) first.mask k ∙ ap (λ y. y * 2 ^ k) (first.is.under x));
+  };
+}
+
+abbrev pub right : ℕ → WordMap → WordMap
+right k first = record {
+  mask = first.mask / 2 ^ k;
+  of = λ x. first.of x / 2 ^ k;
+  is = record {
+    linear = IsLinear-shr k first.is.linear;
+    under = λ x. sym (and_shr (first.of x) first.mask k) ∙ ap (λ y. y / 2 ^ k) (first.is.under x);
+  };
+}
+
+-- what two maps make, whose masks share no bit
+abbrev pub joined : (first second : WordMap) → bit_and first.mask second.mask ≡ 0 → WordMap
+joined first second apart = record {
+  mask = bit_or first.mask second.mask;
+  of = λ x. bit_or (first.of x) (second.of x);
+  is = IsLinearUnder-or first.is second.is apart;
+}
+
+-- of zero and of the words with one bit the map selects the bits at these positions
+abbrev pub Selects : WordMap → List ℕ → Type 0
+Selects form positions =
+    map (λ u. bits_of_word (form.of u)) units ≡ map (λ u. select positions (bits_of_word u) ++ zeros 0) units
+
+-- then it does so of each word
+pub selected : (form : WordMap) (positions : List ℕ) → Selects form positions
+    → (x : ℕ) → x < 2 ^ 64 → bits_of_word (form.of x) ≡ select positions (bits_of_word x)
+selected form positions same x below =
+    select-from_units form.of positions 0 form.is.linear same x below ∙ append-nil (select positions (bits_of_word x))

@@ -1,0 +1,57 @@
+//! The two ways by which the boxes are looked up.
+
+ghost use Rattle.std.specs.Prelude.{◌≡◌};
+ghost use Rattle.des.specs.Rounds.{after_rounds};
+ghost use Rattle.des_fast.specs.Groups.{half_of};
+ghost use Rattle.des_fast.specs.HalfBlocks.{round_keys_of, half_blocks_of};
+ghost use Rattle.des_fast.specs.SideBySide.{in_direction};
+
+use crate::halves::{Halves, RoundKey};
+use crate::quiet::rounds::{Groups, halves_after_rounds};
+use crate::threes::ThreeGroups;
+use std::simd::prelude::*;
+
+/// A way by which the boxes are looked up.
+pub trait Way: Copy {
+    /// The blocks that go side by side in a list.
+    type Groups: Groups;
+
+    /// The halves of one block after sixteen rounds, with the round keys in their order or, to
+    /// decipher, from the last to the first (FIPS 46-3, enciphering and deciphering).
+    fn after_rounds(halves: Halves, round_keys: &[RoundKey; 16], deciphers: bool) -> Halves
+        ensures { half_blocks_of result
+            ≡ after_rounds (in_direction deciphers (round_keys_of round_keys.now))
+            (half_of halves.left.groups) (half_of halves.right.groups) };
+}
+
+/// By tables. The rounds of a block wait for its lookups, and those of two others go on meanwhile,
+/// so that three take little longer than one.
+#[derive(Clone, Copy)]
+pub struct Tables;
+
+impl Way for Tables {
+    type Groups = ThreeGroups;
+
+    #[inline(always)]
+    fn after_rounds(halves: Halves, round_keys: &[RoundKey; 16], deciphers: bool) -> Halves {
+        if deciphers {
+            halves.deciphered(round_keys)
+        } else {
+            halves.enciphered(round_keys)
+        }
+    }
+}
+
+/// By selections between vectors: no table is read at an index that depends on the key or a block.
+/// Four blocks share a vector, and take less than twice the time of one.
+#[derive(Clone, Copy)]
+pub struct Quiet;
+
+impl Way for Quiet {
+    type Groups = u64x4;
+
+    #[inline(always)]
+    fn after_rounds(halves: Halves, round_keys: &[RoundKey; 16], deciphers: bool) -> Halves {
+        halves_after_rounds(halves, round_keys, deciphers)
+    }
+}
