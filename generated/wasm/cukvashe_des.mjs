@@ -18,7 +18,7 @@ export const BLOCK_SIZE = 8;
 export const TAG_SIZE = 8;
 
 // The SHA-256 of the module that this file was built with.
-const MODULE_SUM = "4bb95417258ae426302971238078b6741459625e467409a6a7f4587115889233";
+const MODULE_SUM = "e3edb4c099a461215dfc8c5cb1b316633259ae6e4c4d37a9bc1e43c0e53353b0";
 
 // The bytes of the module's stack, which lies at its address 0. `build` links it so.
 const STACK_SIZE = 131072;
