@@ -116,7 +116,7 @@ WIPES_COMBINE(16)
 WIPES_COMBINE(24)
 
 /* Keys of a transaction. */
-WIPES_VOID(dukpt_initial_key, 672, (const uint8_t base[16], const uint8_t serial[10], uint8_t key[16]), base, serial,
+WIPES_VOID(dukpt_initial_key, 800, (const uint8_t base[16], const uint8_t serial[10], uint8_t key[16]), base, serial,
            key)
 WIPES_VOID(dukpt_transaction_key, 432, (const uint8_t initial[16], const uint8_t serial[10], uint8_t key[16]), initial,
            serial, key)
@@ -125,7 +125,7 @@ WIPES_VOID(dukpt_transaction_keys, BY_WIDTH(count, 43968, 47104),
 WIPES_VOID(dukpt_pin_key, 32, (const uint8_t transaction[16], uint8_t key[16]), transaction, key)
 WIPES_VOID(dukpt_mac_key, 32, (const uint8_t transaction[16], bool is_response, uint8_t key[16]), transaction,
            is_response, key)
-WIPES_VOID(dukpt_data_key, 672, (const uint8_t transaction[16], bool is_response, uint8_t key[16]), transaction,
+WIPES_VOID(dukpt_data_key, 800, (const uint8_t transaction[16], bool is_response, uint8_t key[16]), transaction,
            is_response, key)
 WIPES_VOID(dukpt_data_variant, 32, (const uint8_t transaction[16], bool is_response, uint8_t key[16]), transaction,
            is_response, key)
@@ -189,17 +189,17 @@ WIPES(int, cvv, 1072,
       (const uint8_t key[16], const char *account, size_t account_length, const char *expiry, size_t expiry_length,
        const char *service, size_t service_length, char value[4]),
       key, account, account_length, expiry, expiry_length, service, service_length, value)
-WIPES(int, emv_card_key, 688,
+WIPES(int, emv_card_key, 816,
       (const uint8_t issuer[16], const char *account, size_t account_length, const char *sequence,
        size_t sequence_length, uint8_t key[16]),
       issuer, account, account_length, sequence, sequence_length, key)
-WIPES_VOID(emv_application_key, 672, (const uint8_t card[16], const uint8_t counter[2], uint8_t key[16]), card, counter,
+WIPES_VOID(emv_application_key, 800, (const uint8_t card[16], const uint8_t counter[2], uint8_t key[16]), card, counter,
            key)
-WIPES_VOID(emv_session_key, 672, (const uint8_t card[16], const uint8_t block[8], uint8_t key[16]), card, block, key)
+WIPES_VOID(emv_session_key, 800, (const uint8_t card[16], const uint8_t block[8], uint8_t key[16]), card, block, key)
 WIPES_VOID(emv_application_cryptogram, 1328,
            (const uint8_t session[16], const uint8_t *data, size_t length, uint8_t cryptogram[8]), session, data, length,
            cryptogram)
-WIPES_VOID(emv_response_1, 640,
+WIPES_VOID(emv_response_1, 768,
            (const uint8_t session[16], const uint8_t cryptogram[8], const uint8_t code[2], uint8_t response[8]), session,
            cryptogram, code, response)
 WIPES(int, emv_response_2, 1648,

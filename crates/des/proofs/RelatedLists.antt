@@ -4,7 +4,6 @@ use Rattle.std.specs.List.{All}
 use Rattle.std.proofs.lemmas.List.Elements.{All-head, All-tail}
 use Rattle.des.specs.Blocks.{IsBlock, AnswersEach}
 use Rattle.des.specs.Relations.{IsTheOne, IsGraphOf}
-use Rattle.des.specs.Laws.Passes.{Agree}
 
 module _ (f : List ℕ → List ℕ) (Answers : List ℕ → List ℕ → Type 0) (graph : IsGraphOf f Answers) where
   -- the function answers each block by the relation
@@ -51,25 +50,3 @@ IsTheOne-map_turned f Answers graph answers are_blocks =
       AnswersEach-turned (λ answer block. Answers block answer) answers (map f answers) one.0,
       λ other related. one.1 other (AnswersEach-turned Answers other answers related),
     )
-
--- a function that answers blocks as another one does answers lists as it does
-map-agreeing : {f g : List ℕ → List ℕ} → Agree g f → (blocks : List (List ℕ)) → All IsBlock blocks
-    → map g blocks ≡ map f blocks
-map-agreeing agree [] are_blocks = refl
-map-agreeing {f} {g} agree (block ∷ blocks) are_blocks =
-    ap (λ (first : List ℕ). first ∷ map g blocks) (agree.at block (All-head IsBlock block blocks are_blocks))
-    ∙ ap (λ (rest : List (List ℕ)). f block ∷ rest)
-    (map-agreeing agree blocks (All-tail IsBlock block blocks are_blocks))
-
-pub IsTheOne-map_agreeing : {f g : List ℕ → List ℕ} (Answers : List ℕ → List ℕ → Type 0) → IsGraphOf f Answers
-    → Agree g f → (blocks : List (List ℕ)) → All IsBlock blocks
-    → IsTheOne (λ answers. AnswersEach Answers blocks answers) (map g blocks)
-IsTheOne-map_agreeing {f} Answers graph agree blocks are_blocks =
-    rw (map-agreeing agree blocks are_blocks) (IsTheOne-map f Answers graph blocks are_blocks)
-
-pub IsTheOne-map_agreeing_turned : {f g : List ℕ → List ℕ} (Answers : List ℕ → List ℕ → Type 0)
-    → IsGraphOf f (λ answer block. Answers block answer) → Agree g f
-    → (answers : List (List ℕ)) → All IsBlock answers
-    → IsTheOne (λ blocks. AnswersEach Answers blocks answers) (map g answers)
-IsTheOne-map_agreeing_turned {f} Answers graph agree answers are_blocks =
-    rw (map-agreeing agree answers are_blocks) (IsTheOne-map_turned f Answers graph answers are_blocks)

@@ -3,7 +3,9 @@ use Rattle.std.specs.Prelude.{ℕ, List, reverse}
 use Rattle.des.specs.declared.des.Des.{Des}
 use Rattle.des.specs.Bits.{bits_of_bytes}
 use Rattle.des.specs.Blocks.{IsKey}
+use Rattle.des.specs.Relations.{AreGraphsOf}
 use Rattle.des.specs.KeySchedule.{key_schedule}
+use Rattle.des.specs.Enciphering.{Enciphers}
 use Rattle.des.specs.RoundKeyWords.{HoldRoundKeys, round_keys_of}
 use Rattle.des.specs.Rounds.{answer_by}
 
@@ -26,3 +28,8 @@ encryption key block = answer_by (key_schedule (bits_of_bytes key)) block
 -- the block that DES under the key takes to a block
 abbrev pub decryption : List ℕ → List ℕ → List ℕ
 decryption key block = answer_by (reverse (key_schedule (bits_of_bytes key))) block
+
+-- the cipher is a DES of the key, and the key answers by the DES relation
+abbrev pub IsDesMadeFrom : Des → List ℕ → Type 0
+IsDesMadeFrom cipher key =
+    IsDesOf cipher key × AreGraphsOf (encryption key) (decryption key) (λ x y. Enciphers key x y)

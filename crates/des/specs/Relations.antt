@@ -19,6 +19,11 @@ TakesBlock function block answer = IsBlock block × (function block ≡ answer)
 abbrev pub IsGraphOf : (List ℕ → List ℕ) → (List ℕ → List ℕ → Type 0) → Type 0
 IsGraphOf function Answers = (x y : List ℕ) → Answers x y ↔ TakesBlock function x y
 
+-- the relation is the graph of the first function, and read backwards that of the second
+abbrev pub AreGraphsOf : (List ℕ → List ℕ) → (List ℕ → List ℕ) → (List ℕ → List ℕ → Type 0)
+    → Type 0
+AreGraphsOf forth back Answers = IsGraphOf forth Answers × IsGraphOf back (λ y x. Answers x y)
+
 -- two functions answer each block alike
 abbrev pub AnswerAlike : (List ℕ → List ℕ) → (List ℕ → List ℕ) → Type 0
 AnswerAlike answer other_answer =

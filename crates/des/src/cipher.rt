@@ -7,8 +7,8 @@
 ghost use Rattle.std.specs.Prelude.{◌≡◌, ◌↔◌, ◌≤◌, ℕ, List, length, map, codes, Some, IsSome, IfSome, IsOk, IfOk, OnOk, OnErr};
 ghost use Rattle.std.specs.List.{All};
 ghost use Rattle.std.specs.Mem.{type_size};
-ghost use Rattle.des.specs.Blocks.{AreBytes, IsKey, IsBlock, AnswersEach};
-ghost use Rattle.des.specs.Relations.{IsTheOne};
+ghost use Rattle.des.specs.Blocks.{AreBytes, IsKey, IsBlock};
+ghost use Rattle.des.specs.Relations.{IsGraphOf};
 ghost use Rattle.des.specs.Complement.{complement};
 
 use std::error::Error;
@@ -227,8 +227,8 @@ pub trait AlgorithmName {
     const NAME: &'static str;
 }
 
-/// The numbers of a slice of bytes are bytes. It does nothing: generic code learns by this clause
-/// what the laws ask of a key or a block.
+/// The numbers of a slice of bytes are bytes. It does nothing: of a slice a proof knows the length
+/// alone, and learns by this clause what the laws ask for.
 pub fn are_bytes(bytes: &[u8])
     ensures { AreBytes bytes.now }
 {}
@@ -244,10 +244,12 @@ pub fn are_blocks(blocks: &[[u8; 8]])
 
 // Copies a list of blocks into one of the same length.
 fn copy_blocks(input: &[[u8; 8]], output: &mut [[u8; 8]]) -> Result<(), NotEqualError>
+    ensures blocks { All IsBlock input.now }
     ensures accepted { IsOk result ↔ (length input.now ≡ length output.old) }
     ensures ok { OnOk result (output.new ≡ input.now) }
     ensures err { OnErr result (output.new ≡ output.old) }
 {
+    are_blocks(input);
     if input.len() != output.len() {
         return Err(NotEqualError);
     }
@@ -296,7 +298,6 @@ pub trait BlockCipherEncrypt: BlockSizeUser {
         ensures ok { OnOk result (output.new ≡ map (encrypted self.now) input.now) }
         ensures err { OnErr result (output.new ≡ output.old) }
     {
-        are_blocks(input);
         copy_blocks(input, output)?;
         self.encrypt_blocks(output);
         Ok(())
@@ -344,7 +345,6 @@ pub trait BlockCipherDecrypt: BlockSizeUser {
         ensures ok { OnOk result (output.new ≡ map (decrypted self.now) input.now) }
         ensures err { OnErr result (output.new ≡ output.old) }
     {
-        are_blocks(input);
         copy_blocks(input, output)?;
         self.decrypt_blocks(output);
         Ok(())
@@ -385,24 +385,21 @@ pub trait KeyedCipher: KeyInit + BlockCipher {
         → IsBlock block → Self.decrypted cipher block ≡ decryption key block };
 }
 
-/// A keyed cipher whose key is a relation of blocks: what a cipher answers to a block is the one
-/// block that the relation of its key takes the block to, and from the answer back to the block.
+/// A keyed cipher whose key is a relation of blocks: it relates each block to its encryption, and to
+/// nothing else. `is_made_from` must say so of the key (`AreGraphsOf`): `new` proves it, and the laws
+/// hand it on.
 pub trait Relating: KeyedCipher {
     // The relation of a key: it takes a block to its encryption.
     ghost relation: { List ℕ → List ℕ → List ℕ → Type 0 };
 
-    /// What the calls for lists answer, by the relation of the key that the cipher is made from: as
-    /// many blocks, each the answer to the block at its place, and no other list answers so. It
-    /// does nothing: with the clause of a list call, it says in one step what the call made.
-    fn relate_lists(&self)
-        ensures encrypted { (key : List ℕ) → Self.is_made_from self.now key
-            → (blocks : List (List ℕ)) → All IsBlock blocks
-            → IsTheOne (λ answers. AnswersEach (relation key) blocks answers)
-            (map (Self.encrypted self.now) blocks) }
-        ensures decrypted { (key : List ℕ) → Self.is_made_from self.now key
-            → (blocks : List (List ℕ)) → All IsBlock blocks
-            → IsTheOne (λ answers. AnswersEach (relation key) answers blocks)
-            (map (Self.decrypted self.now) blocks) };
+    // The relation takes a block to what a cipher made from the key encrypts it to, and relates
+    // nothing else.
+    ghost encrypts_by_relation: { (cipher : Self) (key : List ℕ) → Self.is_made_from cipher key
+        → IsGraphOf (Self.encrypted cipher) (relation key) };
+
+    // What the cipher decrypts a block to, the relation takes to the block.
+    ghost decrypts_by_relation: { (cipher : Self) (key : List ℕ) → Self.is_made_from cipher key
+        → IsGraphOf (Self.decrypted cipher) (λ y x. relation key x y) };
 }
 
 /// A block cipher whose keys answer complements with complements: with every bit of the key

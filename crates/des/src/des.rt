@@ -130,9 +130,9 @@ impl KeySizeUser for Des {
 }
 
 impl KeyInit for Des {
-    ghost use Rattle.des.specs.Des.{IsDesOf, encryption as encryption_by, decryption as decryption_by};
+    ghost use Rattle.des.specs.Des.{IsDesOf, IsDesMadeFrom, encryption as encryption_by, decryption as decryption_by};
 
-    ghost is_made_from = { IsDesOf };
+    ghost is_made_from = { IsDesMadeFrom };
 
     /// The cipher of a key of 8 bytes (FIPS 46-3, key schedule).
     fn new(key: &[u8; 8]) -> Des
@@ -205,23 +205,33 @@ impl BlockCipher for Des {
 impl KeyedCipher for Des {
     ghost use Rattle.std.specs.Prelude.{reverse};
     ghost use Rattle.des.specs.Des.{encryption as encryption_by, decryption as decryption_by};
-    ghost use Rattle.des.specs.Laws.HeldRoundKeys.{answer_by-held};
+    ghost use Rattle.des.specs.Laws.HeldRoundKeys.{Agree-held};
 
     ghost encryption = { encryption_by };
 
     ghost decryption = { decryption_by };
 
-    ghost encrypts_by_key = { λ cipher key block _ made _.
-        answer_by-held (λ keys. keys) cipher.round_keys key block made.1 };
+    ghost encrypts_by_key = { λ cipher key block _ made is_block.
+        (Agree-held (λ keys. keys) cipher.round_keys key made.0.1).at block is_block };
 
-    ghost decrypts_by_key = { λ cipher key block _ made _.
-        answer_by-held reverse cipher.round_keys key block made.1 };
+    ghost decrypts_by_key = { λ cipher key block _ made is_block.
+        (Agree-held reverse cipher.round_keys key made.0.1).at block is_block };
 }
 
 impl Relating for Des {
+    ghost use Rattle.std.specs.Prelude.{reverse};
+    ghost use Rattle.des.specs.Laws.HeldRoundKeys.{Agree-held};
+    ghost use Rattle.des.specs.Laws.Passes.{IsGraphOf-alike};
+
     ghost relation = { λ key block answer. Enciphers key block answer };
 
-    fn relate_lists(&self) {}
+    ghost encrypts_by_relation = { λ cipher key made.
+        IsGraphOf-alike (λ x y. Enciphers key x y)
+        (Agree-held (λ keys. keys) cipher.round_keys key made.0.1) made.1.0 };
+
+    ghost decrypts_by_relation = { λ cipher key made.
+        IsGraphOf-alike (λ y x. Enciphers key x y)
+        (Agree-held reverse cipher.round_keys key made.0.1) made.1.1 };
 }
 
 impl Complementing for Des {

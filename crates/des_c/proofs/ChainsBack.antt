@@ -1,31 +1,24 @@
 -- Chains under a relation that takes one block to each: there is one list of blocks that is chained to a list.
-use Rattle.std.proofs.Common.{◌≡◌, ℕ, ◌+◌, ◌-◌, ◌≤◌, List, [], ◌∷◌, length, map, get_or, refl, ap, sym, ◌∙◌, subst, arith}
+use Rattle.std.proofs.Common.{◌≡◌, ℕ, ◌+◌, ◌-◌, ◌≤◌, List, [], ◌∷◌, length, get_or, refl, ap, sym, ◌∙◌, subst, arith}
 use Rattle.std.specs.List.{All}
 use Rattle.std.proofs.lemmas.List.{same_lists, get_or_default}
 use Rattle.std.proofs.lemmas.List.Elements.{All-nil, All-cons, All-head, All-tail}
-use Rattle.des.specs.Blocks.{IsBlock, AnswersEach}
+use Rattle.des.specs.Blocks.{IsBlock}
 use Rattle.des.specs.Cbc.{xor_blocks, block_at, block_before, Chains}
-use Rattle.des.specs.Relations.{IsTheOne}
+use Rattle.des.specs.Relations.{IsGraphOf}
 use Rattle.des.proofs.ChainedPieces.{Chains-append}
+use Rattle.des.proofs.PassGraphs.{IsTheOne-graph}
 use Rattle.des.proofs.XoredBlocks.{xor_blocks-undone, IsBlock-xor_blocks}
 use Rattle.des_c.specs.Passwords.{TakesOneToEach}
 
--- a relation whose lists of answers a function gives back
+-- a relation whose graph a function gives back
 pub takes-one : (Relates : List ℕ → List ℕ → Type 0) (decryption : List ℕ → List ℕ)
-    → ((blocks : List (List ℕ)) → All IsBlock blocks
-    → IsTheOne (λ answers. AnswersEach Relates answers blocks) (map decryption blocks))
+    → IsGraphOf decryption (λ y x. Relates x y)
     → ((block : List ℕ) → IsBlock block → IsBlock (decryption block)) → TakesOneToEach Relates
-takes-one Relates decryption answers makes_blocks answer is =
-    let one = answers (answer ∷ []) (All-cons IsBlock answer [] is (All-nil IsBlock)) in (
-      decryption answer,
-      (
-        makes_blocks answer is,
-        (
-          one.0.0,
-          λ other related. ap (λ (blocks : List (List ℕ)). get_or blocks 0 []) (one.1 (other ∷ []) (related, tt)),
-        ),
-      ),
-    )
+takes-one Relates decryption graph makes_blocks answer is = (
+  decryption answer,
+  (makes_blocks answer is, IsTheOne-graph decryption (λ y x. Relates x y) answer graph is),
+)
 
 -- ---- there is a list
 

@@ -5,12 +5,12 @@ use Rattle.std.proofs.lemmas.Bool.Decides.{nat_tests}
 use Rattle.std.proofs.lemmas.List.{append_cancel_left, take-append-le}
 use Rattle.std.proofs.lemmas.Option.{same_Some}
 use Rattle.des_context.specs.declared.status.TheConstants.{OK, ERR_ITERATIONS, ERR_KEY_LENGTH}
-use Rattle.des_records.specs.Derivations.{derived, IsDerivable, HasNoIteration, IsTooLong}
-use Rattle.des_records.specs.Salted.{IsSalted}
-use Rattle.des_records.specs.declared.derivation.Derivation.{Derivation}
-use Rattle.des_records.specs.declared.derivation.Derivation.TheVariants.{Md5, Sha1, Sha256, Pbkdf2Sha1, Pbkdf2Sha256}
-use Rattle.des_records.specs.declared.salted.SaltedError.{SaltedError}
-use Rattle.des_records.specs.declared.salted.SaltedError.TheVariants.{NotSalted, SaltCut}
+use Rattle.des_passwords.specs.Derivations.{derived, IsDerivable, HasNoIteration, IsTooLong}
+use Rattle.des_passwords.specs.Salted.{IsSalted}
+use Rattle.des_passwords.specs.declared.derivation.Derivation.{Derivation}
+use Rattle.des_passwords.specs.declared.derivation.Derivation.TheVariants.{Md5, Sha1, Sha256, Pbkdf2Sha1, Pbkdf2Sha256}
+use Rattle.des_passwords.specs.declared.salted.SaltedError.{SaltedError}
+use Rattle.des_passwords.specs.declared.salted.SaltedError.TheVariants.{NotSalted, SaltCut}
 use Rattle.des_c.specs.Passwords.{derive_status, pbkdf2_status, salted_status, IsPartsFault, IsUnder}
 
 -- ---- the statuses of a derivation

@@ -7,12 +7,12 @@ use Rattle.des_context.specs.Bytes.{AreWhole, blocks_of}
 use Rattle.des_context.specs.declared.status.TheConstants.{OK, ERR_HASH, ERR_ITERATIONS, ERR_KEY_LENGTH, ERR_NOT_SALTED, ERR_SALT_LENGTH, ERR_BLOCKS, ERR_PADDING, ERR_CAPACITY}
 use Rattle.des_io.specs.PaddedBytes.{padded}
 use Rattle.des_io.specs.declared.padding.Padding.TheVariants.{Pkcs7}
-use Rattle.des_records.specs.Derivations.{derived, HasNoIteration, IsDerivable}
-use Rattle.des_records.specs.Salted.{IsSalted}
-use Rattle.des_records.specs.declared.derivation.Derivation.{Derivation}
-use Rattle.des_records.specs.declared.derivation.Derivation.TheVariants.{Md5, Sha1, Sha256, Pbkdf2Sha1, Pbkdf2Sha256}
-use Rattle.des_records.specs.declared.salted.SaltedError.{SaltedError}
-use Rattle.des_records.specs.declared.salted.SaltedError.TheVariants.{NotSalted, SaltCut}
+use Rattle.des_passwords.specs.Derivations.{derived, HasNoIteration, IsDerivable}
+use Rattle.des_passwords.specs.Salted.{IsSalted}
+use Rattle.des_passwords.specs.declared.derivation.Derivation.{Derivation}
+use Rattle.des_passwords.specs.declared.derivation.Derivation.TheVariants.{Md5, Sha1, Sha256, Pbkdf2Sha1, Pbkdf2Sha256}
+use Rattle.des_passwords.specs.declared.salted.SaltedError.{SaltedError}
+use Rattle.des_passwords.specs.declared.salted.SaltedError.TheVariants.{NotSalted, SaltCut}
 use Rattle.des_c.specs.declared.passwords.TheConstants.{MD5, SHA1, SHA256}
 
 -- ---- numbers

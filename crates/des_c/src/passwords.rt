@@ -5,7 +5,7 @@ ghost use Rattle.des.specs.Cbc.{Chains, next_vector};
 ghost use Rattle.des.specs.Triple.{EnciphersEde2, EnciphersEde3};
 ghost use Rattle.des.specs.Enciphering.{Enciphers};
 ghost use Rattle.des_context.specs.Bytes.{AreWhole, blocks_of};
-ghost use Rattle.des_records.specs.Derivations.{derived};
+ghost use Rattle.des_passwords.specs.Derivations.{derived};
 ghost use Rattle.des_c.specs.Passwords.{count_of as count_of_number, with_no_pbkdf2, with_pbkdf2, derivation_by, derive_status, is_salt_length as is_salt_length_of, bytes_to_key_status, salted_status as salted_status_of, IsPartsFault, IsOpened, IsOpeningFault, IsSaltedFault, IsUnder, HoldsPlain, TakesOneToEach};
 
 use des::cbc::next_vector;
@@ -17,7 +17,7 @@ use des_context::status::{
     ERR_PADDING, ERR_SALT_LENGTH, OK,
 };
 use des_io::padding::{Padding, count_before};
-use des_records::{Derivation, DeriveError, KeyAndVector, SaltedError, read_salted};
+use des_passwords::{Derivation, DeriveError, KeyAndVector, SaltedError, read_salted};
 use std::simd::prelude::*;
 
 /// The number of MD5. No number of a hash function is one of a padding method.
@@ -139,12 +139,11 @@ fn salted_status(fault: SaltedError) -> i32
     }
 }
 
-// What the relation of a key takes to each block is one block. It does nothing.
+// Each block is the answer to exactly one block under the key. It does nothing: the proof needs a
+// cipher at hand, to cite its laws.
 fn takes_one<C: Relating>(cipher: &C)
     ensures { (key : List ℕ) → C.is_made_from cipher.now key → TakesOneToEach (C.relation key) }
-{
-    cipher.relate_lists();
-}
+{}
 
 // The last block of what is encrypted, decrypted: the block before it, or the vector, is its vector.
 fn last_block<K: Context>(context: &K, vector: &[u8; 8], front: &[u8], last: &[u8; 8]) -> [u8; 8]
@@ -192,9 +191,7 @@ fn open_end<K: Context>(
         → ¬ (IsOpened (K.Cipher.relation key) vector.now (front.now ++ last.now) plain)) }
 {
     takes_one(&context.to_cipher());
-    are_bytes(vector);
     are_bytes(front);
-    are_bytes(last);
     let block = last_block(context, vector, front, last);
     match count_before(Padding::Pkcs7, &block) {
         Some(count) => Some((block, count)),

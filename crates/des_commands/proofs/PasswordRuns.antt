@@ -1,7 +1,7 @@
 -- What a stream under a password does, stage after stage.
 use Rattle.std.proofs.Common.{◌≡◌, ℕ, ◌+◌, Bool, List, take, replicate, Option, Some, None, Result, Ok, Err, IsOk, IfOk, IfErr, inl, inr, refl, ap, ◌∙◌, subst}
 use Rattle.std.specs.Io.KnownBytes.{Appends}
-use Rattle.des_records.specs.Derivations.{IsDerivable}
+use Rattle.des_passwords.specs.Derivations.{IsDerivable}
 use Rattle.des_io.specs.Streams.{Passage, passage_of}
 use Rattle.des_commands.specs.declared.fault.Misuse.TheVariants.{Derivation as OtherDerivation}
 use Rattle.des_commands.specs.declared.fault.Kind.{Kind}

@@ -1,5 +1,6 @@
 -- What is written as prefixes of texts, one after another, is a prefix of the texts together.
-use Rattle.std.proofs.Common.{◌≡◌, ℕ, ◌+◌, ◌<◌, min, List, ◌++◌, length, take, drop, get_or, Option, sym, ap, ◌∙◌, subst, arith}
+use Rattle.std.proofs.Common.{◌≡◌, ℕ, ◌+◌, ◌<◌, ◌≤◌, min, List, ◌++◌, length, take, drop, get_or, Option, refl, sym, ap, ◌∙◌, subst, arith}
+use Rattle.std.specs.Prelude.{Result, Ok, Err, IsOk, OnOk}
 use Rattle.std.proofs.Math.Seq.{take-append-add}
 use Rattle.std.proofs.lemmas.List.{take_min, take_all, take-append-le, take-append-drop, drop_more}
 use Rattle.std.proofs.lemmas.Grind.{flat_map-append}
@@ -43,3 +44,18 @@ pub flat_map-at : {X : Type 0} (f : X → List ℕ) (xs : List X) (i : ℕ) (d :
 flat_map-at f xs i d within =
     sym (ap (flat_map f) (take-append-drop i xs)) ∙ flat_map-append f (take i xs) (drop i xs)
     ∙ ap (λ rest. flat_map f (take i xs) ++ flat_map f rest) (drop_more xs i d within)
+
+-- ---- what `write_whole` of `des_io` says, in the words of this crate
+
+-- a part of the text is written
+pub AppendsPrefix-written : (a b : Option (List ℕ)) (text : List ℕ) (Whole : Type 0)
+    → (k : ℕ) × (k ≤ length text) × Appends a b (take k text) × (Whole → k ≡ length text) → AppendsPrefix a b text
+AppendsPrefix-written a b text Whole (k, within, put, all) = (k, put)
+
+-- all of it, without an error
+pub OnOk-written : {T E : Type 0} (result : Result T E) (a b : Option (List ℕ)) (text : List ℕ)
+    → (k : ℕ) × (k ≤ length text) × Appends a b (take k text) × (IsOk result → k ≡ length text)
+    → OnOk result (Appends a b text)
+OnOk-written (Ok value) a b text (k, within, put, all) =
+    subst (Appends a b) (take_all k text (omega (arith, all refl))) put
+OnOk-written (Err error) a b text written = tt

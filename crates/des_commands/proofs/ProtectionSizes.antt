@@ -1,5 +1,5 @@
 -- A key that protects blocks has two parts or three, since its digits are not those of one.
-use Rattle.std.proofs.Common.{◌≡◌, ◌⊎◌, ℕ, ◌*◌, ◌-◌, ◌%◌, Bool, true, false, not, if◌then◌else◌, List, [], length, take, Some, None, Result, Ok, Err, IfOk, is_ok, inl, inr, refl, ap, sym, ◌∙◌, arith}
+use Rattle.std.proofs.Common.{◌≡◌, ◌⊎◌, ℕ, ◌*◌, ◌%◌, Bool, true, false, not, if◌then◌else◌, List, [], length, take, Some, None, Result, Ok, Err, IfOk, is_ok, inl, inr, refl, ap, sym, ◌∙◌, arith}
 use Rattle.std.specs.Prelude.{◌==◌}
 use Rattle.std.specs.Result.{result_unwrap_or}
 use Rattle.std.proofs.lemmas.List.{length-take}

@@ -5,8 +5,8 @@ use Rattle.std.specs.Option.{unwrap_or}
 use Rattle.base64.specs.Engines.{standard}
 use Rattle.base64.specs.GeneralPurpose.{encode_of}
 use Rattle.hex.specs.Hex.{encode_lower}
-use Rattle.des_records.specs.declared.pem.Label.{Label}
-use Rattle.des_records.specs.declared.pem.Label.TheVariants.{Encrypted, Rsa, Dsa, Ec}
+use Rattle.des_passwords.specs.declared.pem.Label.{Label}
+use Rattle.des_passwords.specs.declared.pem.Label.TheVariants.{Encrypted, Rsa, Dsa, Ec}
 
 -- ---- what is decrypted
 

@@ -1,8 +1,8 @@
 -- What the words of commands on files under passwords ask for.
 use Rattle.std.specs.Prelude.{◌≡◌, ◌^◌, ◌<◌, ◌&&◌, ◌==◌, ℕ, nat_lt, Bool, true, false, not, if◌then◌else◌, List, ◌++◌, codes, Option, Some, None}
 use Rattle.std.specs.Str.Parse.{IsNumeral, without_leading_plus, digits_value}
-use Rattle.des_records.specs.declared.derivation.Derivation.{Derivation}
-use Rattle.des_records.specs.declared.derivation.Derivation.TheVariants.{Md5, Sha1, Sha256, Pbkdf2Sha1, Pbkdf2Sha256}
+use Rattle.des_passwords.specs.declared.derivation.Derivation.{Derivation}
+use Rattle.des_passwords.specs.declared.derivation.Derivation.TheVariants.{Md5, Sha1, Sha256, Pbkdf2Sha1, Pbkdf2Sha256}
 use Rattle.des_commands.specs.declared.fault.Misuse.TheVariants.{Derivation as OtherDerivation, DerivationToEncrypt, Count}
 use Rattle.des_commands.specs.declared.fault.Kind.{Kind}
 use Rattle.des_commands.specs.declared.fault.Kind.TheVariants.{Usage}

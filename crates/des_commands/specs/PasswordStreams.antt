@@ -3,8 +3,8 @@ use Rattle.std.specs.Prelude.{◌≡◌, ◌≢◌, ◌⊎◌, ◌↔◌, ℕ, �
 use Rattle.std.specs.List.{before_first}
 use Rattle.std.specs.Io.KnownBytes.{Appends, Consumes, IsAtEnd}
 use Rattle.des_io.specs.Streams.{Passage, passage_of}
-use Rattle.des_records.specs.Derivations.{derived, IsDerivable}
-use Rattle.des_records.specs.declared.derivation.Derivation.{Derivation}
+use Rattle.des_passwords.specs.Derivations.{derived, IsDerivable}
+use Rattle.des_passwords.specs.declared.derivation.Derivation.{Derivation}
 use Rattle.des_commands.specs.declared.fault.Misuse.TheVariants.{Derivation as OtherDerivation}
 use Rattle.des_commands.specs.declared.fault.FileFault.TheVariants.{NotSalted, SaltCut}
 use Rattle.des_commands.specs.declared.fault.Reason.{Reason}

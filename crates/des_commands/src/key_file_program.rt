@@ -8,7 +8,7 @@ use crate::sentences::English;
 use crate::source::bytes_of;
 use crate::stream_request::{KeyFileRequest, KeyForm};
 use crate::streams_program::{output_name, password_in, refuse_terminal, tell_line, write_secret};
-use des_records::{
+use des_passwords::{
     EncryptedKey, KeyAndVector, KeyFileError, Label, PemError, PemKey, read_encrypted_key_of_many,
     read_pem,
 };

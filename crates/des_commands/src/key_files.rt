@@ -13,7 +13,7 @@ use crate::stream_request::{Cipher, Output, StreamRequest, Vector, WeakKeys};
 use crate::streams::{self, Job};
 use base64::engine::general_purpose::STANDARD;
 use des_io::Padding;
-use des_records::{KeyAndVector, Label};
+use des_passwords::{KeyAndVector, Label};
 use std::alloc::{AllocError, Global};
 
 // The characters of a line of Base64 in PEM.

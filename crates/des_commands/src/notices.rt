@@ -10,8 +10,8 @@ use crate::fault::Kind;
 use crate::keys::{Verdict, verdict_of};
 use crate::report::write_line;
 use crate::stream_request::WeakKeys;
-use des_io::Padding;
-use std::io::{self, Write};
+use des_io::{Padding, StreamError};
+use std::io::Write;
 
 /// What is told of a stream that goes on.
 #[derive(Clone, Copy)]
@@ -52,7 +52,7 @@ impl Notice {
 }
 
 /// Writes the line of a notice. `about` is the file or option that it is about, or is empty.
-pub fn tell<E: Write>(notice: Notice, about: &str, err: &mut E) -> io::Result<()>
+pub fn tell<E: Write>(notice: Notice, about: &str, err: &mut E) -> Result<(), StreamError>
     ensures part { AppendsPrefix (E.contents err.old) (E.contents err.new)
         (notice_line notice about.now) }
     ensures whole { OnOk result (Appends (E.contents err.old) (E.contents err.new)

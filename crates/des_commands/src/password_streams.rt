@@ -16,7 +16,7 @@ use crate::notices::accept_key;
 use crate::stream_request::{Cipher, Password, StreamRequest, Vector, blocks_before};
 use crate::streams::{self, Job};
 use des_io::pieces::{fill, write_whole};
-use des_records::{Derivation, SaltedError, read_salted};
+use des_passwords::{Derivation, SaltedError, read_salted};
 use std::alloc::Global;
 use std::io::{Read, Write};
 

@@ -1,6 +1,6 @@
 //! What is written of a result or a fault, and the status that the program ends with.
 
-ghost use Rattle.std.specs.Prelude.{◌≡◌, List, ℕ, map, OnOk};
+ghost use Rattle.std.specs.Prelude.{◌≡◌, map, OnOk, IfErr};
 ghost use Rattle.std.specs.Char.{is_ascii_control};
 ghost use Rattle.std.specs.List.{flat_map, list_any};
 ghost use Rattle.std.specs.Io.KnownBytes.{Appends};
@@ -9,38 +9,15 @@ ghost use Rattle.des_commands.specs.Written.{AppendsPrefix, AppendsLine, Appends
 
 use crate::fault::{Fault, Kind, Reason};
 use crate::sentences::Sentences;
-use std::io::{self, Error, ErrorKind, Write};
+use des_io::StreamError;
+use des_io::pieces::write_whole;
+use std::io::Write;
 
 // The status of a result that was written.
 const WRITTEN: u8 = 0;
 
-// Writes the bytes. Where that fails, a prefix of them is written. A write that was interrupted is
-// tried again.
-fn write_whole<W: Write>(out: &mut W, bytes: &[u8]) -> io::Result<()>
-    ensures part { AppendsPrefix (W.contents out.old) (W.contents out.new) bytes.now }
-    ensures whole { OnOk result (Appends (W.contents out.old) (W.contents out.new) bytes.now) }
-{
-    let mut at = 0;
-    for _ in 0..u64::MAX {
-        if at >= bytes.len() {
-            return Ok(());
-        }
-        match out.write(&bytes[at..]) {
-            Ok(0) => return Err(Error::from(ErrorKind::WriteZero)),
-            Ok(n) => at += n,
-            Err(error) => {
-                if error.kind() != ErrorKind::Interrupted {
-                    return Err(error);
-                }
-            }
-        }
-    }
-    // A writer that is interrupted again and again, and never ends.
-    Err(Error::from(ErrorKind::TimedOut))
-}
-
 // Writes texts one after another.
-fn write_texts<W: Write>(out: &mut W, texts: &[&str]) -> io::Result<()>
+fn write_texts<W: Write>(out: &mut W, texts: &[&str]) -> Result<(), StreamError>
     ensures part { AppendsPrefix (W.contents out.old) (W.contents out.new)
         (flat_map (λ text. text.now) texts.now) }
     ensures whole { OnOk result (Appends (W.contents out.old) (W.contents out.new)
@@ -52,13 +29,15 @@ fn write_texts<W: Write>(out: &mut W, texts: &[&str]) -> io::Result<()>
     Ok(())
 }
 
-/// Writes the bytes and flushes. Where that fails, a prefix of them is written.
-pub fn send<W: Write>(out: &mut W, bytes: &[u8]) -> io::Result<()>
+/// Writes the bytes and flushes. Where that fails, a prefix of them is written, and the fault is
+/// `Write`.
+pub fn send<W: Write>(out: &mut W, bytes: &[u8]) -> Result<(), Kind>
     ensures part { AppendsPrefix (W.contents out.old) (W.contents out.new) bytes.now }
     ensures whole { OnOk result (Appends (W.contents out.old) (W.contents out.new) bytes.now) }
+    ensures fault { IfErr result (λ kind. (reason : Reason) × (kind ≡ Kind.Write reason)) }
 {
     write_whole(out, bytes)?;
-    out.flush()
+    out.flush().map_err(|error| Kind::Write(Reason::of(&error)))
 }
 
 // What stands between what a fault is about and its words.
@@ -83,7 +62,7 @@ fn has_control(text: &[u8]) -> bool
 }
 
 // Writes a text with its control characters shown, byte by byte.
-fn write_each<E: Write>(err: &mut E, text: &[u8]) -> io::Result<()>
+fn write_each<E: Write>(err: &mut E, text: &[u8]) -> Result<(), StreamError>
     ensures part { AppendsPrefix (E.contents err.old) (E.contents err.new)
         (map shown_byte_of text.now) }
     ensures whole { OnOk result (Appends (E.contents err.old) (E.contents err.new)
@@ -96,7 +75,7 @@ fn write_each<E: Write>(err: &mut E, text: &[u8]) -> io::Result<()>
 }
 
 // Writes a text with its control characters shown; without any, at once.
-fn write_shown<E: Write>(err: &mut E, text: &[u8]) -> io::Result<()>
+fn write_shown<E: Write>(err: &mut E, text: &[u8]) -> Result<(), StreamError>
     ensures part { AppendsPrefix (E.contents err.old) (E.contents err.new)
         (map shown_byte_of text.now) }
     ensures whole { OnOk result (Appends (E.contents err.old) (E.contents err.new)
@@ -117,7 +96,7 @@ pub fn write_line<E: Write>(
     about: &str,
     words: &'static str,
     err: &mut E,
-) -> io::Result<()>
+) -> Result<(), StreamError>
     ensures part { AppendsPrefix (E.contents err.old) (E.contents err.new)
         (line_with name.now about.now words.now) }
     ensures whole { OnOk result (Appends (E.contents err.old) (E.contents err.new)
@@ -126,11 +105,11 @@ pub fn write_line<E: Write>(
     write_texts(err, &["cukvashe: ", name, ": "])?;
     write_shown(err, about.as_bytes())?;
     write_texts(err, &[separator(about), words, "\n"])?;
-    err.flush()
+    err.flush().map_err(StreamError::Write)
 }
 
 /// Writes the line of a fault.
-pub fn report<S: Sentences, E: Write>(fault: Fault, err: &mut E) -> io::Result<()>
+pub fn report<S: Sentences, E: Write>(fault: Fault, err: &mut E) -> Result<(), StreamError>
     ensures part { AppendsLinePrefix S.says fault.entry.kind fault.entry.about.now
         (E.contents err.old) (E.contents err.new) }
     ensures whole { OnOk result (AppendsLine S.says fault.entry.kind fault.entry.about.now
@@ -161,9 +140,9 @@ pub fn show<S: Sentences, W: Write, E: Write>(
     match outcome {
         Ok(text) => match send(out, text.as_slice()) {
             Ok(()) => WRITTEN,
-            Err(error) => {
+            Err(kind) => {
                 let fault = Fault {
-                    kind: Kind::Write(Reason::of(&error)),
+                    kind,
                     about: "standard output",
                 };
                 tell::<S, E>(fault, err)

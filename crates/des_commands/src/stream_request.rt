@@ -6,7 +6,7 @@ ghost use Rattle.des_commands.specs.Jobs.{key_size_of, blocks_before as blocks_b
 
 use crate::source::Source;
 use des_io::Padding;
-use des_records::Derivation;
+use des_passwords::Derivation;
 
 /// The ciphers.
 #[derive(Clone, Copy)]

@@ -13,7 +13,7 @@ ghost use Rattle.des_commands.specs.JobFaults.{StopsDecrypting, Stops, IsStopped
 
 use crate::fault::{Kind, Misuse};
 use crate::stream_request::{Cipher, StreamRequest, Vector};
-use des::cipher::{InvalidLength, KeyedCipher, are_blocks};
+use des::cipher::{InvalidLength, KeyedCipher, are_bytes};
 use des_fast::many::ManyBlocks;
 use des_fast::{Des, TdesEde2, TdesEde3};
 use des_io::pieces::write_whole;
@@ -57,7 +57,7 @@ fn chained_from(iv: &[u8; 8]) -> Mode
     ensures mode { result ≡ Cbc iv.now }
     ensures block { IsBlock iv.now }
 {
-    are_blocks(&[*iv]);
+    are_bytes(iv);
     Mode::Cbc(*iv)
 }
 

@@ -7,7 +7,7 @@ ghost use Rattle.des_commands.specs.Keys.{IsKeySize};
 use crate::fault::{Fault, FileFault, Kind, Misuse};
 use crate::inputs::{self, Input, bytes_to_read, name_in_stream, read_fault, system_random};
 use crate::notices::accept_key;
-use crate::output::{self, Readers, STANDARD_OUTPUT, Target, write_fault};
+use crate::output::{self, Readers, STANDARD_OUTPUT, Target};
 use crate::password_streams::{PREFIX, PasswordJob, check_password, first_line, run_by_password};
 use crate::report::{send, tell};
 use crate::sentences::English;
@@ -16,7 +16,7 @@ use crate::stream_request::{Coding, Output, Part, Password, StreamRequest, Vecto
 use crate::streams::{self, Job};
 use crate::watched::{Watch, Watched};
 use des_io::pieces::fill;
-use des_records::{Base64Error, decode_base64};
+use des_passwords::{Base64Error, decode_base64};
 use std::io::{IsTerminal, Read, Write};
 
 /// What a fault of the output is about.
@@ -443,21 +443,21 @@ pub fn write_secret(
         }
         _ => {
             output::refuse_secret(rt, STANDARD_OUTPUT, password)?;
-            send(&mut rt.stdout(), bytes).map_err(write_fault)
+            send(&mut rt.stdout(), bytes)
         }
     }
 }
 
 fn write_secret_to_path(rt: &HostRuntime, path: &str, bytes: &[u8]) -> Result<(), Kind> {
     match output::open(rt, path, Readers::Owner)? {
-        Target::StandardOutput => send(&mut rt.stdout(), bytes).map_err(write_fault),
+        Target::StandardOutput => send(&mut rt.stdout(), bytes),
         Target::AsItIs(file) => {
             let mut file = file;
-            send(&mut file, bytes).map_err(write_fault)
+            send(&mut file, bytes)
         }
         Target::Replaced(file) => {
             let mut file = file;
-            let outcome = send(&mut file.file, bytes).map_err(write_fault);
+            let outcome = send(&mut file.file, bytes);
             file.end(rt, outcome)
         }
     }

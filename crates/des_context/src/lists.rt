@@ -18,7 +18,6 @@ pub fn encrypt<S: Slice, C: Relating + ManyBlocks>(cipher: &C, quiet: bool, bloc
     ensures answered { (key : List ℕ) → C.is_made_from cipher.now key
         → IsTheOne (λ answers. AnswersEach (C.relation key) blocks.old answers) blocks.new }
 {
-    cipher.relate_lists();
     ways::encrypt::<S, C>(cipher, quiet, blocks);
     are_blocks(blocks);
 }
@@ -29,7 +28,6 @@ pub fn decrypt<S: Slice, C: Relating + ManyBlocks>(cipher: &C, quiet: bool, bloc
     ensures answered { (key : List ℕ) → C.is_made_from cipher.now key
         → IsTheOne (λ answers. AnswersEach (C.relation key) answers blocks.old) blocks.new }
 {
-    cipher.relate_lists();
     ways::decrypt::<S, C>(cipher, quiet, blocks);
     are_blocks(blocks);
 }
@@ -40,7 +38,6 @@ pub fn encrypt_few<C: Relating>(cipher: &C, blocks: &mut [[u8; 8]])
     ensures answered { (key : List ℕ) → C.is_made_from cipher.now key
         → IsTheOne (λ answers. AnswersEach (C.relation key) blocks.old answers) blocks.new }
 {
-    cipher.relate_lists();
     cipher.encrypt_blocks(blocks);
     are_blocks(blocks);
 }
@@ -51,7 +48,6 @@ pub fn decrypt_few<C: Relating>(cipher: &C, blocks: &mut [[u8; 8]])
     ensures answered { (key : List ℕ) → C.is_made_from cipher.now key
         → IsTheOne (λ answers. AnswersEach (C.relation key) answers blocks.old) blocks.new }
 {
-    cipher.relate_lists();
     cipher.decrypt_blocks(blocks);
     are_blocks(blocks);
 }
@@ -63,7 +59,6 @@ pub fn encrypt_cbc<C: Relating>(cipher: &C, vector: &mut [u8; 8], blocks: &mut [
         → Chains (C.relation key) vector.old blocks.old blocks.new }
     ensures goes_on { vector.new ≡ next_vector vector.old blocks.new }
 {
-    cipher.relate_lists();
     cbc::encrypt(cipher, vector, blocks);
     are_blocks(blocks);
     *vector = cbc::next_vector(vector, blocks);
@@ -83,7 +78,6 @@ pub fn decrypt_cbc<S: Slice, C: Relating + ManyBlocks>(
     ensures goes_on { vector.new ≡ next_vector vector.old blocks.old }
 {
     let next = cbc::next_vector(vector, blocks);
-    cipher.relate_lists();
     ways::unchain::<S, C>(cipher, quiet, vector, blocks);
     are_blocks(blocks);
     *vector = next;
@@ -97,7 +91,6 @@ pub fn decrypt_cbc_few<C: Relating>(cipher: &C, vector: &mut [u8; 8], blocks: &m
     ensures goes_on { vector.new ≡ next_vector vector.old blocks.old }
 {
     let after = cbc::next_vector(vector, blocks);
-    cipher.relate_lists();
     cbc::decrypt(cipher, vector, blocks);
     are_blocks(blocks);
     *vector = after;

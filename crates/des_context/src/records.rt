@@ -26,7 +26,6 @@ fn chain<S: Slice, C: Relating + SpreadOnce>(
         × (length blocks.new ≡ length blocks.old) }
     ensures kept { result ≢ OK → (vectors.new ≡ vectors.old) × (blocks.new ≡ blocks.old) }
 {
-    cipher.relate_lists();
     let keys = cipher.spread_keys::<S>();
     match keys.encrypt_cbc_records(vectors, sizes, blocks) {
         Ok(()) => OK,
@@ -50,7 +49,6 @@ fn unchain<S: Slice, C: Relating + SpreadOnce>(
         × (length blocks.new ≡ length blocks.old) }
     ensures kept { result ≢ OK → (vectors.new ≡ vectors.old) × (blocks.new ≡ blocks.old) }
 {
-    cipher.relate_lists();
     let keys = cipher.spread_keys::<S>();
     match keys.decrypt_cbc_records(vectors, sizes, blocks) {
         Ok(()) => OK,

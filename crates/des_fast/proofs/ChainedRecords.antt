@@ -118,16 +118,16 @@ AreChainedBelow-none f sizes vectors blocks = record {
 }
 
 -- all
-pub CbcEach-all : (f : ℕ → List ℕ → List ℕ) (sizes : List ℕ) (first p vectors blocks : List (List ℕ))
-    → length first ≡ length sizes → length p ≡ sum sizes → length blocks ≡ length p → All IsBlock p
-    → AreChainedBelow f sizes first p vectors blocks (length first) → CbcEach f sizes first p blocks
-CbcEach-all f sizes first p vectors blocks count whole same are_blocks are k below =
+pub CbcEach-all : (f : ℕ → List ℕ → List ℕ) (sizes : List ℕ) (first p vectors blocks : List (List ℕ)) (n : ℕ)
+    → length first ≡ length sizes → length p ≡ sum sizes → length blocks ≡ length p → All IsBlock p → length first ≤ n
+    → AreChainedBelow f sizes first p vectors blocks n → CbcEach f sizes first p blocks
+CbcEach-all f sizes first p vectors blocks n count whole same are_blocks all are k below =
     Cbc-from_answered (f k) (get_or first k []) (get_or vectors k []) p blocks (start sizes k) (get_or sizes k 0)
-    (omega (arith, end-within sizes k (omega arith))) same are_blocks (are.done k below)
+    (omega (arith, end-within sizes k (omega arith))) same are_blocks (are.done k (omega arith))
 
-pub GoOn-chained : (f : ℕ → List ℕ → List ℕ) (sizes : List ℕ) (first p vectors blocks : List (List ℕ))
-    → length first ≡ length sizes → length p ≡ sum sizes → length blocks ≡ length p
-    → AreChainedBelow f sizes first p vectors blocks (length first) → GoOn sizes first blocks vectors
-GoOn-chained f sizes first p vectors blocks count whole same are k below =
+pub GoOn-chained : (f : ℕ → List ℕ → List ℕ) (sizes : List ℕ) (first p vectors blocks : List (List ℕ)) (n : ℕ)
+    → length first ≡ length sizes → length p ≡ sum sizes → length blocks ≡ length p → length first ≤ n
+    → AreChainedBelow f sizes first p vectors blocks n → GoOn sizes first blocks vectors
+GoOn-chained f sizes first p vectors blocks n count whole same all are k below =
     next_vector-chained (f k) (get_or first k []) (get_or vectors k []) p blocks (start sizes k) (get_or sizes k 0)
-    (omega (arith, end-within sizes k (omega arith))) (are.done k below)
+    (omega (arith, end-within sizes k (omega arith))) (are.done k (omega arith))

@@ -12,7 +12,7 @@ use Rattle.des_fast.proofs.ByteTests.{has}
 use Rattle.des_fast.proofs.TableTests.{same_entries}
 use Rattle.des_fast.proofs.CipherFunctionByGroups.{substitute_by-groups}
 use Rattle.des_fast.proofs.GroupBytes.{bytes-lt, bits_of-in_order}
-use Rattle.des_fast.proofs.GroupWords.{IsExpansionOf, IsExpansionOf-Holds}
+use Rattle.des_fast.proofs.HalfExpansions.{IsExpansionOf, IsExpansionOf-Holds}
 
 -- of 2 ^ n values, that which the last n bits of a byte choose
 abbrev chosen : ℕ → (ℕ → ℕ) → ℕ → ℕ

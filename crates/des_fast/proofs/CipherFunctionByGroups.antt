@@ -1,25 +1,22 @@
 -- The cipher function group by group: the six bits that each box replaces, and where P puts the four bits of its entry.
-use Rattle.std.proofs.Common.{◌≡◌, ℕ, zero, suc, ◌+◌, ◌-◌, ◌*◌, ◌%◌, ◌<◌, ◌==◌, Bool, true, false, List, [], ◌∷◌, ◌++◌, length, map, take, drop, get_or, slice_set, slice_index_or, refl, sym, ap, ◌∙◌, subst, arith}
-use Rattle.std.specs.List.{range_with_len}
-use Rattle.std.proofs.lemmas.Bool.{eqb-true, agree_below, agree_below_at}
+use Rattle.std.proofs.Common.{◌≡◌, ℕ, zero, suc, ◌+◌, ◌-◌, ◌*◌, ◌%◌, ◌<◌, Bool, false, List, [], ◌∷◌, ◌++◌, length, map, take, drop, get_or, slice_set, slice_index_or, refl, sym, ap, ◌∙◌, arith}
+use Rattle.std.specs.List.{flat_map, range_with_len}
 use Rattle.std.proofs.lemmas.List.{ext_get_or, get_or-take, get_or-drop, get_or-map, length-take, length-drop, drop-drop}
 use Rattle.std.proofs.lemmas.List.FromFn.{fill_by_all}
 use Rattle.des.specs.Bits.{bit, bits_of, select, xor, xor_bits}
-use Rattle.des.specs.Tables.{Box, selection_functions, s1, s2, s3, s4, s5, s6, s7, s8, expansion, permutation}
+use Rattle.des.specs.Tables.{Box, selection_functions, expansion, permutation}
 use Rattle.des.specs.CipherFunction.{box_entry, substitute, substitute_by}
 use Rattle.des.specs.Laws.Selections.{length-select, length-xor_bits}
 use Rattle.des.proofs.LinearWords.{bit-xor_bits}
 use Rattle.des_fast.specs.Slices.{xor_at}
+use Rattle.des_fast.proofs.TableTests.{same_entries}
 
 -- ---- the group of a box
 
 -- the index of the bit that E puts at index k of group n
 expansion-group : (n k : ℕ) → n < 8 → k < 6 → get_or expansion (6 * n + k) 0 - 1 ≡ (4 * n + k + 31) % 32
 expansion-group n k group within =
-    let agrees : ℕ → ℕ → Bool = λ m j. get_or expansion (6 * m + j) 0 - 1 == (4 * m + j + 31) % 32 in
-    let group_agrees : ℕ → Bool = λ m. agree_below (agrees m) (λ j. true) 6 in
-    let each : group_agrees n ≡ true = agree_below_at group_agrees (λ m. true) 8 n refl group in
-    eqb-true _ _ (agree_below_at (agrees n) (λ j. true) 6 k each within)
+    same_entries (λ m j. get_or expansion (6 * m + j) 0 - 1) (λ m j. (4 * m + j + 31) % 32) 8 6 n k group within refl
 
 -- that bit of an expanded half block
 get_or-select_expansion : (half : List Bool) (n k : ℕ) → n < 8 → k < 6
@@ -85,39 +82,30 @@ substitute_by-groups (box ∷ boxes) n bits =
     (ap (substitute_by boxes) next ∙ substitute_by-groups boxes (n + 1) bits)
 
 -- eight entries, xored in where P puts their bits
-abbrev xor_entries : List Bool → (x1 x2 x3 x4 x5 x6 x7 x8 : ℕ) → List Bool
-xor_entries left x1 x2 x3 x4 x5 x6 x7 x8 =
-    let left_1 = xor_at left (8 ∷ 16 ∷ 22 ∷ 30 ∷ []) (bits_of 4 x1) in
-    let left_2 = xor_at left_1 (12 ∷ 27 ∷ 1 ∷ 17 ∷ []) (bits_of 4 x2) in
-    let left_3 = xor_at left_2 (23 ∷ 15 ∷ 29 ∷ 5 ∷ []) (bits_of 4 x3) in
-    let left_4 = xor_at left_3 (25 ∷ 19 ∷ 9 ∷ 0 ∷ []) (bits_of 4 x4) in
-    let left_5 = xor_at left_4 (7 ∷ 13 ∷ 24 ∷ 2 ∷ []) (bits_of 4 x5) in
-    let left_6 = xor_at left_5 (3 ∷ 28 ∷ 10 ∷ 18 ∷ []) (bits_of 4 x6) in
-    let left_7 = xor_at left_6 (31 ∷ 11 ∷ 21 ∷ 6 ∷ []) (bits_of 4 x7) in
-    xor_at left_7 (4 ∷ 26 ∷ 14 ∷ 20 ∷ []) (bits_of 4 x8)
+abbrev xor_entries : List Bool → (ℕ → ℕ) → List Bool
+xor_entries left x =
+    let left_1 = xor_at left (8 ∷ 16 ∷ 22 ∷ 30 ∷ []) (bits_of 4 (x 0)) in
+    let left_2 = xor_at left_1 (12 ∷ 27 ∷ 1 ∷ 17 ∷ []) (bits_of 4 (x 1)) in
+    let left_3 = xor_at left_2 (23 ∷ 15 ∷ 29 ∷ 5 ∷ []) (bits_of 4 (x 2)) in
+    let left_4 = xor_at left_3 (25 ∷ 19 ∷ 9 ∷ 0 ∷ []) (bits_of 4 (x 3)) in
+    let left_5 = xor_at left_4 (7 ∷ 13 ∷ 24 ∷ 2 ∷ []) (bits_of 4 (x 4)) in
+    let left_6 = xor_at left_5 (3 ∷ 28 ∷ 10 ∷ 18 ∷ []) (bits_of 4 (x 5)) in
+    let left_7 = xor_at left_6 (31 ∷ 11 ∷ 21 ∷ 6 ∷ []) (bits_of 4 (x 6)) in
+    xor_at left_7 (4 ∷ 26 ∷ 14 ∷ 20 ∷ []) (bits_of 4 (x 7))
 
 -- the same of 32 bits that are written out
-xor_entries-listed : (read : ℕ → Bool) (x1 x2 x3 x4 x5 x6 x7 x8 : ℕ)
+xor_entries-listed : (read : ℕ → Bool) (x : ℕ → ℕ)
     → let left = map read (range_with_len 0 32) in
-    let entries = bits_of 4 x1 ++ (bits_of 4 x2 ++ (bits_of 4 x3 ++ (bits_of 4 x4
-    ++ (bits_of 4 x5 ++ (bits_of 4 x6 ++ (bits_of 4 x7 ++ (bits_of 4 x8 ++ []))))))) in
-    xor_entries left x1 x2 x3 x4 x5 x6 x7 x8 ≡ xor_bits left (select permutation entries)
+    xor_entries left x ≡ xor_bits left (select permutation (flat_map (λ n. bits_of 4 (x n)) (range_with_len 0 8)))
 unfolding bits_of select xor_bits
-xor_entries-listed read x1 x2 x3 x4 x5 x6 x7 x8 = refl
+xor_entries-listed read x = refl
 
 -- the entries of the boxes for their groups, xored in where P puts their bits, are the substitution permuted by P
 pub xor_entries-substitute : (left mixed : List Bool) → length left ≡ 32
-    → let x = λ (box : Box) (n : ℕ). box_entry box (take 6 (drop (6 * n) mixed)) in
-    xor_entries left (x s1 0) (x s2 1) (x s3 2) (x s4 3) (x s5 4) (x s6 5) (x s7 6) (x s8 7)
+    → xor_entries left (λ n. entry (slice_index_or selection_functions n []) n mixed)
     ≡ xor_bits left (select permutation (substitute mixed))
 xor_entries-substitute left mixed size =
-    let x : Box → ℕ → ℕ = λ box n. entry box n mixed in
+    let x : ℕ → ℕ = λ n. entry (slice_index_or selection_functions n []) n mixed in
     let read : ℕ → Bool = λ i. get_or left i false in
     let listed : left ≡ map read (range_with_len 0 32) = fill_by_all read left 32 false size (λ k below. refl) in
-    let replaced : List Bool → Type 0 =
-    λ bits. xor_entries bits (x s1 0) (x s2 1) (x s3 2) (x s4 3) (x s5 4) (x s6 5) (x s7 6) (x s8 7)
-    ≡ xor_bits bits (select permutation (substitute mixed)) in
-    subst replaced (sym listed) (
-    xor_entries-listed read (x s1 0) (x s2 1) (x s3 2) (x s4 3) (x s5 4) (x s6 5) (x s7 6) (x s8 7)
-    ∙ ap (λ (bits : List Bool). xor_bits (map read (range_with_len 0 32)) (select permutation bits))
-    (sym (substitute_by-groups selection_functions 0 mixed)))
+    rw (listed, substitute_by-groups selection_functions 0 mixed) (xor_entries-listed read x)

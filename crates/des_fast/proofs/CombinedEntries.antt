@@ -14,7 +14,7 @@ use Rattle.des_fast.specs.declared.tables.TheConstants.{TABLES}
 use Rattle.des_fast.specs.Groups.{word_of_groups, in_place}
 use Rattle.des_fast.specs.CombinedTables.{combined_entry, combined_table, combined_tables}
 use Rattle.des_fast.proofs.CipherFunctionByGroups.{substitute_by-groups}
-use Rattle.des_fast.proofs.GroupWords.{IsExpansionOf, IsExpansionOf-word, IsExpansionOf-xor}
+use Rattle.des_fast.proofs.HalfExpansions.{IsExpansionOf, IsExpansionOf-word, IsExpansionOf-xor}
 use Rattle.des_fast.proofs.TableTests.{same_entries}
 use Rattle.des_fast.proofs.XoredLists.{xor-false}
 
@@ -67,10 +67,6 @@ abbrev pair_mask : ℕ → ℕ
 pair_mask i =
     slice_index_or (0x0811180201110424 ∷ 0x1008222808022209 ∷ 0x0624041122080110 ∷ 0x2102010414241802 ∷ []) (i / 2) 0
 
-entry-under : (i group : ℕ) → i < 8 → group < 64 → bit_and (entry i group) (pair_mask i) ≡ entry i group
-entry-under i group within below =
-    same_entries (λ j g. bit_and (entry j g) (pair_mask j)) entry 8 64 i group within below refl
-
 -- ---- their xor
 
 -- eight joined in a row
@@ -109,8 +105,9 @@ module _ (bits : List Bool) (groups : List ℕ) (within : All (λ group. group <
   pub IsExpansionOf-entries :
       IsExpansionOf (tree bit_or (λ i. entry i (slice_index groups i))) (select permutation (substitute bits))
   IsExpansionOf-entries =
+      let masked : ℕ → ℕ → ℕ = λ i group. bit_and (entry i group) (pair_mask i) in
       let under = λ (i : ℕ) (below : i < 8).
-      entry-under i (slice_index groups i) below (within i 0 (omega arith)) in
+      same_entries masked entry 8 64 i (slice_index groups i) below (within i 0 (omega arith)) refl in
       let first = pairs-apart _ _ _ _ (pair_mask 0) (pair_mask 2) refl
       (under 0 (lit≤ tt)) (under 1 (lit≤ tt)) (under 2 (lit≤ tt)) (under 3 (lit≤ tt)) in
       let last = pairs-apart _ _ _ _ (pair_mask 4) (pair_mask 6) refl

@@ -1,24 +1,21 @@
--- Words of groups: their bits are those of their 48, and one is what 48 bits make; expansions of half blocks among
--- them.
+-- Words of groups: their bits are those of their 48, and one is what 48 bits make.
 use Rattle.std.proofs.Common.{◌≡◌, ℕ, ◌<◌, ◌^◌, List, Bool, length, bit_and, bit_xor, refl, ap, ap₂, sym, ◌∙◌, arith, take_all, append-nil}
 use Rattle.std.specs.List.{range_with_len}
 use Rattle.std.proofs.lemmas.Nat.{and_le_r}
 use Rattle.des.specs.Bits.{bits_of, bits_of_word, number_of, select, xor_bits}
-use Rattle.des.specs.Tables.{expansion}
-use Rattle.des.specs.Laws.BitLists.{length-bits_of, number_of-bits_of_word, number_of-lt}
-use Rattle.des.specs.Laws.Selections.{composed, length-select, select-select, select-range_with_len}
+use Rattle.des.specs.Laws.BitLists.{length-bits_of, number_of-bits_of_word}
+use Rattle.des.specs.Laws.Selections.{composed, select-select, select-range_with_len}
 use Rattle.des.proofs.BitParts.{bits_of-xor}
 use Rattle.des.proofs.LinearWords.{IsLinear-id, IsLinear-mask, and-xor, select-xor_bits, select-from_units}
 use Rattle.des.proofs.LinearUnder.{and-same}
-use Rattle.des_fast.proofs.TableTests.{bits_of-written}
-use Rattle.des_fast.specs.Groups.{group_positions, positions_in_word, word_of_groups, half_positions, bits_of_groups, half_of, IsOfGroups, IsExpansion}
+use Rattle.des_fast.specs.Groups.{group_positions, positions_in_word, half_positions, bits_of_groups, half_of, IsOfGroups}
 
 -- the word has these bits in its groups, and zeros beside them
 abbrev pub Holds : ℕ → List Bool → Type 0
 Holds word bits = bits_of_word word ≡ select positions_in_word bits
 
 -- the first n bits of a list of them are the list
-select-all : (n : ℕ) (bits : List Bool) → length bits ≡ n → select (range_with_len 1 n) bits ≡ bits
+pub select-all : (n : ℕ) (bits : List Bool) → length bits ≡ n → select (range_with_len 1 n) bits ≡ bits
 select-all n bits width = select-range_with_len 0 n bits (omega arith) ∙ take_all n bits (omega arith)
 
 -- its groups are then these bits
@@ -53,44 +50,6 @@ IsOfGroups-Holds word bits below width holds =
     sym (number_of-bits_of_word masked (IsOfGroups-lt masked (and-same word 0x3f3f3f3f3f3f3f3f)))
     ∙ ap number_of same ∙ number_of-bits_of_word word below
 
--- ---- expansions
-
--- a word that holds the expansion of a half block has the half block in it
-half_of-Holds : (word : ℕ) (half : List Bool) → length half ≡ 32 → Holds word (select expansion half)
-    → half_of word ≡ half
-half_of-Holds word half width holds =
-    ap (select half_positions) holds
-    ∙ select-select 49 half_positions positions_in_word (select expansion half) (omega (arith, length-select expansion half))
-    ∙ select-select 33 (composed 49 half_positions positions_in_word) expansion half (omega arith)
-    ∙ select-all 32 half width
-
--- the word is its expansion
-pub record IsExpansionOf (word : ℕ) (half : List Bool) : Type 0 where
-  pub is_expansion : IsExpansion word
-  pub has_half : half_of word ≡ half
-
--- so is one that holds its bits
-pub IsExpansionOf-Holds : (word : ℕ) (half : List Bool) → word < 2 ^ 64 → length half ≡ 32
-    → Holds word (select expansion half) → IsExpansionOf word half
-IsExpansionOf-Holds word half below width holds =
-    let found : half_of word ≡ half = half_of-Holds word half width holds in
-    let size : length (select expansion half) ≡ 48 = length-select expansion half in
-    record {
-      is_expansion = record {
-        of_groups = IsOfGroups-Holds word (select expansion half) below size holds;
-        expanded = bits_of_groups-Holds word (select expansion half) size holds ∙ ap (select expansion) (sym found);
-      };
-      has_half = found;
-    }
-
--- the word that the expansion of a half block makes is its expansion
-pub IsExpansionOf-word : (half : List Bool) → length half ≡ 32
-    → IsExpansionOf (word_of_groups (select expansion half)) half
-IsExpansionOf-word half width =
-    let placed : List Bool = select positions_in_word (select expansion half) in
-    IsExpansionOf-Holds (number_of placed) half (rw length-select at (number_of-lt placed)) width
-    (sym (bits_of-written 64 _ placed (length-select positions_in_word (select expansion half)) refl))
-
 -- ---- xor
 
 -- the xor of two words of groups is one
@@ -112,22 +71,3 @@ bits_of_groups-xor a b = select-xor group_positions a b
 -- and the xor of the half blocks
 pub half_of-xor : (a b : ℕ) → half_of (bit_xor a b) ≡ xor_bits (half_of a) (half_of b)
 half_of-xor a b = select-xor half_positions a b
-
--- the xor of two expansions is that of the xor
-pub IsExpansion-xor : (a b : ℕ) → IsExpansion a → IsExpansion b → IsExpansion (bit_xor a b)
-IsExpansion-xor a b first second =
-    let size : (word : ℕ) → length (half_of word) ≡ 32 =
-    λ word. length-select half_positions (bits_of_word word) in
-    record {
-      of_groups = IsOfGroups-xor a b first.of_groups second.of_groups;
-      expanded = rw (bits_of_groups-xor a b, first.expanded, second.expanded, half_of-xor a b)
-          (sym (select-xor_bits expansion (half_of a) (half_of b) (size a ∙ sym (size b))));
-    }
-
--- and so the xor of expansions of two half blocks
-pub IsExpansionOf-xor : {a b : ℕ} → {half other : List Bool} → IsExpansionOf a half → IsExpansionOf b other
-    → IsExpansionOf (bit_xor a b) (xor_bits half other)
-IsExpansionOf-xor {a} {b} first second = record {
-  is_expansion = IsExpansion-xor a b first.is_expansion second.is_expansion;
-  has_half = half_of-xor a b ∙ ap₂ xor_bits first.has_half second.has_half;
-}

@@ -9,7 +9,8 @@ use Rattle.des.specs.Laws.BitLists.{length-bits_of}
 use Rattle.des.specs.Laws.Selections.{composed, select-select, select-range_with_len}
 use Rattle.des.proofs.BitParts.{drop-bits_of}
 use Rattle.des_fast.specs.Groups.{positions_in_word, half_positions, half_of}
-use Rattle.des_fast.proofs.GroupWords.{IsExpansionOf, IsExpansionOf-Holds, IsOfGroups-lt}
+use Rattle.des_fast.proofs.GroupWords.{IsOfGroups-lt}
+use Rattle.des_fast.proofs.HalfExpansions.{IsExpansionOf, IsExpansionOf-Holds}
 use Rattle.des_fast.proofs.WordMaps.{WordMap, left_under, right_under, under, left, right, joined, Selects, selected}
 
 -- ---- the halves of a word
@@ -22,10 +23,10 @@ abbrev even_groups : WordMap
 even_groups = joined (left_under 1 0x3f3f3f3e3f3f3f3e) (right_under 31 0x0000000100000001) refl
 
 -- the expansion of the left half, and that of the right
-abbrev left_groups : WordMap
+abbrev pub left_groups : WordMap
 left_groups = joined (under 0x3f3f3f3f00000000 odd_groups) (right 32 even_groups) refl
 
-abbrev right_groups : WordMap
+abbrev pub right_groups : WordMap
 right_groups = joined (left 32 odd_groups) (under 0x000000003f3f3f3f even_groups) refl
 
 -- the positions of the expansion of the 32 bits after the first k, in a word of groups
@@ -66,7 +67,7 @@ IsExpansionOf-right_groups word below =
 -- ---- the half block of an expansion
 
 -- the middle four bits of each group, in the last 32 bits of a word
-abbrev middle_bits : WordMap
+abbrev pub middle_bits : WordMap
 middle_bits = joined (right_under 29 0x00000000f0f0f0f0) (right_under 1 0x000000000f0f0f0f) refl
 
 pub middle_bits-lt : (groups : ℕ) → middle_bits.of groups < 2 ^ 32

@@ -1,5 +1,5 @@
 -- The halves C and D as slices, each of which stands twice in a row.
-use Rattle.std.proofs.Common.{◌≡◌, ◌≢◌, ℕ, ◌+◌, ◌-◌, ◌*◌, ◌/◌, ◌%◌, ◌^◌, ◌<◌, ◌==◌, ◌&&◌, Bool, true, false, List, ◌++◌, length, map, nat_lt, get_or, bit_and, refl, ap, sym, ◌∙◌, arith, inl, inr, subst}
+use Rattle.std.proofs.Common.{◌≡◌, ◌≢◌, ℕ, ◌+◌, ◌-◌, ◌*◌, ◌/◌, ◌^◌, ◌<◌, ◌==◌, ◌&&◌, Bool, true, false, List, length, map, nat_lt, get_or, bit_and, refl, ap, sym, ◌∙◌, arith, inl, inr, subst}
 use Rattle.std.proofs.Math.ListN.{set}
 use Rattle.std.proofs.lemmas.List.{length-map, length-set, get_or-map, ext_get_or, get_or-set_same, get_or-set_other, map-set}
 use Rattle.std.proofs.lemmas.Nat.Bits.{shr_and_one}
@@ -7,7 +7,7 @@ use Rattle.std.proofs.lemmas.Bool.{cases_eq, and_parts, eqb-true, ltb-true, agre
 use Rattle.des.specs.Bits.{bit, select}
 use Rattle.des.proofs.BitParts.{get_or-bits_of}
 use Rattle.des_fast.specs.declared.slices.keys.TheConstants.{HALVES}
-use Rattle.des_fast.specs.RoundKeySlices.{c_positions, d_positions}
+use Rattle.des_fast.specs.RoundKeySlices.{positions_twice, place_once}
 use Rattle.des_fast.proofs.SliceBits.{bit_in}
 
 -- a bit of a word, shifted to the end
@@ -25,40 +25,32 @@ bits-selection bits whole positions same each =
     (λ i below. let inside : i < length positions = omega arith in
     each i inside ∙ sym (get_or-map (bit whole) positions i 0 false inside))
 
--- where the bits of C stand, twice, and those of D, twice
-abbrev pub positions : List ℕ
-positions = c_positions ++ c_positions ++ d_positions ++ d_positions
-
--- the place among the 56 bits of C and D of the one that stands at a place of the 112
-abbrev pub once : ℕ → ℕ
-once m = m % 28 + m / 56 * 28
-
 -- the table of the code has a position for each of the 56, and that position stands at its two places
-pub record IsPosition (n : ℕ) : Type 0 where
+pub record IsPosition (n place : ℕ) : Type 0 where
   pub from : 0 < get_or HALVES n 0
   pub to : get_or HALVES n 0 < 129
-  pub first : get_or positions (n + n / 28 * 28) 0 ≡ get_or HALVES n 0
-  pub second : get_or positions (n + n / 28 * 28 + 28) 0 ≡ get_or HALVES n 0
+  pub first : get_or positions_twice place 0 ≡ get_or HALVES n 0
+  pub second : get_or positions_twice (place + 28) 0 ≡ get_or HALVES n 0
 
-pub position-at : (n : ℕ) → n < 56 → IsPosition n
-position-at n below =
+pub position-at : (n half : ℕ) → n < 56 → n / 28 ≡ half → IsPosition n (n + 28 * half)
+position-at n half below is =
     let position : ℕ → ℕ = λ k. get_or HALVES k 0 in
-    let place : ℕ → ℕ = λ k. k + k / 28 * 28 in
+    let place : ℕ → ℕ = λ k. k + 28 * (k / 28) in
     let bounds : (nat_lt 0 (position n) && nat_lt (position n) 129) ≡ true =
     agree_below_at (λ k. nat_lt 0 (position k) && nat_lt (position k) 129) (λ k. true) 56 n refl below in
-    let places : (get_or positions (place n) 0 == position n && (get_or positions (place n + 28) 0 == position n))
+    let places : (get_or positions_twice (place n) 0 == position n && (get_or positions_twice (place n + 28) 0 == position n))
     ≡ true =
     agree_below_at (λ k.
-    get_or positions (place k) 0 == position k && (get_or positions (place k + 28) 0 == position k))
+    get_or positions_twice (place k) 0 == position k && (get_or positions_twice (place k + 28) 0 == position k))
     (λ k. true) 56 n refl below in
     let bound = and_parts _ _ bounds in
     let at = and_parts _ _ places in
-    record {
+    subst (λ (k : ℕ). IsPosition n (n + 28 * k)) is (record {
       from = ltb-true _ _ bound.0;
       to = ltb-true _ _ bound.1;
       first = eqb-true _ _ at.0;
       second = eqb-true _ _ at.1;
-    }
+    })
 
 -- an element written at two places
 written_twice : {X : Type 0} (P : ℕ → X → Type 0) (xs : List X) (p q : ℕ) (x d : X) → p < length xs → q < length xs
@@ -92,5 +84,6 @@ bits_written_twice bit P xs p q x first second at_first at_second m other =
     (written_twice P (map bit xs) p q (bit x) false in_first in_second at_first at_second m other)
 
 -- the other places of the bits up to n are those of the bits below n
-pub once-below : (m n : ℕ) → m < 112 → once m < n + 1 → m ≢ n + n / 28 * 28 → m ≢ n + n / 28 * 28 + 28 → once m < n
-once-below m n below done not_first not_second = omega arith
+pub place_once-below : (m n half : ℕ) → m < 112 → n / 28 ≡ half → place_once m < n + 1 → m ≢ n + 28 * half → m ≢ n + 28 * half + 28
+    → place_once m < n
+place_once-below m n half below is done not_first not_second = omega arith

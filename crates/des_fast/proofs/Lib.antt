@@ -21,10 +21,12 @@ pub mod ThreePasses
 pub mod CipherFunctionByGroups
 pub mod XoredLists
 pub mod GroupWords
+pub mod FourWords
 pub mod GroupBytes
 pub mod TableTests
 pub mod WordMaps
 pub mod CombinedEntries
+pub mod HalfExpansions
 pub mod HalfMaps
 pub mod KeyedHalves
 pub mod RoundKeysByPlace

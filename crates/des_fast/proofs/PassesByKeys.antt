@@ -1,9 +1,8 @@
 -- What a lane answers whose passes are those of parts of its key.
-use Rattle.std.proofs.Common.{◌≡◌, ℕ, ◌+◌, ◌*◌, ◌<◌, Bool, true, false, IsTrue, ◌&&◌, nat_lt, List, [], ◌∷◌, length, map, get_or, refl, ap, sym, ◌∙◌, arith}
-use Rattle.std.specs.List.{All, list_all}
-use Rattle.std.proofs.lemmas.List.Elements.{All-get_or}
+use Rattle.std.proofs.Common.{◌≡◌, ℕ, ◌+◌, ◌*◌, Bool, true, false, IsTrue, ◌&&◌, nat_lt, List, [], ◌∷◌, length, map, get_or, refl, ap, sym, ◌∙◌, arith}
+use Rattle.std.specs.List.{list_all}
 use Rattle.std.proofs.lemmas.List.{map-id, take_all}
-use Rattle.des.specs.Blocks.{IsBlock, part}
+use Rattle.des.specs.Blocks.{part}
 use Rattle.des.specs.Des.{encryption, decryption}
 use Rattle.des.specs.Triple.{triple_key_size}
 use Rattle.des.specs.TripleCiphers.{triple_encryption, triple_decryption}
@@ -16,11 +15,8 @@ use Rattle.des_fast.specs.LaneKeys.{answer_in}
 use Rattle.des_fast.proofs.ThreePasses.{block_through_passes-three}
 
 -- a key that is the whole of its first part
-pub part-whole : (keys : List (List ℕ)) (k : ℕ) → k < length keys → All IsBlock keys
-    → part 1 (get_or keys k []) ≡ get_or keys k []
-part-whole keys k below are =
-    let size : length (get_or keys k []) ≡ 8 = (All-get_or IsBlock keys k [] below are).0 in
-    take_all 8 (get_or keys k []) (omega arith)
+part-whole : (key : List ℕ) → length key ≡ 8 → part 1 key ≡ key
+part-whole key size = take_all 8 key (omega arith)
 
 -- the answer of a lane, by what passes under parts of its key answer
 pub lane-by_parts : {A : Type 0} (bit : A → Bool) (passes : List (PassSlices A)) (parts : List Part)
@@ -33,12 +29,12 @@ lane-by_parts bit passes parts answer keys k spread is =
     ∙ is
     ∙ ap (λ (xs : List (List ℕ)). answer (get_or xs k [])) (sym (map-id keys))
 
--- one pass under the first part of keys that have no other
-pub one_part : (deciphers : Bool) (keys : List (List ℕ)) (k : ℕ) → k < length keys → All IsBlock keys
-    → block_through_passes (round_keys_of_parts (record { number = 1; deciphers = deciphers } ∷ []) (get_or keys k []))
-    ≡ answer_in deciphers encryption decryption (get_or keys k [])
-one_part true keys k below are = ap decryption (part-whole keys k below are)
-one_part false keys k below are = ap encryption (part-whole keys k below are)
+-- one pass under the first part of a key that has no other
+pub one_part : (deciphers : Bool) (key : List ℕ) → length key ≡ 8
+    → block_through_passes (round_keys_of_parts (record { number = 1; deciphers = deciphers } ∷ []) key)
+    ≡ answer_in deciphers encryption decryption key
+one_part true key size = ap decryption (part-whole key size)
+one_part false key size = ap encryption (part-whole key size)
 
 -- the passes of a triple cipher under its parts
 pub three_parts : (has_three second deciphers : Bool) (key : List ℕ)

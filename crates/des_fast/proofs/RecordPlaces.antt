@@ -72,11 +72,3 @@ one-record sizes k m place in_k in_m =
             | inr to ↦ omega arith
           ]
     ]
-
--- where a record begins before the end of all blocks, there is one
-pub number-lt : (sizes : List ℕ) (k : ℕ) → start sizes k < sum sizes → k < length sizes
-number-lt sizes k before =
-    elim (cases_lt k (length sizes)) [
-      | inl below ↦ below
-      | inr from ↦ absurd (omega (arith, start-whole sizes k from))
-    ]

@@ -32,33 +32,39 @@ after_rounds-two_more keys i first second left right next_left next_right below 
     ∙ sym (after_rounds-append (take (2 * i) keys) (k1 ∷ k2 ∷ []) first second)
     ∙ ap (λ ks. after_rounds ks first second) (sym (ap (λ n. take n keys) count ∙ take-two_more keys (2 * i) [] below))
 
--- two halves after an even number of rounds, each with the round key in it that meets it next
-pub record AreKeyed (keys : List (List Bool)) (i : ℕ) (first second : List Bool) (left right : KeyedHalf) : Type 0 where
+-- two halves after an even number of rounds, each with the round key in it that meets it next, and the right one also
+-- with the key after that
+pub record AreKeyed (keys : List (List Bool)) (i : ℕ) (first second : List Bool) (left right after : KeyedHalf) : Type 0 where
   pub halves : (keyed_half left, keyed_half right) ≡ after_rounds (take (2 * i) keys) first second
+  pub same : keyed_half after ≡ keyed_half right
   pub left_key : bits_of_groups left.round_key.groups ≡ slice_index_or keys ((2 * i + 1) % 16) []
   pub right_key : bits_of_groups right.round_key.groups ≡ slice_index_or keys (2 * i % 16) []
+  pub after_key : bits_of_groups after.round_key.groups ≡ slice_index_or keys ((2 * i + 2) % 16) []
 
--- two rounds more, after which the halves take other round keys
+-- two rounds more
 pub after_rounds-keyed : (keys : List (List Bool)) (i : ℕ) (first second : List Bool)
-    (left right made right_changed next left_changed : KeyedHalf)
-    → length keys ≡ 16 → i < 8 → AreKeyed keys i first second left right
+    (left right after made next : KeyedHalf)
+    → length keys ≡ 16 → i < 8 → AreKeyed keys i first second left right after
     → keyed_half made ≡ next_half (keyed_half left) (keyed_half right) (bits_of_groups right.round_key.groups)
     → made.round_key ≡ left.round_key
-    → keyed_half right_changed ≡ keyed_half right
-    → keyed_half next ≡ next_half (keyed_half right_changed) (keyed_half made) (bits_of_groups made.round_key.groups)
-    → keyed_half left_changed ≡ keyed_half made
-    → (keyed_half left_changed, keyed_half next) ≡ after_rounds (take (2 * (i + 1)) keys) first second
-after_rounds-keyed keys i first second left right made right_changed next left_changed size below are makes_left keeps
-    changes_right makes_right changes_left =
+    → keyed_half next ≡ next_half (keyed_half after) (keyed_half made) (bits_of_groups made.round_key.groups)
+    → (keyed_half made, keyed_half next) ≡ after_rounds (take (2 * (i + 1)) keys) first second
+after_rounds-keyed keys i first second left right after made next size below are makes_left keeps makes_right =
     let even : 2 * i % 16 ≡ 2 * i = omega arith in
     let odd : (2 * i + 1) % 16 ≡ 2 * i + 1 = omega arith in
-    after_rounds-two_more keys i first second (keyed_half left) (keyed_half right) (keyed_half left_changed)
-    (keyed_half next) (omega arith) are.halves (cc) (cc)
+    let same : keyed_half after ≡ keyed_half right = are.same in
+    after_rounds-two_more keys i first second (keyed_half left) (keyed_half right) (keyed_half made) (keyed_half next)
+    (omega arith) are.halves (cc) (cc)
 
--- and all of them
-pub after_rounds-all : (keys : List (List Bool)) (i : ℕ) (first second : List Bool) (left right : KeyedHalf)
-    → length keys ≡ 16 → 8 ≤ i → AreKeyed keys i first second left right
-    → (keyed_half left, keyed_half right) ≡ after_rounds keys first second
-after_rounds-all keys i first second left right size last are =
-    let all : length keys ≤ 2 * i = omega arith in
-    rw take_all at are.halves
+-- and the last two
+pub after_rounds-all : (keys : List (List Bool)) (i : ℕ) (first second : List Bool)
+    (left right after made next : KeyedHalf)
+    → length keys ≡ 16 → i ≡ 7 → AreKeyed keys i first second left right after
+    → keyed_half made ≡ next_half (keyed_half left) (keyed_half right) (bits_of_groups right.round_key.groups)
+    → made.round_key ≡ left.round_key
+    → keyed_half next ≡ next_half (keyed_half after) (keyed_half made) (bits_of_groups made.round_key.groups)
+    → (keyed_half made, keyed_half next) ≡ after_rounds keys first second
+after_rounds-all keys i first second left right after made next size last are makes_left keeps makes_right =
+    let all : length keys ≤ 2 * (i + 1) = omega arith in
+    rw take_all
+    at (after_rounds-keyed keys i first second left right after made next size (omega arith) are makes_left keeps makes_right)

@@ -8,7 +8,8 @@ use Rattle.des_fast.specs.declared.halves.RoundKey.{RoundKey}
 use Rattle.des_fast.specs.Groups.{IsOfGroups, IsExpansion, bits_of_groups, half_of}
 use Rattle.des_fast.specs.HalfBlocks.{round_keys_of}
 use Rattle.des_fast.specs.SideBySide.{in_direction}
-use Rattle.des_fast.proofs.GroupWords.{IsOfGroups-xor, IsExpansion-xor, bits_of_groups-xor, half_of-xor}
+use Rattle.des_fast.proofs.GroupWords.{IsOfGroups-xor, bits_of_groups-xor, half_of-xor}
+use Rattle.des_fast.proofs.HalfExpansions.{IsExpansion-xor}
 use Rattle.des_fast.proofs.RoundKeysByPlace.{length-round_keys_of}
 
 -- the right half with the round key in it is a word of groups

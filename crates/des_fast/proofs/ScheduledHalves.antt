@@ -8,10 +8,9 @@ use Rattle.des.proofs.RoundKeyPlaces.{schedule_of_halves, key_schedule-halves, f
 use Rattle.des_fast.specs.declared.halves.RoundKey.{RoundKey}
 use Rattle.des_fast.specs.Groups.{positions_in_word}
 use Rattle.des_fast.specs.HalfBlocks.{round_keys_of}
-use Rattle.des_fast.specs.RoundKeySlices.{halves_in, round_keys_by, AreScheduled}
+use Rattle.des_fast.specs.RoundKeySlices.{positions_twice, halves_in, round_keys_by, AreScheduled}
 use Rattle.des_fast.specs.SideBySide.{in_direction}
 use Rattle.des_fast.proofs.GroupWords.{Holds-groups}
-use Rattle.des_fast.proofs.KeySlices.{positions}
 use Rattle.des_fast.proofs.RoundKeysByPlace.{round_keys_of-at}
 
 -- ---- the last two round keys
@@ -23,11 +22,11 @@ bits_of_two fifteenth sixteenth = select positions_in_word fifteenth ++ (select 
 -- the round keys that halves give are those of the halves in the last two, whatever the bits are
 schedule-from_last : (c d : List Bool) → length c ≡ 28 → length d ≡ 28
     → let keys = schedule_of_halves c d in
-    round_keys_by (select positions (bits_of_two (get_or keys 14 []) (get_or keys 15 []))) false ≡ keys
+    round_keys_by (select positions_twice (bits_of_two (get_or keys 14 []) (get_or keys 15 []))) false ≡ keys
 unfolding rotate select
 schedule-from_last = from_places
     (λ c d. let keys = schedule_of_halves c d in
-    round_keys_by (select positions (bits_of_two (get_or keys 14 []) (get_or keys 15 []))) false ≡ keys)
+    round_keys_by (select positions_twice (bits_of_two (get_or keys 14 []) (get_or keys 15 []))) false ≡ keys)
     (λ value. refl)
 
 -- so are any round keys that are those of a key
@@ -44,7 +43,7 @@ AreScheduled-schedule round_keys key size are =
     ∙ Holds-groups (get_or round_keys i none).groups (get_or round_keys i none).of_groups
     ∙ ap (select positions_in_word)
     (round_keys_of-at round_keys i none (omega arith) ∙ ap (λ ks. get_or ks i []) same) in
-    ap₂ (λ fifteenth sixteenth. round_keys_by (select positions (fifteenth ++ (sixteenth ++ []))) false)
+    ap₂ (λ fifteenth sixteenth. round_keys_by (select positions_twice (fifteenth ++ (sixteenth ++ []))) false)
     (word 14 (omega arith)) (word 15 (omega arith))
     ∙ schedule-from_last (c_half key) (d_half key) (length-c_half key) (length-d_half key)
     ∙ sym same

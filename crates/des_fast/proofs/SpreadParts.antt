@@ -1,11 +1,13 @@
 -- Passes under parts of keys, written one by one.
-use Rattle.std.proofs.Common.{◌≡◌, ℕ, ◌+◌, ◌<◌, ◌≤◌, Bool, true, false, List, [], ◌∷◌, length, map, get_or, refl, ap, ap₂, sym, subst, ◌∙◌, arith, take}
+use Rattle.std.proofs.Common.{◌≡◌, ℕ, ◌+◌, ◌<◌, ◌≤◌, Bool, true, false, List, [], ◌∷◌, length, map, get_or, refl, ap₂, sym, subst, ◌∙◌, arith, take}
 use Rattle.std.proofs.Math.ListN.{set}
 use Rattle.std.proofs.Math.Bool.{beq}
-use Rattle.std.proofs.lemmas.List.{get_or_default, length-map, map-set, ext_get_or}
+use Rattle.std.proofs.lemmas.List.{length-map, map-set, ext_get_or, take_all}
 use Rattle.des.specs.Blocks.{part}
 use Rattle.des_fast.specs.declared.many.lanes.Part.{Part}
+use Rattle.des_fast.specs.declared.slices.keys.PassSlices.{PassSlices}
 use Rattle.des_fast.specs.EachKey.{round_keys_under, round_keys_of_parts}
+use Rattle.des_fast.specs.SpreadKeys.{AreSlicesFor}
 use Rattle.des_fast.proofs.WrittenElements.{written_below}
 
 -- what holds of the values of elements below i holds below i + 1 with the element at i written
@@ -17,11 +19,6 @@ mapped_written_below read d P xs i x inside each here m below =
     let in_map : i < length (map read xs) = rw (length-map xs read) inside in
     subst (λ ys. P m (get_or ys m d)) (sym (map-set read xs i x))
     (written_below P (map read xs) i (read x) d in_map each here m below)
-
--- a part of a key is that of the key at its place
-pub part-at : (number : ℕ) (keys : List (List ℕ)) (k : ℕ) (key : List ℕ) → k < length keys → key ≡ get_or keys k key
-    → part number key ≡ part number (get_or keys k [])
-part-at number keys k key inside is = ap (part number) (is ∙ get_or_default keys k key [] inside)
 
 -- round keys of all passes under the parts of a key
 pub all_spread : {X : Type 0} (read : X → List (List Bool)) (passes : List X) (parts : List Part) (key : List ℕ) (n : ℕ)
@@ -51,3 +48,10 @@ round_keys_under-same p q key number direction =
 pub take_one-set : {X : Type 0} (xs : List X) (x : X) → 0 < length xs → take 1 (set xs 0 x) ≡ x ∷ []
 take_one-set [] x some = absurd (omega arith)
 take_one-set (y ∷ xs) x some = refl
+
+-- so are the slices of a single cipher, where there are no others
+pub AreSlicesFor-one : {A : Type 0} (batch : ℕ) (bit : ℕ → A → Bool) (slices : List (PassSlices A))
+    (answer : List ℕ → List ℕ) → length slices ≡ 1 → AreSlicesFor batch bit (take 1 slices) answer
+    → AreSlicesFor batch bit slices answer
+AreSlicesFor-one batch bit slices answer count are =
+    subst (λ passes. AreSlicesFor batch bit passes answer) (take_all 1 slices (omega arith)) are

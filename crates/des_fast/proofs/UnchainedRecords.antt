@@ -90,18 +90,18 @@ record-all f sizes first q vectors blocks place k inside all are =
     subst (λ (n : ℕ). IsUnchained f sizes first q vectors blocks k n) reached (are k inside)
 
 -- all
-pub UnchainsEach-all : (f : ℕ → List ℕ → List ℕ) (sizes : List ℕ) (first q vectors blocks : List (List ℕ))
-    → length first ≡ length sizes → length q ≡ sum sizes → length blocks ≡ length q
-    → AreUnchainedBelow f sizes first q vectors blocks (length q) → UnchainsEach f sizes first q blocks
-UnchainsEach-all f sizes first q vectors blocks count whole same are k below =
+pub UnchainsEach-all : (f : ℕ → List ℕ → List ℕ) (sizes : List ℕ) (first q vectors blocks : List (List ℕ)) (place : ℕ)
+    → length first ≡ length sizes → length q ≡ sum sizes → length blocks ≡ length q → length q ≤ place
+    → AreUnchainedBelow f sizes first q vectors blocks place → UnchainsEach f sizes first q blocks
+UnchainsEach-all f sizes first q vectors blocks place count whole same all are k below =
     Unchains-from_answered (f k) (get_or first k []) (get_or vectors k []) q blocks (start sizes k) (get_or sizes k 0)
     (omega (arith, end-within sizes k (omega arith))) same
-    (record-all f sizes first q vectors blocks (length q) k (omega arith) (omega arith) are)
+    (record-all f sizes first q vectors blocks place k (omega arith) (omega arith) are)
 
-pub GoOn-unchained : (f : ℕ → List ℕ → List ℕ) (sizes : List ℕ) (first q vectors blocks : List (List ℕ))
-    → length first ≡ length sizes → length q ≡ sum sizes
-    → AreUnchainedBelow f sizes first q vectors blocks (length q) → GoOn sizes first q vectors
-GoOn-unchained f sizes first q vectors blocks count whole are k below =
+pub GoOn-unchained : (f : ℕ → List ℕ → List ℕ) (sizes : List ℕ) (first q vectors blocks : List (List ℕ)) (place : ℕ)
+    → length first ≡ length sizes → length q ≡ sum sizes → length q ≤ place
+    → AreUnchainedBelow f sizes first q vectors blocks place → GoOn sizes first q vectors
+GoOn-unchained f sizes first q vectors blocks place count whole all are k below =
     next_vector-unchained _ (get_or first k []) (get_or vectors k []) q blocks (start sizes k) (get_or sizes k 0)
     (omega (arith, end-within sizes k (omega arith)))
-    (record-all f sizes first q vectors blocks (length q) k (omega arith) (omega arith) are)
+    (record-all f sizes first q vectors blocks place k (omega arith) (omega arith) are)

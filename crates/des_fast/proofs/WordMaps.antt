@@ -1,10 +1,9 @@
 -- Maps of words by shifts, masks and `|`, each with the mask under which its images are: where those that are joined
 -- share no bit the map is linear, so that the words with one bit tell which bits it selects.
-use Rattle.std.proofs.Common.{◌≡◌, ℕ, ◌*◌, ◌/◌, ◌%◌, ◌^◌, ◌<◌, List, ◌++◌, map, bit_and, bit_or, sym, ap, ◌∙◌, append-nil, add-zero, pow_pos}
-use Rattle.std.proofs.lemmas.Nat.{and_shr, and_mod, and_block}
+use Rattle.std.proofs.Common.{◌≡◌, ℕ, ◌*◌, ◌/◌, ◌%◌, ◌^◌, ◌<◌, List, ◌++◌, map, bit_and, bit_or, ◌∙◌, append-nil}
 use Rattle.des.specs.Bits.{bits_of_word, zeros, select}
 use Rattle.des.proofs.LinearWords.{IsLinear, units, IsLinear-id, IsLinear-shl, IsLinear-shr, select-from_units}
-use Rattle.des.proofs.LinearUnder.{IsLinearUnder, IsLinearUnder-mask, IsLinearUnder-or}
+use Rattle.des.proofs.LinearUnder.{IsLinearUnder, IsLinearUnder-mask, IsLinearUnder-shl, IsLinearUnder-shr, IsLinearUnder-or}
 
 -- a linear map of words, and the mask
 pub record WordMap : Type 0 where
@@ -26,29 +25,15 @@ abbrev pub under : ℕ → WordMap → WordMap
 under mask first = masked mask first.of first.is.linear
 
 -- such a map shifted, and its mask with it
-pub and-shl : (x mask k : ℕ) → bit_and (x * 2 ^ k) (mask * 2 ^ k) ≡ bit_and x mask * 2 ^ k
-and-shl x mask k = simp add-zero at (and_block k x mask 0 0 (pow_pos k) (pow_pos k))
-
 abbrev pub left : ℕ → WordMap → WordMap
 left k first = record {
   mask = first.mask * 2 ^ k % 2 ^ 64;
   of = λ x. first.of x * 2 ^ k % 2 ^ 64;
-  is = record {
-    linear = IsLinear-shl k first.is.linear;
-    under = λ x. sym (and_mod (first.of x * 2 ^ k) (first.mask * 2 ^ k) 64)
-        ∙ ap (λ y. y % 2 ^ 64) (and-shl (first.of x) first.mask k ∙ ap (λ y. y * 2 ^ k) (first.is.under x));
-  };
+  is = IsLinearUnder-shl k first.is;
 }
 
 abbrev pub right : ℕ → WordMap → WordMap
-right k first = record {
-  mask = first.mask / 2 ^ k;
-  of = λ x. first.of x / 2 ^ k;
-  is = record {
-    linear = IsLinear-shr k first.is.linear;
-    under = λ x. sym (and_shr (first.of x) first.mask k) ∙ ap (λ y. y / 2 ^ k) (first.is.under x);
-  };
-}
+right k first = record { mask = first.mask / 2 ^ k; of = λ x. first.of x / 2 ^ k; is = IsLinearUnder-shr k first.is }
 
 -- what two maps make, whose masks share no bit
 abbrev pub joined : (first second : WordMap) → bit_and first.mask second.mask ≡ 0 → WordMap

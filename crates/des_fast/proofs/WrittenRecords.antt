@@ -1,25 +1,11 @@
 -- A block of each record, written from lanes.
-use Rattle.std.proofs.Common.{◌≡◌, ◌≢◌, ℕ, ◌+◌, ◌<◌, ◌≤◌, List, [], length, sum, get_or, refl, ap, sym, ◌∙◌, arith, inl, inr}
+use Rattle.std.proofs.Common.{◌≡◌, ◌≢◌, ℕ, ◌+◌, ◌<◌, ◌≤◌, List, [], length, sum, get_or, ap, sym, ◌∙◌, arith, inl, inr}
 use Rattle.std.proofs.Math.ListN.{set}
 use Rattle.std.proofs.lemmas.Bool.{cases_eq}
 use Rattle.std.proofs.lemmas.List.{get_or-set_same, get_or-set_other}
 use Rattle.des_fast.specs.Records.{start}
 use Rattle.des_fast.specs.RecordStates.{AreWritten}
 use Rattle.des_fast.proofs.RecordPlaces.{end-within, records-apart, blocks-apart}
-
--- of no record
-pub AreWritten-none : (sizes : List ℕ) (from i : ℕ) (lanes vectors blocks : List (List ℕ))
-    → AreWritten sizes from 0 i lanes vectors blocks vectors blocks
-AreWritten-none sizes from i lanes vectors blocks = record {
-  block = λ k below has. absurd (omega arith);
-  vector = λ k below has. absurd (omega arith);
-  ended = λ k below over. refl;
-  others = λ k j inside low other. refl;
-  before = λ k below. refl;
-  past = λ k above. refl;
-  blocks_before = λ k j below inside low. refl;
-  blocks_past = λ k j above inside low. refl;
-}
 
 -- of a record more, which has ended
 pub AreWritten-ended : (sizes : List ℕ) (from n i : ℕ) (lanes vectors blocks new_vectors new_blocks : List (List ℕ))

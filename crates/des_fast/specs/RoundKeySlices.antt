@@ -1,10 +1,10 @@
 -- The round keys of a pass by the halves C and D of its key, each of which stands twice in a row.
-use Rattle.std.specs.Prelude.{◌≡◌, ℕ, ◌+◌, List, [], ◌∷◌, ◌++◌, Bool, true, false, map, take, drop, slice_index_or}
-use Rattle.des.specs.Bits.{select}
+use Rattle.std.specs.Prelude.{◌≡◌, ℕ, ◌+◌, ◌*◌, ◌/◌, ◌%◌, ◌<◌, List, [], ◌∷◌, ◌++◌, Bool, true, false, map, take, drop, slice_index_or}
+use Rattle.des.specs.Bits.{bit, select}
 use Rattle.des.specs.Tables.{permuted_choice_2}
 use Rattle.des_fast.specs.declared.halves.RoundKey.{RoundKey}
 use Rattle.des_fast.specs.HalfBlocks.{round_keys_of}
-use Rattle.des_fast.specs.Slices.{bits_of_slice}
+use Rattle.des_fast.specs.Slices.{InEachBlock, bits_of_slice}
 use Rattle.des_fast.specs.declared.slices.keys.Pass.{Pass}
 use Rattle.des_fast.specs.declared.slices.keys.PassSlices.{PassSlices}
 
@@ -25,10 +25,22 @@ d_positions =
     27 ∷ 91 ∷ 118 ∷ 123 ∷ 87 ∷ 120 ∷ 92 ∷
     125 ∷ 117 ∷ 84 ∷ 96 ∷ 24 ∷ 88 ∷ 94 ∷ []
 
+-- where C stands, twice, and where D does, twice
+abbrev pub positions_twice : List ℕ
+positions_twice = c_positions ++ c_positions ++ d_positions ++ d_positions
+
 -- C twice, and D twice, as they stand in these two words
 abbrev pub halves_in : List ℕ → List Bool
-halves_in words =
-    select (c_positions ++ c_positions ++ d_positions ++ d_positions) (bits_of_slice words)
+halves_in words = select positions_twice (bits_of_slice words)
+
+-- the number, among the 56 bits of C and D, of the one that stands at a place of the 112
+abbrev pub place_once : ℕ → ℕ
+place_once m = m % 28 + m / 56 * 28
+
+-- of these 56 bits those below n stand in slices at their two places
+abbrev pub StandTwiceBelow : {A : Type 0} → ℕ → (ℕ → A → Bool) → List ℕ → ℕ → List A → Type 0
+StandTwiceBelow batch bit_of words n halves = InEachBlock batch (λ b. (m : ℕ) → m < 112 → place_once m < n
+    → slice_index_or (map (bit_of b) halves) m false ≡ bit (bits_of_slice words) (slice_index_or positions_twice m 0))
 
 -- how far C and D are rotated in each round: the left shifts before it, together (FIPS 46-3, key
 -- schedule), from the last to the first in deciphering

@@ -5,12 +5,31 @@
 //! E of a half block is the half block rotated, once for each four bytes.
 
 ghost use Rattle.std.specs.Prelude.{◌≡◌, ◌<◌, ◌^◌, ◌++◌, take, drop, bit_xor};
-ghost use Rattle.des.specs.Bits.{bits_of, bits_of_word, xor_bits};
+ghost use Rattle.des.specs.Bits.{bits_of, bits_of_bytes, bits_of_word, xor_bits};
+ghost use Rattle.des.specs.Blocks.{IsBlock, block_of_bits};
 ghost use Rattle.des.specs.CipherFunction.{cipher_function};
 ghost use Rattle.des_fast.specs.Groups.{IsOfGroups, IsExpansion, bits_of_groups, half_of};
 
 use crate::tables::substitute;
 use des::utils;
+
+/// The word of a block, whose first byte is the most significant.
+#[inline(always)]
+pub(crate) fn word_of(block: &[u8; 8]) -> u64
+    ensures is_block { IsBlock block.now }
+    ensures bits { bits_of_word result ≡ bits_of_bytes block.now }
+{
+    u64::from_be_bytes(*block)
+}
+
+/// The block of a word.
+#[inline(always)]
+pub(crate) fn block_of(word: u64) -> [u8; 8]
+    ensures { result ≡ block_of_bits (bits_of_word word) }
+{
+    // As `to_be_bytes`, which the compiler stores byte by byte.
+    word.swap_bytes().to_le_bytes()
+}
 
 /// A round key, 48 bits in a word of groups.
 #[derive(Clone, Copy)]
@@ -48,7 +67,6 @@ pub struct Halves {
 impl Halves {
     ghost use Rattle.std.specs.Prelude.{reverse};
     ghost use Rattle.des.specs.Rounds.{after_rounds};
-    ghost use Rattle.des.specs.Blocks.{IsBlock};
     ghost use Rattle.des_fast.specs.HalfBlocks.{round_keys_of, half_blocks_of, first_halves, last_block};
 
     /// The halves that the rounds of a block begin with: those of its initial permutation (FIPS
@@ -57,7 +75,7 @@ impl Halves {
         ensures is_block { IsBlock block.now }
         ensures halves { half_blocks_of result ≡ first_halves block.now }
     {
-        Halves::new(utils::ip(u64::from_be_bytes(*block)))
+        Halves::new(utils::ip(word_of(block)))
     }
 
     /// The block that the halves after the rounds make: they are swapped, and the final permutation
@@ -65,7 +83,7 @@ impl Halves {
     pub(crate) fn into_block(self) -> [u8; 8]
         ensures { result ≡ last_block (half_blocks_of self) }
     {
-        utils::fp(self.swapped().word()).to_be_bytes()
+        block_of(utils::fp(self.swapped().word()))
     }
 
     // The two halves of a word.
@@ -114,12 +132,18 @@ impl Halves {
     {
         let mut left = KeyedHalf::new(self.left, round_keys[1]);
         let mut right = KeyedHalf::new(self.right, round_keys[0]);
-        for i in 0..8 {
+        // `right_after` is the right half with the key of its next turn, made while `right` is
+        // looked up by: were the key changed between two rounds, the second would wait for it. The
+        // last index wraps round: after the last round no key is next, and `half` takes that out.
+        let mut right_after = right.with_key(round_keys[2]);
+        for i in 0..7 {
             left = left.next(right);
-            right = right.with_key(round_keys[(2 * i + 2) % 16]);
-            right = right.next(left);
-            left = left.with_key(round_keys[(2 * i + 3) % 16]);
+            right = right_after.next(left);
+            left = left.with_key(round_keys[2 * i + 3]);
+            right_after = right.with_key(round_keys[(2 * i + 4) % 16]);
         }
+        left = left.next(right);
+        right = right_after.next(left);
         Halves {
             left: left.half(),
             right: right.half(),
@@ -134,12 +158,15 @@ impl Halves {
     {
         let mut left = KeyedHalf::new(self.left, round_keys[14]);
         let mut right = KeyedHalf::new(self.right, round_keys[15]);
-        for i in 0..8 {
+        let mut right_after = right.with_key(round_keys[13]);
+        for i in 0..7 {
             left = left.next(right);
-            right = right.with_key(round_keys[(29 - 2 * i) % 16]);
-            right = right.next(left);
-            left = left.with_key(round_keys[(28 - 2 * i) % 16]);
+            right = right_after.next(left);
+            left = left.with_key(round_keys[12 - 2 * i]);
+            right_after = right.with_key(round_keys[(27 - 2 * i) % 16]);
         }
+        left = left.next(right);
+        right = right_after.next(left);
         Halves {
             left: left.half(),
             right: right.half(),

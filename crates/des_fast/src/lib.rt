@@ -17,6 +17,7 @@ mod boxes;
 mod halves;
 mod lists;
 pub mod many;
+mod permutations;
 pub mod quiet;
 mod schedule;
 pub mod single;

@@ -1,20 +1,26 @@
-//! Lists of blocks, some side by side: quicker than one by one. Of what is left over, some go so
-//! too, and one goes alone.
+//! Lists of blocks, some side by side, which is quicker. The last few go one by one where that is
+//! quicker.
 
 ghost use Rattle.std.specs.Prelude.{◌≡◌, ◌<◌, ◌≤◌, ℕ, List, [], length, map, slice_index_or};
+ghost use Rattle.std.specs.List.{All};
+ghost use Rattle.des.specs.Bits.{bits_of_bytes, bits_of_word};
+ghost use Rattle.des.specs.Blocks.{IsBlock};
 ghost use Rattle.des.specs.Rounds.{after_rounds};
 ghost use Rattle.des.specs.TripleCiphers.{passed_by, thrice_passed};
 ghost use Rattle.des_fast.specs.Slices.{InEachBlock};
 ghost use Rattle.des_fast.specs.Des.{encrypted, decrypted};
-ghost use Rattle.des_fast.specs.Groups.{IsExpansion, half_of};
+ghost use Rattle.des_fast.specs.Groups.{half_of};
 ghost use Rattle.des_fast.specs.HalfBlocks.{first_halves, half_blocks_of, last_block};
-ghost use Rattle.des_fast.specs.SideBySide.{AreExpansions, keys_of};
+ghost use Rattle.des_fast.specs.SideBySide.{AreExpansions, keys_of, lane};
 
-use crate::halves::{HalfBlock, Halves};
+use crate::halves::{Halves, block_of, word_of};
+use crate::permutations;
 use crate::quiet::rounds::{Groups, after_rounds};
 use crate::single::Des;
 use crate::ways::Way;
+use des::cipher::are_blocks;
 use des::tdes::{Pass, ThreePasses};
+use std::simd::prelude::*;
 
 /// What takes blocks through a pass of DES, or through some.
 pub(crate) trait Answers {
@@ -97,10 +103,26 @@ impl<'a, W> Answers for ThreePasses<'a, Des<W>> {
     }
 }
 
-// The halves that the rounds of blocks side by side begin with. A place after the last block stands
-// for it.
+// The words of the first four blocks. A place after the last block repeats it, and is not asked
+// for.
 #[inline(always)]
-fn halves_of<G: Groups>(blocks: &[[u8; 8]]) -> (G, G)
+fn words_of_blocks(blocks: &[[u8; 8]]) -> u64x4
+    requires { 1 ≤ length blocks.now }
+    ensures { InEachBlock 4 (λ b. b < length blocks.now
+        → bits_of_word (lane b result) ≡ bits_of_bytes (slice_index_or blocks.now b [])) }
+{
+    let last = blocks.len() - 1;
+    u64x4::from_array([
+        word_of(&blocks[0]),
+        word_of(&blocks[last.min(1)]),
+        word_of(&blocks[last.min(2)]),
+        word_of(&blocks[last.min(3)]),
+    ])
+}
+
+// The halves that the rounds of blocks side by side begin with.
+#[inline(always)]
+fn halves_of_blocks<G: Groups>(blocks: &[[u8; 8]]) -> (G, G)
     requires { 1 ≤ length blocks.now }
     ensures left { AreExpansions G.BLOCKS G.word result.0 }
     ensures right { AreExpansions G.BLOCKS G.word result.1 }
@@ -108,38 +130,8 @@ fn halves_of<G: Groups>(blocks: &[[u8; 8]]) -> (G, G)
         → (half_of (G.word b result.0), half_of (G.word b result.1))
         ≡ first_halves (slice_index_or blocks.now b [])) }
 {
-    let last = blocks.len() - 1;
-    let first = Halves::of_block(&blocks[0]);
-    let second = Halves::of_block(&blocks[last.min(1)]);
-    let third = Halves::of_block(&blocks[last.min(2)]);
-    let fourth = Halves::of_block(&blocks[last.min(3)]);
-    let left = G::of_words([
-        first.left.groups,
-        second.left.groups,
-        third.left.groups,
-        fourth.left.groups,
-    ]);
-    let right = G::of_words([
-        first.right.groups,
-        second.right.groups,
-        third.right.groups,
-        fourth.right.groups,
-    ]);
-    (left, right)
-}
-
-// The block that two halves make after the rounds.
-#[inline(always)]
-fn block_of(left: u64, right: u64) -> [u8; 8]
-    requires left { IsExpansion left }
-    requires right { IsExpansion right }
-    ensures { result ≡ last_block (half_of left, half_of right) }
-{
-    Halves {
-        left: HalfBlock { groups: left },
-        right: HalfBlock { groups: right },
-    }
-    .into_block()
+    let (left, right) = permutations::halves_of(words_of_blocks(blocks));
+    (G::of_words(left.to_array()), G::of_words(right.to_array()))
 }
 
 // Makes blocks those that their halves make after the rounds.
@@ -154,13 +146,14 @@ fn write_blocks<G: Groups>(blocks: &mut [[u8; 8]], left: G, right: G)
         ≡ last_block (half_of (G.word b left), half_of (G.word b right)) }
 {
     let last = blocks.len() - 1;
-    let left = left.into_words();
-    let right = right.into_words();
+    let left = u64x4::from_array(left.into_words());
+    let right = u64x4::from_array(right.into_words());
+    let words = permutations::words_of_halves(left, right).to_array();
     // From the last place on: one after the last block stands for it, and is written over.
-    blocks[last.min(3)] = block_of(left[3], right[3]);
-    blocks[last.min(2)] = block_of(left[2], right[2]);
-    blocks[last.min(1)] = block_of(left[1], right[1]);
-    blocks[0] = block_of(left[0], right[0]);
+    blocks[last.min(3)] = block_of(words[3]);
+    blocks[last.min(2)] = block_of(words[2]);
+    blocks[last.min(1)] = block_of(words[1]);
+    blocks[0] = block_of(words[0]);
 }
 
 // Takes at most as many blocks as go side by side through passes.
@@ -172,18 +165,35 @@ fn answer_part<W: Way, A: Answers>(blocks: &mut [[u8; 8]], passes: &A)
     if blocks.len() == 1 {
         return passes.answer_block::<W>(&mut blocks[0]);
     }
-    let (left, right) = halves_of::<W::Groups>(blocks);
+    let (left, right) = halves_of_blocks::<W::Groups>(blocks);
     let (left, right) = passes.answer_halves(left, right);
     write_blocks(blocks, left, right);
 }
 
+// How many of the blocks that are left go next: no clause says where one by one begins, since only
+// the time depends on it.
+fn next_count<W: Way>(left: usize) -> usize
+    requires { 1 ≤ left }
+    ensures some { 1 ≤ result }
+    ensures few { result ≤ W.Groups.BLOCKS }
+    ensures within { result ≤ left }
+{
+    if left <= W::ONE_BY_ONE {
+        1
+    } else {
+        <W::Groups as Groups>::BLOCKS.min(left)
+    }
+}
+
 /// Takes each block of a list through passes, some side by side, and then those that are left over.
 pub(crate) fn answer<W: Way, A: Answers>(blocks: &mut [[u8; 8]], passes: &A)
-    ensures { blocks.new ≡ map (A.answered passes.now) blocks.old }
+    ensures blocks { All IsBlock blocks.old }
+    ensures answered { blocks.new ≡ map (A.answered passes.now) blocks.old }
 {
+    are_blocks(blocks);
     let mut from = 0;
     'parts: while from < blocks.len() {
-        let count = <W::Groups as Groups>::BLOCKS.min(blocks.len() - from);
+        let count = next_count::<W>(blocks.len() - from);
         answer_part::<W, A>(&mut blocks[from..from + count], passes);
         from += count;
     }

@@ -11,15 +11,16 @@
 //! or on a block.
 //!
 //! Many short messages go together, each in a lane of a batch: `KeyForEach` takes a key for each
-//! block of a list, and chains messages in step (those of MACs); `RecordKeys` takes records that CBC
-//! chained, under one key, that of `spread_keys`, or each under a key of its own, by `EachKey`.
+//! block of a list, and chains messages in step (those of MACs); `RecordKeys` takes records that
+//! CBC chained, under one key, that of `spread_keys`, or each under a key of its own, by `EachKey`.
 
-ghost use Rattle.std.specs.Prelude.{◌≡◌, ◌≤◌, ℕ, List, map};
+ghost use Rattle.std.specs.Prelude.{◌≡◌, ℕ, List, map};
 ghost use Rattle.std.specs.List.{All};
 ghost use Rattle.des.specs.Blocks.{IsBlock};
 ghost use Rattle.des.specs.Cbc.{Unchains, xor_blocks};
 ghost use Rattle.des_fast.specs.SpreadKeys.{AreSlicesFor};
 
+mod chain_keys;
 mod chains;
 mod ciphers;
 mod each_key;
@@ -32,13 +33,14 @@ mod spread;
 
 pub use crate::slices::Slice;
 use crate::slices::{LARGEST_BATCH, PassSlices};
+pub use chain_keys::{ChainKeys, EachKey};
 use des::cbc;
-use des::cipher::{BlockCipherDecrypt, BlockCipherEncrypt};
+use des::cipher::{BlockCipherDecrypt, BlockCipherEncrypt, are_blocks};
 pub use each_key::KeyForEach;
 pub use ends::BlockLists;
 pub use lanes::LaneKeys;
 use lanes::answer_lanes_part;
-pub use record_keys::{EachKey, RecordKeys};
+pub use record_keys::RecordKeys;
 pub use records::{Equal, Sizes};
 pub use spread::{SpreadKeys, SpreadOnce};
 use std::simd::prelude::*;
@@ -60,9 +62,11 @@ fn xored(block: &[u8; 8], other: &[u8; 8]) -> [u8; 8]
 
 // Takes blocks through passes, batch after batch, and then what is left over.
 fn answer<S: Slice>(blocks: &mut [[u8; 8]], passes: &[PassSlices<S>])
-    ensures { (answer : List ℕ → List ℕ) → AreSlicesFor S.BATCH S.bit passes.now answer
+    ensures blocks { All IsBlock blocks.old }
+    ensures answered { (answer : List ℕ → List ℕ) → AreSlicesFor S.BATCH S.bit passes.now answer
         → blocks.new ≡ map answer blocks.old }
 {
+    are_blocks(blocks);
     let mut from = 0;
     'parts: while from < blocks.len() {
         let count = S::BATCH.min(blocks.len() - from);

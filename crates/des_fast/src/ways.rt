@@ -16,6 +16,9 @@ pub trait Way: Copy {
     /// The blocks that go side by side in a list.
     type Groups: Groups;
 
+    /// The last blocks of a list go one by one if they are at most so many: that is quicker.
+    const ONE_BY_ONE: usize;
+
     /// The halves of one block after sixteen rounds, with the round keys in their order or, to
     /// decipher, from the last to the first (FIPS 46-3, enciphering and deciphering).
     fn after_rounds(halves: Halves, round_keys: &[RoundKey; 16], deciphers: bool) -> Halves
@@ -32,6 +35,8 @@ pub struct Tables;
 impl Way for Tables {
     type Groups = ThreeGroups;
 
+    const ONE_BY_ONE: usize = 1;
+
     #[inline(always)]
     fn after_rounds(halves: Halves, round_keys: &[RoundKey; 16], deciphers: bool) -> Halves {
         if deciphers {
@@ -43,12 +48,14 @@ impl Way for Tables {
 }
 
 /// By selections between vectors: no table is read at an index that depends on the key or a block.
-/// Four blocks share a vector, and take less than twice the time of one.
+/// Four blocks share a vector, and take two to three times the time of one.
 #[derive(Clone, Copy)]
 pub struct Quiet;
 
 impl Way for Quiet {
     type Groups = u64x4;
+
+    const ONE_BY_ONE: usize = 2;
 
     #[inline(always)]
     fn after_rounds(halves: Halves, round_keys: &[RoundKey; 16], deciphers: bool) -> Halves {

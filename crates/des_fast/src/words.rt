@@ -6,7 +6,7 @@
 //! most significant.
 
 ghost use Rattle.std.specs.Prelude.{◌≡◌, ℕ, List};
-ghost use Rattle.des_fast.specs.Des.{IsDesOf};
+ghost use Rattle.des_fast.specs.Des.{IsDesOf, IsDesMadeFrom};
 ghost use Rattle.des_fast.specs.Groups.{bits_of_groups};
 ghost use Rattle.des_fast.specs.Words.{AreRoundKeysOf};
 
@@ -42,7 +42,7 @@ pub fn round_key_words<W>(cipher: &Des<W>) -> [u64; 16]
 /// key.
 pub fn from_round_key_words<W>(words: &[u64; 16]) -> Des<W>
     requires { (key : List ℕ) × AreRoundKeysOf words.now key }
-    ensures { (key : List ℕ) → AreRoundKeysOf words.now key → IsDesOf result key }
+    ensures { (key : List ℕ) → AreRoundKeysOf words.now key → IsDesMadeFrom result key }
 {
     Des {
         schedule: KeySchedule {

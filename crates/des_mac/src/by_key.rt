@@ -3,7 +3,7 @@
 ghost use Rattle.std.specs.Prelude.{◌≡◌, ℕ, List, length};
 ghost use Rattle.des.specs.Blocks.{IsKey};
 
-use des::cipher::{KeyBytes, KeyedCipher, are_bytes};
+use des::cipher::{KeyBytes, KeyedCipher};
 
 /// The bytes of a key are one: as many as the key size, each below 256.
 pub fn are_key_bytes<K: KeyBytes>(key: &K)
@@ -17,7 +17,6 @@ pub fn encrypt<C: KeyedCipher>(cipher: &C, block: &mut [u8; 8])
     ensures { (key : List ℕ) → IsKey C.KEY_SIZE key → C.is_made_from cipher.now key
         → block.new ≡ C.encryption key block.old }
 {
-    are_bytes(block);
     cipher.encrypt_block(block);
 }
 
@@ -26,6 +25,5 @@ pub fn decrypt<C: KeyedCipher>(cipher: &C, block: &mut [u8; 8])
     ensures { (key : List ℕ) → IsKey C.KEY_SIZE key → C.is_made_from cipher.now key
         → block.new ≡ C.decryption key block.old }
 {
-    are_bytes(block);
     cipher.decrypt_block(block);
 }

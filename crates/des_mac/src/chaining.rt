@@ -10,7 +10,7 @@ ghost use Rattle.des_mac.specs.Cmac.{masked};
 use crate::by_key::{are_key_bytes, encrypt};
 use crate::progress::Progress;
 use des::cbc::xor;
-use des::cipher::{InvalidLength, KeyedCipher, are_bytes};
+use des::cipher::{InvalidLength, KeyedCipher};
 
 // The chain goes on with a block: the encryption of their xor.
 fn chain_block<C: KeyedCipher>(cipher: &C, chain: &mut [u8; 8], block: &[u8; 8])
@@ -79,7 +79,6 @@ impl<C: KeyedCipher + Drop> Chaining<C> {
         ensures made { IfOk result (λ state.
             Holds C.KEY_SIZE C.is_made_from C.encryption state key.now []) }
     {
-        are_bytes(key);
         Ok(Chaining::of_cipher(C::new_from_slice(key)?))
     }
 

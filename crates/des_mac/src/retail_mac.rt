@@ -12,7 +12,7 @@ use crate::chaining::Chaining;
 use crate::mac::Mac;
 use crate::padding::Padding;
 use crate::progress::Progress;
-use des::cipher::{InvalidLength, KeyedCipher, are_bytes};
+use des::cipher::{InvalidLength, KeyedCipher};
 use std::marker::PhantomData;
 
 /// The retail MAC over the cipher `C`, with the padding `P`: CBC-MAC under the first of two keys,
@@ -81,7 +81,6 @@ impl<C: KeyedCipher + Drop, P: Padding> Mac for RetailMac<C, P> {
             return Err(InvalidLength);
         }
         let (first, second) = key.split_at(key.len() / 2);
-        are_bytes(second);
         Ok(RetailMac {
             chaining: Chaining::new_from_slice(first)?,
             second: C::new_from_slice(second)?,

@@ -1,8 +1,8 @@
 -- A block that holds a key, from its parts and what is sealed in it, both ways; the first fault of one that holds none.
-use Rattle.std.proofs.Common.{◌≡◌, ℕ, ◌+◌, ◌%◌, ◌≤◌, ◌⊎◌, inl, inr, List, length, take, drop, sym, ◌∙◌, subst, arith}
+use Rattle.std.proofs.Common.{◌≡◌, ℕ, ◌+◌, ◌%◌, ◌≤◌, inr, List, length, take, drop, sym, ◌∙◌, subst, arith}
 use Rattle.std.specs.Prelude.{IsTrue}
-use Rattle.des_payment.specs.KeyBlocks.{key_data, is_protection_key, is_key_data, HasParts, IsSealed, IsKeyBlock, HoldsKey}
-use Rattle.des_payment.specs.KeyBlockReading.{is_sealed_length, HasPartsSo, HasLayoutFault, HasSealFault, HasFault}
+use Rattle.des_payment.specs.KeyBlocks.{key_data, is_protection_key, HasParts, IsSealed, IsKeyBlock}
+use Rattle.des_payment.specs.KeyBlockReading.{is_sealed_length, HasPartsSo, HasSealFault, HasFault}
 use Rattle.des_payment.specs.declared.key_block_error.KeyBlockError.{KeyBlockError}
 use Rattle.des_payment.specs.declared.key_block_error.KeyBlockError.TheVariants.{ProtectionKeyLength}
 use Rattle.des_payment.specs.declared.key_block_header.Header.{Header}
@@ -17,32 +17,12 @@ front-whole header blocks front rest block parts =
     let whole : length parts.optional % 8 ≡ 0 = parts.whole in
     (omega arith, omega arith)
 
--- a fault of a later stage is not that of the protection key
-abbrev IsLater : KeyBlockError → Type 0
-IsLater ProtectionKeyLength = ⊥
-IsLater _ = Unit {0}
-
-is-layout-fault : (block : List ℕ) (error : KeyBlockError) → HasLayoutFault block error → IsLater error
-is-layout-fault block ProtectionKeyLength fault = fault
-is-layout-fault block _ fault = tt
-
-is-seal-fault : (protection : List ℕ) (version : Version) (front rest : List ℕ) (error : KeyBlockError)
-    → HasSealFault protection version front rest error → IsLater error
-is-seal-fault protection version front rest ProtectionKeyLength fault = fault
-is-seal-fault protection version front rest _ fault = tt
-
+-- a fault of what is sealed is the block's
 stage-fault : (protection block : List ℕ) (error : KeyBlockError) → IsTrue (is_protection_key protection)
-    → IsLater error → (HasLayoutFault block error ⊎ HasPartsSo (λ version front rest.
-    IsTrue (is_sealed_length version (length rest)) × HasSealFault protection version front rest error) block)
-    → HasFault protection block error
-stage-fault protection block ProtectionKeyLength is later fault = absurd later
-stage-fault protection block _ is later fault = (is, fault)
-
--- a fault that shows without a key is the block's
-pub layout-has-fault : (protection block : List ℕ) (error : KeyBlockError) → IsTrue (is_protection_key protection)
-    → HasLayoutFault block error → HasFault protection block error
-layout-has-fault protection block error is fault =
-    stage-fault protection block error is (is-layout-fault block error fault) (inl fault)
+    → HasPartsSo (λ version front rest. IsTrue (is_sealed_length version (length rest))
+    × HasSealFault protection version front rest error) block → HasFault protection block error
+stage-fault protection block ProtectionKeyLength is fault = absurd fault.fact.1
+stage-fault protection block _ is fault = (is, inr fault)
 
 module _ (protection block front rest : List ℕ) (size : ℕ) (is_front : front ≡ take size block)
     (is_rest : rest ≡ drop size block) where
@@ -66,38 +46,17 @@ module _ (protection block front rest : List ℕ) (size : ℕ) (is_front : front
       subst (λ (r : List ℕ). HasParts header blocks front r block) (sym is_rest)
       (subst (λ (f : List ℕ). HasParts header blocks f (drop size block) block) (sym is_front) parts)
 
-  -- a block holds the key that is sealed after the front that was found
-  pub held-made : (header : Header) (blocks : List (List ℕ × List ℕ)) (key padding : List ℕ)
-      → HasParts header blocks (take size block) (drop size block) block → IsTrue (is_protection_key protection)
-      → IsTrue (is_key_data key padding) → IsSealed header.version protection front (key_data key padding) rest
-      → HoldsKey protection block header key
-  held-made header blocks key padding parts is_protection is_clear sealed = (
-    blocks,
-    (
-      padding,
-      record {
-        front = front;
-        sealed = rest;
-        parts = parts-moved header blocks parts;
-        is_protection = is_protection;
-        is_clear = is_clear;
-        is_sealed = sealed;
-      },
-    ),
-  )
-
   -- the fault of what is sealed there is the block's
   pub seal-fault : (header : Header) (blocks : List (List ℕ × List ℕ)) (error : KeyBlockError)
       → HasParts header blocks (take size block) (drop size block) block → IsTrue (is_protection_key protection)
       → IsTrue (is_sealed_length header.version (length rest))
       → HasSealFault protection header.version front rest error → HasFault protection block error
   seal-fault header blocks error parts is_protection sealed fault =
-      stage-fault protection block error is_protection (is-seal-fault protection header.version front rest error fault)
-      (inr (record {
+      stage-fault protection block error is_protection (record {
         header = header;
         blocks = blocks;
         front = front;
         rest = rest;
         parts = parts-moved header blocks parts;
         fact = (sealed, fault);
-      }))
+      })

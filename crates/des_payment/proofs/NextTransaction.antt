@@ -33,9 +33,6 @@ module _ (old new counter : ℕ) (is_next : IsNextCounter (old % 2 ^ 21) counter
   pub next-counter : new % 2 ^ 21 ≡ counter
   next-counter = ap (λ (x : ℕ). x % 2 ^ 21) sum ∙ mod_low (old / 2 ^ 21) 21 counter is_next.usable.0
 
-  pub next-positive : 0 < new % 2 ^ 21
-  next-positive = omega (arith, next-counter, is_next.after)
-
   pub next-usable : IsUsable (new % 2 ^ 21)
   next-usable = subst IsUsable (sym next-counter) is_next.usable
 

@@ -6,7 +6,7 @@ ghost use Rattle.des.specs.Cbc.{Chains};
 ghost use Rattle.des.specs.Enciphering.{Enciphers};
 ghost use Rattle.des.specs.Relations.{IsTheOne};
 
-use des::cipher::{BlockCipherDecrypt, BlockCipherEncrypt, KeyInit, Relating};
+use des::cipher::{BlockCipherDecrypt, BlockCipherEncrypt, KeyInit};
 use des_fast::many::ManyBlocks;
 use des_fast::{Des, quiet};
 
@@ -17,7 +17,6 @@ pub fn encrypt_list_by_fast_des(key: &[u8; 8], blocks: &mut [[u8; 8]])
         (λ answers. AnswersEach (λ x y. Enciphers key.now x y) blocks.old answers) blocks.new }
 {
     let cipher = Des::new(key);
-    cipher.relate_lists();
     cipher.encrypt_many(blocks);
 }
 
@@ -28,7 +27,6 @@ pub fn decrypt_list_by_fast_des(key: &[u8; 8], blocks: &mut [[u8; 8]])
         (λ answers. AnswersEach (λ x y. Enciphers key.now x y) answers blocks.old) blocks.new }
 {
     let cipher = Des::new(key);
-    cipher.relate_lists();
     cipher.decrypt_many(blocks);
 }
 
@@ -49,7 +47,6 @@ pub fn encrypt_list_side_by_side(key: &[u8; 8], blocks: &mut [[u8; 8]])
         (λ answers. AnswersEach (λ x y. Enciphers key.now x y) blocks.old answers) blocks.new }
 {
     let cipher = quiet::Des::new(key);
-    cipher.relate_lists();
     cipher.encrypt_blocks(blocks);
 }
 
@@ -60,6 +57,5 @@ pub fn decrypt_list_side_by_side(key: &[u8; 8], blocks: &mut [[u8; 8]])
         (λ answers. AnswersEach (λ x y. Enciphers key.now x y) answers blocks.old) blocks.new }
 {
     let cipher = quiet::Des::new(key);
-    cipher.relate_lists();
     cipher.decrypt_blocks(blocks);
 }

@@ -1,5 +1,5 @@
-//! Lists under the relation of a key: what the clauses of the list calls and those of
-//! `relate_lists` give together, in one step.
+//! Lists under the relation of a key: what the clauses of the list calls and the laws of `Relating`
+//! give together.
 
 ghost use Rattle.std.specs.Prelude.{◌≡◌, ◌↔◌, ℕ, List, length, IsOk, OnOk, OnErr};
 ghost use Rattle.des.specs.Blocks.{AnswersEach};
@@ -15,7 +15,6 @@ pub fn encrypt_related<C: Relating>(cipher: &C, blocks: &mut [[u8; 8]])
     ensures { (key : List ℕ) → C.is_made_from cipher.now key
         → IsTheOne (λ answers. AnswersEach (C.relation key) blocks.old answers) blocks.new }
 {
-    cipher.relate_lists();
     cipher.encrypt_blocks(blocks);
 }
 
@@ -25,7 +24,6 @@ pub fn decrypt_related<C: Relating>(cipher: &C, blocks: &mut [[u8; 8]])
     ensures { (key : List ℕ) → C.is_made_from cipher.now key
         → IsTheOne (λ answers. AnswersEach (C.relation key) answers blocks.old) blocks.new }
 {
-    cipher.relate_lists();
     cipher.decrypt_blocks(blocks);
 }
 
@@ -37,8 +35,6 @@ pub fn encrypt_list_by_ede3(key: &[u8], blocks: &mut [[u8; 8]]) -> Result<(), In
         (IsTheOne (λ answers. AnswersEach (EnciphersEde3 key.now) blocks.old answers) blocks.new) }
     ensures kept { OnErr result (blocks.new ≡ blocks.old) }
 {
-    let cipher = TdesEde3::new_from_slice(key)?;
-    cipher.relate_lists();
-    cipher.encrypt_blocks(blocks);
+    encrypt_related(&TdesEde3::new_from_slice(key)?, blocks);
     Ok(())
 }

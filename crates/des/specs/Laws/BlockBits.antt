@@ -14,7 +14,7 @@ byte_at-lt zero n = omega arith
 byte_at-lt (suc k) n = omega arith
 
 -- the bytes of a number are bytes
-AreBytes-bytes_high_first : (k n : ℕ) → AreBytes (bytes_high_first k n)
+pub AreBytes-bytes_high_first : (k n : ℕ) → AreBytes (bytes_high_first k n)
 AreBytes-bytes_high_first zero n = All-nil (λ byte. byte < 256)
 AreBytes-bytes_high_first (suc k) n =
     All-cons (λ byte. byte < 256) (byte_at k n) (bytes_high_first k n) (byte_at-lt k n)

@@ -8,6 +8,7 @@ use Rattle.des.specs.Tables.{permuted_choice_2}
 use Rattle.des.specs.KeySchedule.{key_schedule, round_key}
 use Rattle.des.specs.RoundKeyWords.{HoldRoundKeys, round_keys_of}
 use Rattle.des.specs.Rounds.{answer_by}
+use Rattle.des.specs.Laws.Passes.{Agree}
 use Rattle.des.specs.Laws.Selections.{length-select}
 
 -- a round key has 48 bits
@@ -26,9 +27,11 @@ round_keys_of-HoldRoundKeys words key held =
     (fun_ext (λ i. take_at (round_key key i) (zeros 16) 48 (length-round_key key i)))
 
 -- they answer a block as the key does, in each order of the round keys
-pub answer_by-held : (order : List (List Bool) → List (List Bool)) (words key block : List ℕ)
-    → HoldRoundKeys words (bits_of_bytes key) → answer_by (order (round_keys_of words)) block
-    ≡ answer_by (order (key_schedule (bits_of_bytes key))) block
-answer_by-held order words key block held =
-    ap (λ keys. answer_by (order keys) block)
-    (round_keys_of-HoldRoundKeys words (bits_of_bytes key) held)
+pub Agree-held : (order : List (List Bool) → List (List Bool)) (words key : List ℕ)
+    → HoldRoundKeys words (bits_of_bytes key) → Agree (answer_by (order (round_keys_of words)))
+    (answer_by (order (key_schedule (bits_of_bytes key))))
+Agree-held order words key held = record {
+  at = λ block is_block.
+      ap (λ keys. answer_by (order keys) block)
+      (round_keys_of-HoldRoundKeys words (bits_of_bytes key) held);
+}

@@ -1,7 +1,8 @@
 -- Passes: two functions on blocks that undo each other. A pass turned round is a pass, and so are
 -- three, one after another.
-use Rattle.std.proofs.Common.{◌≡◌, ℕ, List, ap, ◌∙◌}
+use Rattle.std.proofs.Common.{◌≡◌, ℕ, List, sym, ap, ◌∙◌}
 use Rattle.des.specs.Blocks.{IsBlock}
+use Rattle.des.specs.Relations.{IsGraphOf}
 use Rattle.des.specs.Triple.{through}
 
 -- the two functions take blocks to blocks, and each undoes the other
@@ -45,7 +46,16 @@ IsPass-through {f1} {b1} {f2} {b2} {f3} {b3} p1 p2 p3 = record {
 pub record Agree (f g : List ℕ → List ℕ) : Type 0 where
   pub at : (block : List ℕ) → IsBlock block → f block ≡ g block
 
--- so they do one after another
+-- so the graph of one is that of the other
+pub IsGraphOf-alike : {f g : List ℕ → List ℕ} (Answers : List ℕ → List ℕ → Type 0) → Agree f g
+    → IsGraphOf g Answers → IsGraphOf f Answers
+IsGraphOf-alike Answers alike graph = λ x y. (
+  λ related.
+      let taken = (graph x y).0 related in (taken.0, alike.at x taken.0 ∙ taken.1),
+  λ taken. (graph x y).1 (taken.0, sym (alike.at x taken.0) ∙ taken.1),
+)
+
+-- functions that agree do so one after another
 pub Agree-through : {f1 b1 f2 b2 f3 g1 g2 g3 : List ℕ → List ℕ} → IsPass f1 b1 → IsPass f2 b2
     → Agree f1 g1 → Agree f2 g2 → Agree f3 g3
     → Agree (through f1 f2 f3) (through g1 g2 g3)

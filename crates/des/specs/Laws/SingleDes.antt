@@ -11,3 +11,13 @@ pub record AnswersAsDes {D : Type 0} (IsOf : D → List ℕ → Type 0)
       → Agree (encrypts cipher) (encryption key)
   pub decrypts_as_des : (cipher : D) (key : List ℕ) → IsOf cipher key
       → Agree (decrypts cipher) (decryption key)
+
+-- the same where more is known of a cipher and its key
+pub AnswersAsDes-more : {D : Type 0} {IsOf More : D → List ℕ → Type 0}
+    {encrypts decrypts : D → List ℕ → List ℕ} → AnswersAsDes IsOf encrypts decrypts
+    → AnswersAsDes (λ cipher key. IsOf cipher key × More cipher key) encrypts decrypts
+AnswersAsDes-more single = record {
+  is_pass = single.is_pass;
+  encrypts_as_des = λ cipher key made. single.encrypts_as_des cipher key made.0;
+  decrypts_as_des = λ cipher key made. single.decrypts_as_des cipher key made.0;
+}

@@ -1,9 +1,11 @@
 //! Passes of a single cipher, one after another.
 
 ghost use Rattle.std.specs.Prelude.{◌≡◌, map};
+ghost use Rattle.std.specs.List.{All};
+ghost use Rattle.des.specs.Blocks.{IsBlock};
 ghost use Rattle.des.specs.TripleCiphers.{passed_by, thrice_passed};
 
-use crate::cipher::BlockCipher;
+use crate::cipher::{BlockCipher, are_blocks};
 
 /// A pass: the cipher deciphers a block, or enciphers it.
 #[derive(Clone, Copy)]
@@ -45,8 +47,11 @@ impl<'a, D: BlockCipher> ThreePasses<'a, D> {
 
     /// Takes each block of a list through the passes, in order.
     pub fn answer_each(&self, blocks: &mut [[u8; 8]])
-        ensures { blocks.new ≡ map (thrice_passed D.encrypted D.decrypted self.now) blocks.old }
+        ensures blocks { All IsBlock blocks.old }
+        ensures answered { blocks.new
+            ≡ map (thrice_passed D.encrypted D.decrypted self.now) blocks.old }
     {
+        are_blocks(blocks);
         for block in blocks.iter_mut() {
             self.answer(block);
         }

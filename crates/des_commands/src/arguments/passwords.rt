@@ -1,7 +1,7 @@
 //! What the words of commands on files under passwords ask for.
 
 ghost use Rattle.std.specs.Prelude.{◌≡◌, ℕ, IfSome, IfNone};
-ghost use Rattle.des_records.specs.declared.derivation.Derivation.{Derivation as DerivationOf};
+ghost use Rattle.des_passwords.specs.declared.derivation.Derivation.{Derivation as DerivationOf};
 ghost use Rattle.des_commands.specs.PasswordArguments.{IsCount, IsCountedText, IsDerivationText, count_of as count_by, is_to_encrypt as is_to_encrypt_of, derivation_fault};
 ghost use Rattle.des_commands.specs.Faults.{FailsOnlyBy};
 
@@ -13,7 +13,7 @@ use crate::request::{Request, Task};
 use crate::source::Source;
 use crate::stream_request::{KeyFileRequest, KeyForm, Password};
 use clap::ArgMatches;
-use des_records::Derivation;
+use des_passwords::Derivation;
 
 // The most iterations, unless more are asked for.
 const MOST_ITERATIONS: u32 = 10000000;

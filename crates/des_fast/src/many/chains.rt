@@ -2,6 +2,8 @@
 //! side by side: each block is deciphered by itself, and xored with the ciphertext block before it.
 
 ghost use Rattle.std.specs.Prelude.{◌≡◌, ◌≤◌, ℕ, List, length, map, take};
+ghost use Rattle.std.specs.List.{All};
+ghost use Rattle.des.specs.Blocks.{IsBlock};
 ghost use Rattle.des.specs.Cbc.{Unchains};
 ghost use Rattle.des_fast.specs.SpreadKeys.{AreSlicesFor};
 
@@ -11,6 +13,7 @@ use crate::lists::{self, Answers};
 use crate::slices::PassSlices;
 use crate::ways::Quiet;
 use des::cbc;
+use des::cipher::are_blocks;
 
 // Takes blocks out of the chain that begins with `iv`, by what deciphering makes of each.
 fn unchain_by(blocks: &mut [[u8; 8]], iv: &[u8; 8], answers: &[[u8; 8]])
@@ -42,8 +45,10 @@ fn write_few<P: Answers>(answers: &mut [[u8; 8]; FEW], blocks: &[[u8; 8]], passe
 /// `iv`.
 pub(super) fn unchain_few<P: Answers>(blocks: &mut [[u8; 8]], iv: &[u8; 8], passes: &P)
     requires { length blocks.old ≤ 8 }
-    ensures { Unchains (P.answered passes.now) iv.now blocks.old blocks.new }
+    ensures blocks { All IsBlock blocks.old }
+    ensures unchained { Unchains (P.answered passes.now) iv.now blocks.old blocks.new }
 {
+    are_blocks(blocks);
     let mut answers = [[0; 8]; FEW];
     write_few(&mut answers, blocks, passes);
     unchain_by(blocks, iv, &answers);
@@ -63,9 +68,11 @@ fn unchain_part<S: Slice>(blocks: &mut [[u8; 8]], iv: &[u8; 8], passes: &[PassSl
 /// Takes blocks through passes, and out of the chain that begins with `iv`, batch after batch, and
 /// then what is left over.
 pub(super) fn unchain<S: Slice>(blocks: &mut [[u8; 8]], iv: &[u8; 8], passes: &[PassSlices<S>])
-    ensures { (answer : List ℕ → List ℕ) → AreSlicesFor S.BATCH S.bit passes.now answer
+    ensures blocks { All IsBlock blocks.old }
+    ensures unchained { (answer : List ℕ → List ℕ) → AreSlicesFor S.BATCH S.bit passes.now answer
         → Unchains answer iv.now blocks.old blocks.new }
 {
+    are_blocks(blocks);
     let mut before = *iv;
     let mut from = 0;
     'parts: while from < blocks.len() {

@@ -8,15 +8,16 @@ ghost use Rattle.des_fast.specs.EachKey.{lane_answer, last_part, triple_parts};
 ghost use Rattle.des_fast.specs.LaneKeys.{AnswerLanes, answer_in};
 ghost use Rattle.des_fast.specs.ChainEnds.{AreEnds, under_key};
 
+use super::chain_keys::EachKey;
 use super::lanes::{LaneKeys, Part, answer_lanes_part};
 use super::{BlockLists, LARGEST_BATCH, Slice, ends};
 use crate::Des;
-use des::cipher::{KeyedCipher, NotEqualError, are_blocks};
+use des::cipher::{KeyedCipher, NotEqualError};
 use des::tdes::{Form, Parts, Triple};
 
 /// A block cipher that takes a list in which each block has a key of its own. Nothing is kept of
 /// the keys, and no call reads a table at an index that depends on a key or a block.
-pub trait KeyForEach: KeyedCipher {
+pub trait KeyForEach: KeyedCipher + Sized {
     /// Makes the lanes' keys these, at most a batch of them, for decryption or encryption.
     fn spread_each<S: Slice>(keys: &[Self::Key], deciphers: bool, lanes: &mut LaneKeys<S>)
         requires { length keys.now ≤ S.BATCH }
@@ -71,7 +72,7 @@ pub trait KeyForEach: KeyedCipher {
         }
         let mut lanes = LaneKeys::unwritten();
         spread_batch::<S, Self>(&[*key; LARGEST_BATCH], &mut lanes);
-        ends::end::<S, L>(chains, lists, lanes.passes());
+        ends::end(&lanes, chains, lists);
         Ok(())
     }
 
@@ -95,7 +96,7 @@ pub trait KeyForEach: KeyedCipher {
         if keys.len() != chains.len() || chains.len() != lists.list_count() {
             return Err(NotEqualError);
         }
-        ends::end_each::<S, Self, L>(keys, chains, lists);
+        ends::end(&EachKey::<S, Self>::new(keys), chains, lists);
         Ok(())
     }
 }
@@ -109,15 +110,20 @@ fn spread_batch<S: Slice, C: KeyForEach>(keys: &[C::Key; LARGEST_BATCH], lanes: 
     C::spread_each(&keys[..S::BATCH], false, lanes);
 }
 
-// Takes at most a batch of blocks through a cipher, each under its key.
-fn answer_part<S: Slice, C: KeyForEach>(keys: &[C::Key], blocks: &mut [[u8; 8]], deciphers: bool)
+// Takes at most a batch of blocks through a cipher, each under its key, which is spread over the
+// lanes.
+fn answer_part<S: Slice, C: KeyForEach>(
+    keys: &[C::Key],
+    blocks: &mut [[u8; 8]],
+    deciphers: bool,
+    lanes: &mut LaneKeys<S>,
+)
     requires same { length keys.now ≡ length blocks.old }
     requires batch { length blocks.old ≤ S.BATCH }
     ensures { blocks.new ≡ zip2 (answer_in deciphers C.encryption C.decryption)
         (map C.Key.bytes_of keys.now) blocks.old }
 {
-    let mut lanes = LaneKeys::unwritten();
-    C::spread_each(keys, deciphers, &mut lanes);
+    C::spread_each(keys, deciphers, lanes);
     answer_lanes_part::<S>(blocks, lanes.passes());
 }
 
@@ -127,11 +133,12 @@ fn answer_each<S: Slice, C: KeyForEach>(keys: &[C::Key], blocks: &mut [[u8; 8]],
     ensures { blocks.new ≡ zip2 (answer_in deciphers C.encryption C.decryption)
         (map C.Key.bytes_of keys.now) blocks.old }
 {
+    let mut lanes = LaneKeys::unwritten();
     let mut from = 0;
     'parts: while from < blocks.len() {
         let count = S::BATCH.min(blocks.len() - from);
         let part = &keys[from..from + count];
-        answer_part::<S, C>(part, &mut blocks[from..from + count], deciphers);
+        answer_part::<S, C>(part, &mut blocks[from..from + count], deciphers, &mut lanes);
         from += count;
     }
 }
@@ -156,7 +163,6 @@ fn answer_equal<S: Slice, C: KeyForEach>(
 
 impl KeyForEach for Des {
     fn spread_each<S: Slice>(keys: &[[u8; 8]], deciphers: bool, lanes: &mut LaneKeys<S>) {
-        are_blocks(keys);
         lanes.spread_one(keys, deciphers);
     }
 }

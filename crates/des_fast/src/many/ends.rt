@@ -2,14 +2,13 @@
 //! of every list goes into its chain, and the chains go through the rounds together, as a batch.
 //! Lists that have ended wait in their lanes.
 
-ghost use Rattle.std.specs.Prelude.{◌≡◌, ◌≤◌, ◌<◌, ◌+◌, ◌^◌, ℕ, List, length, map};
+ghost use Rattle.std.specs.Prelude.{◌≡◌, ◌≤◌, ◌<◌, ◌+◌, ◌^◌, ℕ, List, length};
 ghost use Rattle.des.specs.Cbc.{xor_blocks};
 ghost use Rattle.des_fast.specs.Transposition.{block_at};
-ghost use Rattle.des_fast.specs.Slices.{InEachBlock};
 ghost use Rattle.des_fast.specs.EachKey.{lane_answer};
-ghost use Rattle.des_fast.specs.ChainEnds.{AreEnds, under_key};
+ghost use Rattle.des_fast.specs.ChainEnds.{AreEnds};
 
-use super::each_key::KeyForEach;
+use super::chain_keys::ChainKeys;
 use super::lanes::{LaneKeys, answer_filled};
 use super::{LARGEST_BATCH, Slice, xored};
 use crate::slices::PassSlices;
@@ -42,7 +41,7 @@ pub trait BlockLists {
         ensures { result ≡ block_of self.now list index };
 }
 
-// At least as many as each of the lists has, of which `lists` come from number `from` on.
+// At least as many blocks as each of `count` lists has, from number `from` on.
 fn longest<L: BlockLists>(lists: &L, from: usize, count: usize) -> usize
     requires there { from + count ≤ L.list_count lists.now }
     requires fits { from + count < 2 ^ 64 }
@@ -101,9 +100,9 @@ fn keep_step<L: BlockLists>(
     }
 }
 
-/// Makes at most a batch of blocks the ends of the chains from them through the lists from number
-/// `from` on.
-pub(super) fn end_group<S: Slice, L: BlockLists>(
+// Makes at most a batch of blocks the ends of the chains from them through the lists from number
+// `from` on.
+fn end_group<S: Slice, L: BlockLists>(
     chains: &mut [[u8; 8]],
     lists: &L,
     from: usize,
@@ -125,68 +124,21 @@ pub(super) fn end_group<S: Slice, L: BlockLists>(
     }
 }
 
-/// Makes blocks the ends of the chains from them through the list of each, by the same answer in
-/// all lanes, a batch at a time.
-pub(super) fn end<S: Slice, L: BlockLists>(
-    chains: &mut [[u8; 8]],
-    lists: &L,
-    passes: &[PassSlices<S>],
-)
-    requires { length chains.old ≡ L.list_count lists.now }
-    ensures count { length chains.new ≡ length chains.old }
-    ensures ends { (answer : List ℕ → List ℕ)
-        → InEachBlock S.BATCH (λ b. lane_answer (S.bit b) passes.now ≡ answer)
-        → AreEnds (λ k. answer) (L.block_of lists.now) (L.count_of lists.now)
-        chains.old chains.new }
-{
-    let mut from = 0;
-    'groups: while from < chains.len() {
-        let count = S::BATCH.min(chains.len() - from);
-        end_group(&mut chains[from..from + count], lists, from, passes);
-        from += count;
-    }
-}
-
-// Makes at most a batch of blocks the ends of the chains from them through the lists from number
-// `from` on, each under its key.
-fn end_group_each<S: Slice, C: KeyForEach, L: BlockLists>(
-    keys: &[C::Key],
-    chains: &mut [[u8; 8]],
-    lists: &L,
-    from: usize,
-)
-    requires same { length keys.now ≡ length chains.old }
-    requires few { length chains.old ≤ S.BATCH }
-    requires there { from + length chains.old ≤ L.list_count lists.now }
-    requires fits { from + length chains.old < 2 ^ 64 }
-    ensures count { length chains.new ≡ length chains.old }
-    ensures ends { AreEnds (under_key C.encryption (map C.Key.bytes_of keys.now))
-        (λ k. L.block_of lists.now (from + k)) (λ k. L.count_of lists.now (from + k))
-        chains.old chains.new }
-{
-    let mut lanes = LaneKeys::unwritten();
-    C::spread_each(keys, false, &mut lanes);
-    end_group::<S, L>(chains, lists, from, lanes.passes());
-}
-
-/// Makes blocks the ends of the chains from them through the list of each, each under the key at
-/// its place, a batch at a time.
-pub(super) fn end_each<S: Slice, C: KeyForEach, L: BlockLists>(
-    keys: &[C::Key],
-    chains: &mut [[u8; 8]],
-    lists: &L,
-)
-    requires same { length keys.now ≡ length chains.old }
+/// Makes blocks the ends of the chains from them through the list of each, a batch at a time.
+pub(super) fn end<K: ChainKeys, L: BlockLists>(keys: &K, chains: &mut [[u8; 8]], lists: &L)
+    requires keys { K.are_for keys.now (length chains.old) }
     requires there { length chains.old ≡ L.list_count lists.now }
     ensures count { length chains.new ≡ length chains.old }
-    ensures ends { AreEnds (under_key C.encryption (map C.Key.bytes_of keys.now))
-        (L.block_of lists.now) (L.count_of lists.now) chains.old chains.new }
+    ensures ends { (encryption : ℕ → List ℕ → List ℕ) → K.encrypt keys.now encryption
+        → AreEnds encryption (L.block_of lists.now) (L.count_of lists.now)
+        chains.old chains.new }
 {
+    let mut room = LaneKeys::unwritten();
     let mut from = 0;
     'groups: while from < chains.len() {
-        let count = S::BATCH.min(chains.len() - from);
-        let part = &keys[from..from + count];
-        end_group_each::<S, C, L>(part, &mut chains[from..from + count], lists, from);
+        let count = <K::Slices as Slice>::BATCH.min(chains.len() - from);
+        let passes = keys.encryption(from, count, &mut room);
+        end_group(&mut chains[from..from + count], lists, from, passes);
         from += count;
     }
 }

@@ -3,15 +3,16 @@
 //! The keys are transposed as blocks are, and their bits stand in slices as those of one key do
 //! that is spread: a round takes as long as under one key.
 
-ghost use Rattle.std.specs.Prelude.{◌≡◌, ◌≤◌, ◌<◌, ◌+◌, ◌*◌, ◌&&◌, ℕ, [], ◌∷◌, IsTrue, length, map, nat_lt};
+ghost use Rattle.std.specs.Prelude.{◌≡◌, ◌≤◌, ◌<◌, ◌+◌, ◌*◌, ◌&&◌, ⊤, ℕ, [], ◌∷◌, IsTrue, length, map, nat_lt};
 ghost use Rattle.std.specs.List.{list_all};
 ghost use Rattle.des.specs.Blocks.{part};
 ghost use Rattle.des_fast.specs.Slices.{InEachBlock};
 ghost use Rattle.des_fast.specs.Transposition.{block_at};
 ghost use Rattle.des_fast.specs.RoundKeySlices.{round_keys_in};
-ghost use Rattle.des_fast.specs.SpreadKeys.{used};
+ghost use Rattle.des_fast.specs.SpreadKeys.{AreSlicesFor, used};
 ghost use Rattle.des_fast.specs.EachKey.{round_keys_under, round_keys_of_parts, AreSpreadBelow, lane_answer};
 
+use super::chain_keys::ChainKeys;
 use super::{LARGEST_BATCH, Slice};
 use crate::slices::{PassSlices, read_blocks, slices_through_passes, write_blocks};
 use des::cipher::KeyBytes;
@@ -35,8 +36,8 @@ impl Part {
     }
 }
 
-/// The keys of the lanes of a batch, spread over slices for one direction: each lane's own. It takes
-/// some 5,500 bytes over vectors of two words, and 11,000 over four.
+/// The keys of the lanes of a batch, spread over slices for one direction: each lane's own. It
+/// takes some 5,500 bytes over vectors of two words, and 11,000 over four.
 #[derive(Drop)]
 pub struct LaneKeys<S> {
     passes: [PassSlices<S>; 3],
@@ -52,7 +53,7 @@ pub(super) fn used<S: Slice>(passes: &[PassSlices<S>; 3], is_triple: bool) -> &[
 }
 
 impl<S: Slice> LaneKeys<S> {
-    /// Keys that are written over.
+    /// Zeros, for the caller to write over.
     #[inline(always)]
     pub(super) fn unwritten() -> LaneKeys<S> {
         LaneKeys {
@@ -92,6 +93,29 @@ impl<S: Slice> LaneKeys<S> {
     {
         spread_parts(&mut self.passes, keys, parts);
         self.is_triple = true;
+    }
+}
+
+// One key for all chains, where all lanes have the same: of other keys `encrypt` says nothing.
+impl<S: Slice> ChainKeys for LaneKeys<S> {
+    type Slices = S;
+
+    ghost encrypt = { λ keys answer. (n : ℕ) → AreSlicesFor S.BATCH S.bit (used keys.is_triple keys.passes) (answer n) };
+
+    ghost are_for = { λ _ _. ⊤ };
+
+    fn are_for(&self, _count: usize) -> bool {
+        true
+    }
+
+    #[inline(always)]
+    fn encryption<'a>(
+        &'a self,
+        _from: usize,
+        _count: usize,
+        _room: &'a mut LaneKeys<S>,
+    ) -> &'a [PassSlices<S>] {
+        self.passes()
     }
 }
 

@@ -9,67 +9,37 @@ ghost use Rattle.des_fast.specs.Records.{start, CbcEach, UnchainsEach, GoOn};
 ghost use Rattle.des_fast.specs.RecordStates.{HasBlock, AreUnchainedBelow};
 ghost use Rattle.des_fast.specs.Transposition.{block_at};
 
+use super::chain_keys::{ChainKeys, EachKey};
 use super::each_key::KeyForEach;
 use super::lanes::{LaneKeys, write_answers};
-use super::records::{Group, Record, Sizes, add_up_to, chain_group, record_with, take_out};
+use super::records::{Group, Record, Sizes, Span, add_up_to, chain_group, record_with, take_out};
 use super::{LARGEST_BATCH, Slice};
 use crate::slices::PassSlices;
 use des::cipher::{NotEqualError, are_blocks};
-use std::marker::PhantomData;
 
-/// Keys under which records go, by the number of a record from 0: one for all, or one for each.
-pub trait RecordKeys {
-    /// The slices of a batch.
-    type Slices: Slice;
-
-    // Whether the key of each record encrypts a block so.
-    ghost encrypt: { Self → (ℕ → List ℕ → List ℕ) → Type 0 };
-
-    // Whether it decrypts a block so.
+/// Keys of records: a record is a chain, whose key decrypts too.
+pub trait RecordKeys: ChainKeys {
+    // Whether the key of each record decrypts a block so.
     ghost decrypt: { Self → (ℕ → List ℕ → List ℕ) → Type 0 };
 
-    // Whether these are the keys of so many records.
-    ghost are_for: { Self → ℕ → Type 0 };
-
-    /// Whether these are the keys of so many records.
-    fn are_for(&self, count: usize) -> bool
-        ensures { IsTrue result ↔ are_for self.now count };
-
-    /// The passes of encryption by lanes: lane k has those of record `from + k`. They may be
-    /// written to `room`.
-    fn encryption<'a>(
-        &'a self,
-        from: usize,
-        count: usize,
-        room: &'a mut LaneKeys<Self::Slices>,
-    ) -> &'a [PassSlices<Self::Slices>]
-        requires few { count ≤ Self.Slices.BATCH }
-        requires within { (n : ℕ) × are_for self.now n × (from + count ≤ n) }
-        ensures { (encryption : ℕ → List ℕ → List ℕ) → encrypt self.now encryption
-            → (k : ℕ) → k < count
-            → encryption (from + k) ≡ lane_answer (Self.Slices.bit k) result.now };
-
-    /// The passes of decryption by lanes: lane k has those of the record in which block `from + k`
-    /// is, where none of these blocks is in a record before `current`. They may be written to
-    /// `room`.
+    /// The passes of decryption by lanes: lane k has those of the record in which block k of the
+    /// span is. They may be written to `room`.
     fn decryption<'a, Z: Sizes>(
         &'a self,
         sizes: Z,
-        from: usize,
-        count: usize,
-        current: Record,
+        span: Span,
         room: &'a mut LaneKeys<Self::Slices>,
     ) -> &'a [PassSlices<Self::Slices>]
-        requires some { 1 ≤ count }
-        requires few { count ≤ Self.Slices.BATCH }
-        requires within { from + count ≤ sum (Z.list sizes) }
-        requires starts { current.start ≡ start (Z.list sizes) current.number }
-        requires before { current.start ≤ from }
-        requires keys { are_for self.now (length (Z.list sizes)) }
+        requires some { 1 ≤ span.count }
+        requires few { span.count ≤ Self.Slices.BATCH }
+        requires within { span.from + span.count ≤ sum (Z.list sizes) }
+        requires starts { span.current.start ≡ start (Z.list sizes) span.current.number }
+        requires before { span.current.start ≤ span.from }
+        requires keys { Self.are_for self.now (length (Z.list sizes)) }
         requires counts { length (Z.list sizes) ≤ usize.MAX }
         requires fits { sum (Z.list sizes) ≤ usize.MAX }
         ensures { (decryption : ℕ → List ℕ → List ℕ) → decrypt self.now decryption
-            → (k m : ℕ) → k < count → HasBlock (Z.list sizes) m (from + k)
+            → (k m : ℕ) → k < span.count → HasBlock (Z.list sizes) m (span.from + k)
             → decryption m ≡ lane_answer (Self.Slices.bit k) result.now };
 
     /// Encrypts records in place by CBC, in step, each under its key: one record after another
@@ -88,21 +58,19 @@ pub trait RecordKeys {
     ) -> Result<(), NotEqualError>
         ensures vectors { All IsBlock vectors.old }
         ensures blocks { All IsBlock blocks.old }
-        ensures accepted { IsOk result ↔ (are_for self.now (length vectors.old)
+        ensures accepted { IsOk result ↔ (Self.are_for self.now (length vectors.old)
             × ((length vectors.old ≡ length (Z.list sizes))
             × (sum (Z.list sizes) ≡ length blocks.old))) }
         ensures chained { OnOk result ((encryption : ℕ → List ℕ → List ℕ)
-            → encrypt self.now encryption
+            → Self.encrypt self.now encryption
             → CbcEach encryption (Z.list sizes) vectors.old blocks.old blocks.new) }
         ensures goes_on { OnOk result ((encryption : ℕ → List ℕ → List ℕ)
-            → encrypt self.now encryption
+            → Self.encrypt self.now encryption
             → GoOn (Z.list sizes) vectors.old blocks.new vectors.new) }
         ensures count { (length vectors.new ≡ length vectors.old)
             × (length blocks.new ≡ length blocks.old) }
         ensures err { OnErr result ((vectors.new ≡ vectors.old) × (blocks.new ≡ blocks.old)) }
     {
-        are_blocks(vectors);
-        are_blocks(blocks);
         if !are_equal(self, vectors, sizes, blocks) {
             return Err(NotEqualError);
         }
@@ -122,7 +90,7 @@ pub trait RecordKeys {
     ) -> Result<(), NotEqualError>
         ensures vectors { All IsBlock vectors.old }
         ensures blocks { All IsBlock blocks.old }
-        ensures accepted { IsOk result ↔ (are_for self.now (length vectors.old)
+        ensures accepted { IsOk result ↔ (Self.are_for self.now (length vectors.old)
             × ((length vectors.old ≡ length (Z.list sizes))
             × (sum (Z.list sizes) ≡ length blocks.old))) }
         ensures unchained { OnOk result ((decryption : ℕ → List ℕ → List ℕ)
@@ -135,8 +103,6 @@ pub trait RecordKeys {
             × (length blocks.new ≡ length blocks.old) }
         ensures err { OnErr result ((vectors.new ≡ vectors.old) × (blocks.new ≡ blocks.old)) }
     {
-        are_blocks(vectors);
-        are_blocks(blocks);
         if !are_equal(self, vectors, sizes, blocks) {
             return Err(NotEqualError);
         }
@@ -152,10 +118,14 @@ fn are_equal<K: RecordKeys, Z: Sizes>(
     sizes: Z,
     blocks: &[[u8; 8]],
 ) -> bool
-    ensures { IsTrue result ↔ (K.are_for keys.now (length vectors.now)
+    ensures vectors { All IsBlock vectors.now }
+    ensures blocks { All IsBlock blocks.now }
+    ensures equal { IsTrue result ↔ (K.are_for keys.now (length vectors.now)
         × ((length vectors.now ≡ length (Z.list sizes))
         × (sum (Z.list sizes) ≡ length blocks.now))) }
 {
+    are_blocks(vectors);
+    are_blocks(blocks);
     keys.are_for(vectors.len()) && vectors.len() == sizes.count() && add_up_to(sizes, blocks.len())
 }
 
@@ -170,7 +140,7 @@ fn chain<K: RecordKeys, Z: Sizes>(
     requires keys { K.are_for keys.now (length vectors.old) }
     requires vectors { length vectors.old ≡ length (Z.list sizes) }
     requires whole { length blocks.old ≡ sum (Z.list sizes) }
-    ensures blocks { All IsBlock blocks.old }
+    requires blocks { All IsBlock blocks.old }
     ensures vectors { length vectors.new ≡ length vectors.old }
     ensures count { length blocks.new ≡ length blocks.old }
     ensures chained { (encryption : ℕ → List ℕ → List ℕ) → K.encrypt keys.now encryption
@@ -178,7 +148,6 @@ fn chain<K: RecordKeys, Z: Sizes>(
     ensures goes_on { (encryption : ℕ → List ℕ → List ℕ) → K.encrypt keys.now encryption
         → GoOn (Z.list sizes) vectors.old blocks.new vectors.new }
 {
-    are_blocks(blocks);
     let mut room = LaneKeys::unwritten();
     let mut from = 0;
     let mut start = 0;
@@ -193,40 +162,42 @@ fn chain<K: RecordKeys, Z: Sizes>(
     }
 }
 
-// Takes a part of the blocks out of the chains, as `take_out` does, each under the key of its
-// record.
+// Takes a span of the blocks out of the chains, as `take_out` does, each under the key of its
+// record. The room is for keys, as of `decryption`.
 fn unchain_part<K: RecordKeys, Z: Sizes>(
     keys: &K,
+    room: &mut LaneKeys<K::Slices>,
     vectors: &mut [[u8; 8]],
     sizes: Z,
     blocks: &mut [[u8; 8]],
-    from: usize,
-    count: usize,
-    current: Record,
+    span: Span,
 ) -> Record
-    requires some { 1 ≤ count }
-    requires few { count ≤ K.Slices.BATCH }
-    requires within { from + count ≤ length blocks.old }
-    requires starts { current.start ≡ start (Z.list sizes) current.number }
-    requires before { current.start ≤ from }
+    requires some { 1 ≤ span.count }
+    requires few { span.count ≤ K.Slices.BATCH }
+    requires within { span.from + span.count ≤ length blocks.old }
+    requires starts { span.current.start ≡ start (Z.list sizes) span.current.number }
+    requires before { span.current.start ≤ span.from }
     requires keys { K.are_for keys.now (length vectors.old) }
     requires vectors { length vectors.old ≡ length (Z.list sizes) }
     requires whole { length blocks.old ≡ sum (Z.list sizes) }
     ensures starts { result.start ≡ start (Z.list sizes) result.number }
-    ensures before { result.start ≤ from + count }
+    ensures before { result.start ≤ span.from + span.count }
     ensures count { length blocks.new ≡ length blocks.old }
     ensures vectors { length vectors.new ≡ length vectors.old }
     ensures unchained { (decryption : ℕ → List ℕ → List ℕ) → K.decrypt keys.now decryption
         → (first q : List (List ℕ))
-        → AreUnchainedBelow decryption (Z.list sizes) first q vectors.old blocks.old from
+        → AreUnchainedBelow decryption (Z.list sizes) first q vectors.old blocks.old span.from
         → AreUnchainedBelow decryption (Z.list sizes) first q vectors.new blocks.new
-        (from + count) }
+        (span.from + span.count) }
 {
-    let mut room = LaneKeys::unwritten();
-    let passes = keys.decryption(sizes, from, count, current, &mut room);
+    let passes = keys.decryption(sizes, span, room);
     let mut answers = [[0; 8]; LARGEST_BATCH];
-    write_answers(&mut answers, &blocks[from..from + count], passes);
-    take_out(vectors, sizes, blocks, from, count, current, &answers)
+    write_answers(
+        &mut answers,
+        &blocks[span.from..span.from + span.count],
+        passes,
+    );
+    take_out(vectors, sizes, blocks, span, &answers)
 }
 
 // Takes each record out of the chain that begins with the vector at its place, a batch of blocks at
@@ -247,102 +218,62 @@ fn unchain<K: RecordKeys, Z: Sizes>(
     ensures goes_on { (decryption : ℕ → List ℕ → List ℕ) → K.decrypt keys.now decryption
         → GoOn (Z.list sizes) vectors.old blocks.old vectors.new }
 {
-    let mut record = Record {
+    let mut room = LaneKeys::unwritten();
+    let mut current = Record {
         number: 0,
         start: 0,
     };
     let mut from = 0;
     'parts: while from < blocks.len() {
         let count = <K::Slices as Slice>::BATCH.min(blocks.len() - from);
-        record = unchain_part(keys, vectors, sizes, blocks, from, count, record);
+        let span = Span {
+            from,
+            count,
+            current,
+        };
+        current = unchain_part(keys, &mut room, vectors, sizes, blocks, span);
         from += count;
     }
 }
 
-/// A key of a cipher for each record.
-#[derive(Drop)]
-pub struct EachKey<'a, S, C: KeyForEach> {
-    keys: &'a [C::Key],
-    slices: PhantomData<S>,
-}
-
-impl<'a, S: Slice, C: KeyForEach> EachKey<'a, S, C> {
-    /// These keys, in the order of the records.
-    pub fn new(keys: &'a [C::Key]) -> EachKey<'a, S, C>
-        ensures { result.keys.now ≡ keys.now }
-    {
-        EachKey {
-            keys,
-            slices: PhantomData,
-        }
-    }
-}
-
 impl<'a, S: Slice, C: KeyForEach> RecordKeys for EachKey<'a, S, C> {
-    ghost use Rattle.std.specs.Prelude.{◌≡◌, length, map};
-    ghost use Rattle.des_fast.specs.ChainEnds.{under_key};
-
-    type Slices = S;
-
-    ghost encrypt = { λ it answer. answer ≡ under_key C.encryption (map C.Key.bytes_of it.keys.now) };
-
     ghost decrypt = { λ it answer. answer ≡ under_key C.decryption (map C.Key.bytes_of it.keys.now) };
-
-    ghost are_for = { λ it count. length it.keys.now ≡ count };
-
-    fn are_for(&self, count: usize) -> bool {
-        self.keys.len() == count
-    }
-
-    fn encryption<'b>(
-        &'b self,
-        from: usize,
-        count: usize,
-        room: &'b mut LaneKeys<S>,
-    ) -> &'b [PassSlices<S>] {
-        C::spread_each::<S>(&self.keys[from..from + count], false, room);
-        room.passes()
-    }
 
     fn decryption<'b, Z: Sizes>(
         &'b self,
         sizes: Z,
-        from: usize,
-        count: usize,
-        current: Record,
+        span: Span,
         room: &'b mut LaneKeys<S>,
     ) -> &'b [PassSlices<S>] {
-        let mut of_blocks = [self.keys[current.number]; LARGEST_BATCH];
-        write_keys::<C, Z>(&mut of_blocks, self.keys, sizes, from, count, current);
-        C::spread_each::<S>(&of_blocks[..count], true, room);
+        let mut of_blocks = [self.keys[span.current.number]; LARGEST_BATCH];
+        write_keys::<C, Z>(&mut of_blocks, self.keys, sizes, span);
+        C::spread_each::<S>(&of_blocks[..span.count], true, room);
         room.passes()
     }
 }
 
-// Makes the first keys of an array those of the records in which blocks are, from a place on.
+// Makes the first keys of an array those of the records in which the blocks of a span are.
 fn write_keys<C: KeyForEach, Z: Sizes>(
     of_blocks: &mut [C::Key; LARGEST_BATCH],
     keys: &[C::Key],
     sizes: Z,
-    from: usize,
-    count: usize,
-    current: Record,
+    span: Span,
 )
-    requires few { count ≤ 256 }
-    requires within { from + count ≤ sum (Z.list sizes) }
-    requires starts { current.start ≡ start (Z.list sizes) current.number }
-    requires before { current.start ≤ from }
+    requires few { span.count ≤ 256 }
+    requires within { span.from + span.count ≤ sum (Z.list sizes) }
+    requires starts { span.current.start ≡ start (Z.list sizes) span.current.number }
+    requires before { span.current.start ≤ span.from }
     requires keys { length keys.now ≡ length (Z.list sizes) }
     requires counts { length (Z.list sizes) ≤ usize.MAX }
     requires fits { sum (Z.list sizes) ≤ usize.MAX }
     ensures all { length of_blocks.new ≡ 256 }
-    ensures written { (k m : ℕ) → k < count → HasBlock (Z.list sizes) m (from + k)
+    ensures written { (k m : ℕ) → k < span.count → HasBlock (Z.list sizes) m (span.from + k)
         → block_at (map C.Key.bytes_of of_blocks.new) k
         ≡ block_at (map C.Key.bytes_of keys.now) m }
 {
-    let mut record = current;
-    'keys: for k in 0..count {
-        record = record_with(sizes, record, from + k);
+    let mut record = span.current;
+    'keys: for k in 0..span.count {
+        record = record_with(sizes, record, span.from + k);
         of_blocks[k] = keys[record.number];
     }
 }

@@ -235,39 +235,46 @@ pub(super) fn record_with<Z: Sizes>(sizes: Z, from: Record, place: usize) -> Rec
     Record { number, start }
 }
 
-/// Takes a part of the blocks out of the chains, where the answers to its blocks are known. It
-/// begins in no record before `current`; what is returned is the record of its last block.
+/// A part of the blocks: from which block on, how many, and the record that the first of them is in,
+/// or one before it.
+#[derive(Clone, Copy)]
+pub struct Span {
+    pub(super) from: usize,
+    pub(super) count: usize,
+    pub(super) current: Record,
+}
+
+/// Takes a span of the blocks out of the chains, where the answers to its blocks are known, and
+/// returns the record of its last block.
 pub(super) fn take_out<Z: Sizes>(
     vectors: &mut [[u8; 8]],
     sizes: Z,
     blocks: &mut [[u8; 8]],
-    from: usize,
-    count: usize,
-    current: Record,
+    span: Span,
     answers: &[[u8; 8]; LARGEST_BATCH],
 ) -> Record
-    requires few { count ≤ 256 }
-    requires within { from + count ≤ length blocks.old }
-    requires starts { current.start ≡ start (Z.list sizes) current.number }
-    requires before { current.start ≤ from }
+    requires few { span.count ≤ 256 }
+    requires within { span.from + span.count ≤ length blocks.old }
+    requires starts { span.current.start ≡ start (Z.list sizes) span.current.number }
+    requires before { span.current.start ≤ span.from }
     requires vectors { length vectors.old ≡ length (Z.list sizes) }
     requires whole { length blocks.old ≡ sum (Z.list sizes) }
     ensures starts { result.start ≡ start (Z.list sizes) result.number }
-    ensures before { result.start ≤ from + count }
+    ensures before { result.start ≤ span.from + span.count }
     ensures count { length blocks.new ≡ length blocks.old }
     ensures vectors { length vectors.new ≡ length vectors.old }
     ensures unchained { (decryption : ℕ → List ℕ → List ℕ) (first q : List (List ℕ))
-        → ((k m : ℕ) → k < count → HasBlock (Z.list sizes) m (from + k)
-        → block_at answers.now k ≡ decryption m (block_at blocks.old (from + k)))
-        → AreUnchainedBelow decryption (Z.list sizes) first q vectors.old blocks.old from
+        → ((k m : ℕ) → k < span.count → HasBlock (Z.list sizes) m (span.from + k)
+        → block_at answers.now k ≡ decryption m (block_at blocks.old (span.from + k)))
+        → AreUnchainedBelow decryption (Z.list sizes) first q vectors.old blocks.old span.from
         → AreUnchainedBelow decryption (Z.list sizes) first q vectors.new blocks.new
-        (from + count) }
+        (span.from + span.count) }
 {
-    let mut record = current;
-    'answers: for k in 0..count {
-        record = record_with(sizes, record, from + k);
-        let ciphertext = blocks[from + k];
-        blocks[from + k] = xored(&answers[k], &vectors[record.number]);
+    let mut record = span.current;
+    'answers: for k in 0..span.count {
+        record = record_with(sizes, record, span.from + k);
+        let ciphertext = blocks[span.from + k];
+        blocks[span.from + k] = xored(&answers[k], &vectors[record.number]);
         vectors[record.number] = ciphertext;
     }
     record

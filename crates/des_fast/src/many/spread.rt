@@ -6,18 +6,19 @@ ghost use Rattle.des.specs.Blocks.{IsBlock};
 ghost use Rattle.des.specs.Cbc.{Unchains};
 ghost use Rattle.des_fast.specs.SpreadKeys.{AreSlicesFor, AreSpreadKeys, used};
 
+use super::chain_keys::ChainKeys;
 use super::lanes::{LaneKeys, used};
 use super::passes::{spread_one, spread_three};
 use super::record_keys::RecordKeys;
-use super::records::{Record, Sizes};
+use super::records::{Sizes, Span};
 use super::{ManyBlocks, Slice, answer, chains};
 use crate::Des;
 use crate::slices::PassSlices;
-use des::cipher::are_blocks;
 use des::tdes::{Form, Parts, Triple};
 
 /// The keys of a cipher, spread over slices of a width, for those who have many short lists under
-/// one key: a list then takes the time of its batches alone. They answer as the cipher does, and take some 11,000 bytes over vectors of two words, and 22,000 over four.
+/// one key: a list then takes the time of its batches alone. They answer as the cipher does, and
+/// take some 11,000 bytes over vectors of two words, and 22,000 over four.
 #[derive(Drop)]
 pub struct SpreadKeys<S> {
     encryption: [PassSlices<S>; 3],
@@ -26,6 +27,16 @@ pub struct SpreadKeys<S> {
 }
 
 impl<S: Slice> SpreadKeys<S> {
+    // Zeros, for the caller to write over.
+    #[inline(always)]
+    fn unwritten() -> SpreadKeys<S> {
+        SpreadKeys {
+            encryption: [PassSlices::unwritten(); 3],
+            decryption: [PassSlices::unwritten(); 3],
+            is_triple: false,
+        }
+    }
+
     /// Encrypts each block of 8 bytes in place, in order, as `encrypt_many` of a cipher whose keys
     /// these are. An empty list stays empty.
     pub fn encrypt_many(&self, blocks: &mut [[u8; 8]])
@@ -34,7 +45,6 @@ impl<S: Slice> SpreadKeys<S> {
             → AreSpreadKeys S.BATCH S.bit self.now encrypted decrypted
             → blocks.new ≡ map encrypted blocks.old }
     {
-        are_blocks(blocks);
         answer::<S>(blocks, used(&self.encryption, self.is_triple));
     }
 
@@ -46,7 +56,6 @@ impl<S: Slice> SpreadKeys<S> {
             → AreSpreadKeys S.BATCH S.bit self.now encrypted decrypted
             → blocks.new ≡ map decrypted blocks.old }
     {
-        are_blocks(blocks);
         answer::<S>(blocks, used(&self.decryption, self.is_triple));
     }
 
@@ -58,17 +67,14 @@ impl<S: Slice> SpreadKeys<S> {
             → AreSpreadKeys S.BATCH S.bit self.now encrypted decrypted
             → Unchains decrypted iv.now blocks.old blocks.new }
     {
-        are_blocks(blocks);
         chains::unchain::<S>(blocks, iv, used(&self.decryption, self.is_triple));
     }
 }
 
-impl<S: Slice> RecordKeys for SpreadKeys<S> {
+impl<S: Slice> ChainKeys for SpreadKeys<S> {
     type Slices = S;
 
     ghost encrypt = { λ keys answer. (n : ℕ) → AreSlicesFor S.BATCH S.bit (used keys.is_triple keys.encryption) (answer n) };
-
-    ghost decrypt = { λ keys answer. (n : ℕ) → AreSlicesFor S.BATCH S.bit (used keys.is_triple keys.decryption) (answer n) };
 
     ghost are_for = { λ _ _. ⊤ };
 
@@ -85,14 +91,16 @@ impl<S: Slice> RecordKeys for SpreadKeys<S> {
     ) -> &'a [PassSlices<S>] {
         used(&self.encryption, self.is_triple)
     }
+}
+
+impl<S: Slice> RecordKeys for SpreadKeys<S> {
+    ghost decrypt = { λ keys answer. (n : ℕ) → AreSlicesFor S.BATCH S.bit (used keys.is_triple keys.decryption) (answer n) };
 
     #[inline(always)]
     fn decryption<'a, Z: Sizes>(
         &'a self,
         _sizes: Z,
-        _from: usize,
-        _count: usize,
-        _current: Record,
+        _span: Span,
         _room: &'a mut LaneKeys<S>,
     ) -> &'a [PassSlices<S>] {
         used(&self.decryption, self.is_triple)
@@ -109,28 +117,20 @@ pub trait SpreadOnce: ManyBlocks {
 
 impl SpreadOnce for Des {
     fn spread_keys<S: Slice>(&self) -> SpreadKeys<S> {
-        let mut encryption = [PassSlices::unwritten(); 3];
-        let mut decryption = [PassSlices::unwritten(); 3];
-        spread_one(&mut encryption, &self.pass(false));
-        spread_one(&mut decryption, &self.pass(true));
-        SpreadKeys {
-            encryption,
-            decryption,
-            is_triple: false,
-        }
+        let mut keys = SpreadKeys::unwritten();
+        spread_one(&mut keys.encryption, &self.pass(false));
+        spread_one(&mut keys.decryption, &self.pass(true));
+        keys.is_triple = false;
+        keys
     }
 }
 
 impl<P: Parts<Single = Des>, F: Form> SpreadOnce for Triple<P, F> {
     fn spread_keys<S: Slice>(&self) -> SpreadKeys<S> {
-        let mut encryption = [PassSlices::unwritten(); 3];
-        let mut decryption = [PassSlices::unwritten(); 3];
-        spread_three(&mut encryption, &self.encryption_passes());
-        spread_three(&mut decryption, &self.decryption_passes());
-        SpreadKeys {
-            encryption,
-            decryption,
-            is_triple: true,
-        }
+        let mut keys = SpreadKeys::unwritten();
+        spread_three(&mut keys.encryption, &self.encryption_passes());
+        spread_three(&mut keys.decryption, &self.decryption_passes());
+        keys.is_triple = true;
+        keys
     }
 }

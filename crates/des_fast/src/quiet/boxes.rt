@@ -13,6 +13,7 @@ ghost use Rattle.des.specs.CipherFunction.{box_entry, substitute};
 ghost use Rattle.des_fast.specs.Groups.{IsOfGroups, IsExpansion, bits_of_groups, half_of, positions_in_word};
 ghost use Rattle.des_fast.specs.GroupBytes.{box_of_byte, in_order};
 
+use crate::halves::word_of;
 use std::simd::prelude::*;
 
 // The entries of the boxes S1, S3, S5, S7, S2, S4, S6 and S8, in the order of the groups in a word:
@@ -133,14 +134,6 @@ pub(crate) fn substitute(word: u64) -> u64
     ensures substituted { half_of result ≡ select permutation (substitute (bits_of_groups word)) }
 {
     word_of(&expanded(entries(word)))
-}
-
-// The word of eight bytes.
-#[inline(always)]
-fn word_of(bytes: &[u8; 8]) -> u64
-    ensures { bits_of_word result ≡ bits_of_bytes bytes.now }
-{
-    u64::from_be_bytes(*bytes)
 }
 
 // The entries of the boxes for the groups of a word, each in the byte of its group, and twice.

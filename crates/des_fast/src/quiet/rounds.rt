@@ -164,15 +164,10 @@ fn round_key_of(round_keys: &[RoundKey; 16], deciphers: bool, round: usize) -> R
     }
 }
 
-/// The halves after sixteen rounds, with the round keys in their order or, to decipher, from the
-/// last to the first (FIPS 46-3, enciphering and deciphering).
-#[inline]
-pub(crate) fn after_rounds<G: Groups>(
-    left: G,
-    right: G,
-    round_keys: &[RoundKey; 16],
-    deciphers: bool,
-) -> (G, G)
+// Sixteen rounds in one direction. It is inlined where the direction is known, so that no round asks
+// for it.
+#[inline(always)]
+fn rounds<G: Groups>(left: G, right: G, round_keys: &[RoundKey; 16], deciphers: bool) -> (G, G)
     requires left { AreExpansions G.BLOCKS G.word left }
     requires right { AreExpansions G.BLOCKS G.word right }
     ensures left { AreExpansions G.BLOCKS G.word result.0 }
@@ -197,6 +192,31 @@ pub(crate) fn after_rounds<G: Groups>(
         );
     }
     (next_left, next_right)
+}
+
+/// The halves after sixteen rounds, with the round keys in their order or, to decipher, from the
+/// last to the first (FIPS 46-3, enciphering and deciphering).
+#[inline]
+pub(crate) fn after_rounds<G: Groups>(
+    left: G,
+    right: G,
+    round_keys: &[RoundKey; 16],
+    deciphers: bool,
+) -> (G, G)
+    requires left { AreExpansions G.BLOCKS G.word left }
+    requires right { AreExpansions G.BLOCKS G.word right }
+    ensures left { AreExpansions G.BLOCKS G.word result.0 }
+    ensures right { AreExpansions G.BLOCKS G.word result.1 }
+    ensures halves { InEachBlock G.BLOCKS (λ b.
+        (half_of (G.word b result.0), half_of (G.word b result.1))
+        ≡ after_rounds (in_direction deciphers (round_keys_of round_keys.now))
+        (half_of (G.word b left)) (half_of (G.word b right))) }
+{
+    if deciphers {
+        rounds(left, right, round_keys, true)
+    } else {
+        rounds(left, right, round_keys, false)
+    }
 }
 
 /// The same of the halves of one block.

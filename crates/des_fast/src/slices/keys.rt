@@ -3,14 +3,14 @@
 //! has 56 slices. Those of C stand twice in a row, and so do those of D: in 56 slices that begin
 //! anywhere in the first half, all rotations of a half are there as they are.
 
-ghost use Rattle.std.specs.Prelude.{◌≡◌, ◌≤◌, ℕ, List, length, map};
+ghost use Rattle.std.specs.Prelude.{◌≡◌, ◌≤◌, ◌<◌, ◌+◌, ◌*◌, ℕ, List, length, map};
 ghost use Rattle.des.specs.Bits.{bit, bits_of_bytes};
 ghost use Rattle.des_fast.specs.Slices.{InEachBlock, bits_of_slice};
 ghost use Rattle.des_fast.specs.Transposition.{block_at};
-ghost use Rattle.des_fast.specs.RoundKeySlices.{halves_in, round_keys_of_pass, round_keys_in};
+ghost use Rattle.des_fast.specs.RoundKeySlices.{halves_in, StandTwiceBelow, round_keys_of_pass, round_keys_in};
 ghost use Rattle.des_fast.specs.EachKey.{round_keys_under};
 
-use super::passes::selection;
+use super::passes::write_selection;
 use super::transposition::Rows;
 use super::{Slice, read_blocks};
 use crate::halves::RoundKey;
@@ -81,21 +81,38 @@ fn bit_slice<S: Slice>(words: &[u64; 2], position: usize) -> S
     S::same((word >> (63 - (position - 1) % 64)) & 1 == 1)
 }
 
+// Makes the slices of C (half 0) or D (half 1) from two words, after those of the half before. The
+// loop goes by rows of seven, as the table does: the compiler writes out so short a loop, sees that
+// all is written, and drops most of the zeros of `unwritten`.
+#[inline(always)]
+fn spread_half<S: Slice>(halves: &mut KeyHalves<S>, words: &[u64; 2], half: usize)
+    requires one_of_two { half < 2 }
+    requires before { StandTwiceBelow S.BATCH S.bit words.now (28 * half) halves.old }
+    ensures spread { StandTwiceBelow S.BATCH S.bit words.now (28 * half + 28) halves.new }
+    ensures count { length halves.new ≡ 112 }
+{
+    'rows: for row in 0..4usize {
+        'bits: for i in 0..7usize {
+            let n = 28 * half + 7 * row + i;
+            let slice = bit_slice(words, HALVES[n]);
+            let place = n + 28 * half;
+            halves[place] = slice;
+            halves[place + 28] = slice;
+        }
+    }
+}
+
 // Makes the slices those of the halves C and D that stand in two words.
 #[inline(always)]
 fn spread_halves<S: Slice>(halves: &mut KeyHalves<S>, words: &[u64; 2])
     ensures { InEachBlock S.BATCH (λ b. map (S.bit b) halves.new ≡ halves_in words.now) }
 {
-    for n in 0..56usize {
-        let slice = bit_slice(words, HALVES[n]);
-        let place = n + n / 28 * 28;
-        halves[place] = slice;
-        halves[place + 28] = slice;
-    }
+    spread_half(halves, words, 0);
+    spread_half(halves, words, 1);
 }
 
 impl<S: Slice> PassSlices<S> {
-    /// Slices that are written over.
+    /// Zeros, for the caller to write over.
     #[inline(always)]
     pub(crate) fn unwritten() -> PassSlices<S> {
         PassSlices {
@@ -114,6 +131,7 @@ impl<S: Slice> PassSlices<S> {
         spread_halves(&mut self.halves, &words);
         self.deciphers = pass.deciphers;
     }
+
     // Makes the slices those of a pass under the keys whose bits these slices have.
     #[inline(always)]
     fn choose(&mut self, slices: &Rows<S>, deciphers: bool)
@@ -121,7 +139,7 @@ impl<S: Slice> PassSlices<S> {
             → map (S.bit b) slices.now ≡ bits_of_bytes key
             → round_keys_in (S.bit b) self.new ≡ round_keys_under deciphers key) }
     {
-        self.halves = selection(slices, &CHOSEN);
+        write_selection(&mut self.halves, slices, &CHOSEN);
         self.deciphers = deciphers;
     }
 

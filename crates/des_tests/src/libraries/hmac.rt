@@ -1,8 +1,8 @@
 //! HMAC, which the derivations of keys are made of, at published values; and the texts of errors of
-//! `des_records` that name a line.
+//! `des_passwords` that name a line.
 
-use des_records::pem::PemError;
-use des_records::{Base64Error, HashFunction, Hmac, KeyFileError};
+use des_passwords::pem::PemError;
+use des_passwords::{Base64Error, HashFunction, Hmac, KeyFileError};
 use md5::Md5;
 use sha1::Sha1;
 use sha2::Sha256;

@@ -1,5 +1,5 @@
 use Rattle.std.proofs.Common.{rules, sym, ◌≡◌, length, ap, ◌∙◌, Option}
-use Rattle.des_records.specs.declared.derivation.Derivation.{Derivation}
+use Rattle.des_passwords.specs.declared.derivation.Derivation.{Derivation}
 use Rattle.des_c.specs.Passwords.{derive_status, with_no_pbkdf2}
 use Rattle.des_c.proofs.passwords.cukvashe_bytes_to_key.Goals as goal
 

@@ -1,6 +1,6 @@
 use Rattle.std.proofs.Common.{◌≡◌, inr, ◌+◌, length, Option, Some, refl, sym, ap, subst, arith, rules}
 use Rattle.des_context.specs.declared.status.TheConstants.{ERR_HASH, ERR_ITERATIONS}
-use Rattle.des_records.specs.declared.derivation.Derivation.{Derivation}
+use Rattle.des_passwords.specs.declared.derivation.Derivation.{Derivation}
 use Rattle.des_c.specs.Passwords.{IsPartsFault}
 use Rattle.des_c.proofs.PasswordParts.{salted-fault, no-iteration}
 use Rattle.std.proofs.lemmas.Int.{to_z-of_z}

@@ -1,7 +1,7 @@
 use Rattle.std.proofs.Common.{length, refl, sym, ap, ◌∙◌, Option, Err}
 use Rattle.std.proofs.lemmas.Option.{same_Some}
-use Rattle.des_records.specs.Derivations.{derived}
-use Rattle.des_records.specs.declared.derivation.Derivation.{Derivation}
+use Rattle.des_passwords.specs.Derivations.{derived}
+use Rattle.des_passwords.specs.declared.derivation.Derivation.{Derivation}
 use Rattle.des_c.specs.Passwords.{derive_status}
 use Rattle.des_c.proofs.PasswordParts.{derived-done, derived-none, derived-long}
 use Rattle.des_c.proofs.passwords.write_key.Goals as goal

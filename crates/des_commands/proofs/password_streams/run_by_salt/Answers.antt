@@ -1,6 +1,6 @@
 use Rattle.std.proofs.Common.{◌≡◌, true, false, ◌+◌}
 use Rattle.std.proofs.lemmas.Result.{err_from_is_err_and}
-use Rattle.des_records.specs.Derivations.{IsDerivable}
+use Rattle.des_passwords.specs.Derivations.{IsDerivable}
 use Rattle.des_commands.specs.Jobs.{key_size_of}
 use Rattle.des_commands.proofs.PasswordRuns.{done-with-secret, stops-with-secret, stops-underived}
 use Rattle.des_commands.proofs.password_streams.run_by_salt.Goals as goal

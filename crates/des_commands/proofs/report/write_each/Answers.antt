@@ -1,7 +1,7 @@
 use Rattle.std.proofs.Common.{rules, ℕ, ◌<◌, length, map, take, sym, subst}
 use Rattle.des_commands.specs.Faults.{shown_byte}
 use Rattle.des_commands.specs.Written.{AppendsPrefix}
-use Rattle.des_commands.proofs.Prefixes.{AppendsPrefix-first, AppendsPrefix-second}
+use Rattle.des_commands.proofs.Prefixes.{AppendsPrefix-first, AppendsPrefix-second, AppendsPrefix-written}
 use Rattle.des_commands.proofs.ShownTexts.{map-at}
 use Rattle.des_commands.proofs.report.write_each.Goals as goal
 
@@ -13,4 +13,4 @@ returns-in_err-write_whole-clause-part g c =
     let within : i < length text = search rules in
     subst (AppendsPrefix _ _) (sym (map-at shown_byte text i 0 within))
     (AppendsPrefix-second _ _ _ (map shown_byte (take i text)) _ c.loop-byte.invariant.written
-    (AppendsPrefix-first _ _ _ _ (rw c.shown_byte.ensures at c.write_whole.ensures.part)))
+    (AppendsPrefix-first _ _ _ _ (rw c.shown_byte.ensures at (AppendsPrefix-written _ _ _ _ c.write_whole.ensures.written))))

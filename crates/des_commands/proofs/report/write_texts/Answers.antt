@@ -2,7 +2,7 @@ use Rattle.std.proofs.Common.{rules, ◌≡◌, ℕ, ◌<◌, length, List, take
 use Rattle.std.specs.List.{flat_map}
 use Rattle.std.proofs.lemmas.List.{take_all}
 use Rattle.des_commands.specs.Written.{AppendsPrefix}
-use Rattle.des_commands.proofs.Prefixes.{AppendsPrefix-first, AppendsPrefix-second, AppendsPrefix-all, flat_map-at}
+use Rattle.des_commands.proofs.Prefixes.{AppendsPrefix-first, AppendsPrefix-second, AppendsPrefix-all, AppendsPrefix-written, flat_map-at}
 use Rattle.des_commands.proofs.report.write_texts.Goals as goal
 
 -- what stands in the place of a text that is not there
@@ -18,7 +18,7 @@ returns-in_err-write_whole-clause-part g c =
     let text = c.as_bytes.ensures.value in
     subst (AppendsPrefix _ _) (sym (flat_map-at (λ x. x.now) texts i no_text within))
     (AppendsPrefix-second _ _ _ (flat_map (λ x. x.now) (take i texts)) _ c.loop-text.invariant.written
-    (AppendsPrefix-first _ _ _ _ (rw text at c.write_whole.ensures.part)))
+    (AppendsPrefix-first _ _ _ _ (rw text at (AppendsPrefix-written _ _ _ _ c.write_whole.ensures.written))))
 
 -- all texts
 pub returns-clause-part : goal.returns-clause-part

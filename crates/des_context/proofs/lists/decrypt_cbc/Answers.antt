@@ -10,6 +10,6 @@ returns-clause-chained g c key made =
     let cipher = c.args.cipher.now in
     let is_iv : IsBlock iv = (c.told-vector, All-from_get_or (λ byte. byte < 256) iv 0 (λ i within. c.fits-vector i)) in
     Chains-related_back (g.C.Relating.relation key) (g.C.BlockCipherEncrypt.encrypted cipher)
-    (g.C.BlockCipherDecrypt.decrypted cipher) (c.relate_lists.ensures.encrypted key made) iv c.unchain.new.blocks
-    c.args.blocks.now is_iv c.unchain.ensures.blocks (g.met.C.BlockCipher.decrypted_is_block cipher)
+    (g.C.BlockCipherDecrypt.decrypted cipher) (g.met.C.Relating.encrypts_by_relation cipher key made) iv
+    c.unchain.new.blocks c.args.blocks.now is_iv c.unchain.ensures.blocks (g.met.C.BlockCipher.decrypted_is_block cipher)
     (g.met.C.BlockCipher.encrypts_decrypted cipher) c.unchain.ensures.unchained

@@ -10,5 +10,5 @@ returns-clause-chained g c key made =
     let cipher = c.args.cipher.now in
     let is_iv : IsBlock iv = (c.told-vector, All-from_get_or (λ byte. byte < 256) iv 0 (λ i within. c.fits-vector i)) in
     Chains-related (g.C.Relating.relation key) (g.C.BlockCipherEncrypt.encrypted cipher)
-    (c.relate_lists.ensures.encrypted key made) iv c.args.blocks.now c.encrypt.new.blocks is_iv c.encrypt.ensures.blocks
-    (g.met.C.BlockCipher.encrypted_is_block cipher) c.encrypt.ensures.chained
+    (g.met.C.Relating.encrypts_by_relation cipher key made) iv c.args.blocks.now c.encrypt.new.blocks is_iv
+    c.encrypt.ensures.blocks (g.met.C.BlockCipher.encrypted_is_block cipher) c.encrypt.ensures.chained

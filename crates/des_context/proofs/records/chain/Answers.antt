@@ -14,7 +14,7 @@ returns-in-Ok-clause-chained g c = λ done key made k below.
     let p : List (List ℕ) = c.args.blocks.now in
     let ensured = c.in-Ok.ensures in
     Chains-related (g.C.Relating.relation key) (g.C.BlockCipherEncrypt.encrypted cipher)
-    (c.relate_lists.ensures.encrypted key made) (slice_index_or vectors k []) (record_of sizes p k)
+    (g.met.C.Relating.encrypts_by_relation cipher key made) (slice_index_or vectors k []) (record_of sizes p k)
     (record_of sizes c.encrypt_cbc_records.new.blocks k) (All-get_or IsBlock vectors k [] below ensured.vectors)
     (All-take IsBlock (slice_index sizes k) (drop (start sizes k) p) (All-drop IsBlock (start sizes k) p ensured.blocks))
     (g.met.C.BlockCipher.encrypted_is_block cipher)

@@ -14,7 +14,7 @@ returns-in-Ok-clause-chained g c = λ done key made k below.
     let q : List (List ℕ) = c.args.blocks.now in
     let ensured = c.in-Ok.ensures in
     Chains-related_back (g.C.Relating.relation key) (g.C.BlockCipherEncrypt.encrypted cipher)
-    (g.C.BlockCipherDecrypt.decrypted cipher) (c.relate_lists.ensures.encrypted key made)
+    (g.C.BlockCipherDecrypt.decrypted cipher) (g.met.C.Relating.encrypts_by_relation cipher key made)
     (slice_index_or vectors k []) (record_of sizes c.decrypt_cbc_records.new.blocks k) (record_of sizes q k)
     (All-get_or IsBlock vectors k [] below ensured.vectors)
     (All-take IsBlock (slice_index sizes k) (drop (start sizes k) q) (All-drop IsBlock (start sizes k) q ensured.blocks))

@@ -6,18 +6,18 @@ use Rattle.des_fast.proofs.lists.answer.Goals as goal
 pub parts-preserved : goal.parts-preserved
 parts-preserved g c =
     let m : ℕ = c.parts.from in
-    let count : ℕ = c.min-count.result in
+    let count : ℕ = c.next_count-count.result in
     let n : ℕ = m + count - m in
     let f : List ℕ → List ℕ = g.A.Answers.answered c.args.passes.now in
     let old : List (List ℕ) = c.args.blocks.now in
     let next : m + n ≡ m + count = omega arith in (
-      omega (arith, c.min-count.ensures),
+      omega (arith, c.next_count-count.ensures.within),
       answered-more f m n old c.parts.blocks c.answer_part.new.blocks (omega (arith, c.parts.invariant.0))
           c.parts.invariant.1 c.answer_part.ensures
           ∙ ap (λ (k : ℕ). map f (take k old) ++ drop k old) next,
     )
 
-pub returns : goal.returns
-returns g c =
+pub returns-clause-answered : goal.returns-clause-answered
+returns-clause-answered g c =
     c.parts.invariant.1
     ∙ answered-all (g.A.Answers.answered c.args.passes.now) c.parts.from c.args.blocks.now (omega arith)

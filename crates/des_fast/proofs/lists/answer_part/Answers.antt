@@ -10,4 +10,4 @@ returns g c =
     (λ k below.
     let inside : k < g.W.Groups.Groups.BLOCKS = omega (arith, c.requires.few) in
     c.write_blocks.ensures.written k below
-    ∙ c.answer_halves-left.ensures.answered k inside _ (c.halves_of-left.ensures.halves k inside below))
+    ∙ c.answer_halves-left.ensures.answered k inside _ (c.halves_of_blocks-left.ensures.halves k inside below))

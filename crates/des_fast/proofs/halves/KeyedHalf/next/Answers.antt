@@ -1,6 +1,7 @@
 use Rattle.std.proofs.Common.{bit_xor}
 use Rattle.des.specs.CipherFunction.{cipher_function}
-use Rattle.des_fast.proofs.GroupWords.{IsExpansion-xor, half_of-xor}
+use Rattle.des_fast.proofs.GroupWords.{half_of-xor}
+use Rattle.des_fast.proofs.HalfExpansions.{IsExpansion-xor}
 use Rattle.des_fast.proofs.KeyedHalves.{xor-beside_key, IsOfGroups-keyed, bits_of_groups-keyed}
 use Rattle.des_fast.proofs.halves.KeyedHalf.next.Goals as goal
 

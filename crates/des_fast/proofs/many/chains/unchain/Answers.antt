@@ -43,8 +43,8 @@ parts-preserved g c =
           ∙ ap (λ (k : ℕ). drop k old) next;
     }
 
-pub returns : goal.returns
-returns g c f are =
+pub returns-clause-unchained : goal.returns-clause-unchained
+returns-clause-unchained g c f are =
     let iv : List ℕ = c.args.iv.now in
     let old : List (List ℕ) = c.args.blocks.now in
     Unchains-unchained f iv old c.parts.blocks

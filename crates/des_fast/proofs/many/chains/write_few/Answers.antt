@@ -7,8 +7,8 @@ pub returns : goal.returns
 returns g c =
     let f : List ℕ → List ℕ = g.P.Answers.answered c.args.passes.now in
     take_at c.answer.new.blocks _ (length c.args.blocks.now)
-    (ap length c.answer.ensures
+    (ap length c.answer.ensures.answered
     ∙ length-map c.copy_from_slice.new.self f
     ∙ ap length c.copy_from_slice.ensures.after)
-    ∙ c.answer.ensures
+    ∙ c.answer.ensures.answered
     ∙ ap (map f) c.copy_from_slice.ensures.after

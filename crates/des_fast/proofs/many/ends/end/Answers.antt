@@ -1,9 +1,21 @@
 -- A group more.
 use Rattle.std.proofs.Common.{◌≡◌, ℕ, ◌+◌, ◌-◌, ◌≤◌, List, length, drop, sym, ◌∙◌, arith, length-take-le}
 use Rattle.std.proofs.lemmas.List.{length-drop}
-use Rattle.des_fast.specs.EachKey.{lane_answer}
 use Rattle.des_fast.proofs.ChainedEnds.{AreEnds-group, get_or-put_past}
+use Rattle.des_fast.proofs.SliceSizes.{pass_slices-le, lane_keys-le}
 use Rattle.des_fast.proofs.many.ends.end.Goals as goal
+
+pub encryption-passes-requires : goal.encryption-passes-requires
+encryption-passes-requires g c = (
+  omega (arith, lane_keys-le _ _ g.met.K.Slices.Slice.small_gaps g.met.K.Slices.Slice.few_bytes),
+  (
+    omega (arith, pass_slices-le _ _ g.met.K.Slices.Slice.small_gaps g.met.K.Slices.Slice.few_bytes),
+    (
+      omega (arith, c.min-count.ensures, c.BATCH.ensures),
+      (length c.args.chains.now, c.requires.keys, omega (arith, c.min-count.ensures)),
+    ),
+  ),
+)
 
 pub groups-preserved : goal.groups-preserved
 groups-preserved g c =
@@ -19,12 +31,11 @@ groups-preserved g c =
     let count : length part ≡ n =
     c.end_group.ensures.count ∙ length-take-le w (drop m now) (omega (arith, length-drop m now)) ∙ is in record {
       within = there;
-      made = λ answer hold.
-          AreEnds-group (λ k. answer) (λ k. lane_answer (g.S.Slice.bit k) c.args.passes.now)
-          (g.L.BlockLists.block_of c.args.lists.now) (g.L.BlockLists.count_of c.args.lists.now) m n w
-          firsts now part there same is count
-          (λ j below. hold j (omega (arith, c.min-count.ensures, c.BATCH.ensures)))
-          (c.groups.invariant.made answer hold) c.groups.invariant.rest c.end_group.ensures.ends;
+      made = λ encryption are.
+          AreEnds-group encryption _ (g.L.BlockLists.block_of c.args.lists.now)
+          (g.L.BlockLists.count_of c.args.lists.now) m n w firsts now part there same is count
+          (λ j below. sym (c.encryption-passes.ensures encryption are j below))
+          (c.groups.invariant.made encryption are) c.groups.invariant.rest c.end_group.ensures.ends;
       rest = λ k past.
           get_or-put_past m w now part k (omega arith) (omega arith) (count ∙ sym is)
           ∙ c.groups.invariant.rest k (omega arith);

@@ -1,16 +1,13 @@
 -- The chains before the index have ended, and the others are as they were.
 use Rattle.std.proofs.Common.{◌≡◌, ℕ, ◌-◌, ◌≤◌, [], get_or, length, take, List}
-use Rattle.des_fast.specs.Slices.{InEachBlock}
-use Rattle.des_fast.specs.EachKey.{lane_answer}
 use Rattle.des_fast.specs.ChainEnds.{AreEnds}
 use Rattle.des_fast.proofs.many.ends.end.Given as goal
 
 abbrev pub invariant-groups : goal.invariant-groups
 invariant-groups g l = record {
   within : l.from ≤ length l.initial.chains;
-  made : (answer : List ℕ → List ℕ)
-      → InEachBlock g.S.Slice.BATCH (λ b. lane_answer (g.S.Slice.bit b) l.passes ≡ answer)
-      → AreEnds (λ k. answer) (g.L.BlockLists.block_of l.lists)
+  made : (encryption : ℕ → List ℕ → List ℕ) → g.K.ChainKeys.encrypt l.keys encryption
+      → AreEnds encryption (g.L.BlockLists.block_of l.lists)
       (g.L.BlockLists.count_of l.lists) (take l.from l.initial.chains) l.chains;
   rest : (m : ℕ) → l.from ≤ m → get_or l.chains m [] ≡ get_or l.initial.chains m [];
 }

@@ -8,10 +8,10 @@ use Rattle.des_fast.proofs.many.passes.spread_three.Goals as goal
 pub returns : goal.returns
 returns g c b within =
     ap (λ passes. block_through_passes (map (round_keys_in (g.S.Slice.bit b)) passes))
-    (three-written c.args.slices.now c.spread.new.self c.spread-2.new.self c.spread-3.new.self (omega arith))
+    (three-written c.args.slices.now c.spread_shared.new.slices c.spread_shared-2.new.slices c.spread_shared-3.new.slices (omega arith))
     ∙ ap block_through_passes
-    (ap₂ (λ first rest. first ∷ rest) (c.spread.ensures b within ∙ c.last_keys.ensures)
-    (ap₂ (λ second rest. second ∷ rest) (c.spread-2.ensures b within ∙ c.last_keys-2.ensures)
-    (ap (λ third. third ∷ []) (c.spread-3.ensures b within ∙ c.last_keys-3.ensures))))
+    (ap₂ (λ first rest. first ∷ rest) (c.spread_shared.ensures b within)
+    (ap₂ (λ second rest. second ∷ rest) (c.spread_shared-2.ensures b within)
+    (ap (λ third. third ∷ []) (c.spread_shared-3.ensures b within))))
     ∙ block_through_passes-three _ _ _
     ∙ through-keys c.args.passes.now

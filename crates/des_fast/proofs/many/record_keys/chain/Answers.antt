@@ -1,6 +1,5 @@
 -- A group more.
-use Rattle.std.proofs.Common.{◌≡◌, ℕ, length, refl, ◌∙◌, arith, subst}
-use Rattle.des_fast.specs.RecordStates.{AreChainedBelow}
+use Rattle.std.proofs.Common.{length, refl, ◌∙◌, arith}
 use Rattle.des_fast.proofs.SliceSizes.{pass_slices-le, lane_keys-le}
 use Rattle.des_fast.proofs.ChainedRecords.{AreChainedBelow-none, CbcEach-all, GoOn-chained}
 use Rattle.des_fast.proofs.many.record_keys.chain.Goals as goal
@@ -44,17 +43,12 @@ groups-preserved g c = record {
 
 pub returns-clause-chained : goal.returns-clause-chained
 returns-clause-chained g c encryption are =
-    let all : c.groups.from ≡ length c.args.vectors.now = omega (arith, c.groups.invariant.within) in
     CbcEach-all encryption (g.Z.Sizes.list c.args.sizes) c.args.vectors.now c.args.blocks.now
-    c.groups.vectors c.groups.blocks c.requires.vectors c.requires.whole c.groups.invariant.in_blocks
-    c.are_blocks.ensures
-    (subst (λ (n : ℕ). AreChainedBelow encryption (g.Z.Sizes.list c.args.sizes) c.args.vectors.now c.args.blocks.now
-    c.groups.vectors c.groups.blocks n) all (c.groups.invariant.chained encryption are))
+    c.groups.vectors c.groups.blocks c.groups.from c.requires.vectors c.requires.whole c.groups.invariant.in_blocks
+    c.requires.blocks (omega arith) (c.groups.invariant.chained encryption are)
 
 pub returns-clause-goes_on : goal.returns-clause-goes_on
 returns-clause-goes_on g c encryption are =
-    let all : c.groups.from ≡ length c.args.vectors.now = omega (arith, c.groups.invariant.within) in
     GoOn-chained encryption (g.Z.Sizes.list c.args.sizes) c.args.vectors.now c.args.blocks.now
-    c.groups.vectors c.groups.blocks c.requires.vectors c.requires.whole c.groups.invariant.in_blocks
-    (subst (λ (n : ℕ). AreChainedBelow encryption (g.Z.Sizes.list c.args.sizes) c.args.vectors.now c.args.blocks.now
-    c.groups.vectors c.groups.blocks n) all (c.groups.invariant.chained encryption are))
+    c.groups.vectors c.groups.blocks c.groups.from c.requires.vectors c.requires.whole c.groups.invariant.in_blocks
+    (omega arith) (c.groups.invariant.chained encryption are)

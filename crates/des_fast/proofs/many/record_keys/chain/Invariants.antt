@@ -10,7 +10,7 @@ invariant-groups g l = record {
   starts : l.start ≡ start (g.Z.Sizes.list l.sizes) l.from;
   in_vectors : length l.vectors ≡ length l.initial.vectors;
   in_blocks : length l.blocks ≡ length l.initial.blocks;
-  chained : (encryption : ℕ → List ℕ → List ℕ) → g.K.RecordKeys.encrypt l.keys encryption
+  chained : (encryption : ℕ → List ℕ → List ℕ) → g.K.ChainKeys.encrypt l.keys encryption
       → AreChainedBelow encryption (g.Z.Sizes.list l.sizes) l.initial.vectors l.initial.blocks l.vectors l.blocks
       l.from;
 }

@@ -1,6 +1,5 @@
 -- A part more.
-use Rattle.std.proofs.Common.{◌≡◌, ℕ, length, refl, ◌∙◌, arith, subst}
-use Rattle.des_fast.specs.RecordStates.{AreUnchainedBelow}
+use Rattle.std.proofs.Common.{refl, ◌∙◌, arith}
 use Rattle.des_fast.proofs.UnchainedRecords.{AreUnchainedBelow-none, UnchainsEach-all, GoOn-unchained}
 use Rattle.des_fast.proofs.many.record_keys.unchain.Goals as goal
 
@@ -18,29 +17,23 @@ parts-init g c = record {
 pub parts-preserved : goal.parts-preserved
 parts-preserved g c = record {
   within = omega (arith, c.min-count.ensures, c.parts.invariant.in_blocks);
-  starts = c.unchain_part-record.ensures.starts;
-  before = c.unchain_part-record.ensures.before;
-  in_vectors = c.unchain_part-record.ensures.vectors ∙ c.parts.invariant.in_vectors;
-  in_blocks = c.unchain_part-record.ensures.count ∙ c.parts.invariant.in_blocks;
+  starts = c.unchain_part-current.ensures.starts;
+  before = c.unchain_part-current.ensures.before;
+  in_vectors = c.unchain_part-current.ensures.vectors ∙ c.parts.invariant.in_vectors;
+  in_blocks = c.unchain_part-current.ensures.count ∙ c.parts.invariant.in_blocks;
   unchained = λ decryption are.
-      c.unchain_part-record.ensures.unchained decryption are c.args.vectors.now c.args.blocks.now
+      c.unchain_part-current.ensures.unchained decryption are c.args.vectors.now c.args.blocks.now
       (c.parts.invariant.unchained decryption are);
 }
 
 pub returns-clause-unchained : goal.returns-clause-unchained
 returns-clause-unchained g c decryption are =
-    let all : c.parts.from ≡ length c.args.blocks.now =
-    omega (arith, c.parts.invariant.within, c.parts.invariant.in_blocks) in
     UnchainsEach-all decryption (g.Z.Sizes.list c.args.sizes) c.args.vectors.now c.args.blocks.now
-    c.parts.vectors c.parts.blocks c.requires.vectors c.requires.whole c.parts.invariant.in_blocks
-    (subst (λ (n : ℕ). AreUnchainedBelow decryption (g.Z.Sizes.list c.args.sizes) c.args.vectors.now c.args.blocks.now
-    c.parts.vectors c.parts.blocks n) all (c.parts.invariant.unchained decryption are))
+    c.parts.vectors c.parts.blocks c.parts.from c.requires.vectors c.requires.whole c.parts.invariant.in_blocks
+    (omega arith) (c.parts.invariant.unchained decryption are)
 
 pub returns-clause-goes_on : goal.returns-clause-goes_on
 returns-clause-goes_on g c decryption are =
-    let all : c.parts.from ≡ length c.args.blocks.now =
-    omega (arith, c.parts.invariant.within, c.parts.invariant.in_blocks) in
     GoOn-unchained decryption (g.Z.Sizes.list c.args.sizes) c.args.vectors.now c.args.blocks.now
-    c.parts.vectors c.parts.blocks c.requires.vectors c.requires.whole
-    (subst (λ (n : ℕ). AreUnchainedBelow decryption (g.Z.Sizes.list c.args.sizes) c.args.vectors.now c.args.blocks.now
-    c.parts.vectors c.parts.blocks n) all (c.parts.invariant.unchained decryption are))
+    c.parts.vectors c.parts.blocks c.parts.from c.requires.vectors c.requires.whole
+    (omega arith) (c.parts.invariant.unchained decryption are)

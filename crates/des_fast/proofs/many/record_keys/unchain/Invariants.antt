@@ -7,8 +7,8 @@ use Rattle.des_fast.proofs.many.record_keys.unchain.Given as goal
 abbrev pub invariant-parts : goal.invariant-parts
 invariant-parts g l = record {
   within : l.from ≤ length l.initial.blocks;
-  starts : l.record.start ≡ start (g.Z.Sizes.list l.sizes) l.record.number;
-  before : l.record.start ≤ l.from;
+  starts : l.current.start ≡ start (g.Z.Sizes.list l.sizes) l.current.number;
+  before : l.current.start ≤ l.from;
   in_vectors : length l.vectors ≡ length l.initial.vectors;
   in_blocks : length l.blocks ≡ length l.initial.blocks;
   unchained : (decryption : ℕ → List ℕ → List ℕ) → g.K.RecordKeys.decrypt l.keys decryption

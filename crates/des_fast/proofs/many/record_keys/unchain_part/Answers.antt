@@ -5,8 +5,8 @@ use Rattle.des_fast.proofs.many.record_keys.unchain_part.Goals as goal
 
 pub returns-clause-unchained : goal.returns-clause-unchained
 returns-clause-unchained g c decryption are first q below =
-    let from : ℕ = c.args.from in
-    let w : ℕ = from + c.args.count - from in
+    let from : ℕ = c.args.span.from in
+    let w : ℕ = from + c.args.span.count - from in
     let old : List (List ℕ) = c.args.blocks.now in
     let part : List (List ℕ) = take w (drop from old) in
     let in_part : length part ≡ w =

@@ -12,9 +12,9 @@ keys-preserved g c =
     let bytes = g.C.Key.KeyBytes.bytes_of in
     let keys : List (List ℕ) = map bytes c.args.keys.now in
     let at : ℕ = c.record_with-record.result.number in
-    let has : HasBlock sizes at (c.args.from + c.keys.k) = c.record_with-record.ensures.there in
+    let has : HasBlock sizes at (c.args.span.from + c.keys.k) = c.record_with-record.ensures.there in
     let is_at : ℕ → List ℕ → Type 0 =
-    λ k key. (m : ℕ) → HasBlock sizes m (c.args.from + k) → key ≡ get_or keys m [] in
+    λ k key. (m : ℕ) → HasBlock sizes m (c.args.span.from + k) → key ≡ get_or keys m [] in
     let key = c.index-keys-record.result in
     let inside : at < length c.args.keys.now = omega (arith, has.there, c.requires.keys) in
     let here : bytes key ≡ get_or keys at [] =

@@ -9,7 +9,7 @@ use Rattle.des_fast.proofs.many.records.take_out.Goals as goal
 pub answers-preserved : goal.answers-preserved
 answers-preserved g c =
     let sizes : List ℕ = g.Z.Sizes.list c.args.sizes in
-    let from : ℕ = c.args.from in
+    let from : ℕ = c.args.span.from in
     let k : ℕ = c.answers.k in
     let at : ℕ = c.record_with-record.result.number in
     let vectors : List (List ℕ) = c.answers.vectors in
@@ -40,6 +40,6 @@ answers-preserved g c =
 
 pub returns-clause-unchained : goal.returns-clause-unchained
 returns-clause-unchained g c f first q answered are =
-    let all : c.answers.k ≡ c.args.count = omega (arith, c.answers.auto.k-end) in
+    let all : c.answers.k ≡ c.args.span.count = omega (arith, c.answers.auto.k-end) in
     subst (λ (n : ℕ). AreUnchainedBelow f (g.Z.Sizes.list c.args.sizes) first q c.answers.vectors c.answers.blocks
-    (c.args.from + n)) all (c.answers.invariant.unchained f first q answered are)
+    (c.args.span.from + n)) all (c.answers.invariant.unchained f first q answered are)

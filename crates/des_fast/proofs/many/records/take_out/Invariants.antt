@@ -7,13 +7,13 @@ use Rattle.des_fast.proofs.many.records.take_out.Given as goal
 abbrev pub invariant-answers : goal.invariant-answers
 invariant-answers g l = record {
   starts : l.record.start ≡ start (g.Z.Sizes.list l.sizes) l.record.number;
-  before : l.record.start ≤ l.from + l.k;
+  before : l.record.start ≤ l.span.from + l.k;
   in_vectors : length l.vectors ≡ length l.initial.vectors;
   in_blocks : length l.blocks ≡ length l.initial.blocks;
-  rest : (m : ℕ) → l.from + l.k ≤ m → get_or l.blocks m [] ≡ get_or l.initial.blocks m [];
+  rest : (m : ℕ) → l.span.from + l.k ≤ m → get_or l.blocks m [] ≡ get_or l.initial.blocks m [];
   unchained : (decryption : ℕ → List ℕ → List ℕ) (first q : List (List ℕ))
-      → ((k m : ℕ) → k < l.count → HasBlock (g.Z.Sizes.list l.sizes) m (l.from + k)
-      → get_or l.answers k [] ≡ decryption m (get_or l.initial.blocks (l.from + k) []))
-      → AreUnchainedBelow decryption (g.Z.Sizes.list l.sizes) first q l.initial.vectors l.initial.blocks l.from
-      → AreUnchainedBelow decryption (g.Z.Sizes.list l.sizes) first q l.vectors l.blocks (l.from + l.k);
+      → ((k m : ℕ) → k < l.span.count → HasBlock (g.Z.Sizes.list l.sizes) m (l.span.from + k)
+      → get_or l.answers k [] ≡ decryption m (get_or l.initial.blocks (l.span.from + k) []))
+      → AreUnchainedBelow decryption (g.Z.Sizes.list l.sizes) first q l.initial.vectors l.initial.blocks l.span.from
+      → AreUnchainedBelow decryption (g.Z.Sizes.list l.sizes) first q l.vectors l.blocks (l.span.from + l.k);
 }

@@ -4,7 +4,8 @@ use Rattle.des.specs.Tables.{permutation}
 use Rattle.des.specs.CipherFunction.{substitute}
 use Rattle.des_fast.specs.Groups.{bits_of_groups}
 use Rattle.des_fast.specs.JoinedEntries.{first_entries, second_entries}
-use Rattle.des_fast.proofs.GroupWords.{IsExpansionOf, IsOfGroups-lt}
+use Rattle.des_fast.proofs.GroupWords.{IsOfGroups-lt}
+use Rattle.des_fast.proofs.HalfExpansions.{IsExpansionOf}
 use Rattle.des_fast.proofs.ChosenEntries.{IsExpansionOf-substitute}
 use Rattle.des_fast.proofs.JoinedEntries.{first_entries-substitute, second_entries-substitute}
 use Rattle.des_fast.proofs.quiet.fours.substitute.Goals as goal

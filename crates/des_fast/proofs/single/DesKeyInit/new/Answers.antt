@@ -1,7 +1,5 @@
-use Rattle.std.proofs.Common.{ℕ, sym, ap, ◌∙◌, arith}
-use Rattle.des.specs.Bits.{bits_of_word}
+use Rattle.std.proofs.Common.{ap, ◌∙◌}
 use Rattle.des.specs.KeySchedule.{key_schedule}
-use Rattle.des.specs.Laws.BitLists.{bits_of_bytes-from_be}
 use Rattle.des.specs.Laws.DesLaws as port
 use Rattle.des.proofs.ByteArrays.{IsKey-array}
 use Rattle.des.proofs.Graphs.{HasOneAnswerEachWay-key, IsGraphOf-encryption, IsGraphOf-decryption}
@@ -12,9 +10,7 @@ use Rattle.des_fast.proofs.single.DesKeyInit.new.Goals as goal
 pub returns-clause-made : goal.returns-clause-made
 returns-clause-made g c = (
   IsKey-array 8 c.args.key.now c.told-key c.fits-key,
-  c.new.ensures
-      ∙ ap (λ (word : ℕ). key_schedule (bits_of_word word)) c.from_be_bytes.ensures
-      ∙ ap key_schedule (sym (bits_of_bytes-from_be c.args.key.now (omega arith) c.fits-key)),
+  c.new.ensures ∙ ap key_schedule c.word_of.ensures.bits,
 )
 
 pub returns-clause-one_answer_each_way : goal.returns-clause-one_answer_each_way

@@ -11,4 +11,4 @@ returns g c k below =
     let inside : k < length c.args.keys.now = omega (arith, length-map c.args.keys.now (λ key. key)) in
     let parts : List Part = record { number = 1; deciphers = c.args.deciphers } ∷ [] in
     lane-by_parts (g.S.Slice.bit k) _ parts (answer_in c.args.deciphers encryption decryption) c.args.keys.now k
-    (c.spread_one.ensures k inside) (one_part c.args.deciphers c.args.keys.now k inside c.are_blocks.ensures)
+    (c.spread_one.ensures k inside) (one_part c.args.deciphers _ (c.told-keys k inside))

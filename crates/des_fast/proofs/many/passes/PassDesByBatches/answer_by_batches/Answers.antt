@@ -1,11 +1,9 @@
-use Rattle.std.proofs.Common.{ap, sym, ◌∙◌, arith}
-use Rattle.std.proofs.lemmas.List.{take_all}
-use Rattle.des_fast.specs.EachKey.{lane_answer}
+use Rattle.std.proofs.Common.{arith}
+use Rattle.des_fast.proofs.SpreadParts.{AreSlicesFor-one}
 use Rattle.des_fast.proofs.many.passes.PassDesByBatches.answer_by_batches.Goals as goal
 
-pub returns : goal.returns
-returns g c =
-    c.answer.ensures _
-    (λ b within.
-    ap (lane_answer (g.S.Slice.bit b)) (sym (take_all 1 c.spread_one.new.slices (omega (arith, c.spread_one.ensures.count))))
-    ∙ c.spread_one.ensures.spread b within)
+pub returns-clause-answered : goal.returns-clause-answered
+returns-clause-answered g c =
+    c.answer.ensures.answered _
+    (AreSlicesFor-one g.S.Slice.BATCH g.S.Slice.bit c.spread_one.new.slices _ (omega (arith, c.spread_one.ensures.count))
+    c.spread_one.ensures.spread)

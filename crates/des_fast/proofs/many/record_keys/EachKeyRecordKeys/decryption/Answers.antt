@@ -10,7 +10,7 @@ returns g c decryption are k m below has =
     let answer = g.C.KeyedCipher.decryption in
     let bytes = g.C.Key.KeyBytes.bytes_of in
     let keys = c.write_keys.new.of_blocks in
-    let n : ℕ = c.args.count in
+    let n : ℕ = c.args.span.count in
     let most : n ≤ length keys = omega (arith, c.requires.few, g.met.S.Slice.at_most, c.write_keys.ensures.all) in
     let in_part : length (map bytes (take n keys)) ≡ n = length-map (take n keys) bytes ∙ length-take-le n keys most in
     ap (λ (f : ℕ → List ℕ → List ℕ). f m) are

@@ -9,10 +9,7 @@ used-requires g c = omega (arith, pass_slices-le _ _ g.met.S.Slice.small_gaps g.
 pub unchain-requires : goal.unchain-requires
 unchain-requires g c = omega (arith, pass_slices-le _ _ g.met.S.Slice.small_gaps g.met.S.Slice.few_bytes)
 
-pub returns-clause-blocks : goal.returns-clause-blocks
-returns-clause-blocks g c = c.are_blocks.ensures
-
 pub returns-clause-unchained : goal.returns-clause-unchained
 returns-clause-unchained g c encrypted decrypted are =
-    c.unchain.ensures decrypted
+    c.unchain.ensures.unchained decrypted
     (subst (λ passes. AreSlicesFor g.S.Slice.BATCH g.S.Slice.bit passes decrypted) (sym c.used.ensures) are.decryption)

@@ -9,10 +9,7 @@ used-requires g c = omega (arith, pass_slices-le _ _ g.met.S.Slice.small_gaps g.
 pub answer-requires : goal.answer-requires
 answer-requires g c = omega (arith, pass_slices-le _ _ g.met.S.Slice.small_gaps g.met.S.Slice.few_bytes)
 
-pub returns-clause-blocks : goal.returns-clause-blocks
-returns-clause-blocks g c = c.are_blocks.ensures
-
 pub returns-clause-encrypted : goal.returns-clause-encrypted
 returns-clause-encrypted g c encrypted decrypted are =
-    c.answer.ensures encrypted
+    c.answer.ensures.answered encrypted
     (subst (λ passes. AreSlicesFor g.S.Slice.BATCH g.S.Slice.bit passes encrypted) (sym c.used.ensures) are.encryption)

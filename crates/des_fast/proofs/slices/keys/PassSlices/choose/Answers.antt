@@ -7,6 +7,6 @@ use Rattle.des_fast.proofs.slices.keys.PassSlices.choose.Goals as goal
 pub returns : goal.returns
 returns g c b within key are =
     let read = g.S.Slice.bit b in
-    ap (λ (halves : List Bool). round_keys_by halves c.args.deciphers) (c.selection-self.ensures b within)
+    ap (λ (halves : List Bool). round_keys_by halves c.args.deciphers) (c.write_selection.ensures b within)
     ∙ round_keys_under-chosen c.args.deciphers (map read c.args.slices.now) key
     (length-map c.args.slices.now read ∙ c.told-slices) are

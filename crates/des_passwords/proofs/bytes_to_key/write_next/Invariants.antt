@@ -1,0 +1,13 @@
+use Rattle.std.proofs.Common.{◌≡◌, ◌≤◌, ◌++◌, length, take}
+use Rattle.des_passwords.specs.BytesToKey.{repeated}
+use Rattle.des_passwords.proofs.bytes_to_key.write_next.Given as goal
+
+-- the hash function was taken as often as the counter says
+abbrev pub invariant-steps : goal.invariant-steps
+invariant-steps g l = record {
+  count : length l.last ≡ g.H.HashFunction.SIZE;
+  begun : 1 ≤ l.counter;
+  within : l.counter ≤ l.iterations;
+  repeated : l.last
+      ≡ repeated g.H.HashFunction.digest l.counter (take l.count l.fn.last ++ l.password ++ l.salt);
+}

@@ -1,0 +1,10 @@
+use Rattle.std.proofs.Common.{◌≡◌, ℕ, ◌<◌, ◌≤◌, length, get_or, bit_xor}
+use Rattle.des_passwords.proofs.xored.xor.Given as goal
+
+-- the bytes before the index are xored, and those from it on are as they were
+abbrev pub invariant-loop-i : goal.invariant-loop-i
+invariant-loop-i l = record {
+  xored : (k : ℕ) → k < l.i → get_or l.bytes k 0 ≡ bit_xor (get_or l.initial.bytes k 0) (get_or l.others k 0);
+  rest : (k : ℕ) → l.i ≤ k → get_or l.bytes k 0 ≡ get_or l.initial.bytes k 0;
+  count : length l.bytes ≡ length l.initial.bytes;
+}
