@@ -18,7 +18,7 @@ export const BLOCK_SIZE = 8;
 export const TAG_SIZE = 8;
 
 // The SHA-256 of the module that this file was built with.
-const MODULE_SUM = "e3edb4c099a461215dfc8c5cb1b316633259ae6e4c4d37a9bc1e43c0e53353b0";
+const MODULE_SUM = "fb5ee727b966751426e11d7f929e47a5072b3a7ae5f94099a5f4a2a53bdc087b";
 
 // The bytes of the module's stack, which lies at its address 0. `build` links it so.
 const STACK_SIZE = 131072;
