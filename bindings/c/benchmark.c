@@ -33,19 +33,19 @@ enum { FEW = 8 * 18 };
   static int name##_ecb(const struct ours *by, uint8_t *data, size_t length) {                                 \
     const cukvashe_##name *c = &name##_context;                                                                \
     if (by->way == NARROW)                                                                                     \
-      return by->encrypts ? cukvashe_narrow_##name##_encrypt_ecb(c, data, length)                              \
-                          : cukvashe_narrow_##name##_decrypt_ecb(c, data, length);                             \
+      return by->encrypts ? cukvashe_internal_encrypt_ecb(WORDS_OF(*c), data, length)                          \
+                          : cukvashe_internal_decrypt_ecb(WORDS_OF(*c), data, length);                         \
     if (by->way == WIDE)                                                                                       \
-      return by->encrypts ? cukvashe_wide_##name##_encrypt_ecb(c, data, length)                                \
-                          : cukvashe_wide_##name##_decrypt_ecb(c, data, length);                               \
+      return by->encrypts ? cukvashe_wide_encrypt_ecb(WORDS_OF(*c), data, length)                              \
+                          : cukvashe_wide_decrypt_ecb(WORDS_OF(*c), data, length);                             \
     return by->encrypts ? cukvashe_##name##_encrypt_ecb(c, data, length)                                       \
                         : cukvashe_##name##_decrypt_ecb(c, data, length);                                      \
   }                                                                                                            \
   static int name##_cbc(const struct ours *by, uint8_t *data, size_t length) {                                 \
     const cukvashe_##name *c = &name##_context;                                                                \
     if (by->encrypts) return cukvashe_##name##_encrypt_cbc(c, iv, data, length);                               \
-    if (by->way == NARROW) return cukvashe_narrow_##name##_decrypt_cbc(c, iv, data, length);                   \
-    if (by->way == WIDE) return cukvashe_wide_##name##_decrypt_cbc(c, iv, data, length);                       \
+    if (by->way == NARROW) return cukvashe_internal_decrypt_cbc(WORDS_OF(*c), iv, data, length);               \
+    if (by->way == WIDE) return cukvashe_wide_decrypt_cbc(WORDS_OF(*c), iv, data, length);                     \
     return cukvashe_##name##_decrypt_cbc(c, iv, data, length);                                                 \
   }                                                                                                            \
   static void name##_call(void *state, size_t bytes) {                                                         \

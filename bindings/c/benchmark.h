@@ -9,6 +9,9 @@
 
 enum { RUNS = 100 };
 
+/* A context, as an export takes it. */
+#define WORDS_OF(CONTEXT) (CONTEXT).words, sizeof(CONTEXT).words / sizeof *(CONTEXT).words
+
 static void fail(const char *what) {
   fprintf(stderr, "benchmark: %s\n", what);
   exit(1);

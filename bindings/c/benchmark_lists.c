@@ -34,12 +34,11 @@ struct of {
   bool is_triple, is_wide;
 };
 
-/* The calls of a list, by cipher and width. */
-#define BY_WIDTH(OF, CALL, ...)                                                                              \
-  check((OF)->is_triple ? (OF)->is_wide ? cukvashe_wide_tdes_ede3_##CALL(__VA_ARGS__)                        \
-                                        : cukvashe_narrow_tdes_ede3_##CALL(__VA_ARGS__)                      \
-                        : (OF)->is_wide ? cukvashe_wide_des_##CALL(__VA_ARGS__)                              \
-                                        : cukvashe_narrow_des_##CALL(__VA_ARGS__))
+/* The call of an export of lists, by width. */
+#define BY_WIDTH(OF, CALL, ...) \
+  check((OF)->is_wide ? cukvashe_wide_##CALL(__VA_ARGS__) : cukvashe_internal_##CALL(__VA_ARGS__))
+
+static size_t key_size_of(const struct of *of) { return of->is_triple ? 24 : 8; }
 
 static DES_cblock *block_at(size_t k) { return (DES_cblock *)(blocks + 8 * k); }
 static DES_cblock *key_at(size_t k) { return (DES_cblock *)(keys + 8 * k); }
@@ -48,7 +47,7 @@ static DES_cblock *key_at(size_t k) { return (DES_cblock *)(keys + 8 * k); }
 static void each_key(void *state, size_t bytes) {
   const struct of *of = (const struct of *)state;
   (void)bytes;
-  BY_WIDTH(of, encrypt_each, keys, COUNT, blocks, COUNT);
+  BY_WIDTH(of, encrypt_each, key_size_of(of), keys, key_size_of(of) * COUNT, blocks, COUNT);
 }
 
 static void openssl_each_key(void *state, size_t bytes) {
@@ -69,11 +68,9 @@ static void records(void *state, size_t bytes) {
   const struct of *of = (const struct of *)state;
   (void)bytes;
   if (of->is_triple)
-    check((of->is_wide ? cukvashe_wide_tdes_ede3_encrypt_cbc_records : cukvashe_narrow_tdes_ede3_encrypt_cbc_records)(
-        &ede3, vectors, COUNT, counts, COUNT, blocks, COUNT * RECORD));
+    BY_WIDTH(of, encrypt_cbc_records, WORDS_OF(ede3), vectors, COUNT, counts, COUNT, blocks, COUNT * RECORD);
   else
-    check((of->is_wide ? cukvashe_wide_des_encrypt_cbc_records : cukvashe_narrow_des_encrypt_cbc_records)(
-        &des, vectors, COUNT, counts, COUNT, blocks, COUNT * RECORD));
+    BY_WIDTH(of, encrypt_cbc_records, WORDS_OF(des), vectors, COUNT, counts, COUNT, blocks, COUNT * RECORD);
 }
 
 static void openssl_records(void *state, size_t bytes) {
@@ -93,8 +90,7 @@ static void openssl_records(void *state, size_t bytes) {
 static void retail_macs(void *state, size_t bytes) {
   const struct of *of = (const struct of *)state;
   (void)bytes;
-  check((of->is_wide ? cukvashe_wide_retail_mac_des_macs_each : cukvashe_narrow_retail_mac_des_macs_each)(
-      keys, COUNT, 2, messages, COUNT, tags, COUNT));
+  BY_WIDTH(of, macs_each, ALGORITHM_RETAIL_MAC, 2, 16, keys, 16 * COUNT, messages, COUNT, tags, COUNT);
 }
 
 static void one_retail_mac(void *state, size_t bytes) {
@@ -111,8 +107,7 @@ static void one_retail_mac(void *state, size_t bytes) {
 static void transactions(void *state, size_t bytes) {
   const struct of *of = (const struct of *)state;
   (void)bytes;
-  check((of->is_wide ? cukvashe_wide_dukpt_transaction_keys : cukvashe_narrow_dukpt_transaction_keys)(
-      keys, serials, COUNT, transaction_keys, COUNT));
+  BY_WIDTH(of, dukpt_transaction_keys, keys, serials, COUNT, transaction_keys, COUNT);
 }
 
 static void one_transaction(void *state, size_t bytes) {

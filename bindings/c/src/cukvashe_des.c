@@ -1,10 +1,16 @@
 /*
- * What of the library is C: which of two proved calls is taken, by length and processor; proved calls in the header's order of
- * arguments, lists of blocks by their length in bytes, and a part of a text by its place; texts; and wiping.
+ * What of the library is C: calls of the header over the proved exports that are there once for all ciphers and MACs, in the header's
+ * order of arguments; which of two exports is taken, by the length of a list and the processor; lists of blocks by their length in bytes,
+ * and a part of a text by its place; texts; and wiping.
  */
 #include "internal.h"
 #include <string.h>
 
+/*
+ * CHOOSE makes a call of an export of lists, for this many blocks, keys or messages. BY_WIDTH is how much of the stack it takes, in
+ * bytes: NARROW for batches of 128, WIDE for those of 256, which may be taken above MOST_NARROW. It is the most that was seen on x86-64,
+ * and on riscv64 beyond what is wiped there anyway.
+ */
 #if HAS_WIDE
 /* The processor is asked once, since a virtual one may take long to answer. Threads that ask at once all store one answer. */
 static bool has_wide(void) {
@@ -19,138 +25,189 @@ static bool has_wide(void) {
   return known == YES;
 }
 
-/* Up to 128 blocks, one narrow batch is faster than one wide batch. */
-static bool takes_wide(size_t length) { return length > 128 * CUKVASHE_BLOCK_SIZE && has_wide(); }
-static bool takes_wide_by_count(size_t count) { return count > 128 && has_wide(); }
+static bool takes_wide(size_t count) { return count > MOST_NARROW && has_wide(); }
 
-#define CHOOSE_IF(IS_WIDE, NAME, CALL, ...)                                                                           \
-  (IS_WIDE ? cukvashe_wide_##NAME##_##CALL(__VA_ARGS__) : cukvashe_narrow_##NAME##_##CALL(__VA_ARGS__))
+#define CHOOSE(COUNT, CALL, ...)                                                                                      \
+  (takes_wide(COUNT) ? cukvashe_wide_##CALL(__VA_ARGS__) : cukvashe_internal_##CALL(__VA_ARGS__))
+#define BY_WIDTH(COUNT, NARROW, WIDE) ((COUNT) > MOST_NARROW ? (WIDE) : (NARROW))
 #else
-#define CHOOSE_IF(IS_WIDE, NAME, CALL, ...) cukvashe_narrow_##NAME##_##CALL(__VA_ARGS__)
+#define CHOOSE(COUNT, CALL, ...) cukvashe_internal_##CALL(__VA_ARGS__)
+#define BY_WIDTH(COUNT, NARROW, WIDE) (NARROW)
 #endif
 
-#define CHOOSE(NAME, CALL, ...) CHOOSE_IF(takes_wide(length), NAME, CALL, __VA_ARGS__)
-/* The proved calls refuse a length that is not the count of the other list, or the sum of the counts. */
-#define CHOOSE_IF_BLOCKS(IS_WIDE, NAME, CALL, ...)                                                                    \
-  (length % CUKVASHE_BLOCK_SIZE != 0 ? CUKVASHE_ERR_BLOCKS                                                            \
-                                     : CHOOSE_IF(IS_WIDE, NAME, CALL, __VA_ARGS__, length / CUKVASHE_BLOCK_SIZE))
-/* They refuse lists that differ in length too, and here one count is that of both. */
-#define CHOOSE_BY_COUNT(NAME, CALL, ...) (void)CHOOSE_IF(takes_wide_by_count(count), NAME, CALL, __VA_ARGS__)
+/* Blocks of `length` bytes. */
+#define BLOCKS (length / CUKVASHE_BLOCK_SIZE)
 
-/* Begins a call that stack.c hands on to, whose arguments are those of the header's. */
-#define UNWIPED(RESULT, NAME)                                                                                         \
-  extern __typeof__(cukvashe_##NAME) cukvashe_unwiped_##NAME;                                                         \
-  RESULT cukvashe_unwiped_##NAME
+/* A call with a list of blocks beside another list. The exports compare the numbers of elements. */
+#define OF_BLOCKS(CALL) (length % CUKVASHE_BLOCK_SIZE != 0 ? CUKVASHE_ERR_BLOCKS : CALL)
 
-/* From a buffer to itself is the call in place: the proved calls of two buffers take two that do not overlap. */
-#define DEFINE_CIPHER(NAME)                                                                                           \
+/* The same under a key for each block. The count is compared here, before it is multiplied by the size of a key, so that it can be. */
+#define OF_KEYS_AND_BLOCKS(CALL) OF_BLOCKS(count != BLOCKS ? CUKVASHE_ERR_COUNTS : CALL)
+
+/* Calls with a context. From a buffer to itself is the call in place: the exports of two buffers take two that do not overlap. */
+#define DEFINE_CIPHER(NAME, WORDS)                                                                                    \
   int cukvashe_##NAME##_encrypt_ecb(const cukvashe_##NAME *context, uint8_t *data, size_t length) {                   \
-    return CHOOSE(NAME, encrypt_ecb, context, data, length);                                                          \
+    return CHOOSE(BLOCKS, encrypt_ecb, context->words, WORDS, data, length);                                          \
   }                                                                                                                   \
   int cukvashe_##NAME##_decrypt_ecb(const cukvashe_##NAME *context, uint8_t *data, size_t length) {                   \
-    return CHOOSE(NAME, decrypt_ecb, context, data, length);                                                          \
+    return CHOOSE(BLOCKS, decrypt_ecb, context->words, WORDS, data, length);                                          \
   }                                                                                                                   \
   int cukvashe_##NAME##_encrypt_ecb_to(const cukvashe_##NAME *context, const uint8_t *input, uint8_t *output,         \
                                        size_t length) {                                                               \
     if (input == output) return cukvashe_##NAME##_encrypt_ecb(context, output, length);                               \
-    return CHOOSE(NAME, encrypt_ecb_to, context, input, length, output, length);                                      \
+    return CHOOSE(BLOCKS, encrypt_ecb_to, context->words, WORDS, input, length, output, length);                      \
   }                                                                                                                   \
   int cukvashe_##NAME##_decrypt_ecb_to(const cukvashe_##NAME *context, const uint8_t *input, uint8_t *output,         \
                                        size_t length) {                                                               \
     if (input == output) return cukvashe_##NAME##_decrypt_ecb(context, output, length);                               \
-    return CHOOSE(NAME, decrypt_ecb_to, context, input, length, output, length);                                      \
+    return CHOOSE(BLOCKS, decrypt_ecb_to, context->words, WORDS, input, length, output, length);                      \
+  }                                                                                                                   \
+  int cukvashe_##NAME##_encrypt_cbc(const cukvashe_##NAME *context, uint8_t iv[8], uint8_t *data, size_t length) {    \
+    return cukvashe_internal_encrypt_cbc(context->words, WORDS, iv, data, length);                                    \
+  }                                                                                                                   \
+  int cukvashe_##NAME##_decrypt_cbc(const cukvashe_##NAME *context, uint8_t iv[8], uint8_t *data, size_t length) {    \
+    return CHOOSE(BLOCKS, decrypt_cbc, context->words, WORDS, iv, data, length);                                      \
   }                                                                                                                   \
   int cukvashe_##NAME##_encrypt_cbc_to(const cukvashe_##NAME *context, uint8_t iv[8], const uint8_t *input,           \
                                        uint8_t *output, size_t length) {                                              \
     if (input == output) return cukvashe_##NAME##_encrypt_cbc(context, iv, output, length);                           \
-    return cukvashe_narrow_##NAME##_encrypt_cbc_to(context, iv, input, length, output, length);                       \
-  }                                                                                                                   \
-  int cukvashe_##NAME##_decrypt_cbc(const cukvashe_##NAME *context, uint8_t iv[8], uint8_t *data, size_t length) {    \
-    return CHOOSE(NAME, decrypt_cbc, context, iv, data, length);                                                      \
+    return cukvashe_internal_encrypt_cbc_to(context->words, WORDS, iv, input, length, output, length);                \
   }                                                                                                                   \
   int cukvashe_##NAME##_decrypt_cbc_to(const cukvashe_##NAME *context, uint8_t iv[8], const uint8_t *input,           \
                                        uint8_t *output, size_t length) {                                              \
     if (input == output) return cukvashe_##NAME##_decrypt_cbc(context, iv, output, length);                           \
-    return CHOOSE(NAME, decrypt_cbc_to, context, iv, input, length, output, length);                                  \
-  }                                                                                                                   \
-  UNWIPED(int, NAME##_encrypt_each)(const uint8_t *keys, size_t count, uint8_t *blocks, size_t length) {              \
-    return CHOOSE_IF_BLOCKS(takes_wide(length), NAME, encrypt_each, keys, count, blocks);                             \
-  }                                                                                                                   \
-  UNWIPED(int, NAME##_decrypt_each)(const uint8_t *keys, size_t count, uint8_t *blocks, size_t length) {              \
-    return CHOOSE_IF_BLOCKS(takes_wide(length), NAME, decrypt_each, keys, count, blocks);                             \
-  }                                                                                                                   \
-  UNWIPED(void, NAME##_check_values)(const uint8_t *keys, uint8_t *values, size_t count) {                            \
-    CHOOSE_BY_COUNT(NAME, check_values, keys, count, values, count);                                                  \
+    return CHOOSE(BLOCKS, decrypt_cbc_to, context->words, WORDS, iv, input, length, output, length);                  \
   }                                                                                                                   \
   int cukvashe_##NAME##_encrypt_cbc_records(const cukvashe_##NAME *context, uint8_t *vectors, const size_t *counts,   \
                                             size_t records_count, uint8_t *bytes, size_t length) {                    \
-    return CHOOSE_IF_BLOCKS(takes_wide_by_count(records_count), NAME, encrypt_cbc_records, context, vectors,          \
-                            records_count, counts, records_count, bytes);                                             \
+    return OF_BLOCKS(CHOOSE(records_count, encrypt_cbc_records, context->words, WORDS, vectors, records_count,        \
+                            counts, records_count, bytes, BLOCKS));                                                   \
   }                                                                                                                   \
   int cukvashe_##NAME##_decrypt_cbc_records(const cukvashe_##NAME *context, uint8_t *vectors, const size_t *counts,   \
                                             size_t records_count, uint8_t *bytes, size_t length) {                    \
-    return CHOOSE_IF_BLOCKS(takes_wide(length), NAME, decrypt_cbc_records, context, vectors, records_count, counts,   \
-                            records_count, bytes);                                                                    \
-  }                                                                                                                   \
-  UNWIPED(int, cbc_mac_##NAME##_macs)(const uint8_t *key, int method, const cukvashe_message *messages,               \
-                                      uint8_t *tags, size_t count) {                                                  \
-    return CHOOSE_IF(takes_wide_by_count(count), cbc_mac_##NAME, macs, key, method, messages, count, tags, count);    \
-  }                                                                                                                   \
-  UNWIPED(int, cbc_mac_##NAME##_macs_each)(const uint8_t *keys, int method, const cukvashe_message *messages,         \
-                                           uint8_t *tags, size_t count) {                                             \
-    return CHOOSE_IF(takes_wide_by_count(count), cbc_mac_##NAME, macs_each, keys, count, method, messages, count,     \
-                     tags, count);                                                                                    \
+    return OF_BLOCKS(CHOOSE(BLOCKS, decrypt_cbc_records, context->words, WORDS, vectors, records_count, counts,       \
+                            records_count, bytes, BLOCKS));                                                           \
   }
 
-DEFINE_CIPHER(des)
-DEFINE_CIPHER(tdes_ede2)
-DEFINE_CIPHER(tdes_ede3)
+DEFINE_CIPHER(des, 17)
+DEFINE_CIPHER(tdes_ede2, 33)
+DEFINE_CIPHER(tdes_ede3, 49)
 
-UNWIPED(int, retail_mac_des_macs)(const uint8_t *key, int method, const cukvashe_message *messages, uint8_t *tags,
-                                  size_t count) {
-  return CHOOSE_IF(takes_wide_by_count(count), retail_mac_des, macs, key, method, messages, count, tags, count);
-}
+/* Calls with keys, or with passwords. */
+#define DEFINE_CIPHER_OF_KEYS(NAME, WORDS, KEY_SIZE, INIT, CHECK_VALUE, EACH, EACH_WIDE, VALUES, VALUES_WIDE, OPEN)   \
+  WIPES(int, NAME##_init, INIT, (cukvashe_##NAME * context, const uint8_t *key, size_t key_length),                   \
+        cukvashe_internal_init(context->words, WORDS, key, key_length, false))                                        \
+  WIPES(int, NAME##_init_quiet, INIT, (cukvashe_##NAME * context, const uint8_t *key, size_t key_length),             \
+        cukvashe_internal_init(context->words, WORDS, key, key_length, true))                                         \
+  WIPES(int, NAME##_encrypt_each, BY_WIDTH(count, EACH, EACH_WIDE),                                                   \
+        (const uint8_t *keys, size_t count, uint8_t *blocks, size_t length),                                          \
+        OF_KEYS_AND_BLOCKS(CHOOSE(count, encrypt_each, KEY_SIZE, keys, count * KEY_SIZE, blocks, count)))             \
+  WIPES(int, NAME##_decrypt_each, BY_WIDTH(count, EACH, EACH_WIDE),                                                   \
+        (const uint8_t *keys, size_t count, uint8_t *blocks, size_t length),                                          \
+        OF_KEYS_AND_BLOCKS(CHOOSE(count, decrypt_each, KEY_SIZE, keys, count * KEY_SIZE, blocks, count)))             \
+  WIPES(int, NAME##_check_value, CHECK_VALUE, (const uint8_t *key, size_t key_length, uint8_t value[3]),              \
+        cukvashe_internal_check_value(KEY_SIZE, key, key_length, value))                                              \
+  WIPES_VOID(NAME##_check_values, BY_WIDTH(count, VALUES, VALUES_WIDE),                                               \
+             (const uint8_t *keys, uint8_t *values, size_t count),                                                    \
+             CHOOSE(count, check_values, KEY_SIZE, keys, count * KEY_SIZE, values, count))                            \
+  WIPES(int, NAME##_open_salted, OPEN,                                                                                \
+        (int hash, size_t iterations, const uint8_t *password, size_t password_length, const uint8_t *bytes,          \
+         size_t length, uint8_t *plain, size_t room, size_t *plain_length),                                           \
+        cukvashe_internal_open_salted(KEY_SIZE, (uint32_t)hash, iterations, password, password_length, bytes, length, \
+                                      plain, room, plain_length))
 
-UNWIPED(int, retail_mac_des_macs_each)(const uint8_t *keys, int method, const cukvashe_message *messages, uint8_t *tags,
-                                       size_t count) {
-  return CHOOSE_IF(takes_wide_by_count(count), retail_mac_des, macs_each, keys, count, method, messages, count, tags,
-                   count);
-}
+DEFINE_CIPHER_OF_KEYS(des, 17, 8, 496, 1168, 10944, 19424, 13040, 21520, 11648)
+DEFINE_CIPHER_OF_KEYS(tdes_ede2, 33, 16, 496, 1168, 10768, 17360, 13040, 21632, 11648)
+DEFINE_CIPHER_OF_KEYS(tdes_ede3, 49, 24, 496, 1168, 10784, 17360, 13056, 19424, 11648)
 
-#define DEFINE_CMAC(NAME)                                                                                             \
-  UNWIPED(void, cmac_##NAME##_macs)(const uint8_t *key, const cukvashe_message *messages, uint8_t *tags,              \
-                                    size_t count) {                                                                   \
-    CHOOSE_BY_COUNT(cmac_##NAME, macs, key, messages, count, tags, count);                                            \
+/* MACs of a message in pieces. */
+#define DEFINE_MAC(NAME, ALGORITHM, WORDS)                                                                            \
+  void cukvashe_##NAME##_update(cukvashe_##NAME *context, const uint8_t *message, size_t length) {                    \
+    cukvashe_internal_mac_update(ALGORITHM, context->words, WORDS, context->words + WORDS, message, length);          \
   }                                                                                                                   \
-  UNWIPED(void, cmac_##NAME##_macs_each)(const uint8_t *keys, const cukvashe_message *messages, uint8_t *tags,        \
-                                         size_t count) {                                                              \
-    CHOOSE_BY_COUNT(cmac_##NAME, macs_each, keys, count, messages, count, tags, count);                               \
+  void cukvashe_##NAME##_final(const cukvashe_##NAME *context, uint8_t tag[8]) {                                      \
+    cukvashe_internal_mac_final(ALGORITHM, context->words, WORDS, context->words + WORDS, tag);                       \
+  }                                                                                                                   \
+  int cukvashe_##NAME##_verify(const cukvashe_##NAME *context, const uint8_t *tag, size_t tag_length) {               \
+    return cukvashe_internal_mac_verify(ALGORITHM, context->words, WORDS, context->words + WORDS, tag, tag_length);   \
   }
 
-DEFINE_CMAC(tdes_ede2)
-DEFINE_CMAC(tdes_ede3)
+DEFINE_MAC(cbc_mac_des, ALGORITHM_CBC_MAC, 17)
+DEFINE_MAC(cbc_mac_tdes_ede2, ALGORITHM_CBC_MAC, 33)
+DEFINE_MAC(cbc_mac_tdes_ede3, ALGORITHM_CBC_MAC, 49)
+DEFINE_MAC(retail_mac_des, ALGORITHM_RETAIL_MAC, 34)
+DEFINE_MAC(cmac_tdes_ede2, ALGORITHM_CMAC, 33)
+DEFINE_MAC(cmac_tdes_ede3, ALGORITHM_CMAC, 49)
+
+/* The calls of MACs with keys, with a padding method and without one. */
+#define DEFINE_MAC_OF_KEYS(NAME, ALGORITHM, WORDS, KEY_SIZE, INIT, MACS, MACS_WIDE, EACH, EACH_WIDE)                  \
+  WIPES(int, NAME##_init, INIT, (cukvashe_##NAME * context, const uint8_t *key, size_t key_length, int method),       \
+        cukvashe_internal_mac_init(ALGORITHM, context->words, WORDS, context->words + WORDS, key, key_length,         \
+                                   (uint32_t)method, false))                                                          \
+  WIPES(int, NAME##_init_quiet, INIT, (cukvashe_##NAME * context, const uint8_t *key, size_t key_length, int method), \
+        cukvashe_internal_mac_init(ALGORITHM, context->words, WORDS, context->words + WORDS, key, key_length,         \
+                                   (uint32_t)method, true))                                                           \
+  WIPES(int, NAME##_macs, BY_WIDTH(count, MACS, MACS_WIDE),                                                           \
+        (const uint8_t *key, int method, const cukvashe_message *messages, uint8_t *tags, size_t count),              \
+        CHOOSE(count, macs, ALGORITHM, (uint32_t)method, key, KEY_SIZE, messages, count, tags, count))                \
+  WIPES(int, NAME##_macs_each, BY_WIDTH(count, EACH, EACH_WIDE),                                                      \
+        (const uint8_t *keys, int method, const cukvashe_message *messages, uint8_t *tags, size_t count),             \
+        CHOOSE(count, macs_each, ALGORITHM, (uint32_t)method, KEY_SIZE, keys, count * KEY_SIZE, messages, count,      \
+               tags, count))
+
+DEFINE_MAC_OF_KEYS(cbc_mac_des, ALGORITHM_CBC_MAC, 17, 8, 576, 26912, 38736, 18336, 21648)
+DEFINE_MAC_OF_KEYS(cbc_mac_tdes_ede2, ALGORITHM_CBC_MAC, 33, 16, 576, 16320, 23792, 18336, 23936)
+DEFINE_MAC_OF_KEYS(cbc_mac_tdes_ede3, ALGORITHM_CBC_MAC, 49, 24, 576, 16320, 23792, 18336, 23936)
+DEFINE_MAC_OF_KEYS(retail_mac_des, ALGORITHM_RETAIL_MAC, 34, 16, 576, 26912, 38736, 23904, 38896)
+
+#define DEFINE_CMAC_OF_KEYS(NAME, WORDS, KEY_SIZE, INIT, MACS, MACS_WIDE, EACH, EACH_WIDE)                            \
+  WIPES(int, NAME##_init, INIT, (cukvashe_##NAME * context, const uint8_t *key, size_t key_length),                   \
+        cukvashe_internal_mac_init(ALGORITHM_CMAC, context->words, WORDS, context->words + WORDS, key, key_length,    \
+                                   CUKVASHE_MAC_PADDING_2, false))                                                    \
+  WIPES(int, NAME##_init_quiet, INIT, (cukvashe_##NAME * context, const uint8_t *key, size_t key_length),             \
+        cukvashe_internal_mac_init(ALGORITHM_CMAC, context->words, WORDS, context->words + WORDS, key, key_length,    \
+                                   CUKVASHE_MAC_PADDING_2, true))                                                     \
+  WIPES_VOID(NAME##_macs, BY_WIDTH(count, MACS, MACS_WIDE),                                                           \
+             (const uint8_t *key, const cukvashe_message *messages, uint8_t *tags, size_t count),                     \
+             CHOOSE(count, macs, ALGORITHM_CMAC, CUKVASHE_MAC_PADDING_2, key, KEY_SIZE, messages, count, tags, count))\
+  WIPES_VOID(NAME##_macs_each, BY_WIDTH(count, EACH, EACH_WIDE),                                                      \
+             (const uint8_t *keys, const cukvashe_message *messages, uint8_t *tags, size_t count),                    \
+             CHOOSE(count, macs_each, ALGORITHM_CMAC, CUKVASHE_MAC_PADDING_2, KEY_SIZE, keys, count * KEY_SIZE,       \
+                    messages, count, tags, count))
+
+DEFINE_CMAC_OF_KEYS(cmac_tdes_ede2, 33, 16, 576, 16320, 23808, 18336, 24000)
+DEFINE_CMAC_OF_KEYS(cmac_tdes_ede3, 49, 24, 576, 16320, 23808, 18336, 24000)
 
 void cukvashe_compare_tags(const uint8_t *tags, const uint8_t *expected, bool *right, size_t count) {
-  (void)cukvashe_narrow_compare_tags(tags, count, expected, count, right, count);
+  (void)cukvashe_internal_compare_tags(tags, count, expected, count, right, count);
 }
 
-UNWIPED(void, dukpt_transaction_keys)(const uint8_t base[16], const uint8_t *serials, uint8_t *keys, size_t count) {
-  CHOOSE_BY_COUNT(dukpt, transaction_keys, base, serials, count, keys, count);
-}
+WIPES_VOID(dukpt_transaction_keys, BY_WIDTH(count, 40352, 42048),
+           (const uint8_t base[16], const uint8_t *serials, uint8_t *keys, size_t count),
+           CHOOSE(count, dukpt_transaction_keys, base, serials, count, keys, count))
 
 int cukvashe_pad(uint8_t *buffer, size_t length, size_t capacity, int method, size_t *padded_length) {
-  return cukvashe_narrow_pad(buffer, capacity, length, method, padded_length);
+  return cukvashe_internal_pad(buffer, capacity, length, method, padded_length);
 }
 
-UNWIPED(bool, equal_but_parity)(const uint8_t *first, const uint8_t *second, size_t key_length) {
-  return cukvashe_narrow_equal_but_parity(first, key_length, second, key_length);
-}
+WIPES(bool, equal_but_parity, 32, (const uint8_t *first, const uint8_t *second, size_t key_length),
+      cukvashe_internal_equal_but_parity(first, key_length, second, key_length))
 
-/* The proved call gives the content as a part of the block, by where it stands. */
+#define DEFINE_COMBINE(SIZE, STACK)                                                                                   \
+  WIPES(int, combine_##SIZE, STACK,                                                                                   \
+        (const uint8_t first[SIZE], const uint8_t second[SIZE], const uint8_t *others, size_t others_count,           \
+         uint8_t key[SIZE]),                                                                                          \
+        cukvashe_internal_combine(first, SIZE, second, SIZE, others, others_count * SIZE, key, SIZE))
+
+DEFINE_COMBINE(8, 304)
+DEFINE_COMBINE(16, 304)
+DEFINE_COMBINE(24, 304)
+
+/* The export gives the content as a part of the block, by where it stands. */
 int cukvashe_key_block_optional_block(const char *block, size_t block_length, size_t place, char name[3],
                                       size_t *offset, size_t *length) {
   cukvashe_message content = {(const uint8_t *)block, 0};
-  int status = cukvashe_narrow_key_block_optional_block(block, block_length, place, name, &content);
+  int status = cukvashe_internal_key_block_optional_block(block, block_length, place, name, &content);
   if (status != CUKVASHE_OK) return status;
   *offset = (size_t)(content.bytes - (const uint8_t *)block);
   *length = content.length;
@@ -161,53 +218,7 @@ const char *cukvashe_version(void) { return CUKVASHE_VERSION; }
 
 const char *cukvashe_strerror(int status) {
   static const char *const texts[] = {
-      [CUKVASHE_OK] = "success",
-      [CUKVASHE_ERR_KEY_LENGTH] = "the key does not have a length that the call takes",
-      [CUKVASHE_ERR_BLOCKS] = "the length is not a multiple of 8 bytes",
-      [CUKVASHE_ERR_WEAK_KEY] = "the key is weak",
-      [CUKVASHE_ERR_PADDING_METHOD] = "there is no padding method of this number",
-      [CUKVASHE_ERR_TAG] = "the tag is not that of the message",
-      [CUKVASHE_ERR_NO_SERIAL] = "there is no next key serial number",
-      [CUKVASHE_ERR_FORMAT] = "the block is not of this PIN block format",
-      [CUKVASHE_ERR_PIN_LENGTH] = "the PIN does not have 4 to 12 digits",
-      [CUKVASHE_ERR_PIN_DIGIT] = "a character of the PIN is not a digit",
-      [CUKVASHE_ERR_ACCOUNT_LENGTH] = "the account number has fewer digits than the call takes, or more than 19",
-      [CUKVASHE_ERR_ACCOUNT_DIGIT] = "a character of the account number is not a digit",
-      [CUKVASHE_ERR_FILL] = "a fill digit is not one that the format allows",
-      [CUKVASHE_ERR_EXPIRY_LENGTH] = "the expiry date does not have four digits",
-      [CUKVASHE_ERR_EXPIRY_DIGIT] = "a character of the expiry date is not a digit",
-      [CUKVASHE_ERR_SERVICE_LENGTH] = "the service code does not have three digits",
-      [CUKVASHE_ERR_SERVICE_DIGIT] = "a character of the service code is not a digit",
-      [CUKVASHE_ERR_PADDING] = "the last block does not end with the padding",
-      [CUKVASHE_ERR_CAPACITY] = "the buffer has no room",
-      [CUKVASHE_ERR_COUNTS] = "the numbers of elements do not agree",
-      [CUKVASHE_ERR_KEY_INDEX] = "the index of the key pair is not 1 to 6",
-      [CUKVASHE_ERR_TABLE_LENGTH] = "the decimalization table does not have sixteen digits",
-      [CUKVASHE_ERR_TABLE_DIGIT] = "a character of the decimalization table is not a digit",
-      [CUKVASHE_ERR_TABLE_VARIETY] = "the decimalization table has fewer than eight different digits",
-      [CUKVASHE_ERR_WRONG_PIN] = "the PIN is not the one",
-      [CUKVASHE_ERR_FORMATS] = "there is no translation of PIN blocks from this format",
-      [CUKVASHE_ERR_PIN_BLOCK] = "decrypted, the PIN block is not one of its format and account number",
-      [CUKVASHE_ERR_SEQUENCE_LENGTH] = "the sequence number does not have two digits",
-      [CUKVASHE_ERR_SEQUENCE_DIGIT] = "a character of the sequence number is not a digit",
-      [CUKVASHE_ERR_DATA_LENGTH] = "the issuer's data have more than 8 bytes",
-      [CUKVASHE_ERR_PROTECTION_KEY_LENGTH] = "the protection key does not have 16 or 24 bytes",
-      [CUKVASHE_ERR_KEY_BLOCK_LENGTH] =
-          "the key block is not as long as its header says, longer than 9999 characters, or too long for its buffer",
-      [CUKVASHE_ERR_VERSION] = "the version of the key block is not one that the call takes",
-      [CUKVASHE_ERR_HEADER] =
-          "the number of optional blocks is not two digits and two zeros, or a field to be written is not letters and digits",
-      [CUKVASHE_ERR_OPTIONAL_BLOCK] =
-          "the optional blocks can't be read: a wrong length, an end off a multiple of eight, or more than 99",
-      [CUKVASHE_ERR_KEY_DATA_LENGTH] = "the encrypted key data do not have a length that they can have",
-      [CUKVASHE_ERR_KEY_BLOCK_DIGIT] = "a character of the encrypted key data or the MAC is not 0 to 9 or A to F",
-      [CUKVASHE_ERR_KEY_BLOCK_MAC] = "the MAC is not that of the key block",
-      [CUKVASHE_ERR_PADDING_LENGTH] = "the padding of the key does not have a length that it can have",
-      [CUKVASHE_ERR_NO_OPTIONAL_BLOCK] = "the key block has no optional block at this place",
-      [CUKVASHE_ERR_HASH] = "no hash function that the call takes has this number",
-      [CUKVASHE_ERR_ITERATIONS] = "the number of iterations is 0, or above 2^32 - 1",
-      [CUKVASHE_ERR_NOT_SALTED] = "the bytes do not begin with Salted__",
-      [CUKVASHE_ERR_SALT_LENGTH] = "the bytes end within the salt, or it does not have 0 or 8 bytes",
+#include "statuses.h"
   };
   const size_t place = (size_t)status; /* of a negative number, beyond all */
   return place < sizeof texts / sizeof *texts ? texts[place] : "there is no status of this number";

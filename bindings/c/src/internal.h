@@ -1,7 +1,8 @@
-/* Names that the library hides: the exports that cukvashe_des.c chooses from, and the test for the wide ones. */
+/* Names that the library hides: the proved exports that its C calls, the wiping of the stack, and the test for the wide exports. */
 #ifndef INTERNAL_H
 #define INTERNAL_H
 
+#include "ways.h"
 #include <cukvashe_des.h>
 
 /* Whether the library has wide calls. It takes them where the processor has x86-64-v3. */
@@ -12,83 +13,89 @@
 #endif
 
 /*
- * Proved exports take a slice as a pointer and a length, so each of two slices has a length of its own; a slice of slices is a
- * pointer to such pairs, as cukvashe_message. `narrow` calls are for any processor and take 128 blocks at a time, `wide` ones
- * are for x86-64-v3 and take 256.
+ * The proved exports (crates/des_c) that do not have the arguments of a call of the header. Each is there once for all ciphers, or MACs,
+ * and knows which one it is by the words of a context, 17, 33 or 49 for a key of one part, two or three, by the size of a key in bytes,
+ * and by the number of an algorithm. They take a slice as a pointer and a number of elements, so each of two slices has a number of its
+ * own; a slice of slices is a pointer to such pairs, as cukvashe_message.
  */
-#define DECLARE_WIDTH(NAME, WIDTH)                                                                                    \
-  int cukvashe_##WIDTH##_##NAME##_encrypt_ecb(const cukvashe_##NAME *context, uint8_t *data, size_t length);          \
-  int cukvashe_##WIDTH##_##NAME##_decrypt_ecb(const cukvashe_##NAME *context, uint8_t *data, size_t length);          \
-  int cukvashe_##WIDTH##_##NAME##_encrypt_ecb_to(const cukvashe_##NAME *context, const uint8_t *input,                \
-                                                 size_t input_length, uint8_t *output, size_t output_length);         \
-  int cukvashe_##WIDTH##_##NAME##_decrypt_ecb_to(const cukvashe_##NAME *context, const uint8_t *input,                \
-                                                 size_t input_length, uint8_t *output, size_t output_length);         \
-  int cukvashe_##WIDTH##_##NAME##_decrypt_cbc(const cukvashe_##NAME *context, uint8_t iv[8], uint8_t *data,           \
-                                              size_t length);                                                         \
-  int cukvashe_##WIDTH##_##NAME##_decrypt_cbc_to(const cukvashe_##NAME *context, uint8_t iv[8], const uint8_t *input, \
-                                                 size_t input_length, uint8_t *output, size_t output_length);         \
-  int cukvashe_##WIDTH##_##NAME##_encrypt_each(const uint8_t *keys, size_t keys_count, uint8_t *blocks,               \
-                                               size_t blocks_count);                                                  \
-  int cukvashe_##WIDTH##_##NAME##_decrypt_each(const uint8_t *keys, size_t keys_count, uint8_t *blocks,               \
-                                               size_t blocks_count);                                                  \
-  int cukvashe_##WIDTH##_##NAME##_encrypt_cbc_records(const cukvashe_##NAME *context, uint8_t *vectors,               \
-                                                      size_t vectors_count, const size_t *sizes, size_t sizes_count,  \
-                                                      uint8_t *blocks, size_t blocks_count);                          \
-  int cukvashe_##WIDTH##_##NAME##_decrypt_cbc_records(const cukvashe_##NAME *context, uint8_t *vectors,               \
-                                                      size_t vectors_count, const size_t *sizes, size_t sizes_count,  \
-                                                      uint8_t *blocks, size_t blocks_count);                          \
-  int cukvashe_##WIDTH##_##NAME##_check_values(const uint8_t *keys, size_t keys_count, uint8_t *values,               \
-                                               size_t values_count);                                                  \
-  int cukvashe_##WIDTH##_cbc_mac_##NAME##_macs(const uint8_t *key, int method, const cukvashe_message *messages,      \
-                                               size_t messages_count, uint8_t *tags, size_t tags_count);              \
-  int cukvashe_##WIDTH##_cbc_mac_##NAME##_macs_each(const uint8_t *keys, size_t keys_count, int method,               \
-                                                    const cukvashe_message *messages, size_t messages_count,          \
-                                                    uint8_t *tags, size_t tags_count);
+int cukvashe_internal_init(uint64_t *context, size_t words, const uint8_t *key, size_t key_length, bool quiet);
+int cukvashe_internal_encrypt_cbc(const uint64_t *context, size_t words, uint8_t iv[8], uint8_t *bytes, size_t length);
+int cukvashe_internal_encrypt_cbc_to(const uint64_t *context, size_t words, uint8_t iv[8], const uint8_t *input,
+                                     size_t input_length, uint8_t *output, size_t output_length);
+int cukvashe_internal_check_value(size_t key_size, const uint8_t *key, size_t key_length, uint8_t value[3]);
+int cukvashe_internal_open_salted(size_t key_size, uint32_t hash, size_t iterations, const uint8_t *password,
+                                  size_t password_length, const uint8_t *bytes, size_t length, uint8_t *plain,
+                                  size_t room, size_t *plain_length);
+int cukvashe_internal_combine(const uint8_t *first, size_t first_length, const uint8_t *second, size_t second_length,
+                              const uint8_t *others, size_t others_length, uint8_t *key, size_t key_length);
+bool cukvashe_internal_equal_but_parity(const uint8_t *first, size_t first_length, const uint8_t *second,
+                                        size_t second_length);
+int cukvashe_internal_pad(uint8_t *buffer, size_t capacity, size_t length, int method, size_t *padded_length);
+int cukvashe_internal_compare_tags(const uint8_t *tags, size_t tags_count, const uint8_t *expected,
+                                   size_t expected_count, bool *right, size_t right_count);
+int cukvashe_internal_key_block_optional_block(const char *block, size_t block_length, size_t place, char name[3],
+                                               cukvashe_message *content);
 
-#define DECLARE_CIPHER(NAME)                                                                                          \
-  DECLARE_WIDTH(NAME, narrow)                                                                                         \
-  int cukvashe_narrow_##NAME##_encrypt_cbc_to(const cukvashe_##NAME *context, uint8_t iv[8], const uint8_t *input,    \
-                                              size_t input_length, uint8_t *output, size_t output_length);
+/* MACs by the numbers of their algorithms in ISO/IEC 9797-1:2011. CMAC takes padding method 2 here. */
+enum algorithm { ALGORITHM_CBC_MAC = 1, ALGORITHM_RETAIL_MAC = 3, ALGORITHM_CMAC = 5 };
 
-DECLARE_CIPHER(des)
-DECLARE_CIPHER(tdes_ede2)
-DECLARE_CIPHER(tdes_ede3)
+/* The context of a MAC is that of its cipher, of the retail MAC those of both keys, and then a message: how far it has come. */
+int cukvashe_internal_mac_init(uint32_t algorithm, uint64_t *context, size_t words, uint64_t message[4],
+                               const uint8_t *key, size_t key_length, uint32_t padding, bool quiet);
+void cukvashe_internal_mac_update(uint32_t algorithm, const uint64_t *context, size_t words, uint64_t message[4],
+                                  const uint8_t *bytes, size_t length);
+void cukvashe_internal_mac_final(uint32_t algorithm, const uint64_t *context, size_t words, const uint64_t message[4],
+                                 uint8_t tag[8]);
+int cukvashe_internal_mac_verify(uint32_t algorithm, const uint64_t *context, size_t words, const uint64_t message[4],
+                                 const uint8_t *tag, size_t tag_length);
 
-#define DECLARE_LISTS(WIDTH)                                                                                          \
-  int cukvashe_##WIDTH##_retail_mac_des_macs(const uint8_t key[16], int method, const cukvashe_message *messages,     \
-                                             size_t messages_count, uint8_t *tags, size_t tags_count);                \
-  int cukvashe_##WIDTH##_retail_mac_des_macs_each(const uint8_t *keys, size_t keys_count, int method,                 \
-                                                  const cukvashe_message *messages, size_t messages_count,            \
-                                                  uint8_t *tags, size_t tags_count);                                  \
-  int cukvashe_##WIDTH##_dukpt_transaction_keys(const uint8_t base[16], const uint8_t *serials, size_t serials_count, \
-                                                uint8_t *keys, size_t keys_count);
-
-#define DECLARE_CMAC(NAME, WIDTH)                                                                                     \
-  int cukvashe_##WIDTH##_cmac_##NAME##_macs(const uint8_t *key, const cukvashe_message *messages,                     \
-                                            size_t messages_count, uint8_t *tags, size_t tags_count);                 \
-  int cukvashe_##WIDTH##_cmac_##NAME##_macs_each(const uint8_t *keys, size_t keys_count,                              \
-                                                 const cukvashe_message *messages, size_t messages_count,             \
-                                                 uint8_t *tags, size_t tags_count);
-
-DECLARE_LISTS(narrow)
-DECLARE_CMAC(tdes_ede2, narrow)
-DECLARE_CMAC(tdes_ede3, narrow)
-
-int cukvashe_narrow_compare_tags(const uint8_t *tags, size_t tags_count, const uint8_t *expected, size_t expected_count,
-                                bool *right, size_t right_count);
-int cukvashe_narrow_pad(uint8_t *buffer, size_t capacity, size_t length, int method, size_t *padded_length);
-int cukvashe_narrow_key_block_optional_block(const char *block, size_t block_length, size_t place, char name[3],
-                                             cukvashe_message *content);
-bool cukvashe_narrow_equal_but_parity(const uint8_t *first, size_t first_length, const uint8_t *second,
-                                      size_t second_length);
+/* Those that work through lists of blocks, keys or messages in batches (crates/des_c/src/lists): 128 at a time, on any processor. */
+int cukvashe_internal_encrypt_ecb(const uint64_t *context, size_t words, uint8_t *bytes, size_t length);
+int cukvashe_internal_decrypt_ecb(const uint64_t *context, size_t words, uint8_t *bytes, size_t length);
+int cukvashe_internal_encrypt_ecb_to(const uint64_t *context, size_t words, const uint8_t *input, size_t input_length,
+                                     uint8_t *output, size_t output_length);
+int cukvashe_internal_decrypt_ecb_to(const uint64_t *context, size_t words, const uint8_t *input, size_t input_length,
+                                     uint8_t *output, size_t output_length);
+int cukvashe_internal_decrypt_cbc(const uint64_t *context, size_t words, uint8_t iv[8], uint8_t *bytes, size_t length);
+int cukvashe_internal_decrypt_cbc_to(const uint64_t *context, size_t words, uint8_t iv[8], const uint8_t *input,
+                                     size_t input_length, uint8_t *output, size_t output_length);
+int cukvashe_internal_encrypt_cbc_records(const uint64_t *context, size_t words, uint8_t *vectors, size_t vectors_count,
+                                          const size_t *sizes, size_t sizes_count, uint8_t *blocks,
+                                          size_t blocks_count);
+int cukvashe_internal_decrypt_cbc_records(const uint64_t *context, size_t words, uint8_t *vectors, size_t vectors_count,
+                                          const size_t *sizes, size_t sizes_count, uint8_t *blocks,
+                                          size_t blocks_count);
+int cukvashe_internal_encrypt_each(size_t key_size, const uint8_t *keys, size_t keys_length, uint8_t *blocks,
+                                   size_t blocks_count);
+int cukvashe_internal_decrypt_each(size_t key_size, const uint8_t *keys, size_t keys_length, uint8_t *blocks,
+                                   size_t blocks_count);
+int cukvashe_internal_check_values(size_t key_size, const uint8_t *keys, size_t keys_length, uint8_t *values,
+                                   size_t values_count);
+int cukvashe_internal_macs(uint32_t algorithm, uint32_t padding, const uint8_t *key, size_t key_length,
+                           const cukvashe_message *messages, size_t messages_count, uint8_t *tags, size_t tags_count);
+int cukvashe_internal_macs_each(uint32_t algorithm, uint32_t padding, size_t key_size, const uint8_t *keys,
+                                size_t keys_length, const cukvashe_message *messages, size_t messages_count,
+                                uint8_t *tags, size_t tags_count);
+int cukvashe_internal_dukpt_transaction_keys(const uint8_t base[16], const uint8_t *serials, size_t serials_count,
+                                             uint8_t *keys, size_t keys_count);
 
 #if HAS_WIDE
-DECLARE_WIDTH(des, wide)
-DECLARE_WIDTH(tdes_ede2, wide)
-DECLARE_WIDTH(tdes_ede3, wide)
-DECLARE_LISTS(wide)
-DECLARE_CMAC(tdes_ede2, wide)
-DECLARE_CMAC(tdes_ede3, wide)
+/* The same calls for x86-64-v3, which take 256 at a time: what bindings/widen and bindings/generate make of the same source. */
+#define DECLARE_WIDE(CALL) extern __typeof__(cukvashe_internal_##CALL) cukvashe_wide_##CALL;
+DECLARE_WIDE(encrypt_ecb)
+DECLARE_WIDE(decrypt_ecb)
+DECLARE_WIDE(encrypt_ecb_to)
+DECLARE_WIDE(decrypt_ecb_to)
+DECLARE_WIDE(decrypt_cbc)
+DECLARE_WIDE(decrypt_cbc_to)
+DECLARE_WIDE(encrypt_cbc_records)
+DECLARE_WIDE(decrypt_cbc_records)
+DECLARE_WIDE(encrypt_each)
+DECLARE_WIDE(decrypt_each)
+DECLARE_WIDE(check_values)
+DECLARE_WIDE(macs)
+DECLARE_WIDE(macs_each)
+DECLARE_WIDE(dukpt_transaction_keys)
 
 /* What decides whether a processor is of x86-64-v3: words that `cpuid` writes, and 0 for those that it does not have. */
 struct processor {
@@ -99,5 +106,22 @@ struct processor {
 bool cukvashe_internal_is_v3(const struct processor *words);
 struct processor cukvashe_internal_processor(void);
 #endif
+
+/* Writes zeros over so many bytes of the stack and some more, below the frame of its caller: there lies what a call left that this made. */
+void cukvashe_internal_wipe_stack(size_t size);
+
+/* A call of the header that is given or gives a key, a password or a PIN: it goes on to the call that does the work, and wipes after it. */
+#define WIPES(RESULT, NAME, SIZE, PARAMETERS, CALL)                                                                   \
+  RESULT cukvashe_##NAME PARAMETERS {                                                                                 \
+    const RESULT result = CALL;                                                                                       \
+    cukvashe_internal_wipe_stack(SIZE);                                                                               \
+    return result;                                                                                                    \
+  }
+
+#define WIPES_VOID(NAME, SIZE, PARAMETERS, CALL)                                                                      \
+  void cukvashe_##NAME PARAMETERS {                                                                                   \
+    (void)(CALL);                                                                                                     \
+    cukvashe_internal_wipe_stack(SIZE);                                                                               \
+  }
 
 #endif

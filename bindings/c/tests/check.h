@@ -7,12 +7,12 @@
 #include <stdlib.h>
 #include <string.h>
 
-#define CHECK(holds)                                                   \
-  do {                                                                 \
-    if (!(holds)) {                                                    \
-      fprintf(stderr, "%s:%d: %s\n", __FILE__, __LINE__, #holds);      \
-      exit(1);                                                         \
-    }                                                                  \
+#define CHECK(holds)                                                                                                  \
+  do {                                                                                                                \
+    if (!(holds)) {                                                                                                   \
+      fprintf(stderr, "%s:%d: %s\n", __FILE__, __LINE__, #holds);                                                     \
+      exit(1);                                                                                                        \
+    }                                                                                                                 \
   } while (0)
 
 /* Any of the contexts. */
@@ -84,27 +84,30 @@ DEFINE_PUBLIC(tdes_ede3)
 /* Each width as well, whatever the length: names that the library hides. */
 #include "../src/internal.h"
 
+/* A context, as an export takes it. */
+#define WORDS_OF(CONTEXT) (CONTEXT).words, sizeof(CONTEXT).words / sizeof *(CONTEXT).words
+
 #define DEFINE_FORCED(name, width)                                                                                    \
   static int name##_##width##_encrypt_ecb(const union context *c, uint8_t *data, size_t length) {                     \
-    return cukvashe_##width##_##name##_encrypt_ecb(&c->name, data, length);                                           \
+    return cukvashe_##width##_encrypt_ecb(WORDS_OF(c->name), data, length);                                           \
   }                                                                                                                   \
   static int name##_##width##_decrypt_ecb(const union context *c, uint8_t *data, size_t length) {                     \
-    return cukvashe_##width##_##name##_decrypt_ecb(&c->name, data, length);                                           \
+    return cukvashe_##width##_decrypt_ecb(WORDS_OF(c->name), data, length);                                           \
   }                                                                                                                   \
   static int name##_##width##_encrypt_ecb_to(const union context *c, const uint8_t *input, uint8_t *output,           \
                                              size_t length) {                                                         \
-    return cukvashe_##width##_##name##_encrypt_ecb_to(&c->name, input, length, output, length);                       \
+    return cukvashe_##width##_encrypt_ecb_to(WORDS_OF(c->name), input, length, output, length);                       \
   }                                                                                                                   \
   static int name##_##width##_decrypt_ecb_to(const union context *c, const uint8_t *input, uint8_t *output,           \
                                              size_t length) {                                                         \
-    return cukvashe_##width##_##name##_decrypt_ecb_to(&c->name, input, length, output, length);                       \
+    return cukvashe_##width##_decrypt_ecb_to(WORDS_OF(c->name), input, length, output, length);                       \
   }                                                                                                                   \
   static int name##_##width##_decrypt_cbc(const union context *c, uint8_t *iv, uint8_t *data, size_t length) {        \
-    return cukvashe_##width##_##name##_decrypt_cbc(&c->name, iv, data, length);                                       \
+    return cukvashe_##width##_decrypt_cbc(WORDS_OF(c->name), iv, data, length);                                       \
   }                                                                                                                   \
   static int name##_##width##_decrypt_cbc_to(const union context *c, uint8_t *iv, const uint8_t *input,               \
                                              uint8_t *output, size_t length) {                                        \
-    return cukvashe_##width##_##name##_decrypt_cbc_to(&c->name, iv, input, length, output, length);                   \
+    return cukvashe_##width##_decrypt_cbc_to(WORDS_OF(c->name), iv, input, length, output, length);                   \
   }
 
 #define FORCED_WAY(name, width)                                                                                       \
@@ -115,11 +118,11 @@ DEFINE_PUBLIC(tdes_ede3)
   }
 #define DEFINE_WIDTH(width) DEFINE_FORCED(des, width) DEFINE_FORCED(tdes_ede2, width) DEFINE_FORCED(tdes_ede3, width)
 #if HAS_WIDE
-#define EACH_WIDTH(of_width) of_width(narrow) of_width(wide)
-#define WAYS(name) {PUBLIC(name) FORCED_WAY(name, narrow) FORCED_WAY(name, wide)}
+#define EACH_WIDTH(of_width) of_width(internal) of_width(wide)
+#define WAYS(name) {PUBLIC(name) FORCED_WAY(name, internal) FORCED_WAY(name, wide)}
 #else
-#define EACH_WIDTH(of_width) of_width(narrow)
-#define WAYS(name) {PUBLIC(name) FORCED_WAY(name, narrow)}
+#define EACH_WIDTH(of_width) of_width(internal)
+#define WAYS(name) {PUBLIC(name) FORCED_WAY(name, internal)}
 #endif
 
 EACH_WIDTH(DEFINE_WIDTH)

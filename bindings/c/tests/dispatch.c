@@ -1,7 +1,8 @@
 /* What the library's own C hands on: instead of the proved exports there are functions here that write down what they were given. So
    each call of the header is seen to take the right export with the right arguments, on a processor with the wide calls (`dispatch
-   wide`) and on one without (`dispatch narrow`), which is asked once, and not before a call needs the answer. The library's C is a
-   part of this file, so that the compiler sees cukvashe_wipe where it is called, and could leave it out. */
+   wide`) and on one without (`dispatch narrow`), which is asked once, and not before a call needs the answer; and to wipe the stack
+   after it, where it is given or gives a key. The library's C is a part of this file, so that the compiler sees cukvashe_wipe where it
+   is called, and could leave it out. */
 #define _POSIX_C_SOURCE 200809L
 #include "../src/cukvashe_des.c"
 #include <limits.h>
@@ -9,23 +10,23 @@
 #include <stdio.h>
 #include <stdlib.h>
 
-#define CHECK(holds)                                                   \
-  do {                                                                 \
-    if (!(holds)) {                                                    \
-      fprintf(stderr, "%s:%d: %s\n", __FILE__, __LINE__, #holds);      \
-      exit(1);                                                         \
-    }                                                                  \
+#define CHECK(holds)                                                                                                  \
+  do {                                                                                                                \
+    if (!(holds)) {                                                                                                   \
+      fprintf(stderr, "%s:%d: %s\n", __FILE__, __LINE__, #holds);                                                     \
+      exit(1);                                                                                                        \
+    }                                                                                                                 \
   } while (0)
 
-/* A call that was made: its name, and each argument by its place among those that any export has. */
+/* A call that was made: its name, and its arguments. */
 struct call {
   const char *name;
-  const void *context, *iv, *input, *output;
-  size_t input_length, output_length;
+  size_t size; /* of the arguments, in bytes */
+  uintptr_t arguments[10];
 };
 
 static struct call last;
-static int calls, questions, is_v3;
+static int calls, wipes, questions, is_v3;
 
 /* A status that no call has: it must come back as it is. */
 enum { STATUS = 4711 };
@@ -43,283 +44,350 @@ bool cukvashe_internal_is_v3(const struct processor *words) {
 }
 #endif
 
-static int made(const char *name, const void *context, const void *iv, const void *input, size_t input_length,
-                const void *output, size_t output_length) {
-  const struct call call = {name, context, iv, input, output, input_length, output_length};
-  last = call;
+void cukvashe_internal_wipe_stack(size_t size) {
+  CHECK(size > 0);
+  wipes++;
+}
+
+#define A(POINTER) (uintptr_t)(POINTER)
+#define ARGUMENTS(...) (const uintptr_t[]){__VA_ARGS__}, sizeof((const uintptr_t[]){__VA_ARGS__})
+
+static int made(const char *name, const uintptr_t *arguments, size_t size) {
+  CHECK(size <= sizeof last.arguments);
+  last.name = name;
+  last.size = size;
+  memcpy(last.arguments, arguments, size);
   calls++;
   return STATUS;
 }
 
-#define PLACE(NAME, WIDTH, CALL)                                                                                      \
-  int cukvashe_##WIDTH##_##NAME##_##CALL(const cukvashe_##NAME *context, uint8_t *data, size_t length) {              \
-    return made(#WIDTH " " #NAME " " #CALL, context, NULL, NULL, 0, data, length);                                    \
+#define IN_PLACE(WIDTH, CALL)                                                                                         \
+  int cukvashe_##WIDTH##_##CALL(const uint64_t *context, size_t words, uint8_t *bytes, size_t length) {               \
+    return made(#WIDTH " " #CALL, ARGUMENTS(A(context), words, A(bytes), length));                                    \
+  }
+#define TO_OTHER(WIDTH, CALL)                                                                                         \
+  int cukvashe_##WIDTH##_##CALL(const uint64_t *context, size_t words, const uint8_t *input, size_t input_length,     \
+                                uint8_t *output, size_t output_length) {                                              \
+    return made(#WIDTH " " #CALL, ARGUMENTS(A(context), words, A(input), input_length, A(output), output_length));    \
+  }
+#define CHAIN(WIDTH, CALL)                                                                                            \
+  int cukvashe_##WIDTH##_##CALL(const uint64_t *context, size_t words, uint8_t iv[8], uint8_t *bytes,                 \
+                                size_t length) {                                                                      \
+    return made(#WIDTH " " #CALL, ARGUMENTS(A(context), words, A(iv), A(bytes), length));                             \
+  }
+#define CHAIN_TO_OTHER(WIDTH, CALL)                                                                                   \
+  int cukvashe_##WIDTH##_##CALL(const uint64_t *context, size_t words, uint8_t iv[8], const uint8_t *input,           \
+                                size_t input_length, uint8_t *output, size_t output_length) {                         \
+    return made(#WIDTH " " #CALL,                                                                                     \
+                ARGUMENTS(A(context), words, A(iv), A(input), input_length, A(output), output_length));               \
+  }
+#define RECORDS(WIDTH, CALL)                                                                                          \
+  int cukvashe_##WIDTH##_##CALL(const uint64_t *context, size_t words, uint8_t *vectors, size_t vectors_count,        \
+                                const size_t *sizes, size_t sizes_count, uint8_t *blocks, size_t blocks_count) {      \
+    return made(#WIDTH " " #CALL, ARGUMENTS(A(context), words, A(vectors), vectors_count, A(sizes), sizes_count,      \
+                                            A(blocks), blocks_count));                                                \
+  }
+#define OF_EACH(WIDTH, CALL)                                                                                          \
+  int cukvashe_##WIDTH##_##CALL(size_t key_size, const uint8_t *keys, size_t keys_length, uint8_t *made_of,           \
+                                size_t count) {                                                                       \
+    return made(#WIDTH " " #CALL, ARGUMENTS(key_size, A(keys), keys_length, A(made_of), count));                      \
+  }
+#define LISTS(WIDTH)                                                                                                  \
+  IN_PLACE(WIDTH, encrypt_ecb)                                                                                        \
+  IN_PLACE(WIDTH, decrypt_ecb)                                                                                        \
+  TO_OTHER(WIDTH, encrypt_ecb_to)                                                                                     \
+  TO_OTHER(WIDTH, decrypt_ecb_to)                                                                                     \
+  CHAIN(WIDTH, decrypt_cbc)                                                                                           \
+  CHAIN_TO_OTHER(WIDTH, decrypt_cbc_to)                                                                               \
+  RECORDS(WIDTH, encrypt_cbc_records)                                                                                 \
+  RECORDS(WIDTH, decrypt_cbc_records)                                                                                 \
+  OF_EACH(WIDTH, encrypt_each)                                                                                        \
+  OF_EACH(WIDTH, decrypt_each)                                                                                        \
+  OF_EACH(WIDTH, check_values)                                                                                        \
+  int cukvashe_##WIDTH##_macs(uint32_t algorithm, uint32_t padding, const uint8_t *key, size_t key_length,            \
+                              const cukvashe_message *messages, size_t messages_count, uint8_t *tags,                 \
+                              size_t tags_count) {                                                                    \
+    return made(#WIDTH " macs", ARGUMENTS(algorithm, padding, A(key), key_length, A(messages), messages_count,        \
+                                          A(tags), tags_count));                                                      \
   }                                                                                                                   \
-  int cukvashe_##WIDTH##_##NAME##_##CALL##_to(const cukvashe_##NAME *context, const uint8_t *input,                   \
-                                              size_t input_length, uint8_t *output, size_t output_length) {           \
-    return made(#WIDTH " " #NAME " " #CALL "_to", context, NULL, input, input_length, output, output_length);         \
-  }
-#define CHAIN(NAME, WIDTH, CALL)                                                                                      \
-  int cukvashe_##WIDTH##_##NAME##_##CALL(const cukvashe_##NAME *context, uint8_t iv[8], uint8_t *data,                \
-                                         size_t length) {                                                             \
-    return made(#WIDTH " " #NAME " " #CALL, context, iv, NULL, 0, data, length);                                      \
-  }
-#define CHAIN_TO(NAME, WIDTH, CALL)                                                                                   \
-  int cukvashe_##WIDTH##_##NAME##_##CALL##_to(const cukvashe_##NAME *context, uint8_t iv[8], const uint8_t *input,    \
-                                              size_t input_length, uint8_t *output, size_t output_length) {           \
-    return made(#WIDTH " " #NAME " " #CALL "_to", context, iv, input, input_length, output, output_length);           \
-  }
-#define CHAIN_IN_PLACE(NAME)                                                                                          \
-  int cukvashe_##NAME##_encrypt_cbc(const cukvashe_##NAME *context, uint8_t iv[8], uint8_t *data, size_t length) {    \
-    return made("narrow " #NAME " encrypt_cbc", context, iv, NULL, 0, data, length);                                  \
-  }
-#define FOR_EACH(NAME, WIDTH, CALL)                                                                                   \
-  int cukvashe_##WIDTH##_##NAME##_##CALL(const uint8_t *keys, size_t keys_count, uint8_t *blocks,                     \
-                                         size_t blocks_count) {                                                       \
-    return made(#WIDTH " " #NAME " " #CALL, NULL, NULL, keys, keys_count, blocks, blocks_count);                      \
-  }
-#define RECORDS(NAME, WIDTH, CALL)                                                                                    \
-  int cukvashe_##WIDTH##_##NAME##_##CALL(const cukvashe_##NAME *context, uint8_t *vectors, size_t vectors_count,      \
-                                         const size_t *sizes, size_t sizes_count, uint8_t *blocks,                    \
-                                         size_t blocks_count) {                                                       \
-    CHECK(vectors_count == sizes_count);                                                                              \
-    return made(#WIDTH " " #NAME " " #CALL, context, vectors, sizes, sizes_count, blocks, blocks_count);              \
-  }
-#define TAGS(NAME, WIDTH)                                                                                             \
-  int cukvashe_##WIDTH##_cbc_mac_##NAME##_macs(const uint8_t *key, int method, const cukvashe_message *messages,      \
-                                               size_t messages_count, uint8_t *tags, size_t tags_count) {             \
-    CHECK(method == 7);                                                                                               \
-    return made(#WIDTH " " #NAME " macs", key, NULL, messages, messages_count, tags, tags_count);                     \
-  }                                                                                                                   \
-  int cukvashe_##WIDTH##_cbc_mac_##NAME##_macs_each(const uint8_t *keys, size_t keys_count, int method,               \
-                                                    const cukvashe_message *messages, size_t messages_count,          \
-                                                    uint8_t *tags, size_t tags_count) {                               \
-    CHECK(method == 7 && keys_count == tags_count);                                                                   \
-    return made(#WIDTH " " #NAME " macs_each", keys, NULL, messages, messages_count, tags, tags_count);               \
-  }
-#define CMAC_TAGS(NAME, WIDTH)                                                                                        \
-  int cukvashe_##WIDTH##_cmac_##NAME##_macs(const uint8_t *key, const cukvashe_message *messages,                     \
-                                            size_t messages_count, uint8_t *tags, size_t tags_count) {                \
-    return made(#WIDTH " " #NAME " cmacs", key, NULL, messages, messages_count, tags, tags_count);                    \
-  }                                                                                                                   \
-  int cukvashe_##WIDTH##_cmac_##NAME##_macs_each(const uint8_t *keys, size_t keys_count,                              \
-                                                 const cukvashe_message *messages, size_t messages_count,             \
-                                                 uint8_t *tags, size_t tags_count) {                                  \
-    CHECK(keys_count == tags_count);                                                                                  \
-    return made(#WIDTH " " #NAME " cmacs_each", keys, NULL, messages, messages_count, tags, tags_count);              \
-  }
-#define EXPORTS_OF_WIDTH(NAME, WIDTH)                                                                                 \
-  PLACE(NAME, WIDTH, encrypt_ecb)                                                                                     \
-  PLACE(NAME, WIDTH, decrypt_ecb)                                                                                     \
-  CHAIN(NAME, WIDTH, decrypt_cbc)                                                                                     \
-  CHAIN_TO(NAME, WIDTH, decrypt_cbc)                                                                                  \
-  FOR_EACH(NAME, WIDTH, encrypt_each)                                                                                 \
-  FOR_EACH(NAME, WIDTH, decrypt_each)                                                                                 \
-  FOR_EACH(NAME, WIDTH, check_values)                                                                                 \
-  TAGS(NAME, WIDTH)                                                                                                   \
-  RECORDS(NAME, WIDTH, encrypt_cbc_records)                                                                           \
-  RECORDS(NAME, WIDTH, decrypt_cbc_records)
-#define EXPORTS(NAME)                                                                                                 \
-  EXPORTS_OF_WIDTH(NAME, narrow)                                                                                      \
-  CHAIN_IN_PLACE(NAME)                                                                                                \
-  CHAIN_TO(NAME, narrow, encrypt_cbc)
-
-EXPORTS(des)
-EXPORTS(tdes_ede2)
-EXPORTS(tdes_ede3)
-
-#define EXPORTS_OF_LISTS(WIDTH)                                                                                       \
-  CMAC_TAGS(tdes_ede2, WIDTH)                                                                                         \
-  CMAC_TAGS(tdes_ede3, WIDTH)                                                                                         \
-  int cukvashe_##WIDTH##_retail_mac_des_macs(const uint8_t key[16], int method, const cukvashe_message *messages,     \
-                                             size_t messages_count, uint8_t *tags, size_t tags_count) {               \
-    CHECK(method == 7);                                                                                               \
-    return made(#WIDTH " retail macs", key, NULL, messages, messages_count, tags, tags_count);                        \
-  }                                                                                                                   \
-  int cukvashe_##WIDTH##_retail_mac_des_macs_each(const uint8_t *keys, size_t keys_count, int method,                 \
-                                                  const cukvashe_message *messages, size_t messages_count,            \
-                                                  uint8_t *tags, size_t tags_count) {                                 \
-    CHECK(method == 7 && keys_count == tags_count);                                                                   \
-    return made(#WIDTH " retail macs_each", keys, NULL, messages, messages_count, tags, tags_count);                  \
+  int cukvashe_##WIDTH##_macs_each(uint32_t algorithm, uint32_t padding, size_t key_size, const uint8_t *keys,        \
+                                   size_t keys_length, const cukvashe_message *messages, size_t messages_count,       \
+                                   uint8_t *tags, size_t tags_count) {                                                \
+    return made(#WIDTH " macs_each", ARGUMENTS(algorithm, padding, key_size, A(keys), keys_length, A(messages),       \
+                                               messages_count, A(tags), tags_count));                                 \
   }                                                                                                                   \
   int cukvashe_##WIDTH##_dukpt_transaction_keys(const uint8_t base[16], const uint8_t *serials, size_t serials_count, \
                                                 uint8_t *keys, size_t keys_count) {                                   \
-    return made(#WIDTH " dukpt transaction_keys", base, NULL, serials, serials_count, keys, keys_count);              \
+    return made(#WIDTH " dukpt_transaction_keys", ARGUMENTS(A(base), A(serials), serials_count, A(keys), keys_count));\
   }
 
-EXPORTS_OF_LISTS(narrow)
-
+LISTS(internal)
 #if HAS_WIDE
-EXPORTS_OF_WIDTH(des, wide)
-EXPORTS_OF_WIDTH(tdes_ede2, wide)
-EXPORTS_OF_WIDTH(tdes_ede3, wide)
-EXPORTS_OF_LISTS(wide)
+LISTS(wide)
 #endif
 
-int cukvashe_narrow_compare_tags(const uint8_t *tags, size_t tags_count, const uint8_t *expected, size_t expected_count,
-                                bool *right, size_t right_count) {
-  CHECK(tags_count == right_count);
-  return made("narrow verify tags", tags, NULL, expected, expected_count, right, right_count);
+CHAIN(internal, encrypt_cbc)
+CHAIN_TO_OTHER(internal, encrypt_cbc_to)
+
+int cukvashe_internal_init(uint64_t *context, size_t words, const uint8_t *key, size_t key_length, bool quiet) {
+  return made("internal init", ARGUMENTS(A(context), words, A(key), key_length, quiet));
 }
 
-int cukvashe_narrow_pad(uint8_t *buffer, size_t capacity, size_t length, int method, size_t *padded_length) {
-  *padded_length = (size_t)method;
-  return made("pad", NULL, NULL, NULL, length, buffer, capacity);
+int cukvashe_internal_check_value(size_t key_size, const uint8_t *key, size_t key_length, uint8_t value[3]) {
+  return made("internal check_value", ARGUMENTS(key_size, A(key), key_length, A(value)));
+}
+
+int cukvashe_internal_open_salted(size_t key_size, uint32_t hash, size_t iterations, const uint8_t *password,
+                                  size_t password_length, const uint8_t *bytes, size_t length, uint8_t *plain,
+                                  size_t room, size_t *plain_length) {
+  return made("internal open_salted", ARGUMENTS(key_size, hash, iterations, A(password), password_length, A(bytes),
+                                                length, A(plain), room, A(plain_length)));
+}
+
+int cukvashe_internal_mac_init(uint32_t algorithm, uint64_t *context, size_t words, uint64_t message[4],
+                               const uint8_t *key, size_t key_length, uint32_t padding, bool quiet) {
+  return made("internal mac_init",
+              ARGUMENTS(algorithm, A(context), words, A(message), A(key), key_length, padding, quiet));
+}
+
+void cukvashe_internal_mac_update(uint32_t algorithm, const uint64_t *context, size_t words, uint64_t message[4],
+                                  const uint8_t *bytes, size_t length) {
+  made("internal mac_update", ARGUMENTS(algorithm, A(context), words, A(message), A(bytes), length));
+}
+
+void cukvashe_internal_mac_final(uint32_t algorithm, const uint64_t *context, size_t words, const uint64_t message[4],
+                                 uint8_t tag[8]) {
+  made("internal mac_final", ARGUMENTS(algorithm, A(context), words, A(message), A(tag)));
+}
+
+int cukvashe_internal_mac_verify(uint32_t algorithm, const uint64_t *context, size_t words, const uint64_t message[4],
+                                 const uint8_t *tag, size_t tag_length) {
+  return made("internal mac_verify", ARGUMENTS(algorithm, A(context), words, A(message), A(tag), tag_length));
+}
+
+int cukvashe_internal_combine(const uint8_t *first, size_t first_length, const uint8_t *second, size_t second_length,
+                              const uint8_t *others, size_t others_length, uint8_t *key, size_t key_length) {
+  return made("internal combine", ARGUMENTS(A(first), first_length, A(second), second_length, A(others),
+                                            others_length, A(key), key_length));
+}
+
+int cukvashe_internal_compare_tags(const uint8_t *tags, size_t tags_count, const uint8_t *expected,
+                                   size_t expected_count, bool *right, size_t right_count) {
+  return made("internal compare_tags", ARGUMENTS(A(tags), tags_count, A(expected), expected_count, A(right), right_count));
+}
+
+int cukvashe_internal_pad(uint8_t *buffer, size_t capacity, size_t length, int method, size_t *padded_length) {
+  return made("internal pad", ARGUMENTS(A(buffer), capacity, length, (uintptr_t)method, A(padded_length)));
+}
+
+/* The content is the last two characters before the length, of the block at place 7. */
+int cukvashe_internal_key_block_optional_block(const char *block, size_t block_length, size_t place, char name[3],
+                                               cukvashe_message *content) {
+  CHECK(content->bytes == (const uint8_t *)block && content->length == 0);
+  made("internal key_block_optional_block", ARGUMENTS(A(block), block_length, place, A(name)));
+  if (place != 7) return STATUS;
+  *content = (cukvashe_message){(const uint8_t *)block + block_length - 2, 2};
+  return CUKVASHE_OK;
 }
 
 static bool answer;
 
-/* The content is the last two characters before the length. */
-int cukvashe_narrow_key_block_optional_block(const char *block, size_t block_length, size_t place, char name[3],
-                                             cukvashe_message *content) {
-  const int status = place == 7 ? CUKVASHE_OK : STATUS;
-  CHECK(content->bytes == (const uint8_t *)block && content->length == 0);
-  made("optional", name, NULL, block, block_length, NULL, place);
-  if (status == CUKVASHE_OK) *content = (cukvashe_message){(const uint8_t *)block + block_length - 2, 2};
-  return status;
-}
-
-bool cukvashe_narrow_equal_but_parity(const uint8_t *first, size_t first_length, const uint8_t *second,
-                                      size_t second_length) {
-  made("equal", NULL, NULL, first, first_length, second, second_length);
+bool cukvashe_internal_equal_but_parity(const uint8_t *first, size_t first_length, const uint8_t *second,
+                                        size_t second_length) {
+  made("internal equal_but_parity", ARGUMENTS(A(first), first_length, A(second), second_length));
   return answer;
 }
 
-/* The one call that was made since the last check had this name and these arguments. */
-static void was_of(const char *width, const char *cipher, const char *name, const void *context, const void *iv,
-                   const void *input, size_t input_length, const void *output, size_t output_length) {
+/* The one call that was made since the last check had this name and these arguments, and the stack was wiped so often. */
+static void was(const char *width, const char *name, int wiped, const uintptr_t *arguments, size_t size) {
   char wanted[80];
-  snprintf(wanted, sizeof wanted, "%s %s %s", width, cipher, name);
+  snprintf(wanted, sizeof wanted, "%s %s", width, name);
   CHECK(calls == 1 && strcmp(last.name, wanted) == 0);
-  CHECK(last.context == context && last.iv == iv && last.input == input && last.output == output);
-  CHECK(last.output_length == output_length && last.input_length == input_length);
-  calls = 0;
+  CHECK(last.size == size && memcmp(last.arguments, arguments, size) == 0);
+  CHECK(wipes == wiped);
+  calls = wipes = 0;
 }
 
-static void was(const char *width, const char *cipher, const char *name, const void *context, const void *iv,
-                const void *input, const void *output, size_t length) {
-  was_of(width, cipher, name, context, iv, input, input ? length : 0, output, length);
-}
+#define WAS(WIDTH, NAME, ...) was(WIDTH, NAME, 0, ARGUMENTS(__VA_ARGS__))
+#define WAS_WIPED(WIDTH, NAME, ...) was(WIDTH, NAME, 1, ARGUMENTS(__VA_ARGS__))
+
+static const char *width_of(size_t count) { return is_v3 && count > MOST_NARROW ? "wide" : "internal"; }
 
 static const size_t sizes[1];
 static const cukvashe_message messages[1];
-static uint8_t iv[8], base[16], input[8], output[8];
+static uint8_t iv[24], base[24], input[24], output[24];
+static size_t number;
 
-/* The calls of a cipher with a length; what the mocks are given is never read. */
-#define HANDS_ON(NAME)                                                                                                \
-  static void NAME##_hands_on(size_t length) {                                                                        \
-    static cukvashe_##NAME context;                                                                                   \
-    const char *width = is_v3 && length > 1024 ? "wide" : "narrow";                                                   \
-    CHECK(cukvashe_##NAME##_encrypt_ecb(&context, output, length) == STATUS);                                         \
-    was(width, #NAME, "encrypt_ecb", &context, NULL, NULL, output, length);                                           \
-    CHECK(cukvashe_##NAME##_decrypt_ecb(&context, output, length) == STATUS);                                         \
-    was(width, #NAME, "decrypt_ecb", &context, NULL, NULL, output, length);                                           \
-    CHECK(cukvashe_##NAME##_encrypt_ecb_to(&context, input, output, length) == STATUS);                               \
-    was(width, #NAME, "encrypt_ecb_to", &context, NULL, input, output, length);                                       \
-    CHECK(cukvashe_##NAME##_decrypt_ecb_to(&context, input, output, length) == STATUS);                               \
-    was(width, #NAME, "decrypt_ecb_to", &context, NULL, input, output, length);                                       \
-    CHECK(cukvashe_##NAME##_decrypt_cbc(&context, iv, output, length) == STATUS);                                     \
-    was(width, #NAME, "decrypt_cbc", &context, iv, NULL, output, length);                                             \
-    CHECK(cukvashe_##NAME##_decrypt_cbc_to(&context, iv, input, output, length) == STATUS);                           \
-    was(width, #NAME, "decrypt_cbc_to", &context, iv, input, output, length);                                         \
-    CHECK(cukvashe_##NAME##_encrypt_cbc_to(&context, iv, input, output, length) == STATUS);                           \
-    was("narrow", #NAME, "encrypt_cbc_to", &context, iv, input, output, length);                                      \
-    CHECK(cukvashe_##NAME##_encrypt_ecb_to(&context, output, output, length) == STATUS);                              \
-    was(width, #NAME, "encrypt_ecb", &context, NULL, NULL, output, length);                                           \
-    CHECK(cukvashe_##NAME##_decrypt_ecb_to(&context, output, output, length) == STATUS);                              \
-    was(width, #NAME, "decrypt_ecb", &context, NULL, NULL, output, length);                                           \
-    CHECK(cukvashe_##NAME##_decrypt_cbc_to(&context, iv, output, output, length) == STATUS);                          \
-    was(width, #NAME, "decrypt_cbc", &context, iv, NULL, output, length);                                             \
-    CHECK(cukvashe_##NAME##_encrypt_cbc_to(&context, iv, output, output, length) == STATUS);                          \
-    was("narrow", #NAME, "encrypt_cbc", &context, iv, NULL, output, length);                                          \
+/* The calls of a cipher; what the functions above are given is never read. */
+#define CIPHER(NAME, WORDS, KEY_SIZE)                                                                                 \
+  static cukvashe_##NAME NAME;                                                                                        \
+  static void NAME##_of_length(size_t length) {                                                                       \
+    const char *width = width_of(length / 8);                                                                         \
+    const uintptr_t context = A(NAME.words);                                                                          \
+    CHECK(cukvashe_##NAME##_encrypt_ecb(&NAME, output, length) == STATUS);                                            \
+    WAS(width, "encrypt_ecb", context, WORDS, A(output), length);                                                     \
+    CHECK(cukvashe_##NAME##_decrypt_ecb(&NAME, output, length) == STATUS);                                            \
+    WAS(width, "decrypt_ecb", context, WORDS, A(output), length);                                                     \
+    CHECK(cukvashe_##NAME##_encrypt_ecb_to(&NAME, input, output, length) == STATUS);                                  \
+    WAS(width, "encrypt_ecb_to", context, WORDS, A(input), length, A(output), length);                                \
+    CHECK(cukvashe_##NAME##_decrypt_ecb_to(&NAME, input, output, length) == STATUS);                                  \
+    WAS(width, "decrypt_ecb_to", context, WORDS, A(input), length, A(output), length);                                \
+    CHECK(cukvashe_##NAME##_encrypt_cbc(&NAME, iv, output, length) == STATUS);                                        \
+    WAS("internal", "encrypt_cbc", context, WORDS, A(iv), A(output), length);                                         \
+    CHECK(cukvashe_##NAME##_decrypt_cbc(&NAME, iv, output, length) == STATUS);                                        \
+    WAS(width, "decrypt_cbc", context, WORDS, A(iv), A(output), length);                                              \
+    CHECK(cukvashe_##NAME##_encrypt_cbc_to(&NAME, iv, input, output, length) == STATUS);                              \
+    WAS("internal", "encrypt_cbc_to", context, WORDS, A(iv), A(input), length, A(output), length);                    \
+    CHECK(cukvashe_##NAME##_decrypt_cbc_to(&NAME, iv, input, output, length) == STATUS);                              \
+    WAS(width, "decrypt_cbc_to", context, WORDS, A(iv), A(input), length, A(output), length);                         \
+    CHECK(cukvashe_##NAME##_encrypt_ecb_to(&NAME, output, output, length) == STATUS);                                 \
+    WAS(width, "encrypt_ecb", context, WORDS, A(output), length);                                                     \
+    CHECK(cukvashe_##NAME##_decrypt_ecb_to(&NAME, output, output, length) == STATUS);                                 \
+    WAS(width, "decrypt_ecb", context, WORDS, A(output), length);                                                     \
+    CHECK(cukvashe_##NAME##_encrypt_cbc_to(&NAME, iv, output, output, length) == STATUS);                             \
+    WAS("internal", "encrypt_cbc", context, WORDS, A(iv), A(output), length);                                         \
+    CHECK(cukvashe_##NAME##_decrypt_cbc_to(&NAME, iv, output, output, length) == STATUS);                             \
+    WAS(width, "decrypt_cbc", context, WORDS, A(iv), A(output), length);                                              \
   }                                                                                                                   \
-  static void NAME##_hands_on_count(size_t count) {                                                                   \
-    const char *width = is_v3 && count > 128 ? "wide" : "narrow";                                                     \
-    cukvashe_unwiped_##NAME##_check_values(input, output, count);                                                     \
-    was(width, #NAME, "check_values", NULL, NULL, input, output, count);                                              \
-    CHECK(cukvashe_unwiped_cbc_mac_##NAME##_macs(base, 7, messages, output, count) == STATUS);                        \
-    was(width, #NAME, "macs", base, NULL, messages, output, count);                                                   \
-    CHECK(cukvashe_unwiped_cbc_mac_##NAME##_macs_each(base, 7, messages, output, count) == STATUS);                   \
-    was(width, #NAME, "macs_each", base, NULL, messages, output, count);                                              \
+  static void NAME##_of_records(size_t count, size_t length) {                                                        \
+    const uintptr_t context = A(NAME.words);                                                                          \
+    CHECK(cukvashe_##NAME##_encrypt_cbc_records(&NAME, iv, sizes, count, output, length) == STATUS);                  \
+    WAS(width_of(count), "encrypt_cbc_records", context, WORDS, A(iv), count, A(sizes), count, A(output), length / 8);\
+    CHECK(cukvashe_##NAME##_decrypt_cbc_records(&NAME, iv, sizes, count, output, length) == STATUS);                  \
+    WAS(width_of(length / 8), "decrypt_cbc_records", context, WORDS, A(iv), count, A(sizes), count, A(output),        \
+        length / 8);                                                                                                  \
   }                                                                                                                   \
-  static void NAME##_hands_on_blocks(size_t count, size_t length) {                                                   \
-    static cukvashe_##NAME context;                                                                                   \
-    const char *width = is_v3 && length > 1024 ? "wide" : "narrow";                                                   \
-    const char *of_chains = is_v3 && count > 128 ? "wide" : "narrow";                                                 \
-    const size_t blocks = length / 8;                                                                                 \
-    CHECK(cukvashe_unwiped_##NAME##_encrypt_each(input, count, output, length) == STATUS);                            \
-    was_of(width, #NAME, "encrypt_each", NULL, NULL, input, count, output, blocks);                                   \
-    CHECK(cukvashe_unwiped_##NAME##_decrypt_each(input, count, output, length) == STATUS);                            \
-    was_of(width, #NAME, "decrypt_each", NULL, NULL, input, count, output, blocks);                                   \
-    CHECK(cukvashe_##NAME##_encrypt_cbc_records(&context, iv, sizes, count, output, length) == STATUS);               \
-    was_of(of_chains, #NAME, "encrypt_cbc_records", &context, iv, sizes, count, output, blocks);                      \
-    CHECK(cukvashe_##NAME##_decrypt_cbc_records(&context, iv, sizes, count, output, length) == STATUS);               \
-    was_of(width, #NAME, "decrypt_cbc_records", &context, iv, sizes, count, output, blocks);                          \
+  static void NAME##_of_each(size_t count) {                                                                          \
+    const char *width = width_of(count);                                                                              \
+    CHECK(cukvashe_##NAME##_encrypt_each(input, count, output, 8 * count) == STATUS);                                 \
+    WAS_WIPED(width, "encrypt_each", KEY_SIZE, A(input), KEY_SIZE * count, A(output), count);                         \
+    CHECK(cukvashe_##NAME##_decrypt_each(input, count, output, 8 * count) == STATUS);                                 \
+    WAS_WIPED(width, "decrypt_each", KEY_SIZE, A(input), KEY_SIZE * count, A(output), count);                         \
   }                                                                                                                   \
-  static void NAME##_refuses_length(size_t count, size_t length) {                                                    \
-    static cukvashe_##NAME context;                                                                                   \
-    const int refused = CUKVASHE_ERR_BLOCKS;                                                                          \
-    CHECK(cukvashe_unwiped_##NAME##_encrypt_each(input, count, output, length) == refused);                           \
-    CHECK(cukvashe_unwiped_##NAME##_decrypt_each(input, count, output, length) == refused);                           \
-    CHECK(cukvashe_##NAME##_encrypt_cbc_records(&context, iv, sizes, count, output, length) == refused);              \
-    CHECK(cukvashe_##NAME##_decrypt_cbc_records(&context, iv, sizes, count, output, length) == refused);              \
-    CHECK(calls == 0);                                                                                                \
+  static void NAME##_refuses_each(int status, size_t count, size_t length) {                                          \
+    CHECK(cukvashe_##NAME##_encrypt_each(input, count, output, length) == status && calls == 0);                      \
+    CHECK(cukvashe_##NAME##_decrypt_each(input, count, output, length) == status && calls == 0);                      \
+    wipes = 0;                                                                                                        \
+  }                                                                                                                   \
+  static void NAME##_refuses_records(size_t count, size_t length) {                                                   \
+    const int status = CUKVASHE_ERR_BLOCKS;                                                                           \
+    CHECK(cukvashe_##NAME##_encrypt_cbc_records(&NAME, iv, sizes, count, output, length) == status && calls == 0);    \
+    CHECK(cukvashe_##NAME##_decrypt_cbc_records(&NAME, iv, sizes, count, output, length) == status && calls == 0);    \
+  }                                                                                                                   \
+  static void NAME##_of_count(size_t count) {                                                                         \
+    cukvashe_##NAME##_check_values(input, output, count);                                                             \
+    WAS_WIPED(width_of(count), "check_values", KEY_SIZE, A(input), KEY_SIZE * count, A(output), count);               \
+  }                                                                                                                   \
+  static void NAME##_of_key(void) {                                                                                   \
+    CHECK(sizeof NAME == 8 * WORDS);                                                                                  \
+    CHECK(cukvashe_##NAME##_init(&NAME, base, 5) == STATUS);                                                          \
+    WAS_WIPED("internal", "init", A(NAME.words), WORDS, A(base), 5, false);                                           \
+    CHECK(cukvashe_##NAME##_init_quiet(&NAME, base, 5) == STATUS);                                                    \
+    WAS_WIPED("internal", "init", A(NAME.words), WORDS, A(base), 5, true);                                            \
+    CHECK(cukvashe_##NAME##_check_value(base, 5, output) == STATUS);                                                  \
+    WAS_WIPED("internal", "check_value", KEY_SIZE, A(base), 5, A(output));                                            \
+    CHECK(cukvashe_##NAME##_open_salted(9, 10, base, 11, input, 12, output, 13, &number) == STATUS);                  \
+    WAS_WIPED("internal", "open_salted", KEY_SIZE, 9, 10, A(base), 11, A(input), 12, A(output), 13, A(&number));      \
+    CHECK(cukvashe_combine_##KEY_SIZE(base, iv, input, 5, output) == STATUS);                                         \
+    WAS_WIPED("internal", "combine", A(base), KEY_SIZE, A(iv), KEY_SIZE, A(input), 5 * KEY_SIZE, A(output), KEY_SIZE);\
   }
 
-HANDS_ON(des)
-HANDS_ON(tdes_ede2)
-HANDS_ON(tdes_ede3)
+CIPHER(des, 17, 8)
+CIPHER(tdes_ede2, 33, 16)
+CIPHER(tdes_ede3, 49, 24)
+
+/* The calls of a MAC, with a padding method or without one. */
+#define MAC_OF(NAME, ALGORITHM, WORDS, KEY_SIZE, METHOD, ...)                                                         \
+  static cukvashe_##NAME NAME;                                                                                        \
+  static void NAME##_of_message(void) {                                                                               \
+    const uintptr_t context = A(NAME.words), message = A(NAME.words + WORDS);                                         \
+    CHECK(sizeof NAME == 8 * (WORDS + 4));                                                                            \
+    CHECK(cukvashe_##NAME##_init(&NAME, base, 5 __VA_ARGS__) == STATUS);                                              \
+    WAS_WIPED("internal", "mac_init", ALGORITHM, context, WORDS, message, A(base), 5, METHOD, false);                 \
+    CHECK(cukvashe_##NAME##_init_quiet(&NAME, base, 5 __VA_ARGS__) == STATUS);                                        \
+    WAS_WIPED("internal", "mac_init", ALGORITHM, context, WORDS, message, A(base), 5, METHOD, true);                  \
+    cukvashe_##NAME##_update(&NAME, input, 6);                                                                        \
+    WAS("internal", "mac_update", ALGORITHM, context, WORDS, message, A(input), 6);                                   \
+    cukvashe_##NAME##_final(&NAME, output);                                                                           \
+    WAS("internal", "mac_final", ALGORITHM, context, WORDS, message, A(output));                                      \
+    CHECK(cukvashe_##NAME##_verify(&NAME, input, 6) == STATUS);                                                       \
+    WAS("internal", "mac_verify", ALGORITHM, context, WORDS, message, A(input), 6);                                   \
+  }
+#define MAC(NAME, ALGORITHM, WORDS, KEY_SIZE)                                                                         \
+  MAC_OF(NAME, ALGORITHM, WORDS, KEY_SIZE, 7, , 7)                                                                    \
+  static void NAME##_of_count(size_t count) {                                                                         \
+    CHECK(cukvashe_##NAME##_macs(base, 7, messages, output, count) == STATUS);                                        \
+    WAS_WIPED(width_of(count), "macs", ALGORITHM, 7, A(base), KEY_SIZE, A(messages), count, A(output), count);        \
+    CHECK(cukvashe_##NAME##_macs_each(base, 7, messages, output, count) == STATUS);                                   \
+    WAS_WIPED(width_of(count), "macs_each", ALGORITHM, 7, KEY_SIZE, A(base), KEY_SIZE * count, A(messages), count,    \
+              A(output), count);                                                                                      \
+  }
+#define CMAC(NAME, WORDS, KEY_SIZE)                                                                                   \
+  MAC_OF(NAME, 5, WORDS, KEY_SIZE, 2, )                                                                               \
+  static void NAME##_of_count(size_t count) {                                                                         \
+    cukvashe_##NAME##_macs(base, messages, output, count);                                                            \
+    WAS_WIPED(width_of(count), "macs", 5, 2, A(base), KEY_SIZE, A(messages), count, A(output), count);                \
+    cukvashe_##NAME##_macs_each(base, messages, output, count);                                                       \
+    WAS_WIPED(width_of(count), "macs_each", 5, 2, KEY_SIZE, A(base), KEY_SIZE * count, A(messages), count, A(output), \
+              count);                                                                                                 \
+  }
+
+MAC(cbc_mac_des, 1, 17, 8)
+MAC(cbc_mac_tdes_ede2, 1, 33, 16)
+MAC(cbc_mac_tdes_ede3, 1, 49, 24)
+MAC(retail_mac_des, 3, 34, 16)
+CMAC(cmac_tdes_ede2, 33, 16)
+CMAC(cmac_tdes_ede3, 49, 24)
 
 static void hands_on(size_t length) {
-  des_hands_on(length);
-  tdes_ede2_hands_on(length);
-  tdes_ede3_hands_on(length);
-}
-
-static void hands_on_cmacs(const char *width, size_t count) {
-  cukvashe_unwiped_cmac_tdes_ede2_macs(base, messages, output, count);
-  was(width, "tdes_ede2", "cmacs", base, NULL, messages, output, count);
-  cukvashe_unwiped_cmac_tdes_ede2_macs_each(base, messages, output, count);
-  was(width, "tdes_ede2", "cmacs_each", base, NULL, messages, output, count);
-  cukvashe_unwiped_cmac_tdes_ede3_macs(base, messages, output, count);
-  was(width, "tdes_ede3", "cmacs", base, NULL, messages, output, count);
-  cukvashe_unwiped_cmac_tdes_ede3_macs_each(base, messages, output, count);
-  was(width, "tdes_ede3", "cmacs_each", base, NULL, messages, output, count);
+  des_of_length(length);
+  tdes_ede2_of_length(length);
+  tdes_ede3_of_length(length);
 }
 
 static void hands_on_count(size_t count) {
-  const char *width = is_v3 && count > 128 ? "wide" : "narrow";
-  des_hands_on_count(count);
-  tdes_ede2_hands_on_count(count);
-  tdes_ede3_hands_on_count(count);
-  cukvashe_unwiped_dukpt_transaction_keys(base, input, output, count);
-  was(width, "dukpt", "transaction_keys", base, NULL, input, output, count);
-  CHECK(cukvashe_unwiped_retail_mac_des_macs(base, 7, messages, output, count) == STATUS);
-  was(width, "retail", "macs", base, NULL, messages, output, count);
-  CHECK(cukvashe_unwiped_retail_mac_des_macs_each(base, 7, messages, output, count) == STATUS);
-  was(width, "retail", "macs_each", base, NULL, messages, output, count);
-  hands_on_cmacs(width, count);
   static bool right[1];
+  des_of_count(count);
+  tdes_ede2_of_count(count);
+  tdes_ede3_of_count(count);
+  cbc_mac_des_of_count(count);
+  cbc_mac_tdes_ede2_of_count(count);
+  cbc_mac_tdes_ede3_of_count(count);
+  retail_mac_des_of_count(count);
+  cmac_tdes_ede2_of_count(count);
+  cmac_tdes_ede3_of_count(count);
+  cukvashe_dukpt_transaction_keys(base, input, output, count);
+  WAS_WIPED(width_of(count), "dukpt_transaction_keys", A(base), A(input), count, A(output), count);
   cukvashe_compare_tags(base, input, right, count);
-  was("narrow", "verify", "tags", base, NULL, input, right, count);
+  WAS("internal", "compare_tags", A(base), count, A(input), count, A(right), count);
 }
 
-/* Lists of blocks: a length that is not whole blocks goes no further, and what is, goes on as it is, whether it agrees with the
-   count or not. */
+/* Lists of blocks: a length that is not whole blocks goes no further. Nor does a count of keys that is not that of the blocks, since it
+   is multiplied; one of records goes on as it is. */
 static void hands_on_blocks(size_t count, size_t length) {
-  if (length % 8 == 0) {
-    des_hands_on_blocks(count, length);
-    tdes_ede2_hands_on_blocks(count, length);
-    tdes_ede3_hands_on_blocks(count, length);
+  if (length % 8 != 0) {
+    des_refuses_records(count, length);
+    tdes_ede2_refuses_records(count, length);
+    tdes_ede3_refuses_records(count, length);
   } else {
-    des_refuses_length(count, length);
-    tdes_ede2_refuses_length(count, length);
-    tdes_ede3_refuses_length(count, length);
+    des_of_records(count, length);
+    tdes_ede2_of_records(count, length);
+    tdes_ede3_of_records(count, length);
+  }
+  if (length % 8 == 0 && count == length / 8) {
+    des_of_each(count);
+    tdes_ede2_of_each(count);
+    tdes_ede3_of_each(count);
+  } else {
+    const int status = length % 8 != 0 ? CUKVASHE_ERR_BLOCKS : CUKVASHE_ERR_COUNTS;
+    des_refuses_each(status, count, length);
+    tdes_ede2_refuses_each(status, count, length);
+    tdes_ede3_refuses_each(status, count, length);
   }
 }
 
 static void hands_on_any_blocks(size_t length) {
-  const size_t counts[] = {length / 8, length / 8 + 1, length, 8 * length, 0, 128, 129, SIZE_MAX};
+  const size_t counts[] = {length / 8, length / 8 + 1, length, 8 * length, 0, MOST_NARROW, MOST_NARROW + 1, SIZE_MAX};
   for (size_t i = 0; i < sizeof counts / sizeof *counts; i++) hands_on_blocks(counts[i], length);
 }
 
@@ -328,20 +396,29 @@ static void gives_places(void) {
   char name[3];
   size_t offset = 3, length = 4;
   CHECK(cukvashe_key_block_optional_block(text, 30, 6, name, &offset, &length) == STATUS && offset == 3 && length == 4);
-  CHECK(last.input == text && last.input_length == 30 && last.output_length == 6 && last.context == name);
+  WAS("internal", "key_block_optional_block", A(text), 30, 6, A(name));
   CHECK(cukvashe_key_block_optional_block(text, 30, 7, name, &offset, &length) == CUKVASHE_OK && offset == 28 && length == 2);
-  CHECK(last.input == text && last.input_length == 30 && last.output_length == 7 && last.context == name);
-  CHECK(cukvashe_key_block_optional_block(NULL, 0, 6, name, &offset, &length) == STATUS && last.input == NULL);
+  WAS("internal", "key_block_optional_block", A(text), 30, 7, A(name));
+  CHECK(cukvashe_key_block_optional_block(NULL, 0, 6, name, &offset, &length) == STATUS);
+  WAS("internal", "key_block_optional_block", A(NULL), 0, 6, A(name));
 }
 
 static void hands_on_the_rest(void) {
-  size_t padded;
-  CHECK(cukvashe_pad(output, 5, 16, 2, &padded) == STATUS && padded == 2 && calls == 1 && strcmp(last.name, "pad") == 0);
-  CHECK(last.output == output && last.input_length == 5 && last.output_length == 16);
+  des_of_key();
+  tdes_ede2_of_key();
+  tdes_ede3_of_key();
+  cbc_mac_des_of_message();
+  cbc_mac_tdes_ede2_of_message();
+  cbc_mac_tdes_ede3_of_message();
+  retail_mac_des_of_message();
+  cmac_tdes_ede2_of_message();
+  cmac_tdes_ede3_of_message();
+  CHECK(cukvashe_pad(output, 5, 16, 2, &number) == STATUS);
+  WAS("internal", "pad", A(output), 16, 5, 2, A(&number));
   for (int i = 0; i < 2; i++) {
     answer = i == 1;
-    CHECK(cukvashe_unwiped_equal_but_parity(input, output, 24) == answer && strcmp(last.name, "equal") == 0);
-    CHECK(last.input == input && last.output == output && last.input_length == 24 && last.output_length == 24);
+    CHECK(cukvashe_equal_but_parity(input, output, 24) == answer);
+    WAS_WIPED("internal", "equal_but_parity", A(input), 24, A(output), 24);
   }
 }
 
@@ -388,17 +465,19 @@ static bool leaves_secret(void *(*run)(void *)) {
 }
 
 int main(int count, char **words) {
-  static const size_t lengths[] = {0, 1, 7, 8, 120, 1016, 1017, 1023, 1024, 1025, 1032, 2048, 4096, (size_t)1 << 32, SIZE_MAX};
+  static const size_t most = 8 * MOST_NARROW;
+  const size_t lengths[] = {0, 1, 7, 8, 120, most - 8, most - 7, most - 1, most, most + 1, most + 8, 2 * most, 4 * most,
+                            (size_t)1 << 32, SIZE_MAX};
   CHECK(count == 2);
   is_v3 = strcmp(words[1], "wide") == 0;
   CHECK(is_v3 || strcmp(words[1], "narrow") == 0);
-  for (size_t length = 0; length <= 1024; length++) hands_on(length);
-  for (size_t blocks = 0; blocks <= 128; blocks++) hands_on_count(blocks);
-  for (size_t length = 0; length <= 1024; length++) hands_on_blocks(length / 8, length);
+  for (size_t length = 0; length <= most; length++) hands_on(length);
+  for (size_t count = 0; count <= MOST_NARROW; count++) hands_on_count(count);
+  for (size_t length = 0; length <= most; length++) hands_on_blocks(length / 8, length);
   CHECK(questions == 0);
   for (size_t i = 0; i < sizeof lengths / sizeof *lengths; i++) hands_on(lengths[i]);
   for (size_t i = 0; i < sizeof lengths / sizeof *lengths; i++) hands_on_count(lengths[i]);
-  hands_on_count(129);
+  hands_on_count(MOST_NARROW + 1);
   for (size_t i = 0; i < sizeof lengths / sizeof *lengths; i++) hands_on_any_blocks(lengths[i]);
   CHECK(questions == HAS_WIDE);
   hands_on_the_rest();
@@ -407,6 +486,6 @@ int main(int count, char **words) {
   CHECK(cukvashe_strerror(-1) == cukvashe_strerror(INT_MIN) && cukvashe_strerror(0) != cukvashe_strerror(-1));
   for (size_t i = 0; i < SECRET; i++) secret[i] = (uint8_t)(3 * i + 101);
   CHECK(leaves_secret(keeps_secret) && !leaves_secret(wipes_secret));
-  printf("dispatch: %s calls above 1,024 bytes, and the processor was asked %s\n", words[1], HAS_WIDE ? "once" : "nothing");
+  printf("dispatch: %s calls above %d blocks, and the processor was asked %s\n", words[1], MOST_NARROW, HAS_WIDE ? "once" : "nothing");
   return 0;
 }

@@ -330,76 +330,50 @@ static void verifies_tags(size_t count) {
 }
 
 #ifdef FORCED
-/* Keys and blocks, or values, have counts of their own. */
-typedef int of_counts(const uint8_t *keys, size_t keys_count, uint8_t *blocks, size_t blocks_count);
+/* The exports of each width, over which keys and blocks, or values, have numbers of their own. */
+#define EACH(width) {cukvashe_##width##_encrypt_each, cukvashe_##width##_decrypt_each},
+#define RECORDS_OF(width) {cukvashe_##width##_encrypt_cbc_records, cukvashe_##width##_decrypt_cbc_records},
+#define VALUES(width) cukvashe_##width##_check_values,
+#define TRANSACTIONS(width) cukvashe_##width##_dukpt_transaction_keys,
+#define TAGS(width) cukvashe_##width##_macs,
+#define TAGS_EACH(width) cukvashe_##width##_macs_each,
 
-#define BOTH(width)                                                                                                   \
-  {                                                                                                                   \
-    {cukvashe_##width##_des_encrypt_each, cukvashe_##width##_des_decrypt_each},                                       \
-        {cukvashe_##width##_tdes_ede2_encrypt_each, cukvashe_##width##_tdes_ede2_decrypt_each},                       \
-        {cukvashe_##width##_tdes_ede3_encrypt_each, cukvashe_##width##_tdes_ede3_decrypt_each},                       \
-  },
-
-static of_counts *const forced[][CIPHERS][2] = {EACH_WIDTH(BOTH)};
+static __typeof__(cukvashe_internal_encrypt_each) *const each_by[][2] = {EACH_WIDTH(EACH)};
+static __typeof__(cukvashe_internal_encrypt_cbc_records) *const records_by[][2] = {EACH_WIDTH(RECORDS_OF)};
+static __typeof__(cukvashe_internal_check_values) *const values_by[] = {EACH_WIDTH(VALUES)};
+static __typeof__(cukvashe_internal_dukpt_transaction_keys) *const transactions_by[] = {EACH_WIDTH(TRANSACTIONS)};
+static __typeof__(cukvashe_internal_macs) *const tags_by[] = {EACH_WIDTH(TAGS)};
+static __typeof__(cukvashe_internal_macs_each) *const tags_each_by[] = {EACH_WIDTH(TAGS_EACH)};
 
 /* Each width at each length. */
 static void answers_by_width(int width, int n, size_t count) {
+  const size_t size = ciphers[n].key_size;
   put_answers(&ciphers[n], count);
-  CHECK(forced[width][n][0](keys, count, put(plain, 8 * count), count) == CUKVASHE_OK && is(answers, 8 * count));
-  CHECK(forced[width][n][1](keys, count, put(answers, 8 * count), count) == CUKVASHE_OK && is(plain, 8 * count));
+  CHECK(each_by[width][0](size, keys, size * count, put(plain, 8 * count), count) == CUKVASHE_OK && is(answers, 8 * count));
+  CHECK(each_by[width][1](size, keys, size * count, put(answers, 8 * count), count) == CUKVASHE_OK && is(plain, 8 * count));
 }
 
-/* The records of `sizes`, in `blocks` blocks. */
-typedef int records_of_width(size_t count, size_t blocks);
-
-#define RECORDS_OF(width, name)                                                                                       \
-  static int width##_##name##_encrypt_records(size_t count, size_t blocks) {                                          \
-    return cukvashe_##width##_##name##_encrypt_cbc_records(&chaining.name, left, count, sizes, count, room + MORE,    \
-                                                           blocks);                                                   \
-  }                                                                                                                   \
-  static int width##_##name##_decrypt_records(size_t count, size_t blocks) {                                          \
-    return cukvashe_##width##_##name##_decrypt_cbc_records(&chaining.name, left, count, sizes, count, room + MORE,    \
-                                                           blocks);                                                   \
-  }
-
-#define RECORDS_OF_ALL(width) RECORDS_OF(width, des) RECORDS_OF(width, tdes_ede2) RECORDS_OF(width, tdes_ede3)
-
-EACH_WIDTH(RECORDS_OF_ALL)
-
-#define RECORDS_BY(width)                                                                                             \
-  {{width##_des_encrypt_records, width##_des_decrypt_records},                                                        \
-   {width##_tdes_ede2_encrypt_records, width##_tdes_ede2_decrypt_records},                                            \
-   {width##_tdes_ede3_encrypt_records, width##_tdes_ede3_decrypt_records}},
-
-static records_of_width *const records_by[][CIPHERS][2] = {EACH_WIDTH(RECORDS_BY)};
+/* The records of `sizes`, in `blocks` blocks, one way or the other. */
+static int recorded(int width, int n, int way, size_t count, size_t blocks) {
+  const uint64_t *context = chaining.tdes_ede3.words; /* the longest, which begins where the others do */
+  memcpy(left, vectors, sizeof left);
+  return records_by[width][way](context, ciphers[n].context_size / 8, left, count, sizes, count, room + MORE, blocks);
+}
 
 static void records_by_width(int width, int n, size_t count) {
   const size_t blocks = put_sizes(count), length = 8 * blocks;
   put_records(&ciphers[n], count);
   put(plain, length);
-  memcpy(left, vectors, sizeof left);
-  CHECK(records_by[width][n][0](count, blocks) == CUKVASHE_OK && is(answers, length) && memcmp(left, next, 8 * count) == 0);
-  memcpy(left, vectors, sizeof left);
-  CHECK(records_by[width][n][1](count, blocks) == CUKVASHE_OK && is(plain, length) && memcmp(left, next, 8 * count) == 0);
+  CHECK(recorded(width, n, 0, count, blocks) == CUKVASHE_OK && is(answers, length) && memcmp(left, next, 8 * count) == 0);
+  CHECK(recorded(width, n, 1, count, blocks) == CUKVASHE_OK && is(plain, length) && memcmp(left, next, 8 * count) == 0);
 }
-
-typedef int transactions(const uint8_t base[16], const uint8_t *serials, size_t serials_count, uint8_t *made,
-                         size_t made_count);
-
-#define VALUES(width)                                                                                                 \
-  {cukvashe_##width##_des_check_values, cukvashe_##width##_tdes_ede2_check_values,                                    \
-   cukvashe_##width##_tdes_ede3_check_values},
-#define TRANSACTIONS(width) cukvashe_##width##_dukpt_transaction_keys,
-
-static of_counts *const values_of[][CIPHERS] = {EACH_WIDTH(VALUES)};
-static transactions *const transactions_of[] = {EACH_WIDTH(TRANSACTIONS)};
 
 static void values_by_width(int width, int n, size_t count) {
   static uint8_t values[3 * LONGEST];
+  const size_t size = ciphers[n].key_size;
   random_bytes(keys, sizeof keys);
-  for (size_t i = 0; i < count; i++)
-    CHECK(ciphers[n].check_value(keys + ciphers[n].key_size * i, ciphers[n].key_size, values + 3 * i) == CUKVASHE_OK);
-  CHECK(values_of[width][n](keys, count, put(plain, 0), count) == CUKVASHE_OK && is(values, 3 * count));
+  for (size_t i = 0; i < count; i++) CHECK(ciphers[n].check_value(keys + size * i, size, values + 3 * i) == CUKVASHE_OK);
+  CHECK(values_by[width](size, keys, size * count, put(plain, 0), count) == CUKVASHE_OK && is(values, 3 * count));
 }
 
 static void transactions_by_width(int width, size_t count) {
@@ -410,45 +384,25 @@ static void transactions_by_width(int width, size_t count) {
     cukvashe_dukpt_initial_key(keys, keys + 10 * i, initial);
     cukvashe_dukpt_transaction_key(initial, keys + 10 * i, wanted + 16 * i);
   }
-  CHECK(transactions_of[width](keys, keys, count, put(plain, 0), count) == CUKVASHE_OK && is(wanted, 16 * count));
+  CHECK(transactions_by[width](keys, keys, count, put(plain, 0), count) == CUKVASHE_OK && is(wanted, 16 * count));
 }
 
 /* The tags of a width, of counts that may differ: `first` keys, of those under one none, and `second` tags. */
-#define OF_WIDTH(width)                                                                                               \
-  static int width##_tags(int n, int each, int method, size_t first, size_t count, uint8_t *made, size_t second) {    \
-    switch (2 * n + each) {                                                                                           \
-      case 0: return cukvashe_##width##_cbc_mac_des_macs(keys, method, messages, count, made, second);                \
-      case 1: return cukvashe_##width##_cbc_mac_des_macs_each(keys, first, method, messages, count, made, second);    \
-      case 2: return cukvashe_##width##_cbc_mac_tdes_ede2_macs(keys, method, messages, count, made, second);          \
-      case 3:                                                                                                         \
-        return cukvashe_##width##_cbc_mac_tdes_ede2_macs_each(keys, first, method, messages, count, made, second);    \
-      case 4: return cukvashe_##width##_cbc_mac_tdes_ede3_macs(keys, method, messages, count, made, second);          \
-      case 5:                                                                                                         \
-        return cukvashe_##width##_cbc_mac_tdes_ede3_macs_each(keys, first, method, messages, count, made, second);    \
-      case 6: return cukvashe_##width##_retail_mac_des_macs(keys, method, messages, count, made, second);             \
-      case 7:                                                                                                         \
-        return cukvashe_##width##_retail_mac_des_macs_each(keys, first, method, messages, count, made, second);       \
-      case 8: return cukvashe_##width##_cmac_tdes_ede2_macs(keys, messages, count, made, second);                     \
-      case 9: return cukvashe_##width##_cmac_tdes_ede2_macs_each(keys, first, messages, count, made, second);         \
-      case 10: return cukvashe_##width##_cmac_tdes_ede3_macs(keys, messages, count, made, second);                    \
-      default: return cukvashe_##width##_cmac_tdes_ede3_macs_each(keys, first, messages, count, made, second);        \
-    }                                                                                                                 \
-  }
-
-EACH_WIDTH(OF_WIDTH)
-
-typedef int tags_of_width(int n, int each, int method, size_t first, size_t count, uint8_t *made, size_t second);
-
-#define TAGS_BY(width) width##_tags,
-
-static tags_of_width *const tags_by[] = {EACH_WIDTH(TAGS_BY)};
+static int tagged(int width, int n, int each, uint32_t padding, size_t first, size_t count, uint8_t *made, size_t second) {
+  static const uint32_t algorithms[MACS] = {ALGORITHM_CBC_MAC,    ALGORITHM_CBC_MAC, ALGORITHM_CBC_MAC,
+                                            ALGORITHM_RETAIL_MAC, ALGORITHM_CMAC,    ALGORITHM_CMAC};
+  const size_t size = macs[n].key_size;
+  const uint32_t method = macs[n].is_padded ? padding : CUKVASHE_MAC_PADDING_2;
+  if (!each) return tags_by[width](algorithms[n], method, keys, size, messages, count, made, second);
+  return tags_each_by[width](algorithms[n], method, size, keys, size * first, messages, count, made, second);
+}
 
 static void tags_by_width(int width, size_t count) {
   put_messages(count);
   for (int n = 0; n < MACS; n++)
     for (int each = 0; each < 2; each++) {
       put_tags(&macs[n], each, 2, messages, count);
-      CHECK(tags_by[width](n, each, 2, count, count, put(plain, 0), count) == CUKVASHE_OK && is(tags, 8 * count));
+      CHECK(tagged(width, n, each, 2, count, count, put(plain, 0), count) == CUKVASHE_OK && is(tags, 8 * count));
     }
 }
 
@@ -456,8 +410,8 @@ static void tags_by_width(int width, size_t count) {
 static void refuses_counts_of_tags(int width, size_t first, size_t second) {
   for (int n = 0; n < MACS; n++)
     for (int each = 0; each < 2; each++) {
-      CHECK(tags_by[width](n, each, 1, first, first, put(plain, 0), second) == CUKVASHE_ERR_COUNTS && is(plain, 0));
-      if (each) CHECK(tags_by[width](n, each, 1, first, second, room, second) == CUKVASHE_ERR_COUNTS && is(plain, 0));
+      CHECK(tagged(width, n, each, 1, first, first, put(plain, 0), second) == CUKVASHE_ERR_COUNTS && is(plain, 0));
+      if (each) CHECK(tagged(width, n, each, 1, first, second, room, second) == CUKVASHE_ERR_COUNTS && is(plain, 0));
     }
 }
 
@@ -466,9 +420,9 @@ static void refuses_counts_of_answers(size_t first, size_t second) {
   static bool right[LONGEST];
   put_expected(first > second ? first : second);
   for (size_t i = 0; i < LONGEST; i++) right[i] = i % 3 == 1;
-  CHECK(cukvashe_narrow_compare_tags(tags, first, plain, second, right, second) == CUKVASHE_ERR_COUNTS);
-  CHECK(cukvashe_narrow_compare_tags(tags, second, plain, first, right, second) == CUKVASHE_ERR_COUNTS);
-  CHECK(cukvashe_narrow_compare_tags(tags, second, plain, second, right, first) == CUKVASHE_ERR_COUNTS);
+  CHECK(cukvashe_internal_compare_tags(tags, first, plain, second, right, second) == CUKVASHE_ERR_COUNTS);
+  CHECK(cukvashe_internal_compare_tags(tags, second, plain, first, right, second) == CUKVASHE_ERR_COUNTS);
+  CHECK(cukvashe_internal_compare_tags(tags, second, plain, second, right, first) == CUKVASHE_ERR_COUNTS);
   for (size_t i = 0; i < LONGEST; i++) CHECK(right[i] == (i % 3 == 1));
 }
 
@@ -476,14 +430,15 @@ static void refuses_counts(size_t first, size_t second) {
   refuses_counts_of_answers(first, second);
   for (int width = 0; width < count_of_ways() - 1; width++) {
     for (int n = 0; n < CIPHERS; n++) {
+      const size_t size = ciphers[n].key_size;
       for (int call = 0; call < 2; call++) {
-        int status = forced[width][n][call](keys, first, put(plain, 8 * second), second);
+        int status = each_by[width][call](size, keys, size * first, put(plain, 8 * second), second);
         CHECK(status == CUKVASHE_ERR_COUNTS && is(plain, 8 * second));
       }
-      int status = values_of[width][n](keys, first, put(plain, 3 * second), second);
+      int status = values_by[width](size, keys, size * first, put(plain, 3 * second), second);
       CHECK(status == CUKVASHE_ERR_COUNTS && is(plain, 3 * second));
     }
-    CHECK(transactions_of[width](keys, plain, first, put(keys, 16 * second), second) == CUKVASHE_ERR_COUNTS);
+    CHECK(transactions_by[width](keys, plain, first, put(keys, 16 * second), second) == CUKVASHE_ERR_COUNTS);
     CHECK(is(keys, 16 * second));
     refuses_counts_of_tags(width, first, second);
   }

@@ -210,17 +210,17 @@ static void returns_statuses_of_passwords(void) {
 
 /* Words that the sentence of each status has. */
 static const char *const words[] = {
-    "success", "key does not have a length", "multiple of 8", "key is weak", "no padding method", "tag is not that",
-    "no next key serial number", "PIN block format", "PIN does not have 4 to 12 digits", "character of the PIN",
-    "account number has fewer digits than the call takes", "character of the account number", "fill digit",
+    "success", "key does not have a length", "multiple of 8", "key is weak", "padding method is not one", "tag is not that",
+    "no next key serial number", "first digit of the PIN block", "PIN does not have 4 to 12 digits", "character of the PIN",
+    "account number does not have 8 to 19 digits", "character of the account number", "fill digit",
     "expiry date does not have four digits", "character of the expiry date", "service code does not have three digits",
-    "character of the service code", "does not end with the padding", "has no room",
+    "character of the service code", "do not end with the padding", "has no room",
     "numbers of elements do not agree", "index of the key pair", "table does not have sixteen digits", "character of the decimalization",
     "fewer than eight different digits", "PIN is not the one", "no translation of PIN blocks", "PIN block is not one of its format",
     "sequence number does not have two digits", "character of the sequence number", "more than 8 bytes",
     "protection key does not have", "key block is not as long as its header says", "version of the key block", "number of optional blocks",
     "optional blocks can't be read", "encrypted key data do not have", "0 to 9 or A to F", "MAC is not that of the key block",
-    "padding of the key", "no optional block at this place", "no hash function", "number of iterations", "do not begin with Salted__",
+    "padding of the key", "no optional block at this place", "hash function is not one", "number of iterations", "do not begin with Salted__",
     "end within the salt, or it does not have 0 or 8 bytes",
 };
 

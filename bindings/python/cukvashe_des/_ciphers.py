@@ -6,7 +6,8 @@ from typing import TYPE_CHECKING, Any, ClassVar, Type
 
 from ._data import BLOCK_SIZE, KINDS, Keyed, Kind, bytes_of, in_order, is_writable, kind_of, pointer_to, vector_of
 from ._faults import BlockLength
-from ._library import INT, OK, POINTER, SIZE
+from ._library import INT, POINTER, SIZE
+from ._statuses import OK
 
 if TYPE_CHECKING:
     from _typeshed import ReadableBuffer, WriteableBuffer

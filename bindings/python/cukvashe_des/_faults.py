@@ -2,9 +2,9 @@
 
 from __future__ import annotations
 
-from typing import Dict, Tuple, Type
+from typing import Dict, Type
 
-from . import _library
+from . import _statuses
 
 
 class KeyLength(ValueError):
@@ -194,56 +194,64 @@ class SaltLength(ValueError):
     """Data end within the salt, or the salt of bytes_to_key does not have 0 or 8 bytes."""
 
 
-_FAULTS: Dict[int, Tuple[Type[ValueError], str]] = {
-    _library.PADDING_METHOD: (PaddingMethod, "padding is by method 1 or 2"),
-    _library.FORMAT: (Format, "the PIN block is of another format"),
-    _library.PIN_LENGTH: (PinLength, "a PIN has 4 to 12 digits"),
-    _library.PIN_DIGIT: (PinDigit, "a PIN has digits alone"),
-    _library.ACCOUNT_LENGTH: (AccountLength, "an account number has 8 to 19 digits, for a PVV 12 to 19, for a CVV 13 to 19"),
-    _library.ACCOUNT_DIGIT: (AccountDigit, "an account number has digits alone"),
-    _library.FILL: (Fill, "a fill digit is none of those of the format"),
-    _library.EXPIRY_LENGTH: (ExpiryLength, "an expiry date has four digits"),
-    _library.EXPIRY_DIGIT: (ExpiryDigit, "an expiry date has digits alone"),
-    _library.SERVICE_LENGTH: (ServiceLength, "a service code has three digits"),
-    _library.SERVICE_DIGIT: (ServiceDigit, "a service code has digits alone"),
-    _library.KEY_INDEX: (KeyIndex, "the index of a key pair is 1 to 6"),
-    _library.TABLE_LENGTH: (TableLength, "a decimalization table has sixteen digits"),
-    _library.TABLE_DIGIT: (TableDigit, "a decimalization table has digits alone"),
-    _library.TABLE_VARIETY: (TableVariety, "a decimalization table has at least eight different digits"),
-    _library.WRONG_PIN: (WrongPin, "the PIN is not the one"),
-    _library.FORMATS: (Formats, "PIN blocks are translated from formats 0, 1 and 3"),
-    _library.PIN_BLOCK: (PinBlock, "the PIN block is not one of its format and account number"),
-    _library.SEQUENCE_LENGTH: (SequenceLength, "a sequence number has two digits"),
-    _library.SEQUENCE_DIGIT: (SequenceDigit, "a sequence number has digits alone"),
-    _library.DATA_LENGTH: (DataLength, "the data of an issuer have at most 8 bytes"),
-    _library.KEY_LENGTH: (KeyLength, "a key has 8, 16 or 24 bytes"),
-    _library.PROTECTION_KEY_LENGTH: (ProtectionKeyLength, "a protection key has 16 or 24 bytes"),
-    _library.KEY_BLOCK_LENGTH: (KeyBlockLength, "a key block has as many characters as it says, at most 9999"),
-    _library.VERSION: (KeyBlockVersion, "a key block is read of version A, B or C, and made of version B or C"),
-    _library.HEADER: (
-        KeyBlockField,
-        "the number of optional blocks is not two digits and two zeros, or a field to be written is not letters and digits",
-    ),
-    _library.OPTIONAL_BLOCK: (
-        OptionalBlock,
-        "the optional blocks can't be read: a wrong length, an end off a multiple of eight, or more than 99",
-    ),
-    _library.KEY_DATA_LENGTH: (KeyDataLength, "the encrypted key does not have a length that it can have"),
-    _library.KEY_BLOCK_DIGIT: (KeyBlockDigit, "an encrypted key and its MAC have digits 0 to 9 and A to F alone"),
-    _library.KEY_BLOCK_MAC: (KeyBlockMac, "the MAC is not that of the key block"),
-    _library.PADDING_LENGTH: (PaddingLength, "the padding has 6, 14 or 22 bytes, with the key at most 30"),
-    _library.HASH: (HashName, 'the hash function of PBKDF2 is "sha1" or "sha256"'),
-    _library.ITERATIONS: (IterationCount, "the iterations are 1 at least, and at most 2^32 - 1"),
-    _library.NOT_SALTED: (NotSalted, "the data do not begin with Salted__"),
-    _library.SALT_LENGTH: (SaltLength, "the data end within the salt"),
+_FAULTS: Dict[int, Type[ValueError]] = {
+    _statuses.PADDING_METHOD: PaddingMethod,
+    _statuses.TAG: TagMismatch,
+    _statuses.FORMAT: Format,
+    _statuses.PIN_LENGTH: PinLength,
+    _statuses.PIN_DIGIT: PinDigit,
+    _statuses.ACCOUNT_LENGTH: AccountLength,
+    _statuses.ACCOUNT_DIGIT: AccountDigit,
+    _statuses.FILL: Fill,
+    _statuses.EXPIRY_LENGTH: ExpiryLength,
+    _statuses.EXPIRY_DIGIT: ExpiryDigit,
+    _statuses.SERVICE_LENGTH: ServiceLength,
+    _statuses.SERVICE_DIGIT: ServiceDigit,
+    _statuses.PADDING: PaddingMismatch,
+    _statuses.KEY_INDEX: KeyIndex,
+    _statuses.TABLE_LENGTH: TableLength,
+    _statuses.TABLE_DIGIT: TableDigit,
+    _statuses.TABLE_VARIETY: TableVariety,
+    _statuses.WRONG_PIN: WrongPin,
+    _statuses.FORMATS: Formats,
+    _statuses.PIN_BLOCK: PinBlock,
+    _statuses.SEQUENCE_LENGTH: SequenceLength,
+    _statuses.SEQUENCE_DIGIT: SequenceDigit,
+    _statuses.DATA_LENGTH: DataLength,
+    _statuses.KEY_LENGTH: KeyLength,
+    _statuses.PROTECTION_KEY_LENGTH: ProtectionKeyLength,
+    _statuses.KEY_BLOCK_LENGTH: KeyBlockLength,
+    _statuses.VERSION: KeyBlockVersion,
+    _statuses.HEADER: KeyBlockField,
+    _statuses.OPTIONAL_BLOCK: OptionalBlock,
+    _statuses.KEY_DATA_LENGTH: KeyDataLength,
+    _statuses.KEY_BLOCK_DIGIT: KeyBlockDigit,
+    _statuses.KEY_BLOCK_MAC: KeyBlockMac,
+    _statuses.PADDING_LENGTH: PaddingLength,
+    _statuses.HASH: HashName,
+    _statuses.ITERATIONS: IterationCount,
+    _statuses.NOT_SALTED: NotSalted,
+    _statuses.SALT_LENGTH: SaltLength,
 }
+
+# What stands after a sentence that leaves it to the call.
+_TAKEN = {
+    _statuses.KEY_LENGTH: ": 8, 16 or 24 bytes",
+    _statuses.PADDING_METHOD: ": 1 or 2",
+    _statuses.VERSION: ": A, B or C to read, B or C to make",
+    _statuses.HASH: ': for PBKDF2 "sha1" or "sha256"',
+}
+
+
+def fault_of(status: int) -> ValueError:
+    """The fault of a status, with its sentence."""
+    return _FAULTS[status](_statuses.SENTENCES[status] + _TAKEN.get(status, ""))
 
 
 def check(status: int) -> None:
     """Raises the fault of a status. One that none of the calls here can return is a RuntimeError: the library is another one."""
-    if status == _library.OK:
+    if status == _statuses.OK:
         return
     if status not in _FAULTS:
         raise RuntimeError(f"the library returned the status {status}, which this call has not")
-    fault, words = _FAULTS[status]
-    raise fault(words)
+    raise fault_of(status)

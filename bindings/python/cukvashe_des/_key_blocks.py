@@ -9,7 +9,8 @@ from typing import TYPE_CHECKING, Any, Iterable, List, Mapping, Optional, Tuple,
 
 from ._data import bytes_from, bytes_of, room, secret_of
 from ._faults import KeyBlockDigit, KeyBlockField, KeyBlockLength, KeyBlockVersion, OptionalBlock, check
-from ._library import INT, NO_OPTIONAL_BLOCK, POINTER, SIZE, function
+from ._library import INT, POINTER, SIZE, function
+from ._statuses import NO_OPTIONAL_BLOCK
 
 if TYPE_CHECKING:
     from _typeshed import ReadableBuffer

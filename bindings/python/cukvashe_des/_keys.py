@@ -8,7 +8,8 @@ from typing import TYPE_CHECKING, Any, Callable, Optional, Type
 from ._ciphers import Cipher, class_of
 from ._data import bytes_from, bytes_of, key_of, room, wiped_room
 from ._faults import SerialLength, WeakKey, check
-from ._library import BOOL, INT, NO_SERIAL, POINTER, SIZE, WEAK_KEY, function
+from ._library import BOOL, INT, POINTER, SIZE, function
+from ._statuses import NO_SERIAL, WEAK_KEY
 
 if TYPE_CHECKING:
     from _typeshed import ReadableBuffer

@@ -10,9 +10,10 @@ from typing import TYPE_CHECKING, AbstractSet, Any, Iterable, Iterator, List, Ma
 
 from ._ciphers import Cipher, class_of
 from ._data import BLOCK_SIZE, Kind, bytes_from, in_order, is_writable, kept_apart, key_of, lent, pointer_to, room, row_size
-from ._faults import BlockLength, CountMismatch, KeyLength, PaddingMethod, SerialLength, VectorLength
-from ._library import INT, OK, POINTER, SIZE, function
+from ._faults import BlockLength, CountMismatch, KeyLength, SerialLength, VectorLength, fault_of
+from ._library import INT, POINTER, SIZE, function
 from ._macs import TAG_SIZE, Mac, mac_class_of
+from ._statuses import OK, PADDING_METHOD
 
 if TYPE_CHECKING:
     from _typeshed import ReadableBuffer, WriteableBuffer
@@ -232,7 +233,7 @@ def _mac_of(mac: Type[Mac], padding: Optional[int]) -> Kind:
     if not isinstance(padding, int) or isinstance(padding, bool):
         raise TypeError("the padding method, the third argument, is the number 1 or 2")
     if padding not in (1, 2):
-        raise PaddingMethod("padding is by method 1 or 2")
+        raise fault_of(PADDING_METHOD)
     return kind
 
 
@@ -242,7 +243,7 @@ def _write_tags(call: str, keys: Any, padding: Optional[int], pairs: array[int],
     if padding is None:
         _CMACS[call](keys, messages, tags, count)
     elif _MACS[call](keys, padding, messages, tags, count) != OK:
-        raise PaddingMethod("padding is by method 1 or 2")
+        raise fault_of(PADDING_METHOD)
 
 
 def macs(

@@ -6,8 +6,9 @@ import threading
 from typing import TYPE_CHECKING, ClassVar, Type, TypeVar
 
 from ._data import BLOCK_SIZE, KINDS, Keyed, Kind, bytes_of, kind_of, room
-from ._faults import TagMismatch
-from ._library import INT, OK, POINTER, SIZE
+from ._faults import fault_of
+from ._library import INT, POINTER, SIZE
+from ._statuses import OK, TAG
 
 if TYPE_CHECKING:
     from _typeshed import ReadableBuffer
@@ -66,7 +67,7 @@ class Mac(Keyed):
             context = self._open()
             status = context.kind.calls["verify"](context, given, len(given))
         if status != OK or len(given) < least:
-            raise TagMismatch("the tag is not that of the message")
+            raise fault_of(TAG)
 
     def copy(self: _Self) -> _Self:
         """A MAC that goes on from here by itself."""

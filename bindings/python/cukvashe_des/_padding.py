@@ -6,8 +6,9 @@ import ctypes
 from typing import TYPE_CHECKING
 
 from ._data import BLOCK_SIZE, bytes_of, pointer_to
-from ._faults import BlockLength, PaddingMethod, PaddingMismatch, check
-from ._library import BLOCKS, INT, PADDING, POINTER, SIZE, function
+from ._faults import BlockLength, PaddingMethod, check
+from ._library import INT, POINTER, SIZE, function
+from ._statuses import BLOCKS
 
 if TYPE_CHECKING:
     from _typeshed import ReadableBuffer
@@ -44,7 +45,5 @@ def unpad(data: ReadableBuffer, method: str) -> bytes:
     status = _unpad(given, len(given), number, ctypes.byref(length))
     if status == BLOCKS:
         raise BlockLength(f"{len(given)} bytes are not whole blocks of {BLOCK_SIZE}")
-    if status == PADDING:
-        raise PaddingMismatch("the data do not end with the padding")
     check(status)
     return given[: length.value]

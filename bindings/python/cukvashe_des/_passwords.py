@@ -7,8 +7,9 @@ from typing import TYPE_CHECKING, Optional, Type
 
 from ._ciphers import Cipher, class_of
 from ._data import bytes_from, bytes_of, room, secret_of
-from ._faults import BlockLength, HashName, IterationCount, KeyLength, PaddingMismatch, SaltLength, check
-from ._library import BLOCKS, INT, PADDING, POINTER, SALT_LENGTH, SIZE, function
+from ._faults import BlockLength, HashName, KeyLength, SaltLength, check, fault_of
+from ._library import INT, POINTER, SIZE, function
+from ._statuses import BLOCKS, ITERATIONS, SALT_LENGTH
 
 if TYPE_CHECKING:
     from _typeshed import ReadableBuffer
@@ -46,7 +47,7 @@ def _count_of(number: int, what: str) -> int:
 def _iterations_of(number: int) -> int:
     count = _count_of(number, "iterations are a number")
     if count == 0:
-        raise IterationCount("the iterations are 1 at least, and at most 2^32 - 1")
+        raise fault_of(ITERATIONS)
     return count
 
 
@@ -101,7 +102,5 @@ def open_salted(
         status = call(number, count, *held, given, len(given), plain, len(plain), ctypes.byref(length))
     if status == BLOCKS:
         raise BlockLength(f"{len(given)} bytes are not whole blocks of 8")
-    if status == PADDING:
-        raise PaddingMismatch("the data do not end with the padding")
     check(status)
     return bytes_from(plain, length.value)

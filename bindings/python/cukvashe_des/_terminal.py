@@ -9,7 +9,8 @@ from typing import TYPE_CHECKING, Any, Tuple, Type, TypeVar
 from ._data import Keyed, bytes_from, context_type, key_of, room, secret_of
 from ._faults import NoSerial, StateLength, check
 from ._keys import serial_of
-from ._library import INT, NO_SERIAL, POINTER, function
+from ._library import INT, POINTER, function
+from ._statuses import NO_SERIAL
 
 if TYPE_CHECKING:
     from _typeshed import ReadableBuffer

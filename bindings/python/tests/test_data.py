@@ -21,7 +21,7 @@ from cukvashe_des import (
     TdesEde3,
     _ciphers,
     _data,
-    _library,
+    _statuses,
     combine,
     open_salted,
     pbkdf2,
@@ -194,7 +194,7 @@ class InPlace(unittest.TestCase):
         def shortening(*_):
             self.assertRaises(BufferError, data.clear)
             tried.append(True)
-            return _library.OK
+            return _statuses.OK
 
         with mock.patch.dict(KINDS[Des].calls, encrypt_ecb=shortening, decrypt_cbc=shortening):
             cipher.encrypt_ecb_into(data)
@@ -532,7 +532,7 @@ class Wiped(WatchesWiping):
                 gc.collect()
                 self.assertTrue(any(context))
                 self.assertEqual(self.wiped, [])
-                return _library.OK
+                return _statuses.OK
 
             with mock.patch.dict(KINDS[Des].calls, {name: closing}):
                 getattr(cipher, call)(bytearray(TEXT))

@@ -13,7 +13,7 @@ import unittest
 from unittest import mock
 
 import cukvashe_des
-from cukvashe_des import _faults, _library
+from cukvashe_des import _library, _statuses
 from cukvashe_des._data import KINDS
 
 from .values import OBJECTS, TOP
@@ -39,12 +39,13 @@ class Package(unittest.TestCase):
         self.assertEqual(_library._library.cukvashe_version().decode(), cukvashe_des.__version__)
 
     def test_statuses(self):
-        """The numbers are those of the header, all of them."""
-        defined = dict(re.findall(r"#define CUKVASHE_(?:ERR_)?(\w+) +(\d+) *(?:/\*.*\*/)?\n", read("bindings", "c", "cukvashe_des.h")))
-        statuses = {name: value for name, value in vars(_library).items() if name.isupper() and isinstance(value, int)}
-        self.assertEqual(statuses, {name: int(defined[name]) for name in statuses})
-        errors = re.findall(r"#define CUKVASHE_ERR_(\w+)", read("bindings", "c", "cukvashe_des.h"))
-        self.assertEqual(set(statuses), {"OK", *errors})
+        """The numbers are those of the header, all of them, and the sentences those of the library."""
+        defined = re.findall(r"#define CUKVASHE_(?:ERR_)?(OK|(?<=ERR_)\w+) +(\d+)", read("bindings", "c", "cukvashe_des.h"))
+        statuses = {name: value for name, value in vars(_statuses).items() if name.isupper() and isinstance(value, int)}
+        self.assertEqual(statuses, {name: int(number) for name, number in defined})
+        strerror = ctypes.CDLL(_library._place()).cukvashe_strerror
+        strerror.restype = ctypes.c_char_p
+        self.assertEqual([strerror(number).decode() for number in range(len(statuses))], list(_statuses.SENTENCES))
 
     def test_calls(self):
         """Each call of the header is declared as it is there, but for strerror; and contexts have the size that is there."""

@@ -1,7 +1,8 @@
 //! Lists in which each block has a key of its own.
 
 use crate::error::CountsDiffer;
-use crate::ffi::{self, OK};
+use crate::ffi;
+use crate::statuses::OK;
 use crate::{Block, Des, TdesEde2, TdesEde3};
 
 /// A cipher that takes lists in which each block has a key of its own, 128 or 256 of them at a time. No table is read at an index

@@ -1,15 +1,16 @@
 //! The errors of ciphers and keys, and how errors are written.
 
+use crate::statuses::{sentence, COUNTS, WEAK_KEY};
 use core::fmt;
 
-/// Writes an error as a sentence.
+/// Writes an error as a sentence, and what more there is to say after it.
 macro_rules! sentences {
-    ($type:ident: $($value:path => $text:literal,)*) => {
+    ($type:ident: $($value:path => $text:expr $(; $more:literal)?,)*) => {
         impl core::fmt::Display for $type {
             fn fmt(&self, f: &mut core::fmt::Formatter<'_>) -> core::fmt::Result {
-                f.write_str(match self {
-                    $($value => $text,)*
-                })
+                match self {
+                    $($value => write!(f, concat!("{}" $(, $more)?), $text),)*
+                }
             }
         }
 
@@ -52,7 +53,7 @@ pub struct CountsDiffer;
 
 impl fmt::Display for CountsDiffer {
     fn fmt(&self, f: &mut fmt::Formatter<'_>) -> fmt::Result {
-        f.write_str("the numbers of elements do not agree")
+        f.write_str(sentence(COUNTS))
     }
 }
 
@@ -68,6 +69,6 @@ pub enum KeyTestError {
 }
 
 sentences!(KeyTestError:
-    KeyTestError::WeakKey => "the key is weak",
+    KeyTestError::WeakKey => sentence(WEAK_KEY),
     KeyTestError::InvalidLength => "the key does not have 8, 16 or 24 bytes",
 );

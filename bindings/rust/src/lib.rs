@@ -34,12 +34,13 @@ pub mod mac;
 pub mod padding;
 pub mod passwords;
 pub mod payment;
+mod statuses;
 
 pub use each_key::KeyForEach;
 pub use error::{CountsDiffer, DataError, InvalidLength, KeyTestError};
 
 use core::{fmt, slice};
-use ffi::{KEY_LENGTH, OK};
+use statuses::{KEY_LENGTH, OK};
 
 /// A block of 64 bits, bit 1 of the standard the most significant of the first byte.
 pub type Block = [u8; 8];

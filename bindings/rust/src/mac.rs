@@ -22,7 +22,8 @@
 
 use crate::each_key::count_of_both;
 use crate::error::{sentences, CountsDiffer};
-use crate::ffi::{self, Message, OK};
+use crate::ffi::{self, Message};
+use crate::statuses::{sentence, OK, TAG};
 use crate::InvalidLength;
 use core::fmt;
 use core::marker::PhantomData;
@@ -33,7 +34,7 @@ use core::ptr;
 pub struct MacError;
 
 sentences!(MacError:
-    MacError => "the tag is not that of the message",
+    MacError => sentence(TAG),
 );
 
 mod sealed {

@@ -14,7 +14,8 @@
 //! ```
 
 use crate::error::sentences;
-use crate::ffi::{self, BLOCKS, OK};
+use crate::ffi;
+use crate::statuses::{sentence, BLOCKS, OK, PADDING};
 
 /// How data become whole blocks, by 1 to 8 bytes after them.
 #[derive(Clone, Copy, Debug, PartialEq, Eq)]
@@ -54,7 +55,7 @@ sentences!(NoRoom:
 
 sentences!(UnpadError:
     UnpadError::NotBlocks => "the data are not whole blocks of 8 bytes",
-    UnpadError::NotPadded => "the data do not end with the padding",
+    UnpadError::NotPadded => sentence(PADDING),
 );
 
 /// Writes the padding after the first `length` bytes of a buffer, and gives both together; at an error the buffer stays.

@@ -14,9 +14,8 @@
 //! ```
 
 use crate::error::sentences;
-use crate::ffi::{
-    self, BLOCKS, CAPACITY, ITERATIONS, KEY_LENGTH, MD5, NOT_SALTED, OK, PADDING, SALT_LENGTH, SHA1, SHA256,
-};
+use crate::ffi::{self, MD5, SHA1, SHA256};
+use crate::statuses::{sentence, BLOCKS, CAPACITY, ITERATIONS, KEY_LENGTH, NOT_SALTED, OK, PADDING, SALT_LENGTH};
 use crate::{Des, TdesEde2, TdesEde3};
 use core::ffi::c_int;
 
@@ -72,11 +71,11 @@ pub enum OpenError {
 }
 
 sentences!(OpenError:
-    OpenError::NotSalted => "the bytes do not begin with Salted__",
+    OpenError::NotSalted => sentence(NOT_SALTED),
     OpenError::SaltCut => "the bytes end within the salt",
     OpenError::NoIteration => "the number of iterations is 0",
     OpenError::NotBlocks => "what is encrypted is not whole blocks of 8 bytes",
-    OpenError::Padding => "the last block does not end with the padding",
+    OpenError::Padding => sentence(PADDING),
     OpenError::NoRoom => "there is no room for what is opened",
 );
 

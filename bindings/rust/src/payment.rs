@@ -43,7 +43,8 @@ pub use terminal::Terminal;
 pub use translation::TranslationError;
 
 use crate::each_key::{count_of_both, KeyForEach};
-use crate::ffi::{self, OK};
+use crate::ffi;
+use crate::statuses::OK;
 use crate::{CountsDiffer, Des, InvalidLength, KeyTestError, TdesEde2, TdesEde3};
 
 /// The message of a transaction that a key is for.

@@ -772,8 +772,8 @@ export function faultOf({ id, faults = {} }, error, texts) {
   const { field, words } = faults[error.name] ?? { field: FIELDS_OF_ERRORS[error.name] };
   if (field === undefined) return error;
   const message =
-    error.name === "AccountLength" ? `an account number has ${LEAST_DIGITS[id] ?? 8} to 19 digits` : error.message;
+    error.name === "AccountLength" ? `the account number does not have ${LEAST_DIGITS[id] ?? 8} to 19 digits` : error.message;
   const sentence = message.slice(0, 1).toUpperCase() + message.slice(1);
-  const count = error.name.endsWith("Length") ? `, and here are ${decimal(texts[field]).length}` : "";
+  const count = error.name.endsWith("Length") ? `, but ${decimal(texts[field]).length}` : "";
   return new FieldFault(field, words ?? `${sentence}${count}.`, error.answers);
 }

@@ -147,7 +147,7 @@ for (const [Cipher, size] of CIPHERS) {
   }
 }
 
-const METHOD_TEXT = "padding is by method 1 or 2";
+const METHOD_TEXT = "the padding method is not one that the call takes: 1 or 2";
 for (const [Mac, size] of [...PADDED, ...CMACS]) {
   const padding = PADDED.some(([it]) => it === Mac) ? [2] : [];
   assert.deepEqual([Mac.keySize, Mac.digestSize], [size, 8]);
@@ -263,9 +263,9 @@ for (const length of LENGTHS) {
 throwsFault(() => library.combine(PAIR, PAIR), "WeakKey", "the weak key test refuses the key that the components make");
 
 const PINS = {
-  PinLength: ["a PIN has 4 to 12 digits", "", "123", "1".repeat(13)],
+  PinLength: ["the PIN does not have 4 to 12 digits", "", "123", "1".repeat(13)],
   PinDigit: [
-    ...["a PIN has digits alone", "123:", "/234", "1 34", "12\x0034"],
+    ...["a character of the PIN is not a digit", "123:", "/234", "1 34", "12\x0034"],
     ...["123\uff14", "\u0661\u0662\u0663\u0664", "123\u{1f600}"],
   ],
 };
@@ -278,9 +278,9 @@ for (const [name, [text, ...pins]] of Object.entries(PINS)) {
 }
 const ACCOUNTS = {
   AccountLength: [
-    "an account number has 8 to 19 digits, for a PVV 12 to 19, for a CVV 13 to 19", "", "4".repeat(7), "4".repeat(20),
+    "the account number does not have 8 to 19 digits, for a PVV 12 to 19, for a CVV 13 to 19", "", "4".repeat(7), "4".repeat(20),
   ],
-  AccountDigit: ["an account number has digits alone", "401234567890:", "4012 3456 78909"],
+  AccountDigit: ["a character of the account number is not a digit", "401234567890:", "4012 3456 78909"],
 };
 for (const [name, [text, ...accounts]] of Object.entries(ACCOUNTS)) {
   for (const account of accounts) {
@@ -292,7 +292,7 @@ for (const [name, [text, ...accounts]] of Object.entries(ACCOUNTS)) {
   }
 }
 for (let at = 0; at < 10; at += 1) {
-  const text = "a fill digit is none of those of the format";
+  const text = "a fill digit is not one that the format allows";
   throwsFault(() => library.pinEncode1("1234", FILL.with(at, 16)), "Fill", text);
   for (const digit of [9, 16]) throwsFault(() => library.pinEncode3("1234", ACCOUNT, FILL.with(at, digit)), "Fill", text);
 }
@@ -304,15 +304,15 @@ const BLOCKS = {
   "041274edcba9876e": "Fill",
 };
 for (const [block, name] of Object.entries(BLOCKS)) throwsFault(() => library.pinDecode0(unhex(block), ACCOUNT), name);
-throwsFault(() => library.pinDecode1(unhex("041234fe09a51234")), "Format", "the PIN block is of another format");
+throwsFault(() => library.pinDecode1(unhex("041234fe09a51234")), "Format", "the first digit of the PIN block is not that of the format");
 throwsFault(() => library.pinDecode3(unhex("341274b9f9b9d359"), ACCOUNT), "Fill");
 const TABLE = new library.DecimalTable("0123456789012345");
 const OTHER = unhex("89e88cf7931444f334bd7547fc3f380c");
 const SENT = unhex("c03d21cdbcb0c58b");
 const TABLES = {
-  TableLength: ["a decimalization table has sixteen digits", "", "0".repeat(15), "0123456701234567" + "8"],
-  TableDigit: ["a decimalization table has digits alone", "012345678901234:", "\uff10" + "1".repeat(15)],
-  TableVariety: ["a decimalization table has at least eight different digits", "0123456001234560", "0".repeat(16)],
+  TableLength: ["the decimalization table does not have sixteen digits", "", "0".repeat(15), "0123456701234567" + "8"],
+  TableDigit: ["a character of the decimalization table is not a digit", "012345678901234:", "\uff10" + "1".repeat(15)],
+  TableVariety: ["the decimalization table has fewer than eight different digits", "0123456001234560", "0".repeat(16)],
 };
 for (const [name, [text, ...texts]] of Object.entries(TABLES)) {
   for (const digits of texts) {
@@ -321,13 +321,13 @@ for (const [name, [text, ...texts]] of Object.entries(TABLES)) {
   }
 }
 for (const index of [0, 7, -1, 1.5, NaN, 257, 2 ** 32 + 1]) {
-  throwsFault(() => library.pvv(PAIR, ACCOUNT, index, "1234"), "KeyIndex", "the index of a key pair is 1 to 6");
+  throwsFault(() => library.pvv(PAIR, ACCOUNT, index, "1234"), "KeyIndex", "the index of the key pair is not 1 to 6");
   throwsFault(() => library.pvvVerify(PAIR, ACCOUNT, index, "1234", "1894"), "KeyIndex");
 }
 throwsFault(() => library.pvv(PAIR, "1".repeat(11), 1, "1234"), "AccountLength");
 throwsFault(() => library.pvv(PAIR, ACCOUNT, 1, "123"), "PinLength");
 for (const length of [0, 3, 13, -4, 4.5, 2 ** 32 + 4]) {
-  throwsFault(() => library.naturalPin(PAIR, TABLE, IV, length), "PinLength", "a PIN has 4 to 12 digits");
+  throwsFault(() => library.naturalPin(PAIR, TABLE, IV, length), "PinLength", "the PIN does not have 4 to 12 digits");
 }
 for (const pin of ["123", "123/"]) {
   throwsFault(() => library.pinOffset(PAIR, TABLE, IV, pin), pin === "123" ? "PinLength" : "PinDigit");
@@ -336,17 +336,17 @@ for (const pin of ["123", "123/"]) {
 throwsFault(() => library.pinOffsetVerify(PAIR, TABLE, IV, "12345", "0000"), "WrongPin", "the PIN is not the one");
 const KEYS = { incomingKey: PAIR, outgoingKey: OTHER };
 for (const format of [2, 4, -1, 0.5, 2 ** 32, 2 ** 32 + 3]) {
-  const text = "PIN blocks are translated from formats 0, 1 and 3";
+  const text = "there is no translation of PIN blocks from this format, only from 0, 1 and 3";
   throwsFault(() => library.pinTranslateTo0(format, "", SENT, KEYS), "Formats", text);
   throwsFault(() => library.pinTranslateTo3(format, "", FILL, SENT, KEYS), "Formats", text);
 }
 throwsFault(() => library.pinTranslateTo3(0, ACCOUNT, new Uint8Array(10), SENT, KEYS), "Fill");
 for (const block of ["141274edcba9876f", "031274edcba9876f", "041a74edcba9876f", "041274edcba9876e"]) {
   const sent = new library.TdesEde2(PAIR).encryptEcb(unhex(block));
-  const text = "the PIN block is not one of its format and account number";
+  const text = "decrypted, the PIN block is not one of its format and account number";
   throwsFault(() => library.pinTranslateTo0(0, ACCOUNT, sent, KEYS), "PinBlock", text);
 }
-for (const [sequence, name, text] of [["0", "SequenceLength", "a sequence number has two digits"], ["0:", "SequenceDigit", "a sequence number has digits alone"]]) {
+for (const [sequence, name, text] of [["0", "SequenceLength", "the sequence number does not have two digits"], ["0:", "SequenceDigit", "a character of the sequence number is not a digit"]]) {
   throwsFault(() => library.emvCardKey(PAIR, ACCOUNT, sequence), name, text);
 }
 for (const length of LENGTHS) {
@@ -373,7 +373,7 @@ for (const length of LENGTHS) {
     throwsFault(() => library.emvResponse2(PAIR, IV, of(length)), "DataLength", text);
   }
   if (length > 8) {
-    const text = "the data of an issuer have at most 8 bytes";
+    const text = "the issuer's data have more than 8 bytes";
     throwsFault(() => library.emvResponse2(PAIR, IV, of(4), of(length)), "DataLength", text);
   }
   throwsFault(() => library.DukptTerminal.fromState(of(length)), "StateLength", `the state of a terminal has 346 bytes, not ${length}`);
@@ -386,11 +386,11 @@ const HEADER = library.keyBlockHeader(BLOCK);
 const changed = (place, character) => BLOCK.slice(0, place) + character + BLOCK.slice(place + 1);
 const BLOCK_CALLS = [(block) => library.unwrapKeyBlock(PROTECTION, block), library.keyBlockHeader, library.keyBlockOptionalBlocks];
 const OF_BLOCKS = {
-  KeyBlockLength: ["a key block has as many characters as it says, at most 9999", "", `${BLOCK}\n`, BLOCK.slice(1), changed(4, "1")],
-  KeyBlockVersion: ["a key block is read of version A, B or C, and made of version B or C", changed(0, "D"), changed(0, "b")],
+  KeyBlockLength: ["the key block is not as long as its header says, longer than 9999 characters, or too long for its buffer", "", `${BLOCK}\n`, BLOCK.slice(1), changed(4, "1")],
+  KeyBlockVersion: ["the version of the key block is not one that the call takes: A, B or C to read, B or C to make", changed(0, "D"), changed(0, "b")],
   KeyBlockField: ["the number of optional blocks is not two digits and two zeros, or a field to be written is not letters and digits", changed(12, "x"), changed(15, "1")],
   OptionalBlock: ["the optional blocks can't be read: a wrong length, an end off a multiple of eight, or more than 99", changed(13, "1")],
-  KeyDataLength: ["the encrypted key does not have a length that it can have", changed(0, "A"), changed(0, "C")],
+  KeyDataLength: ["the encrypted key data do not have a length that they can have", changed(0, "A"), changed(0, "C")],
 };
 for (const [name, [text, ...blocks]] of Object.entries(OF_BLOCKS)) {
   for (const form of blocks.flatMap((block) => [block, Buffer.from(block)])) {
@@ -401,7 +401,7 @@ for (const block of [changed(79, "\uff15"), changed(5, "\u00e9"), changed(0, "\u
   for (const call of BLOCK_CALLS) throwsFault(() => call(block), "KeyBlockDigit", "a key block has ASCII characters alone");
 }
 for (const block of [changed(16, "a"), changed(79, "G")]) {
-  const text = "an encrypted key and its MAC have digits 0 to 9 and A to F alone";
+  const text = "a character of the encrypted key data or the MAC is not 0 to 9 or A to F";
   throwsFault(() => library.unwrapKeyBlock(PROTECTION, block), "KeyBlockDigit", text);
 }
 for (const block of [changed(5, "K"), changed(63, "0"), changed(79, "F")]) {
@@ -409,17 +409,17 @@ for (const block of [changed(5, "K"), changed(63, "0"), changed(79, "F")]) {
 }
 // Authenticated by the `cryptography` package for Python: the key data say a length of no key.
 throwsFault(() => library.unwrapKeyBlock(PROTECTION,
-  "B0080P0TE00E000046AD3EFD0DCF51A1FFDD4D468C4DC235EC217D6B8557FF68335F3126A5C1C8B5"), "KeyLength", "a key has 8, 16 or 24 bytes");
+  "B0080P0TE00E000046AD3EFD0DCF51A1FFDD4D468C4DC235EC217D6B8557FF68335F3126A5C1C8B5"), "KeyLength", "the key does not have a length that the call takes: 8, 16 or 24 bytes");
 const wraps = (header, key = PAIR, options = {}) => library.wrapKeyBlock(PROTECTION, { ...HEADER, ...header }, key, options);
 for (const length of LENGTHS) {
   if (![16, 24].includes(length)) {
-    const text = "a protection key has 16 or 24 bytes";
+    const text = "the protection key does not have 16 or 24 bytes";
     throwsFault(() => library.unwrapKeyBlock(of(length), BLOCK), "ProtectionKeyLength", text);
     throwsFault(() => library.wrapKeyBlock(of(length), HEADER, PAIR), "ProtectionKeyLength", text);
   }
-  if (![8, 16, 24].includes(length)) throwsFault(() => wraps({}, of(length)), "KeyLength", "a key has 8, 16 or 24 bytes");
+  if (![8, 16, 24].includes(length)) throwsFault(() => wraps({}, of(length)), "KeyLength", "the key does not have a length that the call takes: 8, 16 or 24 bytes");
   if (![6, 14].includes(length)) {
-    const text = "the padding has 6, 14 or 22 bytes, with the key at most 30";
+    const text = "the padding of the key does not have 6, 14 or 22 bytes, or has more than 30 with the key";
     throwsFault(() => wraps({}, PAIR, { padding: of(length) }), "PaddingLength", text);
   }
 }
@@ -476,7 +476,7 @@ for (let cut = 0; cut < SALTED.length; cut += 1) {
 for (const options of [{ hashName: "md5" }, { hashName: "sha1" }, { iterations: 1 }, { iterations: 10000 }]) {
   throwsFault(() => opens(SALTED, options), "PaddingMismatch", "the data do not end with the padding");
 }
-throwsFault(() => opens(SALTED, { hashName: "md5", iterations: 1 }), "HashName", 'the hash function of PBKDF2 is "sha1" or "sha256"');
+throwsFault(() => opens(SALTED, { hashName: "md5", iterations: 1 }), "HashName", 'the hash function is not one that the call takes: for PBKDF2 "sha1" or "sha256"');
 for (const hashName of ["SHA256", "sha512", ""]) {
   throwsFault(() => opens(SALTED, { hashName }), "HashName", 'a hash function is "md5", "sha1" or "sha256"');
   throwsFault(() => library.bytesToKey(hashName, SECRET, IV, 24), "HashName");
@@ -575,9 +575,9 @@ const OLD = "the object was closed by a call that did not end: make it anew";
 const unended = [new RangeError("Maximum call stack size exceeded"), new WebAssembly.RuntimeError("unreachable"), new Error("other")];
 for (const error of unended) {
   for (const [name, call] of [
-    ["cukvashe_narrow_tdes_ede3_encrypt_ecb", ({ cipher }) => cipher.encryptEcb(IV)],
-    ["cukvashe_cmac_tdes_ede3_update", ({ mac }) => mac.update(IV)],
-    ["cukvashe_tdes_ede3_init", () => new library.TdesEde3(KEY)],
+    ["cukvashe_internal_encrypt_ecb", ({ cipher }) => cipher.encryptEcb(IV)],
+    ["cukvashe_internal_mac_update", ({ mac }) => mac.update(IV)],
+    ["cukvashe_internal_init", () => new library.TdesEde3(KEY)],
     ["cukvashe_dukpt_terminal_next_key", ({ terminal }) => terminal.nextKey()],
     ["cukvashe_natural_pin", ({ table }) => library.naturalPin(KEY, table, IV, 4)],
   ]) {
@@ -592,7 +592,7 @@ for (const error of unended) {
     ];
     const right = answers(made());
     const { memory, ask } = await breaking(name, error);
-    const old = { ...made(), cipher: name.includes("ecb") ? new library.TdesEde3(KEY) : new library.TdesEde2(PAIR) };
+    const old = made();
     ask();
     assert.throws(() => call(old), (thrown) => thrown === error);
     const { cipher, mac, terminal, table } = old;
@@ -671,10 +671,10 @@ terminal.close();
 for (const call of ["nextKey", "state"]) throwsFault(() => terminal[call](), "Closed", "the object was closed");
 
 const CARDS = [
-  ["870", "101", "ExpiryLength", "an expiry date has four digits"],
-  ["87/1", "101", "ExpiryDigit", "an expiry date has digits alone"],
-  ["8701", "1010", "ServiceLength", "a service code has three digits"],
-  ["8701", "10a", "ServiceDigit", "a service code has digits alone"],
+  ["870", "101", "ExpiryLength", "the expiry date does not have four digits"],
+  ["87/1", "101", "ExpiryDigit", "a character of the expiry date is not a digit"],
+  ["8701", "1010", "ServiceLength", "the service code does not have three digits"],
+  ["8701", "10a", "ServiceDigit", "a character of the service code is not a digit"],
 ];
 for (const [expiry, service, name, text] of CARDS) {
   throwsFault(() => library.cvv(PAIR, ACCOUNT, expiry, service), name, text);

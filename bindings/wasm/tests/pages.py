@@ -52,7 +52,8 @@ def patched(page):
 
 def wrong_modules(module):
     """Modules that load, and answer otherwise: with two exports exchanged by their names."""
-    for one, other in ((b"cukvashe_dukpt_pin_key", b"cukvashe_dukpt_mac_key"), (b"cukvashe_tdes_ede2_init", b"cukvashe_tdes_ede3_init")):
+    pairs = (("dukpt_pin_key", "dukpt_mac_key"), ("internal_encrypt_ecb", "internal_decrypt_ecb"))
+    for one, other in ((f"cukvashe_{name}".encode() for name in pair) for pair in pairs):
         assert len(one) == len(other)
         at, to = (re.search(re.escape(name) + rb"\x00", module).start() for name in (one, other))
         changed = bytearray(module)

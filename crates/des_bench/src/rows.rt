@@ -41,7 +41,7 @@ pub fn write_cipher<C: KeyInit + BlockCipherEncrypt + BlockCipherDecrypt + Algor
 }
 
 /// Writes the row of a list of few blocks: the time of a block one by one, by the cipher of `quiet`
-/// four side by side, and by `encrypt_many`, which takes a batch where there are more than eight.
+/// four side by side, and by `encrypt_many`, which takes a batch where there are more than eleven.
 pub fn write_few<C: KeyInit + ManyBlocks + Drop, Q: KeyInit + BlockCipherEncrypt + Drop>(
     rt: &(impl AllocGlobal + Clock + CpuClock),
     keys: &Keys,

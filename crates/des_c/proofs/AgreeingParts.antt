@@ -1,8 +1,8 @@
 -- Keys whose parts agree outside parity, place by place.
-use Rattle.std.proofs.Common.{◌≡◌, ℕ, suc, ◌/◌, ◌<◌, List, [], ◌∷◌, length, take, get_or, ap, sym, ◌∙◌, arith}
+use Rattle.std.proofs.Common.{◌≡◌, ℕ, suc, ◌/◌, ◌<◌, List, [], ◌∷◌, length, get_or, ap, sym, ◌∙◌, arith}
 use Rattle.std.specs.List.{AllZip}
 use Rattle.std.specs.Simd.{first_chunks}
-use Rattle.std.proofs.Math.Seq.{take-length}
+use Rattle.std.proofs.lemmas.List.{take_all}
 use Rattle.des.specs.Parity.{AgreeOutsideParity}
 use Rattle.des_context.specs.Bytes.{blocks_of}
 use Rattle.des_context.specs.Keys.{AgreeInEachPart}
@@ -21,8 +21,7 @@ AllZip-from_places R (x ∷ xs) (y ∷ ys) same each = (
 one_part : (key : List ℕ) → length key ≡ 8 → blocks_of key ≡ key ∷ []
 one_part key eight =
     let count : length key / 8 ≡ 1 = omega (arith, eight) in
-    ap (λ n. first_chunks 8 n key) count
-    ∙ ap (λ part. part ∷ []) (ap (λ n. take n key) (sym eight) ∙ take-length key)
+    ap (λ n. first_chunks 8 n key) count ∙ ap (λ part. part ∷ []) (take_all 8 key (omega (arith, eight)))
 
 -- so keys of eight bytes agree
 pub AgreeOutsideParity-one_part : (first second : List ℕ) → length first ≡ 8 → AgreeInEachPart first second

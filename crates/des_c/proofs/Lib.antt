@@ -1,11 +1,5 @@
-mod PaddedCounts
 mod AgreeingParts
 mod OddKeys
 mod KeyIndexes
 mod HeaderFields
 mod EndedTexts
-mod WholeBlocks
-mod ChainsBack
-mod OpenedBytes
-mod PasswordParts
-mod WrittenPlain

@@ -1,13 +1,17 @@
 -- The fields of a key block's header as C has them.
-use Rattle.std.specs.Prelude.{◌≡◌, ℕ, ◌≤◌, ◌==◌, ◌&&◌, ◌||◌, Bool, not, if◌then◌else◌, List, [], ◌∷◌, ◌++◌, length, take, slice_index, Option, Some, None}
+use Rattle.std.specs.Prelude.{◌≡◌, ℕ, ◌≤◌, ◌==◌, ◌&&◌, ◌||◌, Bool, not, if◌then◌else◌, List, [], ◌∷◌, ◌++◌, length, map, take, slice_index, Option, Some, None, IsTrue}
 use Rattle.std.specs.Char.{is_ascii_alphanumeric}
 use Rattle.des_payment.specs.KeyBlockHeaders.{version_text, usage_text, algorithm_text, mode_text, exportability_text}
-use Rattle.des_payment.specs.OptionalBlocks.{AreOptionalBlocks}
+use Rattle.des_payment.specs.KeyBlockReading.{is_sealed_length}
+use Rattle.des_payment.specs.KeyBlocks.{key_data, front_text, size_of_block, HasParts, HoldsKey, IsKeyBlock, IsSealed}
+use Rattle.des_payment.specs.OptionalBlocks.{AreOptionalBlocks, filled}
 use Rattle.des_payment.specs.declared.key_block_error.KeyBlockError.{KeyBlockError}
 use Rattle.des_payment.specs.declared.key_block_error.KeyBlockError.TheVariants.{Version as VersionFault, Header as HeaderFault}
 use Rattle.des_payment.specs.declared.key_block_header.Header.{Header}
 use Rattle.des_payment.specs.declared.key_block_header.Version.{Version}
 use Rattle.des_payment.specs.declared.key_block_header.Version.TheVariants.{B, C}
+use Rattle.des_payment.specs.declared.optional_blocks.OptionalBlock.{OptionalBlock}
+use Rattle.des_c.specs.Texts.{with_zeros}
 use Rattle.des_c.specs.declared.payment.key_blocks.HeaderText.{HeaderText}
 
 -- what stands after a text of two plays no part
@@ -59,3 +63,48 @@ text_fault text =
 -- optional blocks stand one after the other, at most 99
 abbrev pub AreReadable : List ℕ → Type 0
 AreReadable text = (blocks : List (List ℕ × List ℕ)) × ((length blocks ≤ 99) × AreOptionalBlocks blocks text)
+
+-- ---- what is read and written
+
+-- optional blocks as pairs of a name and a content
+abbrev pub shown : List OptionalBlock → List (List ℕ × List ℕ)
+shown blocks = map (λ block. (block.name, block.content.now)) blocks
+
+-- the parts of a block, as they show without a key: a header, optional blocks, and a rest as long as its version has it
+pub record HasLayout (block : List ℕ) : Type 0 where
+  pub header : Header
+  pub blocks : List (List ℕ × List ℕ)
+  pub front : List ℕ
+  pub rest : List ℕ
+  pub parts : HasParts header blocks front rest block
+  pub is_rest : IsTrue (is_sealed_length header.version (length rest))
+
+-- a block was opened: what it holds, and its texts as they were written
+pub record IsUnwrapped (protection block : List ℕ) (text : HeaderText) (key : List ℕ) (size : ℕ) : Type 0 where
+  pub header : Header
+  pub bytes : List ℕ
+  pub holds : HoldsKey protection block header bytes
+  pub is_text : IsWrittenTextOf text header
+  pub is_key : key ≡ with_zeros 24 bytes
+  pub is_size : size ≡ length bytes
+
+-- a block is that of a header, of optional blocks, a key and padding: of the texts of the header and of the blocks
+pub record IsWrapped (protection : List ℕ) (text : HeaderText) (optional key padding block : List ℕ) : Type 0 where
+  pub header : Header
+  pub blocks : List (List ℕ × List ℕ)
+  pub is_text : IsTextOf text header
+  pub are_optional : AreOptionalBlocks blocks optional
+  pub is_block : IsKeyBlock protection header (filled blocks) key padding block
+
+-- the same block as a text: what is written before key data, and then these, encrypted and authenticated
+pub record IsWrappedText (protection : List ℕ) (text : HeaderText) (optional key padding block : List ℕ) (size : ℕ)
+    : Type 0 where
+  pub header : Header
+  pub blocks : List (List ℕ × List ℕ)
+  pub sealed : List ℕ
+  pub is_text : IsTextOf text header
+  pub are_optional : AreOptionalBlocks blocks optional
+  pub is_size : size ≡ size_of_block header.version blocks key padding
+  pub is_block : block ≡ front_text header (filled blocks) size ++ sealed
+  pub is_sealed : IsSealed header.version protection (front_text header (filled blocks) size) (key_data key padding)
+      sealed

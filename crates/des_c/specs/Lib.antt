@@ -1,4 +1,3 @@
-pub mod MacContexts
 pub mod Messages
 pub mod PinStatuses
 pub mod CvvStatuses
@@ -7,8 +6,6 @@ pub mod TranslationStatuses
 pub mod EmvStatuses
 pub mod KeyBlockStatuses
 pub mod KeyBlockTexts
-pub mod Passwords
 pub mod Formats
 pub mod Statuses
 pub mod Texts
-pub mod Paddings

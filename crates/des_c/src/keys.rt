@@ -61,7 +61,7 @@ fn agree_in_each(parts: &[[u8; 8]], others: &[[u8; 8]]) -> bool
 /// Whether two keys of as many whole parts of 8 bytes agree in all bits but the lowest of each
 /// byte. Such keys are one. Of bytes that are no whole parts the answer is no.
 #[unsafe(no_mangle)]
-pub extern "C" fn cukvashe_narrow_equal_but_parity(first: &[u8], second: &[u8]) -> bool
+pub extern "C" fn cukvashe_internal_equal_but_parity(first: &[u8], second: &[u8]) -> bool
     ensures agree { IsTrue result ↔ AgreeInEachPart first.now second.now }
     ensures same_relation { length first.now ≡ 8 → IsTrue result → (x y : List ℕ)
         → Enciphers first.now x y ↔ Enciphers second.now x y }

@@ -1,14 +1,114 @@
-//! The exports of the MACs: CBC-MAC over DES and triple DES, the retail MAC over DES, and CMAC over
-//! triple DES.
+//! The exports of MACs of one message, by the number that ISO/IEC 9797-1:2011 gives the algorithm:
+//! 1 is CBC-MAC, 3 the retail MAC over DES, 5 CMAC.
 
-mod cbc_mac_des;
-mod cbc_mac_tdes_ede2;
-mod cbc_mac_tdes_ede3;
-mod cmac_tdes_ede2;
-mod cmac_tdes_ede3;
-mod compare_tags;
-mod each_key;
-mod many;
-mod message;
-mod retail_mac_des;
-mod tags;
+ghost use Rattle.std.specs.Prelude.{◌≡◌, ◌≢◌, ◌↔◌, ◌<◌, ℕ, List, [], ◌++◌, length, drop, slice_index_or, false, IsTrue};
+ghost use Rattle.des_mac.specs.Tags.{IsTruncated};
+ghost use Rattle.des_context.specs.Contexts.{IsQuiet};
+ghost use Rattle.des_context.specs.MacAlgorithms.{IsAlgorithm, mac_by};
+ghost use Rattle.des_context.specs.MacContexts.{HasMacForm, IsAMac, IsMacOf, key_size_of, words_of_chain};
+ghost use Rattle.des_context.specs.PaddingMethods.{status_of};
+
+use des_context::macs::{self, Message};
+use des_context::status::{ERR_COUNTS, ERR_TAG, OK};
+use des_mac::many;
+
+/// Makes the words of a MAC of the bytes of a key, quiet ones, whose calls read no table, or quick
+/// ones, and the message of no bytes, with padding method 1 or 2. The status of a key of another
+/// length than the words have room for is `ERR_KEY_LENGTH`, of another padding
+/// `ERR_PADDING_METHOD`; the words and the message then stay as they were.
+#[unsafe(no_mangle)]
+pub extern "C" fn cukvashe_internal_mac_init(
+    algorithm: u32,
+    context: &mut [u64],
+    message: &mut Message,
+    key: &[u8],
+    padding: u32,
+    quiet: bool,
+) -> i32
+    requires by { IsAlgorithm algorithm }
+    requires form { HasMacForm algorithm context.old }
+    ensures status { result ≡ status_of (key_size_of context.old) (length key.now) padding }
+    ensures made { result ≡ OK → IsMacOf algorithm context.new message.new padding key.now [] }
+    ensures quiet { result ≡ OK → IsQuiet (words_of_chain algorithm context.new) ↔ IsTrue quiet }
+    ensures second_quiet { result ≡ OK → algorithm ≡ 3
+        → IsQuiet (drop 17 context.new) ↔ IsTrue quiet }
+    ensures kept { result ≢ OK → (context.new ≡ context.old) × (message.new ≡ message.old) }
+{
+    macs::init(algorithm, context, message, key, padding, quiet)
+}
+
+/// Adds bytes to the message, after those that it has.
+#[unsafe(no_mangle)]
+pub extern "C" fn cukvashe_internal_mac_update(
+    algorithm: u32,
+    context: &[u64],
+    message: &mut Message,
+    bytes: &[u8],
+)
+    requires { IsAMac algorithm context.now message.old }
+    ensures { (padding : ℕ) (key m : List ℕ)
+        → IsMacOf algorithm context.now message.old padding key m
+        → IsMacOf algorithm context.now message.new padding key (m ++ bytes.now) }
+{
+    macs::update(algorithm, context, message, bytes);
+}
+
+/// Gives the tag of the message, which may go on.
+#[unsafe(no_mangle)]
+pub extern "C" fn cukvashe_internal_mac_final(
+    algorithm: u32,
+    context: &[u64],
+    message: &Message,
+    tag: &mut [u8; 8],
+)
+    requires { IsAMac algorithm context.now message.now }
+    ensures { (padding : ℕ) (key m : List ℕ)
+        → IsMacOf algorithm context.now message.now padding key m
+        → tag.new ≡ mac_by algorithm padding key m }
+{
+    *tag = macs::tag(algorithm, context, message);
+}
+
+/// Accepts the first 4 to 8 bytes of the tag of the message: the status of all others is `ERR_TAG`.
+#[unsafe(no_mangle)]
+pub extern "C" fn cukvashe_internal_mac_verify(
+    algorithm: u32,
+    context: &[u64],
+    message: &Message,
+    tag: &[u8],
+) -> i32
+    requires { IsAMac algorithm context.now message.now }
+    ensures accepted { (padding : ℕ) (key m : List ℕ)
+        → IsMacOf algorithm context.now message.now padding key m
+        → (result ≡ OK) ↔ IsTruncated tag.now (mac_by algorithm padding key m) }
+    ensures refused { (padding : ℕ) (key m : List ℕ)
+        → IsMacOf algorithm context.now message.now padding key m
+        → (result ≡ ERR_TAG) ↔ (IsTruncated tag.now (mac_by algorithm padding key m) → ⊥) }
+{
+    macs::verify(algorithm, context, message, tag)
+}
+
+/// Writes of each tag whether it is the one at its place in `expected`. Every byte is looked at,
+/// wherever two differ. The status of lists of different lengths is `ERR_COUNTS`; `right` then
+/// stays.
+#[unsafe(no_mangle)]
+pub extern "C" fn cukvashe_internal_compare_tags(
+    tags: &[[u8; 8]],
+    expected: &[[u8; 8]],
+    right: &mut [bool],
+) -> i32
+    ensures accepted { (result ≡ OK) ↔ ((length tags.now ≡ length right.old)
+        × (length expected.now ≡ length right.old)) }
+    ensures refused { (result ≡ ERR_COUNTS) ↔ ¬ ((length tags.now ≡ length right.old)
+        × (length expected.now ≡ length right.old)) }
+    ensures count { length right.new ≡ length right.old }
+    ensures right { result ≡ OK → (k : ℕ) → k < length right.old
+        → IsTrue (slice_index_or right.new k false)
+        ↔ (slice_index_or tags.now k [] ≡ slice_index_or expected.now k []) }
+    ensures kept { result ≢ OK → right.new ≡ right.old }
+{
+    match many::verify_each(tags, expected, right) {
+        Ok(()) => OK,
+        Err(_) => ERR_COUNTS,
+    }
+}

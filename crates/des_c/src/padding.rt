@@ -1,39 +1,20 @@
 //! The exports of padding to whole blocks, and back.
 
 ghost use Rattle.std.specs.Prelude.{◌≡◌, ◌≢◌, ◌↔◌, ◌⊎◌, ◌+◌, ◌-◌, ◌%◌, ◌<◌, ◌≤◌, ℕ, List, length, take, drop};
-ghost use Rattle.std.specs.Prelude.{Some, IfSome, IfNone};
 ghost use Rattle.des_context.specs.Bytes.{AreWhole};
-ghost use Rattle.des_io.specs.PaddedBytes.{padded, taken_off};
+ghost use Rattle.des_io.specs.PaddedBytes.{padded};
 ghost use Rattle.des_io.specs.declared.padding.Padding.{Padding};
-ghost use Rattle.des_io.specs.declared.padding.Padding.TheVariants.{Unpadded};
-ghost use Rattle.des_c.specs.Paddings.{IsMethod, IsNumberOf, padded_length_of};
+ghost use Rattle.des_context.specs.Paddings.{IsMethod, IsNumberOf, padded_length_of};
 
+use des_context::padding::{count_unpadded, padding_of};
 use des_context::status::{ERR_BLOCKS, ERR_CAPACITY, ERR_PADDING, ERR_PADDING_METHOD, OK};
-use des_io::padding::{Padding, count_before, pad};
-
-/// The number of PKCS#7 padding. No number of a padding method of a MAC is one of these.
-pub const PKCS7: i32 = 11;
-
-/// The number of ISO/IEC 7816-4 padding.
-pub const ISO7816: i32 = 12;
-
-// The padding of a number.
-fn padding_of(method: i32) -> Option<Padding>
-    ensures found { IfSome result (λ padding. IsNumberOf method padding) }
-    ensures none { IfNone result (¬ (IsMethod method)) }
-{
-    match method {
-        PKCS7 => Some(Padding::Pkcs7),
-        ISO7816 => Some(Padding::Iso7816),
-        _ => None,
-    }
-}
+use des_io::padding::pad;
 
 /// Pads the first `count` bytes of a buffer to whole blocks, by `PKCS7` or `ISO7816`.
 /// The status is `ERR_PADDING_METHOD` for another number and `ERR_CAPACITY` where the buffer is too
 /// short for the padding, and then nothing is changed.
 #[unsafe(no_mangle)]
-pub extern "C" fn cukvashe_narrow_pad(
+pub extern "C" fn cukvashe_internal_pad(
     buffer: &mut [u8],
     count: usize,
     method: i32,
@@ -61,21 +42,6 @@ pub extern "C" fn cukvashe_narrow_pad(
     let end = 8 * (count / 8) + 8;
     *padded_length = pad(padding, &mut buffer[..end], count);
     OK
-}
-
-// How many bytes stand before their padding; none where they are no bytes with their padding.
-fn count_unpadded(padding: Padding, bytes: &[u8]) -> Option<usize>
-    requires padding { padding ≢ Unpadded }
-    requires taken_off { taken_off padding ≡ padding }
-    requires whole { AreWhole bytes.now }
-    ensures found { IfSome result (λ count. (count ≤ length bytes.now)
-        × (padded padding (take count bytes.now) ≡ bytes.now)) }
-    ensures back { (plain : List ℕ) → padded padding plain ≡ bytes.now
-        → result ≡ Some (length plain) }
-{
-    let (prefix, last) = bytes.split_last_chunk::<8>()?;
-    let count = count_before(padding, last)?;
-    Some(prefix.len() + count)
 }
 
 /// Tells how many bytes stand before their padding, by `PKCS7` or `ISO7816`. The status

@@ -10,7 +10,7 @@ joined_parts key size =
     ap (λ (more : List ℕ). take 8 key ++ more) (take_all 8 (drop 8 key) (omega (arith, length-drop 8 key, size)))
     ∙ take-append-drop 8 key
 
--- the same of each key of a list, whose parts two lists begin with
+-- so each key of a list is those at its place in two lists, which begin with them
 pub joined_halves : (keys first second : List (List ℕ)) → length keys ≤ length first → length keys ≤ length second
     → ((k : ℕ) → k < length keys → length (get_or keys k []) ≡ 16)
     → ((k : ℕ) → k < length keys → get_or first k [] ≡ part 1 (get_or keys k []))

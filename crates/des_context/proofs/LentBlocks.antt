@@ -10,7 +10,7 @@ use base.Logic.{SProp, ent, sep, ex, emp}
 use base.Stored.{coded_list}
 use base.Fml.{Lft, GName, Share, flft, fobs, fbor}
 use types.Logic.{Logic, sem}
-use types.Kit.{Item, ‵, ◌⊛◌, raw, given, ◌$◌, ◌∵◌, !, qed, move, keep, drop, fsplit, fsplit3, fjoin, updating, await, later, some, use1, group, pick, now, show, done, split3, feq_i, feq_l, learn, rewrite}
+use types.Kit.{Item, mean, ‵, ◌⊛◌, raw, given, ◌$◌, ◌∵◌, !, qed, move, keep, drop, fsplit, fsplit3, fjoin, updating, await, later, some, use1, group, pick, now, show, done, split3, feq_i, feq_l, learn, rewrite}
 use types.SemTy.{SemTy, cells, Arr, Body}
 use types.Follow.{after₂, takes_two}
 use types.Mut.{open_ref}
@@ -32,6 +32,10 @@ joined blocks rest = flat_map (λ block. block) blocks
 abbrev pub ys : List ℕ → ℕ → List (List ℕ)
 ys xs m = first_chunks 8 m xs
 
+-- a list that lies at an offset of a block, under a ghost name
+abbrev pub lent : {X : Type 0} → ℕ × ℕ → GName → List X → MutBor (List X)
+lent at name xs = record { ref_ptr = at; ghost_name = name; now = xs }
+
 -- the slice of bytes is lent for κ, lies at the offset o of the block b, is named γ and holds xs, which are m blocks
 module _ {M : Type 1} {𝓤 : Ura M} (𝓛 : Logic 𝓤) (ℓ : Lifetime) (κ : Lft) (q : Share) (b o : ℕ) (γ : GName)
     (xs : List ℕ) (m : ℕ) where
@@ -43,28 +47,15 @@ module _ {M : Type 1} {𝓤 : Ura M} (𝓛 : Logic 𝓤) (ℓ : Lifetime) (κ : 
   abbrev Runs : SemTy
   Runs = Arr (mem (Array u8 8)) (length (ys xs m))
 
-  -- the blocks, and the empty slice, under a ghost name
-  abbrev pub whole : GName → MutBor (List (List ℕ))
-  whole δ = record { ref_ptr = (b, o); ghost_name = δ; now = ys xs m }
-
-  abbrev pub empty : GName → MutBor (List ℕ)
-  empty δ = record { ref_ptr = (b, o); ghost_name = δ; now = [] }
-
-  abbrev pub bytes : MutBor (List ℕ)
-  bytes = record { ref_ptr = (b, o); ghost_name = γ; now = xs }
-
   -- the blocks and the empty slice under new names, the token, and what the bytes end as
   abbrev pub blocks_lent : GName × GName → Item 𝓤
   blocks_lent δ =
-      ‵ ((MutSlice ℓ κ (Array u8 8)).own_val (whole δ.0) (slice_val (b, o) (length (ys xs m)) ∷ []))
-      ⊛ ‵ ((MutSlice ℓ κ u8).own_val (empty δ.1) (slice_val (b, o) 0 ∷ []))
+      ‵ ((MutSlice ℓ κ (Array u8 8)).own_val (lent (b, o) δ.0 (ys xs m)) (slice_val (b, o) (length (ys xs m)) ∷ []))
+      ⊛ ‵ ((MutSlice ℓ κ u8).own_val (lent (b, o) δ.1 []) (slice_val (b, o) 0 ∷ []))
       ⊛ ‵ (flft κ q) ⊛ ‵ (after₂ (L 0) (Arr (mem (Array u8 8)) 0) (L 0) γ δ.0 δ.1 joined)
 
   abbrev pub BlocksLent : GName × GName → SProp 𝓤
-  BlocksLent δ =
-      sep 𝓤 (sem 𝓛 ((MutSlice ℓ κ (Array u8 8)).own_val (whole δ.0) (slice_val (b, o) (length (ys xs m)) ∷ [])))
-      (sep 𝓤 (sem 𝓛 ((MutSlice ℓ κ u8).own_val (empty δ.1) (slice_val (b, o) 0 ∷ [])))
-      (sep 𝓤 (A.lft κ q) (sem 𝓛 (after₂ (L 0) (Arr (mem (Array u8 8)) 0) (L 0) γ δ.0 δ.1 joined))))
+  BlocksLent δ = mean 𝓛 (blocks_lent δ)
 
   -- the bytes of the blocks are the slice again
   put : m * 8 ≡ length xs → (ws : List (List ℕ)) (zs : List ℕ)
@@ -78,10 +69,10 @@ module _ {M : Type 1} {𝓤 : Ura M} (𝓛 : Logic 𝓤) (ℓ : Lifetime) (κ : 
       (l ∙ ap (λ (j : ℕ). j * 8) (e ∙ length-first_chunks 8 m xs) ∙ exact) $ fjoin ! $ keep ! (0 ∷ []) $ done !))
 
   pub lends_blocks : m * 8 ≡ length xs → Room (Array u8 8) (length (ys xs m)) → Room u8 0 → (vs : List Val)
-      → ent 𝓤 (sep 𝓤 (sem 𝓛 ((MutSlice ℓ κ u8).own_val bytes vs)) (A.lft κ q))
+      → ent 𝓤 (sep 𝓤 (sem 𝓛 ((MutSlice ℓ κ u8).own_val (lent (b, o) γ xs) vs)) (A.lft κ q))
       (H.⇛ (ex 𝓤 BlocksLent))
   lends_blocks exact rm none vs =
-      qed 𝓛 (‵ ((MutSlice ℓ κ u8).own_val bytes vs) ∷ ‵ (flft κ q) ∷ []) ∵
+      qed 𝓛 (‵ ((MutSlice ℓ κ u8).own_val (lent (b, o) γ xs) vs) ∷ ‵ (flft κ q) ∷ []) ∵
       updating ! $ fsplit3 ! $ drop ! $
       rewrite ! 0 (λ (l : List ℕ). ‵ (fobs γ ((coded_list u8.coded).code l))) (heres_id u8 xs) refl $
       open_ref ! tt (Arr (mem u8) (length xs)) {b = b} {o = o} $ fsplit ! $ drop ! $
@@ -96,7 +87,7 @@ module _ {M : Type 1} {𝓤 : Ura M} (𝓛 : Logic 𝓤) (ℓ : Lifetime) (κ : 
       (takes_two 𝓛 (L (length xs)) Runs (L 0) joined κ q b o b o b o γ (emp 𝓤) (put exact)
       ((coded_list u8.coded).code xs) ((coded_list u8.coded).code xs) (ys xs m) []) $ await ! tt $
       pick ! (λ δ. split3 ! $
-      use1 𝓛 (‵ ((MutSlice ℓ κ (Array u8 8)).own_val (whole δ.0) (slice_val (b, o) (length (ys xs m)) ∷ [])))
+      use1 𝓛 (‵ ((MutSlice ℓ κ (Array u8 8)).own_val (lent (b, o) δ.0 (ys xs m)) (slice_val (b, o) (length (ys xs m)) ∷ [])))
       (slice_of 𝓛 (Array u8 8) ℓ κ b o δ.0 (ys xs m) rm) $ move ! (1 ∷ []) $
-      use1 𝓛 (‵ ((MutSlice ℓ κ u8).own_val (empty δ.1) (slice_val (b, o) 0 ∷ [])))
+      use1 𝓛 (‵ ((MutSlice ℓ κ u8).own_val (lent (b, o) δ.1 []) (slice_val (b, o) 0 ∷ [])))
       (slice_of 𝓛 u8 ℓ κ b o δ.1 [] none) $ move ! (1 ∷ 0 ∷ []) $ now ! $ show ! BlocksLent δ $ done !)

@@ -1,30 +1,33 @@
--- What contexts hold: the round keys of the parts of their key, as words.
-use Rattle.std.specs.Prelude.{◌≢◌, ℕ, List}
+-- A context, as words: sixteen for each part of its key, which hold the round keys of the part, and
+-- one more, which is not 0 where the calls are to read no table.
+use Rattle.std.specs.Prelude.{◌≡◌, ◌≢◌, ℕ, ◌+◌, ◌*◌, ◌-◌, ◌≤◌, List, length, take, drop, slice_index_or}
 use Rattle.des.specs.Blocks.{IsKey, part}
 use Rattle.des_fast.specs.Words.{AreRoundKeysOf}
-use Rattle.des_context.specs.declared.contexts.DesContext.{DesContext}
-use Rattle.des_context.specs.declared.contexts.TdesEde3Context.{TdesEde3Context}
-use Rattle.des_context.specs.declared.contexts.TdesEde2Context.{TdesEde2Context}
+use Rattle.des_context.specs.declared.ciphers.Form.{Form}
+use Rattle.des_context.specs.Forms.{parts_of, form_of_length}
+
+-- the words of part n of a key, from 1
+abbrev pub words_of_part : ℕ → List ℕ → List ℕ
+words_of_part n words = take 16 (drop (16 * (n - 1)) words)
+
+-- there are as many words as in a context of this form
+abbrev pub HasForm : Form → List ℕ → Type 0
+HasForm form words = length words ≡ 16 * parts_of form + 1
+
+-- the words are the context of a key of the form
+abbrev pub AreWordsOf : Form → List ℕ → List ℕ → Type 0
+AreWordsOf form words key =
+    IsKey (8 * parts_of form) key × HasForm form words
+    × ((n : ℕ) → 1 ≤ n → n ≤ parts_of form → AreRoundKeysOf (words_of_part n words) (part n key))
 
 -- the context is one of the key
-abbrev pub IsDesContextOf : DesContext → List ℕ → Type 0
-IsDesContextOf context key = AreRoundKeysOf context.round_keys key
-
-abbrev pub IsEde3ContextOf : TdesEde3Context → List ℕ → Type 0
-IsEde3ContextOf context key =
-    IsKey 24 key × AreRoundKeysOf context.first (part 1 key) × AreRoundKeysOf context.second (part 2 key)
-    × AreRoundKeysOf context.third (part 3 key)
-
-abbrev pub IsEde2ContextOf : TdesEde2Context → List ℕ → Type 0
-IsEde2ContextOf context key =
-    IsKey 16 key × AreRoundKeysOf context.first (part 1 key) × AreRoundKeysOf context.second (part 2 key)
+abbrev pub IsContextOf : List ℕ → List ℕ → Type 0
+IsContextOf context key = AreWordsOf (form_of_length (length key)) context key
 
 -- the calls of the context are to read no table
-abbrev pub IsQuietDes : DesContext → Type 0
-IsQuietDes context = context.quiet ≢ 0
+abbrev pub IsQuiet : List ℕ → Type 0
+IsQuiet context = slice_index_or context (length context - 1) 0 ≢ 0
 
-abbrev pub IsQuietEde3 : TdesEde3Context → Type 0
-IsQuietEde3 context = context.quiet ≢ 0
-
-abbrev pub IsQuietEde2 : TdesEde2Context → Type 0
-IsQuietEde2 context = context.quiet ≢ 0
+-- there are as many words as in the context of a key of some form
+abbrev pub HasAForm : List ℕ → Type 0
+HasAForm words = (form : Form) × HasForm form words

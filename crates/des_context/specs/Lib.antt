@@ -1,5 +1,12 @@
 pub mod Bytes
+pub mod Forms
+pub mod Ciphers
 pub mod Contexts
 pub mod Keys
 pub mod Records
 pub mod PaddingMethods
+pub mod MacAlgorithms
+pub mod MacContexts
+pub mod Passwords
+pub mod Salted
+pub mod Paddings

@@ -19,7 +19,7 @@ status_of_lists method messages tags =
     if nat_eq method 1 || nat_eq method 2 then (if nat_eq messages tags then OK else ERR_COUNTS)
     else ERR_PADDING_METHOD
 
--- the same of as many keys, messages and tags
+-- the status of a number of a method, and of as many keys, messages and tags
 abbrev pub status_of_each : ℕ → ℕ → ℕ → ℕ → ℤ
 status_of_each method keys messages tags =
     if nat_eq method 1 || nat_eq method 2 then (if nat_eq keys tags && nat_eq messages tags then OK else ERR_COUNTS)

@@ -1,286 +1,231 @@
-//! The calls that make the tags of many messages, once for every cipher and every width.
+//! MACs of a message that comes in pieces, over contexts, by the number that ISO/IEC 9797-1:2011
+//! gives the algorithm: 1 is CBC-MAC, 3 the retail MAC over DES, 5 CMAC. The words of a MAC are a
+//! context of its key; those of the retail MAC are 34, the contexts of two keys of DES.
 
-ghost use Rattle.std.specs.Prelude.{◌≡◌, ◌≢◌, ◌↔◌, ◌≤◌, ◌<◌, ℕ, [], ◌++◌, length, map, slice_index_or, IsOk, OnOk, OnErr};
-ghost use Rattle.std.specs.Simd.Lanes.{zip2};
-ghost use Rattle.des.specs.Blocks.{part};
-ghost use Rattle.des.specs.Des.{encryption, decryption};
-ghost use Rattle.des_mac.specs.CbcMac.{cbc_mac};
-ghost use Rattle.des_mac.specs.Cmac.{cmac};
-ghost use Rattle.des_mac.specs.ManyMessages.{texts};
+ghost use Rattle.std.specs.Prelude.{◌≡◌, ◌≢◌, ◌↔◌, ℕ, List, [], ◌++◌, length, take, drop, IsTrue};
+ghost use Rattle.des.specs.Blocks.{IsKey};
+ghost use Rattle.des_mac.specs.CbcMac.{cbc_mac as cbc_mac_of};
+ghost use Rattle.des_mac.specs.Cmac.{cmac as cmac_of};
+ghost use Rattle.des_mac.specs.IsProgress.{HoldsOneBlock, IsProgressOf};
 ghost use Rattle.des_mac.specs.Padding.{padded};
 ghost use Rattle.des_mac.specs.RetailMac.{retail_mac_of};
-ghost use Rattle.des_context.specs.PaddingMethods.{padding_by, status_of_lists, status_of_each};
+ghost use Rattle.des_mac.specs.Tags.{IsTruncated};
+ghost use Rattle.des_context.specs.Contexts.{IsContextOf, IsQuiet};
+ghost use Rattle.des_context.specs.Forms.{encryption_of};
+ghost use Rattle.des_context.specs.MacAlgorithms.{IsAlgorithm, mac_by};
+ghost use Rattle.des_context.specs.MacContexts.{AreMacWordsOf, HasMacForm, IsAMac, IsMacOf, key_size_of, words_of_chain};
+ghost use Rattle.des_context.specs.PaddingMethods.{padding_by, status_of};
 
-use crate::status::{ERR_COUNTS, ERR_PADDING_METHOD, OK};
-use des::cipher::NotEqualError;
-use des::tdes::key_part;
-use des_fast::Des;
-use des_fast::many::{KeyForEach, Slice};
-use des_mac::{Method1, Method2, many};
+use crate::ciphers::{Cipher, over};
+use crate::contexts::{self, cipher, is_quiet, part};
+use crate::status::{ERR_KEY_LENGTH, ERR_PADDING_METHOD, ERR_TAG, OK};
+use des::cipher::KeyedCipher;
+use des_fast::single::Des;
+use des_fast::ways::{Quiet, Tables, Way};
+use des_mac::mac::verify_truncated_left;
+use des_mac::{CbcMac, Cmac, Mac, Method1, Method2, Progress, RetailMac};
 
-// The tags of CBC-MAC under one key, by padding method 2 or else 1.
-fn cbc_macs_by<S: Slice, C: KeyForEach + Drop>(
-    key: &C::Key,
-    padding: u32,
-    messages: &[&[u8]],
-    tags: &mut [[u8; 8]],
-) -> Result<(), NotEqualError>
-    ensures accepted { IsOk result ↔ (length tags.old ≡ length messages.now) }
-    ensures tags { OnOk result (tags.new ≡ map (λ m. cbc_mac (C.encryption
-        (C.Key.bytes_of key.now)) (padded (padding_by padding) m)) (texts messages.now)) }
-    ensures kept { OnErr result (tags.new ≡ tags.old) }
-{
-    if padding == 2 {
-        many::cbc_macs_by::<S, C, Method2>(key, messages, tags)
-    } else {
-        many::cbc_macs_by::<S, C, Method1>(key, messages, tags)
-    }
+/// How far a MAC has come in its message, and the number of the padding method.
+#[repr(C)]
+#[derive(Clone, Copy)]
+pub struct Message {
+    pub(crate) progress: Progress,
+    pub(crate) padding: u32,
 }
 
-/// Writes the tag of CBC-MAC of each message at its place, with padding method 1 or 2. The status
-/// of another padding is `ERR_PADDING_METHOD`, that of messages and tags of different numbers
-/// `ERR_COUNTS`; the tags then stay as they were.
-pub fn cbc_macs<S: Slice, C: KeyForEach + Drop>(
-    key: &C::Key,
-    padding: u32,
-    messages: &[&[u8]],
-    tags: &mut [[u8; 8]],
-) -> i32
-    ensures status { result ≡ status_of_lists padding (length messages.now) (length tags.old) }
-    ensures tags { result ≡ OK → tags.new ≡ map (λ m. cbc_mac (C.encryption
-        (C.Key.bytes_of key.now)) (padded (padding_by padding) m)) (texts messages.now) }
-    ensures kept { result ≢ OK → tags.new ≡ tags.old }
-{
-    if padding != 1 && padding != 2 {
-        return ERR_PADDING_METHOD;
-    }
-    match cbc_macs_by::<S, C>(key, padding, messages, tags) {
-        Ok(()) => OK,
-        Err(_) => ERR_COUNTS,
-    }
-}
-
-// The tags of CBC-MAC, each under the key at its place, by padding method 2 or else 1.
-fn cbc_macs_each_by<S: Slice, C: KeyForEach + Drop>(
-    keys: &[C::Key],
-    padding: u32,
-    messages: &[&[u8]],
-    tags: &mut [[u8; 8]],
-) -> Result<(), NotEqualError>
-    ensures accepted { IsOk result ↔ ((length keys.now ≡ length tags.old)
-        × (length tags.old ≡ length messages.now)) }
-    ensures tags { OnOk result (tags.new ≡ zip2 (λ key m. cbc_mac (C.encryption key)
-        (padded (padding_by padding) m)) (map C.Key.bytes_of keys.now) (texts messages.now)) }
-    ensures kept { OnErr result (tags.new ≡ tags.old) }
-{
-    if padding == 2 {
-        many::cbc_macs_each_by::<S, C, Method2>(keys, messages, tags)
-    } else {
-        many::cbc_macs_each_by::<S, C, Method1>(keys, messages, tags)
-    }
-}
-
-/// The same, each message under the key at its place.
-pub fn cbc_macs_each<S: Slice, C: KeyForEach + Drop>(
-    keys: &[C::Key],
-    padding: u32,
-    messages: &[&[u8]],
-    tags: &mut [[u8; 8]],
-) -> i32
-    ensures status { result
-        ≡ status_of_each padding (length keys.now) (length messages.now) (length tags.old) }
-    ensures tags { result ≡ OK → tags.new ≡ zip2 (λ key m. cbc_mac (C.encryption key)
-        (padded (padding_by padding) m)) (map C.Key.bytes_of keys.now) (texts messages.now) }
-    ensures kept { result ≢ OK → tags.new ≡ tags.old }
-{
-    if padding != 1 && padding != 2 {
-        return ERR_PADDING_METHOD;
-    }
-    match cbc_macs_each_by::<S, C>(keys, padding, messages, tags) {
-        Ok(()) => OK,
-        Err(_) => ERR_COUNTS,
-    }
-}
-
-// The tags of the retail MAC over DES under two keys, by padding method 2 or else 1.
-fn retail_macs_by<S: Slice>(
-    first: &[u8; 8],
-    second: &[u8; 8],
-    padding: u32,
-    messages: &[&[u8]],
-    tags: &mut [[u8; 8]],
-) -> Result<(), NotEqualError>
-    ensures accepted { IsOk result ↔ (length tags.old ≡ length messages.now) }
-    ensures tags { OnOk result (tags.new ≡ map (λ m. retail_mac_of 8 encryption decryption
-        (first.now ++ second.now) (padded (padding_by padding) m)) (texts messages.now)) }
-    ensures kept { OnErr result (tags.new ≡ tags.old) }
-{
-    if padding == 2 {
-        many::retail_macs_by::<S, Des, Method2>(first, second, messages, tags)
-    } else {
-        many::retail_macs_by::<S, Des, Method1>(first, second, messages, tags)
-    }
-}
-
-/// Writes the tag of the retail MAC over DES of each message at its place, under the two keys that
-/// are the halves of the key, with padding method 1 or 2. The status is as of `cbc_macs`.
-pub fn retail_macs<S: Slice>(
-    key: &[u8; 16],
-    padding: u32,
-    messages: &[&[u8]],
-    tags: &mut [[u8; 8]],
-) -> i32
-    ensures status { result ≡ status_of_lists padding (length messages.now) (length tags.old) }
-    ensures tags { result ≡ OK → tags.new ≡ map (λ m. retail_mac_of 8 encryption decryption
-        key.now (padded (padding_by padding) m)) (texts messages.now) }
-    ensures kept { result ≢ OK → tags.new ≡ tags.old }
-{
-    if padding != 1 && padding != 2 {
-        return ERR_PADDING_METHOD;
-    }
-    let first = key_part(key, 1);
-    let second = key_part(key, 2);
-    match retail_macs_by::<S>(&first, &second, padding, messages, tags) {
-        Ok(()) => OK,
-        Err(_) => ERR_COUNTS,
-    }
-}
-
-// The tags of the retail MAC over DES, each under the two keys at its place, by padding method 2 or
-// else 1.
-fn retail_macs_each_by<S: Slice>(
-    first: &[[u8; 8]],
-    second: &[[u8; 8]],
-    padding: u32,
-    messages: &[&[u8]],
-    tags: &mut [[u8; 8]],
-) -> Result<(), NotEqualError>
-    ensures accepted { IsOk result ↔ ((length first.now ≡ length tags.old)
-        × (length second.now ≡ length tags.old) × (length tags.old ≡ length messages.now)) }
-    ensures tags { OnOk result (tags.new ≡ zip2
-        (λ key m. retail_mac_of 8 encryption decryption key (padded (padding_by padding) m))
-        (zip2 (λ key more. key ++ more) first.now second.now) (texts messages.now)) }
-    ensures kept { OnErr result (tags.new ≡ tags.old) }
-{
-    if padding == 2 {
-        many::retail_macs_each_by::<S, Des, Method2>(first, second, messages, tags)
-    } else {
-        many::retail_macs_each_by::<S, Des, Method1>(first, second, messages, tags)
-    }
-}
-
-// The most messages with keys of two halves that are treated together: the halves have arrays of
-// their own.
-const GROUP: usize = 256;
-
-// Half `number`, from 1, of each key of a group.
-fn key_halves(keys: &[[u8; 16]], number: usize) -> [[u8; 8]; GROUP]
-    requires few { length keys.now ≤ 256 }
-    requires from { 1 ≤ number }
-    requires to { number ≤ 2 }
-    ensures { (k : ℕ) → k < length keys.now
-        → slice_index_or result k [] ≡ part number (slice_index_or keys.now k []) }
-{
-    let mut halves = [[0; 8]; GROUP];
-    'keys: for k in 0..keys.len() {
-        halves[k] = key_part(&keys[k], number);
-    }
-    halves
-}
-
-// The tags of the retail MAC of a group of messages, each under the two keys that are the halves of
-// the key at its place.
-fn write_retail_group<S: Slice>(
-    keys: &[[u8; 16]],
-    padding: u32,
-    messages: &[&[u8]],
-    tags: &mut [[u8; 8]],
-)
-    requires as_tags { length keys.now ≡ length tags.old }
-    requires as_messages { length tags.old ≡ length messages.now }
-    requires few { length tags.old ≤ 256 }
-    ensures { tags.new ≡ zip2
-        (λ key m. retail_mac_of 8 encryption decryption key (padded (padding_by padding) m))
-        keys.now (texts messages.now) }
-{
-    let first = key_halves(keys, 1);
-    let second = key_halves(keys, 2);
-    let first = &first[..keys.len()];
-    let second = &second[..keys.len()];
-    retail_macs_each_by::<S>(first, second, padding, messages, tags).unwrap();
-}
-
-/// Writes the tag of the retail MAC over DES of each message at its place, under the two keys that
-/// are the halves of the key there, with padding method 1 or 2. Groups of at most 256 are treated
-/// together. The status is as of `cbc_macs_each`.
-pub fn retail_macs_each<S: Slice>(
-    keys: &[[u8; 16]],
-    padding: u32,
-    messages: &[&[u8]],
-    tags: &mut [[u8; 8]],
-) -> i32
-    ensures status { result
-        ≡ status_of_each padding (length keys.now) (length messages.now) (length tags.old) }
-    ensures tags { result ≡ OK → tags.new ≡ zip2
-        (λ key m. retail_mac_of 8 encryption decryption key (padded (padding_by padding) m))
-        keys.now (texts messages.now) }
-    ensures kept { result ≢ OK → tags.new ≡ tags.old }
-{
-    if padding != 1 && padding != 2 {
-        return ERR_PADDING_METHOD;
-    }
-    if keys.len() != tags.len() || messages.len() != tags.len() {
-        return ERR_COUNTS;
-    }
-    let mut from = 0;
-    'groups: while from < tags.len() {
-        let end = from + GROUP.min(tags.len() - from);
-        write_retail_group::<S>(
-            &keys[from..end],
+impl Message {
+    // The message of no bytes.
+    fn new(padding: u32) -> Message
+        ensures progress { (encryption : List ℕ → List ℕ)
+            → IsProgressOf encryption result.progress [] }
+        ensures padding { result.padding ≡ padding }
+    {
+        Message {
+            progress: Progress::new(),
             padding,
-            &messages[from..end],
-            &mut tags[from..end],
-        );
-        from = end;
+        }
     }
+
+    // Adds bytes, under the cipher of the chain. All MACs take bytes in alike, by the chain.
+    fn extend<C: KeyedCipher + Drop>(&mut self, cipher: C, bytes: &[u8])
+        requires { HoldsOneBlock self.old.progress }
+        ensures progress { (key m : List ℕ) → IsKey C.KEY_SIZE key → C.is_made_from cipher key
+            → IsProgressOf (C.encryption key) self.old.progress m
+            → IsProgressOf (C.encryption key) self.new.progress (m ++ bytes.now) }
+        ensures padding { self.new.padding ≡ self.old.padding }
+    {
+        let mut mac = CbcMac::<C, Method1>::resume(cipher, &self.progress);
+        mac.update(bytes);
+        self.progress = mac.progress();
+    }
+
+    // Adds bytes, under the cipher of a context, which reads tables or not, as the way has it.
+    fn extend_by<W: Way>(&mut self, context: &[u64], bytes: &[u8])
+        requires context { (key : List ℕ) × IsContextOf context.now key }
+        requires progress { HoldsOneBlock self.old.progress }
+        ensures progress { (key m : List ℕ) → IsContextOf context.now key
+            → IsProgressOf (encryption_of key) self.old.progress m
+            → IsProgressOf (encryption_of key) self.new.progress (m ++ bytes.now) }
+        ensures padding { self.new.padding ≡ self.old.padding }
+    {
+        over!(cipher::<W>(context), cipher => self.extend(cipher, bytes));
+    }
+}
+
+// Writes the words of a key.
+fn write_words(algorithm: u32, context: &mut [u64], key: &[u8], quiet: bool)
+    requires by { IsAlgorithm algorithm }
+    requires form { HasMacForm algorithm context.old }
+    requires key { length key.now ≡ key_size_of context.old }
+    ensures made { AreMacWordsOf algorithm context.new key.now }
+    ensures quiet { IsQuiet (words_of_chain algorithm context.new) ↔ IsTrue quiet }
+    ensures second_quiet { algorithm ≡ 3 → IsQuiet (drop 17 context.new) ↔ IsTrue quiet }
+{
+    if algorithm == 3 {
+        let (first, second) = context.split_at_mut(17);
+        contexts::init(first, &key[..8], quiet);
+        contexts::init(second, &key[8..], quiet);
+    } else {
+        contexts::init(context, key, quiet);
+    }
+}
+
+/// Makes the words of a MAC of the bytes of a key, quiet ones, whose calls read no table, or quick
+/// ones, and the message of no bytes, with padding method 1 or 2. The status of a key of another
+/// length than the words have room for is `ERR_KEY_LENGTH`, of another padding
+/// `ERR_PADDING_METHOD`; the words and the message then stay as they were.
+pub fn init(
+    algorithm: u32,
+    context: &mut [u64],
+    message: &mut Message,
+    key: &[u8],
+    padding: u32,
+    quiet: bool,
+) -> i32
+    requires by { IsAlgorithm algorithm }
+    requires form { HasMacForm algorithm context.old }
+    ensures status { result ≡ status_of (key_size_of context.old) (length key.now) padding }
+    ensures made { result ≡ OK → IsMacOf algorithm context.new message.new padding key.now [] }
+    ensures quiet { result ≡ OK → IsQuiet (words_of_chain algorithm context.new) ↔ IsTrue quiet }
+    ensures second_quiet { result ≡ OK → algorithm ≡ 3
+        → IsQuiet (drop 17 context.new) ↔ IsTrue quiet }
+    ensures kept { result ≢ OK → (context.new ≡ context.old) × (message.new ≡ message.old) }
+{
+    if key.len() != context.len() / 16 * 8 {
+        return ERR_KEY_LENGTH;
+    }
+    if padding != 1 && padding != 2 {
+        return ERR_PADDING_METHOD;
+    }
+    write_words(algorithm, context, key, quiet);
+    *message = Message::new(padding);
     OK
 }
 
-/// Writes the tag of CMAC of each message at its place. The status is `ERR_COUNTS` where the
-/// numbers of messages and tags differ; the tags then stay as they were.
-pub fn cmacs<S: Slice, C: KeyForEach + Drop>(
-    key: &C::Key,
-    messages: &[&[u8]],
-    tags: &mut [[u8; 8]],
-) -> i32
-    ensures accepted { (result ≡ OK) ↔ (length tags.old ≡ length messages.now) }
-    ensures refused { (result ≡ ERR_COUNTS) ↔ (length tags.old ≢ length messages.now) }
-    ensures tags { result ≡ OK → tags.new ≡ map
-        (λ m. cmac (C.encryption (C.Key.bytes_of key.now)) m) (texts messages.now) }
-    ensures kept { result ≢ OK → tags.new ≡ tags.old }
+// The words of the chain.
+fn chain_words(algorithm: u32, context: &[u64]) -> &[u64]
+    requires { (key : List ℕ) × AreMacWordsOf algorithm context.now key }
+    ensures { result.now ≡ words_of_chain algorithm context.now }
 {
-    match many::cmacs_by::<S, C>(key, messages, tags) {
-        Ok(()) => OK,
-        Err(_) => ERR_COUNTS,
+    if algorithm == 3 {
+        &context[..17]
+    } else {
+        context
     }
 }
 
-/// The same, each message under the key at its place, where there are as many keys too.
-pub fn cmacs_each<S: Slice, C: KeyForEach + Drop>(
-    keys: &[C::Key],
-    messages: &[&[u8]],
-    tags: &mut [[u8; 8]],
-) -> i32
-    ensures accepted { (result ≡ OK) ↔ ((length keys.now ≡ length tags.old)
-        × (length tags.old ≡ length messages.now)) }
-    ensures refused { (result ≡ ERR_COUNTS) ↔ ¬ ((length keys.now ≡ length tags.old)
-        × (length tags.old ≡ length messages.now)) }
-    ensures tags { result ≡ OK → tags.new ≡ zip2 (λ key m. cmac (C.encryption key) m)
-        (map C.Key.bytes_of keys.now) (texts messages.now) }
-    ensures kept { result ≢ OK → tags.new ≡ tags.old }
+/// Adds bytes to the message, after those that it has.
+pub fn update(algorithm: u32, context: &[u64], message: &mut Message, bytes: &[u8])
+    requires { IsAMac algorithm context.now message.old }
+    ensures { (padding : ℕ) (key m : List ℕ)
+        → IsMacOf algorithm context.now message.old padding key m
+        → IsMacOf algorithm context.now message.new padding key (m ++ bytes.now) }
 {
-    match many::cmacs_each_by::<S, C>(keys, messages, tags) {
+    let words = chain_words(algorithm, context);
+    if is_quiet(words) {
+        message.extend_by::<Quiet>(words, bytes);
+    } else {
+        message.extend_by::<Tables>(words, bytes);
+    }
+}
+
+// The tag of CBC-MAC, or else of CMAC, of a message, under a cipher.
+fn chain_tag<C: KeyedCipher + Drop>(algorithm: u32, cipher: C, message: &Message) -> [u8; 8]
+    requires { HoldsOneBlock message.now.progress }
+    ensures cbc_mac { algorithm ≡ 1 → (key m : List ℕ) → IsKey C.KEY_SIZE key
+        → C.is_made_from cipher key → IsProgressOf (C.encryption key) message.now.progress m
+        → result ≡ cbc_mac_of (C.encryption key) (padded (padding_by message.now.padding) m) }
+    ensures cmac { algorithm ≢ 1 → (key m : List ℕ) → IsKey C.KEY_SIZE key
+        → C.is_made_from cipher key → IsProgressOf (C.encryption key) message.now.progress m
+        → result ≡ cmac_of (C.encryption key) m }
+{
+    if algorithm != 1 {
+        Cmac::<C>::resume(cipher, &message.progress).finalize()
+    } else if message.padding == 2 {
+        CbcMac::<C, Method2>::resume(cipher, &message.progress).finalize()
+    } else {
+        CbcMac::<C, Method1>::resume(cipher, &message.progress).finalize()
+    }
+}
+
+// The tag of the retail MAC of a message, under two ciphers.
+fn retail_tag<C: KeyedCipher + Drop>(first: C, second: C, message: &Message) -> [u8; 8]
+    requires { HoldsOneBlock message.now.progress }
+    ensures { (key m : List ℕ)
+        → IsKey C.KEY_SIZE (take C.KEY_SIZE key) → C.is_made_from first (take C.KEY_SIZE key)
+        → IsKey C.KEY_SIZE (drop C.KEY_SIZE key) → C.is_made_from second (drop C.KEY_SIZE key)
+        → IsProgressOf (C.encryption (take C.KEY_SIZE key)) message.now.progress m
+        → result ≡ retail_mac_of C.KEY_SIZE C.encryption C.decryption key
+        (padded (padding_by message.now.padding) m) }
+{
+    if message.padding == 2 {
+        RetailMac::<C, Method2>::resume(first, second, &message.progress).finalize()
+    } else {
+        RetailMac::<C, Method1>::resume(first, second, &message.progress).finalize()
+    }
+}
+
+// The tag of a message, by ciphers that read tables or not, as the way has it.
+fn tag_by<W: Way>(algorithm: u32, context: &[u64], message: &Message) -> [u8; 8]
+    requires { IsAMac algorithm context.now message.now }
+    ensures { (padding : ℕ) (key m : List ℕ)
+        → IsMacOf algorithm context.now message.now padding key m
+        → result ≡ mac_by algorithm padding key m }
+{
+    if algorithm == 3 {
+        let first: Des<W> = part(&context[..17], 1);
+        let second: Des<W> = part(&context[17..], 1);
+        return retail_tag(first, second, message);
+    }
+    over!(cipher::<W>(context), cipher => chain_tag(algorithm, cipher, message))
+}
+
+/// The tag of the message, which may go on.
+pub fn tag(algorithm: u32, context: &[u64], message: &Message) -> [u8; 8]
+    requires { IsAMac algorithm context.now message.now }
+    ensures { (padding : ℕ) (key m : List ℕ)
+        → IsMacOf algorithm context.now message.now padding key m
+        → result ≡ mac_by algorithm padding key m }
+{
+    if is_quiet(chain_words(algorithm, context)) {
+        tag_by::<Quiet>(algorithm, context, message)
+    } else {
+        tag_by::<Tables>(algorithm, context, message)
+    }
+}
+
+/// Accepts the first 4 to 8 bytes of the tag of the message: the status of all others is `ERR_TAG`.
+pub fn verify(algorithm: u32, context: &[u64], message: &Message, tag_bytes: &[u8]) -> i32
+    requires { IsAMac algorithm context.now message.now }
+    ensures accepted { (padding : ℕ) (key m : List ℕ)
+        → IsMacOf algorithm context.now message.now padding key m
+        → (result ≡ OK) ↔ IsTruncated tag_bytes.now (mac_by algorithm padding key m) }
+    ensures refused { (padding : ℕ) (key m : List ℕ)
+        → IsMacOf algorithm context.now message.now padding key m
+        → (result ≡ ERR_TAG) ↔ (IsTruncated tag_bytes.now (mac_by algorithm padding key m) → ⊥) }
+{
+    match verify_truncated_left(tag_bytes, &tag(algorithm, context, message)) {
         Ok(()) => OK,
-        Err(_) => ERR_COUNTS,
+        Err(_) => ERR_TAG,
     }
 }

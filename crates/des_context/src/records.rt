@@ -1,14 +1,18 @@
 //! Records of blocks, one after another in a list, each chained by CBC from a vector of its own:
-//! once for every cipher, every context and every width.
+//! once for every cipher and every width.
 
 ghost use Rattle.std.specs.Prelude.{◌≡◌, ◌≢◌, ◌↔◌, ℕ, List, length};
 ghost use Rattle.des_fast.specs.Records.{GoOn};
+ghost use Rattle.des_context.specs.Forms.{relation_of};
+ghost use Rattle.des_context.specs.Contexts.{IsContextOf};
 ghost use Rattle.des_context.specs.Records.{AreSizesOf, ChainsEach};
 
-use crate::contexts::Context;
+use crate::ciphers::{Cipher, over};
+use crate::contexts::cipher;
 use crate::status::{ERR_COUNTS, OK};
 use des::cipher::Relating;
 use des_fast::many::{RecordKeys, Slice, SpreadOnce};
+use des_fast::ways::Tables;
 
 // Encrypts records in place by CBC, by the relation of the cipher's key.
 fn chain<S: Slice, C: Relating + SpreadOnce>(
@@ -60,42 +64,42 @@ fn unchain<S: Slice, C: Relating + SpreadOnce>(
 /// another in `blocks`, and `vectors[k]`, from which it is chained, becomes its last ciphertext
 /// block. The status is `ERR_COUNTS` where the numbers of vectors and sizes differ, or the sizes do
 /// not add up to the number of blocks; vectors and blocks then stay as they were.
-pub fn encrypt_cbc_records<S: Slice, K: Context>(
-    context: &K,
+pub fn encrypt_cbc_records<S: Slice>(
+    context: &[u64],
     vectors: &mut [[u8; 8]],
     sizes: &[usize],
     blocks: &mut [[u8; 8]],
 ) -> i32
-    requires { (key : List ℕ) × K.is_made_from context.now key }
+    requires { (key : List ℕ) × IsContextOf context.now key }
     ensures accepted { (result ≡ OK) ↔ AreSizesOf sizes.now vectors.old blocks.old }
     ensures refused { (result ≡ ERR_COUNTS) ↔ ¬ (AreSizesOf sizes.now vectors.old blocks.old) }
-    ensures chained { result ≡ OK → (key : List ℕ) → K.is_made_from context.now key
-        → ChainsEach (K.Cipher.relation key) sizes.now vectors.old blocks.old blocks.new }
+    ensures chained { result ≡ OK → (key : List ℕ) → IsContextOf context.now key
+        → ChainsEach (relation_of key) sizes.now vectors.old blocks.old blocks.new }
     ensures goes_on { result ≡ OK → GoOn sizes.now vectors.old blocks.new vectors.new }
     ensures count { (length vectors.new ≡ length vectors.old)
         × (length blocks.new ≡ length blocks.old) }
     ensures kept { result ≢ OK → (vectors.new ≡ vectors.old) × (blocks.new ≡ blocks.old) }
 {
-    chain::<S, K::Cipher>(&context.to_cipher(), vectors, sizes, blocks)
+    over!(&cipher::<Tables>(context), cipher => chain::<S, _>(cipher, vectors, sizes, blocks))
 }
 
 /// Decrypts records in place that CBC chained, as `encrypt_cbc_records` does. The status is as of
 /// that call.
-pub fn decrypt_cbc_records<S: Slice, K: Context>(
-    context: &K,
+pub fn decrypt_cbc_records<S: Slice>(
+    context: &[u64],
     vectors: &mut [[u8; 8]],
     sizes: &[usize],
     blocks: &mut [[u8; 8]],
 ) -> i32
-    requires { (key : List ℕ) × K.is_made_from context.now key }
+    requires { (key : List ℕ) × IsContextOf context.now key }
     ensures accepted { (result ≡ OK) ↔ AreSizesOf sizes.now vectors.old blocks.old }
     ensures refused { (result ≡ ERR_COUNTS) ↔ ¬ (AreSizesOf sizes.now vectors.old blocks.old) }
-    ensures chained { result ≡ OK → (key : List ℕ) → K.is_made_from context.now key
-        → ChainsEach (K.Cipher.relation key) sizes.now vectors.old blocks.new blocks.old }
+    ensures chained { result ≡ OK → (key : List ℕ) → IsContextOf context.now key
+        → ChainsEach (relation_of key) sizes.now vectors.old blocks.new blocks.old }
     ensures goes_on { result ≡ OK → GoOn sizes.now vectors.old blocks.old vectors.new }
     ensures count { (length vectors.new ≡ length vectors.old)
         × (length blocks.new ≡ length blocks.old) }
     ensures kept { result ≢ OK → (vectors.new ≡ vectors.old) × (blocks.new ≡ blocks.old) }
 {
-    unchain::<S, K::Cipher>(&context.to_cipher(), vectors, sizes, blocks)
+    over!(&cipher::<Tables>(context), cipher => unchain::<S, _>(cipher, vectors, sizes, blocks))
 }

@@ -46,6 +46,7 @@ pub mod KeptRoundKeys
 pub mod ByteTests
 pub mod ChosenEntries
 pub mod RoundsSideBySide
+pub mod LargestNumbers
 pub mod RecordPlaces
 pub mod AnsweredRecords
 pub mod WrittenRecords
@@ -56,3 +57,4 @@ pub mod EachByte
 pub mod ChosenTerms
 pub mod ExpandedEntries
 pub mod PassDirections
+pub mod RelatedChains

@@ -12,6 +12,7 @@ pub mod Words
 pub mod EachKey
 pub mod LaneKeys
 pub mod ChainEnds
+pub mod Largest
 pub mod Records
 pub mod RecordStates
 pub mod Laws

@@ -18,5 +18,5 @@ AreSlicesFor batch bit passes answer = InEachBlock batch (λ b. lane_answer (bit
 -- the keys encrypt and decrypt a block so
 pub record AreSpreadKeys {A : Type 0} (batch : ℕ) (bit : ℕ → A → Bool) (keys : SpreadKeys A)
     (encrypted decrypted : List ℕ → List ℕ) : Type 0 where
-  pub encryption : AreSlicesFor batch bit (used keys.is_triple keys.encryption) encrypted
-  pub decryption : AreSlicesFor batch bit (used keys.is_triple keys.decryption) decrypted
+  pub encryption : AreSlicesFor batch bit (used keys.encryption.is_triple keys.encryption.passes) encrypted
+  pub decryption : AreSlicesFor batch bit (used keys.decryption.is_triple keys.decryption.passes) decrypted

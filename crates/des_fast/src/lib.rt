@@ -10,7 +10,8 @@
 //! use it. A block cipher hides nothing about repeated blocks and does not authenticate, and no
 //! claim is made on the time that a call takes: `encrypt_block`, `decrypt_block`, `encrypt_blocks`
 //! and `decrypt_blocks`, but for those of `quiet`, read tables at indexes that depend on the key and
-//! the blocks. `new` and the calls of `many`, at every length of a list, are written to read none so.
+//! the blocks. `new` and the calls of `many`, at every length of a list, are written to read none
+//! so, but for those that are told that a list need not be `quiet`.
 #![tactic(auto)]
 
 mod boxes;
@@ -19,13 +20,14 @@ mod lists;
 pub mod many;
 mod permutations;
 pub mod quiet;
+mod rounds;
 mod schedule;
 pub mod single;
 mod slices;
 mod tables;
 pub mod tdes;
 mod threes;
-mod ways;
+pub mod ways;
 pub mod words;
 
 pub use tdes::{TdesEde2, TdesEde3, TdesEee2, TdesEee3};

@@ -15,7 +15,7 @@ ghost use Rattle.des_fast.specs.SideBySide.{AreExpansions, keys_of, lane};
 
 use crate::halves::{Halves, block_of, word_of};
 use crate::permutations;
-use crate::quiet::rounds::{Groups, after_rounds};
+use crate::rounds::{Groups, after_rounds};
 use crate::single::Des;
 use crate::ways::Way;
 use des::cipher::are_blocks;

@@ -7,7 +7,7 @@ ghost use Rattle.des_fast.specs.HalfBlocks.{round_keys_of, half_blocks_of};
 ghost use Rattle.des_fast.specs.SideBySide.{in_direction};
 
 use crate::halves::{Halves, RoundKey};
-use crate::quiet::rounds::{Groups, halves_after_rounds};
+use crate::rounds::{Groups, halves_after_rounds};
 use crate::threes::ThreeGroups;
 use std::simd::prelude::*;
 

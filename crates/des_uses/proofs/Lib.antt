@@ -3,4 +3,5 @@ pub mod JoinedParts
 pub mod KeyedChains
 pub mod RelatedAnswers
 pub mod ReversedSchedules
+mod SpreadSizes
 pub mod ZippedLists

@@ -1,7 +1,10 @@
 //! Card verification values (CVV): three digits of a card's data under a key.
 
 use crate::error::sentences;
-use crate::ffi::{self, ACCOUNT_DIGIT, ACCOUNT_LENGTH, EXPIRY_DIGIT, EXPIRY_LENGTH, OK, SERVICE_LENGTH};
+use crate::ffi;
+use crate::statuses::{
+    sentence, ACCOUNT_DIGIT, ACCOUNT_LENGTH, EXPIRY_DIGIT, EXPIRY_LENGTH, OK, SERVICE_DIGIT, SERVICE_LENGTH,
+};
 
 /// Why there is no card verification value. The first of them is reported, in this order.
 #[derive(Clone, Copy, Debug, PartialEq, Eq)]
@@ -22,11 +25,11 @@ pub enum CvvError {
 
 sentences!(CvvError:
     CvvError::AccountLength => "the account number does not have 13 to 19 digits",
-    CvvError::AccountDigit => "a character of the account number is not a digit",
-    CvvError::ExpiryLength => "the expiry date does not have four digits",
-    CvvError::ExpiryDigit => "a character of the expiry date is not a digit",
-    CvvError::ServiceLength => "the service code does not have three digits",
-    CvvError::ServiceDigit => "a character of the service code is not a digit",
+    CvvError::AccountDigit => sentence(ACCOUNT_DIGIT),
+    CvvError::ExpiryLength => sentence(EXPIRY_LENGTH),
+    CvvError::ExpiryDigit => sentence(EXPIRY_DIGIT),
+    CvvError::ServiceLength => sentence(SERVICE_LENGTH),
+    CvvError::ServiceDigit => sentence(SERVICE_DIGIT),
 );
 
 /// The card verification value, three ASCII digits, of an account number of 13 to 19 digits with the check digit, an expiry

@@ -18,7 +18,8 @@
 //! ```
 
 use crate::error::sentences;
-use crate::ffi::{self, ACCOUNT_DIGIT, ACCOUNT_LENGTH, OK, SEQUENCE_DIGIT, SEQUENCE_LENGTH};
+use crate::ffi;
+use crate::statuses::{sentence, ACCOUNT_DIGIT, ACCOUNT_LENGTH, DATA_LENGTH, OK, SEQUENCE_DIGIT, SEQUENCE_LENGTH};
 
 /// Why there is no key of a card, or no response to it. The first of them is reported, in this order.
 #[derive(Clone, Copy, Debug, PartialEq, Eq)]
@@ -37,10 +38,10 @@ pub enum EmvError {
 
 sentences!(EmvError:
     EmvError::AccountLength => "the account number does not have 8 to 19 digits",
-    EmvError::AccountDigit => "a character of the account number is not a digit",
-    EmvError::SequenceLength => "the sequence number does not have two digits",
-    EmvError::SequenceDigit => "a character of the sequence number is not a digit",
-    EmvError::DataLength => "the issuer's data have more than 8 bytes",
+    EmvError::AccountDigit => sentence(ACCOUNT_DIGIT),
+    EmvError::SequenceLength => sentence(SEQUENCE_LENGTH),
+    EmvError::SequenceDigit => sentence(SEQUENCE_DIGIT),
+    EmvError::DataLength => sentence(DATA_LENGTH),
 );
 
 /// What a call made, or the fault that its status says.

@@ -18,9 +18,10 @@
 //! ```
 
 use crate::error::sentences;
-use crate::ffi::{
-    self, HEADER, KEY_BLOCK_DIGIT, KEY_BLOCK_LENGTH, KEY_BLOCK_MAC, KEY_DATA_LENGTH, KEY_LENGTH, NO_OPTIONAL_BLOCK, OK,
-    OPTIONAL_BLOCK, PADDING_LENGTH, PROTECTION_KEY_LENGTH, VERSION,
+use crate::ffi;
+use crate::statuses::{
+    sentence, HEADER, KEY_BLOCK_DIGIT, KEY_BLOCK_LENGTH, KEY_BLOCK_MAC, KEY_DATA_LENGTH, KEY_LENGTH, NO_OPTIONAL_BLOCK,
+    OK, OPTIONAL_BLOCK, PADDING_LENGTH, PROTECTION_KEY_LENGTH, VERSION,
 };
 use core::fmt;
 
@@ -53,20 +54,16 @@ pub enum KeyBlockError {
 }
 
 sentences!(KeyBlockError:
-    KeyBlockError::ProtectionKeyLength => "the protection key does not have 16 or 24 bytes",
-    KeyBlockError::Length =>
-        "the key block is not as long as its header says, longer than 9999 characters, or too long for its buffer",
-    KeyBlockError::Version => "the version of the key block is not one that the call takes",
-    KeyBlockError::Header =>
-        "the number of optional blocks is not two digits and two zeros, or a field to be written is not letters and digits",
-    KeyBlockError::OptionalBlock =>
-        "the optional blocks can't be read: a wrong length, an end off a multiple of eight, or more than 99; \
-         or one is a PB, or its content is not printable ASCII",
-    KeyBlockError::DataLength => "the encrypted key data do not have a length that they can have",
-    KeyBlockError::Digit => "a character of the encrypted key data or the MAC is not 0 to 9 or A to F",
-    KeyBlockError::Mac => "the MAC is not that of the key block",
+    KeyBlockError::ProtectionKeyLength => sentence(PROTECTION_KEY_LENGTH),
+    KeyBlockError::Length => sentence(KEY_BLOCK_LENGTH),
+    KeyBlockError::Version => sentence(VERSION),
+    KeyBlockError::Header => sentence(HEADER),
+    KeyBlockError::OptionalBlock => sentence(OPTIONAL_BLOCK); "; or one is a PB, or its content is not printable ASCII",
+    KeyBlockError::DataLength => sentence(KEY_DATA_LENGTH),
+    KeyBlockError::Digit => sentence(KEY_BLOCK_DIGIT),
+    KeyBlockError::Mac => sentence(KEY_BLOCK_MAC),
     KeyBlockError::KeyLength => "the key does not have 8, 16 or 24 bytes",
-    KeyBlockError::PaddingLength => "the padding of the key does not have a length that it can have",
+    KeyBlockError::PaddingLength => sentence(PADDING_LENGTH),
 );
 
 /// What a call made, or the fault that its status says.

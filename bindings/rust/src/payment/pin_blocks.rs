@@ -2,7 +2,8 @@
 //! cipher.
 
 use crate::error::sentences;
-use crate::ffi::{self, ACCOUNT_DIGIT, ACCOUNT_LENGTH, FORMAT, OK, PIN_DIGIT, PIN_LENGTH};
+use crate::ffi;
+use crate::statuses::{sentence, ACCOUNT_DIGIT, ACCOUNT_LENGTH, FILL, FORMAT, OK, PIN_DIGIT, PIN_LENGTH};
 use crate::Block;
 use core::fmt;
 
@@ -26,12 +27,12 @@ pub enum PinError {
 }
 
 sentences!(PinError:
-    PinError::Format => "the PIN block is of another format",
-    PinError::PinLength => "the PIN does not have 4 to 12 digits",
-    PinError::PinDigit => "a character of the PIN is not a digit",
+    PinError::Format => sentence(FORMAT),
+    PinError::PinLength => sentence(PIN_LENGTH),
+    PinError::PinDigit => sentence(PIN_DIGIT),
     PinError::AccountLength => "the account number does not have 8 to 19 digits",
-    PinError::AccountDigit => "a character of the account number is not a digit",
-    PinError::Fill => "a fill digit is not one that the format allows",
+    PinError::AccountDigit => sentence(ACCOUNT_DIGIT),
+    PinError::Fill => sentence(FILL),
 );
 
 /// What a call made, or the fault that its status says.

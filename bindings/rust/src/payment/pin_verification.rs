@@ -19,9 +19,10 @@
 
 use super::Pin;
 use crate::error::sentences;
-use crate::ffi::{
-    self, ACCOUNT_DIGIT, ACCOUNT_LENGTH, KEY_INDEX, KEY_LENGTH, OK, PIN_LENGTH, TABLE_DIGIT, TABLE_LENGTH,
-    TABLE_VARIETY,
+use crate::ffi;
+use crate::statuses::{
+    sentence, ACCOUNT_DIGIT, ACCOUNT_LENGTH, KEY_INDEX, KEY_LENGTH, OK, PIN_LENGTH, TABLE_DIGIT, TABLE_LENGTH,
+    TABLE_VARIETY, WRONG_PIN,
 };
 use core::fmt;
 
@@ -51,14 +52,14 @@ pub enum VerificationError {
 
 sentences!(VerificationError:
     VerificationError::AccountLength => "the account number does not have 12 to 19 digits",
-    VerificationError::AccountDigit => "a character of the account number is not a digit",
-    VerificationError::KeyIndex => "the index of the key pair is not 1 to 6",
+    VerificationError::AccountDigit => sentence(ACCOUNT_DIGIT),
+    VerificationError::KeyIndex => sentence(KEY_INDEX),
     VerificationError::KeyLength => "the key does not have 8, 16 or 24 bytes",
-    VerificationError::PinLength => "the PIN does not have 4 to 12 digits",
-    VerificationError::TableLength => "the decimalization table does not have sixteen digits",
-    VerificationError::TableDigit => "a character of the decimalization table is not a digit",
-    VerificationError::TableVariety => "the decimalization table has fewer than eight different digits",
-    VerificationError::WrongPin => "the PIN is not the one",
+    VerificationError::PinLength => sentence(PIN_LENGTH),
+    VerificationError::TableLength => sentence(TABLE_LENGTH),
+    VerificationError::TableDigit => sentence(TABLE_DIGIT),
+    VerificationError::TableVariety => sentence(TABLE_VARIETY),
+    VerificationError::WrongPin => sentence(WRONG_PIN),
 );
 
 /// What a call made, or the fault that its status says.

@@ -1,6 +1,7 @@
 //! The terminal's side of DUKPT (ANSI X9.24-1:2009).
 
-use crate::ffi::{self, OK};
+use crate::ffi;
+use crate::statuses::OK;
 use core::fmt;
 
 /// The keys of a terminal's transactions to come, which are wiped when it is dropped. It has no clone, which would give the same

@@ -13,7 +13,8 @@
 //! ```
 
 use crate::error::sentences;
-use crate::ffi::{self, ACCOUNT_DIGIT, ACCOUNT_LENGTH, FORMATS, KEY_LENGTH, OK, PIN_BLOCK};
+use crate::ffi;
+use crate::statuses::{sentence, ACCOUNT_DIGIT, ACCOUNT_LENGTH, FILL, FORMATS, KEY_LENGTH, OK, PIN_BLOCK};
 use crate::Block;
 use core::ffi::c_int;
 
@@ -52,9 +53,9 @@ sentences!(TranslationError:
     TranslationError::KeyLength => "a key does not have 8, 16 or 24 bytes",
     TranslationError::Formats => "there is no translation from the one format to the other",
     TranslationError::AccountLength => "the account number does not have 8 to 19 digits",
-    TranslationError::AccountDigit => "a character of the account number is not a digit",
-    TranslationError::Fill => "a fill digit is not one that the format allows",
-    TranslationError::Block => "the PIN block is not one of its format and account number",
+    TranslationError::AccountDigit => sentence(ACCOUNT_DIGIT),
+    TranslationError::Fill => sentence(FILL),
+    TranslationError::Block => sentence(PIN_BLOCK),
 );
 
 /// Translates a PIN block that is encrypted under one key, of 8, 16 or 24 bytes, into the block of the same PIN that is encrypted

@@ -195,14 +195,17 @@ fn errors_are_sentences() {
         (Box::new(InvalidLength), "the key does not have the key size"),
         (Box::new(DataError::NotBlocks), "the data are not whole blocks of 8 bytes"),
         (Box::new(DataError::LengthsDiffer), "input and output differ in length"),
-        (Box::new(CountsDiffer), "the numbers of elements do not agree"),
-        (Box::new(KeyTestError::WeakKey), "the key is weak"),
+        (
+            Box::new(CountsDiffer),
+            "the numbers of elements do not agree: a count, or a sum of counts, and a length",
+        ),
+        (Box::new(KeyTestError::WeakKey), "the key is weak, or two of its parts are one key"),
         (Box::new(KeyTestError::InvalidLength), "the key does not have 8, 16 or 24 bytes"),
         (Box::new(MacError), "the tag is not that of the message"),
         (Box::new(NoRoom), "the buffer has no room for the padding"),
         (Box::new(UnpadError::NotBlocks), "the data are not whole blocks of 8 bytes"),
         (Box::new(UnpadError::NotPadded), "the data do not end with the padding"),
-        (Box::new(PinError::Format), "the PIN block is of another format"),
+        (Box::new(PinError::Format), "the first digit of the PIN block is not that of the format"),
         (Box::new(PinError::PinLength), "the PIN does not have 4 to 12 digits"),
         (Box::new(PinError::PinDigit), "a character of the PIN is not a digit"),
         (Box::new(PinError::AccountLength), "the account number does not have 8 to 19 digits"),
@@ -228,7 +231,7 @@ fn errors_are_sentences() {
         (Box::new(TranslationError::AccountLength), "the account number does not have 8 to 19 digits"),
         (Box::new(TranslationError::AccountDigit), "a character of the account number is not a digit"),
         (Box::new(TranslationError::Fill), "a fill digit is not one that the format allows"),
-        (Box::new(TranslationError::Block), "the PIN block is not one of its format and account number"),
+        (Box::new(TranslationError::Block), "decrypted, the PIN block is not one of its format and account number"),
         (Box::new(EmvError::AccountLength), "the account number does not have 8 to 19 digits"),
         (Box::new(EmvError::AccountDigit), "a character of the account number is not a digit"),
         (Box::new(EmvError::SequenceLength), "the sequence number does not have two digits"),
@@ -241,7 +244,7 @@ fn errors_are_sentences() {
         (Box::new(OpenError::SaltCut), "the bytes end within the salt"),
         (Box::new(OpenError::NoIteration), "the number of iterations is 0"),
         (Box::new(OpenError::NotBlocks), "what is encrypted is not whole blocks of 8 bytes"),
-        (Box::new(OpenError::Padding), "the last block does not end with the padding"),
+        (Box::new(OpenError::Padding), "the data do not end with the padding"),
         (Box::new(OpenError::NoRoom), "there is no room for what is opened"),
         (Box::new(KeyBlockError::ProtectionKeyLength), "the protection key does not have 16 or 24 bytes"),
         (
@@ -262,7 +265,10 @@ fn errors_are_sentences() {
         (Box::new(KeyBlockError::Digit), "a character of the encrypted key data or the MAC is not 0 to 9 or A to F"),
         (Box::new(KeyBlockError::Mac), "the MAC is not that of the key block"),
         (Box::new(KeyBlockError::KeyLength), "the key does not have 8, 16 or 24 bytes"),
-        (Box::new(KeyBlockError::PaddingLength), "the padding of the key does not have a length that it can have"),
+        (
+            Box::new(KeyBlockError::PaddingLength),
+            "the padding of the key does not have 6, 14 or 22 bytes, or has more than 30 with the key",
+        ),
     ];
     for (error, sentence) in errors {
         assert_eq!(error.to_string(), sentence);

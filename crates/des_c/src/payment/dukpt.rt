@@ -1,14 +1,12 @@
 //! The exports of the keys of a transaction (DUKPT, ANSI X9.24-1:2009).
 
-ghost use Rattle.std.specs.Prelude.{◌≡◌, ◌≢◌, ◌↔◌, ◌<◌, ℕ, IsTrue, length, map};
+ghost use Rattle.std.specs.Prelude.{◌≡◌, ◌≢◌, ◌↔◌, ◌<◌, ℕ, IsTrue};
 ghost use Rattle.des_payment.specs.Dukpt.{initial_key, transaction_key, pin_key, mac_key, data_variant, data_key};
 ghost use Rattle.des_payment.specs.Dukpt.{counter_of, IsUsable, IsNextCounter, IsOfTransaction, with_counter};
 ghost use Rattle.des_c.specs.Messages.{message_of as message_by};
 
-use des_context::payment_lists::transaction_keys;
-use des_context::status::{ERR_COUNTS, ERR_NO_SERIAL, OK};
+use des_context::status::{ERR_NO_SERIAL, OK};
 use des_payment::dukpt::{self, Message};
-use std::simd::prelude::*;
 
 /// The initial key of a terminal, from the base derivation key and a key serial number.
 #[unsafe(no_mangle)]
@@ -29,24 +27,6 @@ pub extern "C" fn cukvashe_dukpt_transaction_key(
     ensures { key.new ≡ transaction_key initial.now serial.now }
 {
     *key = dukpt::transaction_key(initial, serial);
-}
-
-/// The key of the transaction of each key serial number at its place, from the base derivation key.
-/// The status is `ERR_COUNTS` where the numbers of serial numbers and keys differ; the keys then
-/// stay.
-#[unsafe(no_mangle)]
-pub extern "C" fn cukvashe_narrow_dukpt_transaction_keys(
-    base: &[u8; 16],
-    serials: &[[u8; 10]],
-    keys: &mut [[u8; 16]],
-) -> i32
-    ensures accepted { (result ≡ OK) ↔ (length serials.now ≡ length keys.old) }
-    ensures refused { (result ≡ ERR_COUNTS) ↔ (length serials.now ≢ length keys.old) }
-    ensures keys { result ≡ OK → keys.new ≡ map
-        (λ serial. transaction_key (initial_key base.now serial) serial) serials.now }
-    ensures kept { result ≢ OK → keys.new ≡ keys.old }
-{
-    transaction_keys::<u64x2>(base, serials, keys)
 }
 
 /// The key that encrypts PIN blocks, from the transaction's key.

@@ -84,7 +84,8 @@ pub extern "C" fn cukvashe_emv_application_cryptogram(
     *cryptogram = application_cryptogram(session, bytes);
 }
 
-/// The response by method 1 (8.2.1) to an application cryptogram, with a response code of two bytes.
+/// The response by method 1 (8.2.1) to an application cryptogram, with a response code of two
+/// bytes.
 #[unsafe(no_mangle)]
 pub extern "C" fn cukvashe_emv_response_1(
     session: &[u8; 16],

@@ -1,13 +1,13 @@
 //! The exports of key blocks (ANSI X9.143, ASC X9 TR-31).
 
-ghost use Rattle.std.specs.Prelude.{◌≡◌, ◌≢◌, ◌⊎◌, ◌↔◌, ◌≤◌, ◌+◌, ◌-◌, ◌++◌, ℕ, List, Some, None, IfOk, IfSome, IfNone, IsTrue, IsFalse, length as length_of, map, take, drop, slice_get, slice_index};
+ghost use Rattle.std.specs.Prelude.{◌≡◌, ◌≢◌, ◌⊎◌, ◌↔◌, ◌≤◌, ◌+◌, ◌-◌, ◌++◌, ℕ, List, Some, None, IfOk, IfSome, IfNone, IsTrue, IsFalse, length as length_of, take, drop, slice_get, slice_index};
 ghost use Rattle.std.specs.Result.{result_err};
 ghost use Rattle.des_payment.specs.KeyBlockHeaders.{version_text};
-ghost use Rattle.des_payment.specs.KeyBlockReading.{is_sealed_length, HasFault, HasLayoutFault};
-ghost use Rattle.des_payment.specs.KeyBlocks.{key_data, front_text, size_of_block, wrap_fault, HasParts, HoldsKey, IsKeyBlock, IsSealed};
+ghost use Rattle.des_payment.specs.KeyBlockReading.{HasFault, HasLayoutFault};
+ghost use Rattle.des_payment.specs.KeyBlocks.{key_data, front_text, size_of_block, wrap_fault, HoldsKey, IsKeyBlock, IsSealed};
 ghost use Rattle.des_payment.specs.OptionalBlocks.{AreOptionalBlocks, filled};
 ghost use Rattle.des_c.specs.KeyBlockStatuses.{status_of as status_of_fault};
-ghost use Rattle.des_c.specs.KeyBlockTexts.{are_alphanumeric as are_alphanumeric_characters, is_made, is_written as is_written_text, text_fault, version_of as version_of_text, AreReadable, IsTextOf, IsWrittenTextOf};
+ghost use Rattle.des_c.specs.KeyBlockTexts.{are_alphanumeric as are_alphanumeric_characters, is_made, is_written as is_written_text, shown, text_fault, version_of as version_of_text, AreReadable, HasLayout, IsTextOf, IsUnwrapped, IsWrapped, IsWrappedText, IsWrittenTextOf};
 ghost use Rattle.des_c.specs.Statuses.{status_after};
 ghost use Rattle.des_c.specs.Texts.{with_zeros};
 
@@ -147,9 +147,8 @@ pub extern "C" fn cukvashe_key_block_unwrap(
     key: &mut [u8; 24],
     length: &mut usize,
 ) -> i32
-    ensures opened { result ≡ OK → (of : Header) × ((bytes : List ℕ)
-        × (HoldsKey protection.now block.now of bytes × IsWrittenTextOf header.new of
-        × (key.new ≡ with_zeros 24 bytes) × (length.new ≡ length_of bytes))) }
+    ensures opened { result ≡ OK
+        → IsUnwrapped protection.now block.now header.new key.new length.new }
     ensures only { (of : Header) (bytes : List ℕ) → HoldsKey protection.now block.now of bytes
         → (result ≡ OK) × (key.new ≡ with_zeros 24 bytes) × (length.new ≡ length_of bytes) }
     ensures fault { result ≢ OK → (error : KeyBlockError) × ((result ≡ status_of_fault error)
@@ -171,12 +170,9 @@ pub extern "C" fn cukvashe_key_block_unwrap(
 /// without one, and then `text` stays. Nothing of it is authenticated.
 #[unsafe(no_mangle)]
 pub extern "C" fn cukvashe_key_block_header(block: &[u8], text: &mut HeaderText) -> i32
-    ensures found { result ≡ OK → (of : Header) × ((blocks : List (List ℕ × List ℕ))
-        × ((front : List ℕ) × ((rest : List ℕ) × (HasParts of blocks front rest block.now
-        × IsTrue (is_sealed_length of.version (length_of rest)) × IsWrittenTextOf text.new of)))) }
-    ensures only { (of : Header) (blocks : List (List ℕ × List ℕ)) (front rest : List ℕ)
-        → HasParts of blocks front rest block.now
-        → IsTrue (is_sealed_length of.version (length_of rest)) → result ≡ OK }
+    ensures found { result ≡ OK → (layout : HasLayout block.now)
+        × IsWrittenTextOf text.new layout.header }
+    ensures only { HasLayout block.now → result ≡ OK }
     ensures fault { result ≢ OK → (error : KeyBlockError) × ((result ≡ status_of_fault error)
         × HasLayoutFault block.now error) }
     ensures kept { result ≢ OK → text.new ≡ text.old }
@@ -190,29 +186,22 @@ pub extern "C" fn cukvashe_key_block_header(block: &[u8], text: &mut HeaderText)
     }
 }
 
-/// The optional block of a block at a place, from 0: its name and a zero byte, and where its content
-/// stands in the block. The status is that of the block's first fault that shows without a key, and
-/// then `ERR_NO_OPTIONAL_BLOCK` where there are no more; and then both stay. Nothing of it is
-/// authenticated.
+/// The optional block of a block at a place, from 0: its name and a zero byte, and where its
+/// content stands in the block. The status is that of the block's first fault that shows without a
+/// key, and then `ERR_NO_OPTIONAL_BLOCK` where there are no more; and then both stay. Nothing of it
+/// is authenticated.
 #[unsafe(no_mangle)]
-pub extern "C" fn cukvashe_narrow_key_block_optional_block<'a>(
+pub extern "C" fn cukvashe_internal_key_block_optional_block<'a>(
     block: &'a [u8],
     place: usize,
     name: &mut [u8; 3],
     content: &mut &'a [u8],
 ) -> i32
-    ensures found { (of : Header) (blocks : List (List ℕ × List ℕ)) (front rest : List ℕ)
-        → HasParts of blocks front rest block.now
-        → IsTrue (is_sealed_length of.version (length_of rest)) → result ≡ OK
-        → slice_get blocks place ≡ Some (take 2 name.new, content.new.now) }
-    ensures none { (of : Header) (blocks : List (List ℕ × List ℕ)) (front rest : List ℕ)
-        → HasParts of blocks front rest block.now
-        → IsTrue (is_sealed_length of.version (length_of rest))
-        → (result ≡ ERR_NO_OPTIONAL_BLOCK) ↔ (slice_get blocks place ≡ None) }
-    ensures parts { (result ≡ OK) ⊎ (result ≡ ERR_NO_OPTIONAL_BLOCK) → (of : Header)
-        × ((blocks : List (List ℕ × List ℕ)) × ((front : List ℕ) × ((rest : List ℕ)
-        × (HasParts of blocks front rest block.now
-        × IsTrue (is_sealed_length of.version (length_of rest)))))) }
+    ensures found { (layout : HasLayout block.now) → result ≡ OK
+        → slice_get layout.blocks place ≡ Some (take 2 name.new, content.new.now) }
+    ensures none { (layout : HasLayout block.now)
+        → (result ≡ ERR_NO_OPTIONAL_BLOCK) ↔ (slice_get layout.blocks place ≡ None) }
+    ensures parts { (result ≡ OK) ⊎ (result ≡ ERR_NO_OPTIONAL_BLOCK) → HasLayout block.now }
     ensures end { result ≡ OK → slice_index name.new 2 ≡ 0 }
     ensures fault { result ≢ OK → result ≢ ERR_NO_OPTIONAL_BLOCK → (error : KeyBlockError)
         × ((result ≡ status_of_fault error) × HasLayoutFault block.now error) }
@@ -243,18 +232,18 @@ fn write_wrapped(
     length: &mut usize,
 ) -> i32
     ensures status { result ≡ status_after status_of_fault (wrap_fault protection.now
-        header.now.version (map (λ block. (block.name, block.content.now)) optional.now)
+        header.now.version (shown optional.now)
         key.now padding.now (length_of block.old - 1)) }
     ensures wrapped { result ≡ OK → IsKeyBlock protection.now header.now
-        (filled (map (λ block. (block.name, block.content.now)) optional.now))
+        (filled (shown optional.now))
         key.now padding.now (take length.new block.new) }
     ensures size { result ≡ OK → length.new ≡ size_of_block header.now.version
-        (map (λ block. (block.name, block.content.now)) optional.now) key.now padding.now }
+        (shown optional.now) key.now padding.now }
     ensures text { result ≡ OK → (sealed : List ℕ) × ((take length.new block.new
         ≡ front_text header.now
-        (filled (map (λ block. (block.name, block.content.now)) optional.now)) length.new ++ sealed)
+        (filled (shown optional.now)) length.new ++ sealed)
         × IsSealed header.now.version protection.now (front_text header.now
-        (filled (map (λ block. (block.name, block.content.now)) optional.now)) length.new)
+        (filled (shown optional.now)) length.new)
         (key_data key.now padding.now) sealed) }
     ensures end { result ≡ OK → slice_index block.new length.new ≡ 0 }
     ensures rest { result ≡ OK
@@ -305,16 +294,10 @@ pub extern "C" fn cukvashe_key_block_wrap(
         (version_of_text header.now) blocks key.now padding.now (length_of block.old - 1)))) }
     ensures unread { text_fault header.now ≡ None → ¬ (AreReadable optional.now)
         → result ≡ ERR_OPTIONAL_BLOCK }
-    ensures wrapped { result ≡ OK → (of : Header) × ((blocks : List (List ℕ × List ℕ))
-        × (IsTextOf header.now of × AreOptionalBlocks blocks optional.now
-        × IsKeyBlock protection.now of (filled blocks) key.now padding.now
-        (take length.new block.new))) }
-    ensures text { result ≡ OK → (of : Header) × ((blocks : List (List ℕ × List ℕ))
-        × ((sealed : List ℕ) × (IsTextOf header.now of × AreOptionalBlocks blocks optional.now
-        × (length.new ≡ size_of_block of.version blocks key.now padding.now)
-        × (take length.new block.new ≡ front_text of (filled blocks) length.new ++ sealed)
-        × IsSealed of.version protection.now (front_text of (filled blocks) length.new)
-        (key_data key.now padding.now) sealed))) }
+    ensures wrapped { result ≡ OK → IsWrapped protection.now header.now optional.now key.now
+        padding.now (take length.new block.new) }
+    ensures text { result ≡ OK → IsWrappedText protection.now header.now optional.now key.now
+        padding.now (take length.new block.new) length.new }
     ensures end { result ≡ OK → slice_index block.new length.new ≡ 0 }
     ensures rest { result ≡ OK
         → drop (length.new + 1) block.new ≡ drop (length.new + 1) block.old }

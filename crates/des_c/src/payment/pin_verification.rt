@@ -299,9 +299,9 @@ fn verified_offset(
     }
 }
 
-/// Accepts the PIN of 4 to 12 ASCII digits that is the sum of an offset and the natural PIN, digit by
-/// digit, modulo ten. The status is that of the first fault, of the PIN, then of the offset, then of
-/// the table and then `ERR_KEY_LENGTH`, and then `ERR_WRONG_PIN` for any other PIN.
+/// Accepts the PIN of 4 to 12 ASCII digits that is the sum of an offset and the natural PIN, digit
+/// by digit, modulo ten. The status is that of the first fault, of the PIN, then of the offset,
+/// then of the table and then `ERR_KEY_LENGTH`, and then `ERR_WRONG_PIN` for any other PIN.
 #[unsafe(no_mangle)]
 pub extern "C" fn cukvashe_pin_offset_verify(
     key: &[u8],

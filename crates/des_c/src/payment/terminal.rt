@@ -9,8 +9,8 @@ ghost use Rattle.des_payment.specs.Terminals.{HasFutureKeys};
 use des_context::status::{ERR_NO_SERIAL, OK};
 use des_payment::terminal::Terminal;
 
-/// Makes the state of a terminal with this initial key, before its first transaction. The counter of
-/// the key serial number has no part in it.
+/// Makes the state of a terminal with this initial key, before its first transaction. The counter
+/// of the key serial number has no part in it.
 #[unsafe(no_mangle)]
 pub extern "C" fn cukvashe_dukpt_terminal_init(
     terminal: &mut Terminal,
@@ -23,9 +23,9 @@ pub extern "C" fn cukvashe_dukpt_terminal_init(
     *terminal = Terminal::new(initial, serial);
 }
 
-/// Gives the key serial number and the key of the next transaction, and clears the key in the state.
-/// The status is `ERR_NO_SERIAL` where the terminal has had its last transaction, and then the state,
-/// `serial` and `key` stay.
+/// Gives the key serial number and the key of the next transaction, and clears the key in the
+/// state. The status is `ERR_NO_SERIAL` where the terminal has had its last transaction, and then
+/// the state, `serial` and `key` stay.
 #[unsafe(no_mangle)]
 pub extern "C" fn cukvashe_dukpt_terminal_next_key(
     terminal: &mut Terminal,

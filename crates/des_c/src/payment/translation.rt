@@ -55,10 +55,10 @@ fn write_block(made: Result<[u8; 8], TranslationError>, block: &mut [u8; 8]) -> 
     }
 }
 
-/// Translates a PIN block of format 0, 1 or 3 that is encrypted under one key, of 8, 16 or 24 bytes,
-/// into the block of format 0 of the same PIN that is encrypted under another. The account number,
-/// a text of 8 to 19 digits, is that of both. The status is that of the first fault, of the keys,
-/// of the format, of the account number, and then `ERR_PIN_BLOCK`, whatever is wrong with the
+/// Translates a PIN block of format 0, 1 or 3 that is encrypted under one key, of 8, 16 or 24
+/// bytes, into the block of format 0 of the same PIN that is encrypted under another. The account
+/// number, a text of 8 to 19 digits, is that of both. The status is that of the first fault, of the
+/// keys, of the format, of the account number, and then `ERR_PIN_BLOCK`, whatever is wrong with the
 /// block; and then `translated` stays.
 #[unsafe(no_mangle)]
 pub extern "C" fn cukvashe_pin_translate_to_0(
@@ -82,8 +82,8 @@ pub extern "C" fn cukvashe_pin_translate_to_0(
     write_block(made, translated)
 }
 
-/// The same into the block of format 3, of which `fill` has ten fill digits from 10 to 15: the status
-/// is `ERR_FILL` after a fault of the account number.
+/// The same into the block of format 3, of which `fill` has ten fill digits from 10 to 15: the
+/// status is `ERR_FILL` after a fault of the account number.
 #[unsafe(no_mangle)]
 pub extern "C" fn cukvashe_pin_translate_to_3(
     incoming: &[u8],

@@ -1,19 +1,37 @@
-//! Deciphering of chained blocks (FIPS 81, cipher block chaining mode), a batch at a time, or four
-//! side by side: each block is deciphered by itself, and xored with the ciphertext block before it.
+//! Chained blocks (FIPS 81, cipher block chaining mode). To encipher, block goes after block: each
+//! waits for the one before it. To decipher, a batch goes at a time, or some side by side: each
+//! block is deciphered by itself, and xored with the ciphertext block before it.
 
 ghost use Rattle.std.specs.Prelude.{◌≡◌, ◌≤◌, ℕ, List, length, map, take};
 ghost use Rattle.std.specs.List.{All};
 ghost use Rattle.des.specs.Blocks.{IsBlock};
-ghost use Rattle.des.specs.Cbc.{Unchains};
+ghost use Rattle.des.specs.Cbc.{Cbc, Unchains};
 ghost use Rattle.des_fast.specs.SpreadKeys.{AreSlicesFor};
 
 use super::lanes::write_answers;
-use super::{FEW, LARGEST_BATCH, Slice};
+use super::ways::FEW_BY_TABLES;
+use super::{LARGEST_BATCH, Slice};
 use crate::lists::{self, Answers};
 use crate::slices::PassSlices;
-use crate::ways::Quiet;
+use crate::ways::Way;
 use des::cbc;
 use des::cipher::are_blocks;
+
+/// Takes blocks through passes one after another, in the chain that begins with `iv`. Not inlined:
+/// two ways in one function are slower, each of them.
+#[inline(never)]
+pub(super) fn chain<W: Way, P: Answers>(blocks: &mut [[u8; 8]], iv: &[u8; 8], passes: &P)
+    ensures blocks { All IsBlock blocks.old }
+    ensures chained { Cbc (P.answered passes.now) iv.now blocks.old blocks.new }
+{
+    are_blocks(blocks);
+    let mut previous = *iv;
+    for block in blocks.iter_mut() {
+        cbc::xor(block, &previous);
+        passes.answer_block::<W>(block);
+        previous = *block;
+    }
+}
 
 // Takes blocks out of the chain that begins with `iv`, by what deciphering makes of each.
 fn unchain_by(blocks: &mut [[u8; 8]], iv: &[u8; 8], answers: &[[u8; 8]])
@@ -32,25 +50,29 @@ fn unchain_by(blocks: &mut [[u8; 8]], iv: &[u8; 8], answers: &[[u8; 8]])
 }
 
 // Makes the first blocks of an array what passes make of a few blocks.
-fn write_few<P: Answers>(answers: &mut [[u8; 8]; FEW], blocks: &[[u8; 8]], passes: &P)
-    requires { length blocks.now ≤ 8 }
+fn write_few<W: Way, P: Answers>(
+    answers: &mut [[u8; 8]; FEW_BY_TABLES],
+    blocks: &[[u8; 8]],
+    passes: &P,
+)
+    requires { length blocks.now ≤ 31 }
     ensures { take (length blocks.now) answers.new ≡ map (P.answered passes.now) blocks.now }
 {
     let part = &mut answers[..blocks.len()];
     part.copy_from_slice(blocks);
-    lists::answer::<Quiet, P>(part, passes);
+    lists::answer::<W, P>(part, passes);
 }
 
-/// Takes a few blocks through passes, four side by side, and out of the chain that begins with
+/// Takes a few blocks through passes, some side by side, and out of the chain that begins with
 /// `iv`.
-pub(super) fn unchain_few<P: Answers>(blocks: &mut [[u8; 8]], iv: &[u8; 8], passes: &P)
-    requires { length blocks.old ≤ 8 }
+pub(super) fn unchain_few<W: Way, P: Answers>(blocks: &mut [[u8; 8]], iv: &[u8; 8], passes: &P)
+    requires { length blocks.old ≤ 31 }
     ensures blocks { All IsBlock blocks.old }
     ensures unchained { Unchains (P.answered passes.now) iv.now blocks.old blocks.new }
 {
     are_blocks(blocks);
-    let mut answers = [[0; 8]; FEW];
-    write_few(&mut answers, blocks, passes);
+    let mut answers = [[0; 8]; FEW_BY_TABLES];
+    write_few::<W, P>(&mut answers, blocks, passes);
     unchain_by(blocks, iv, &answers);
 }
 

@@ -70,7 +70,7 @@ pub trait KeyForEach: KeyedCipher + Sized {
         if chains.len() != lists.list_count() {
             return Err(NotEqualError);
         }
-        let mut lanes = LaneKeys::unwritten();
+        let mut lanes = LaneKeys::zeros();
         spread_batch::<S, Self>(&[*key; LARGEST_BATCH], &mut lanes);
         ends::end(&lanes, chains, lists);
         Ok(())
@@ -133,7 +133,7 @@ fn answer_each<S: Slice, C: KeyForEach>(keys: &[C::Key], blocks: &mut [[u8; 8]],
     ensures { blocks.new ≡ zip2 (answer_in deciphers C.encryption C.decryption)
         (map C.Key.bytes_of keys.now) blocks.old }
 {
-    let mut lanes = LaneKeys::unwritten();
+    let mut lanes = LaneKeys::zeros();
     let mut from = 0;
     'parts: while from < blocks.len() {
         let count = S::BATCH.min(blocks.len() - from);

@@ -7,6 +7,7 @@ ghost use Rattle.des.specs.Cbc.{xor_blocks};
 ghost use Rattle.des_fast.specs.Transposition.{block_at};
 ghost use Rattle.des_fast.specs.EachKey.{lane_answer};
 ghost use Rattle.des_fast.specs.ChainEnds.{AreEnds};
+ghost use Rattle.des_fast.specs.Largest.{IsLargest};
 
 use super::chain_keys::ChainKeys;
 use super::lanes::{LaneKeys, answer_filled};
@@ -41,16 +42,15 @@ pub trait BlockLists {
         ensures { result ≡ block_of self.now list index };
 }
 
-// At least as many blocks as each of `count` lists has, from number `from` on.
+// How many blocks the longest of `count` lists has, from number `from` on, and 0 of no lists.
 fn longest<L: BlockLists>(lists: &L, from: usize, count: usize) -> usize
     requires there { from + count ≤ L.list_count lists.now }
     requires fits { from + count < 2 ^ 64 }
-    ensures { (k : ℕ) → k < count → L.count_of lists.now (from + k) ≤ result }
+    ensures { IsLargest count (λ k. L.count_of lists.now (from + k)) result }
 {
     let mut most = 0;
     'lists: for k in 0..count {
-        let blocks = lists.count(from + k);
-        most = if blocks > most { blocks } else { most };
+        most = most.max(lists.count(from + k));
     }
     most
 }
@@ -133,7 +133,7 @@ pub(super) fn end<K: ChainKeys, L: BlockLists>(keys: &K, chains: &mut [[u8; 8]],
         → AreEnds encryption (L.block_of lists.now) (L.count_of lists.now)
         chains.old chains.new }
 {
-    let mut room = LaneKeys::unwritten();
+    let mut room = LaneKeys::zeros();
     let mut from = 0;
     'groups: while from < chains.len() {
         let count = <K::Slices as Slice>::BATCH.min(chains.len() - from);

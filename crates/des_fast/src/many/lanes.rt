@@ -40,34 +40,30 @@ impl Part {
 /// takes some 5,500 bytes over vectors of two words, and 11,000 over four.
 #[derive(Drop)]
 pub struct LaneKeys<S> {
-    passes: [PassSlices<S>; 3],
-    is_triple: bool,
-}
-
-/// The passes that are used: of single DES the first.
-#[inline(always)]
-pub(super) fn used<S: Slice>(passes: &[PassSlices<S>; 3], is_triple: bool) -> &[PassSlices<S>]
-    ensures { result.now ≡ used is_triple passes.now }
-{
-    if is_triple { passes } else { &passes[..1] }
+    pub(super) passes: [PassSlices<S>; 3],
+    pub(super) is_triple: bool,
 }
 
 impl<S: Slice> LaneKeys<S> {
     /// Zeros, for the caller to write over.
     #[inline(always)]
-    pub(super) fn unwritten() -> LaneKeys<S> {
+    pub(super) fn zeros() -> LaneKeys<S> {
         LaneKeys {
-            passes: [PassSlices::unwritten(); 3],
+            passes: [PassSlices::zeros(); 3],
             is_triple: false,
         }
     }
 
-    /// The passes of the keys.
+    /// The passes of the keys: of single DES the first.
     #[inline(always)]
     pub(super) fn passes(&self) -> &[PassSlices<S>]
         ensures { result.now ≡ used self.now.is_triple self.now.passes }
     {
-        used(&self.passes, self.is_triple)
+        if self.is_triple {
+            &self.passes
+        } else {
+            &self.passes[..1]
+        }
     }
 
     /// Makes the lanes' keys one pass under these keys of 8 bytes.

@@ -1,6 +1,6 @@
 //! Keys under which records go: one for all of them, or one for each.
 
-ghost use Rattle.std.specs.Prelude.{◌≡◌, ◌↔◌, ◌≤◌, ◌<◌, ◌+◌, ℕ, List, IsTrue, IsOk, OnOk, OnErr, length, map, sum};
+ghost use Rattle.std.specs.Prelude.{◌≡◌, ◌↔◌, ◌≤◌, ◌<◌, ◌+◌, ◌-◌, ℕ, List, IsTrue, IsOk, OnOk, OnErr, length, map, sum};
 ghost use Rattle.std.specs.List.{All};
 ghost use Rattle.des.specs.Blocks.{IsBlock};
 ghost use Rattle.des_fast.specs.ChainEnds.{under_key};
@@ -148,7 +148,7 @@ fn chain<K: RecordKeys, Z: Sizes>(
     ensures goes_on { (encryption : ℕ → List ℕ → List ℕ) → K.encrypt keys.now encryption
         → GoOn (Z.list sizes) vectors.old blocks.new vectors.new }
 {
-    let mut room = LaneKeys::unwritten();
+    let mut room = LaneKeys::zeros();
     let mut from = 0;
     let mut start = 0;
     'groups: while from < vectors.len() {
@@ -182,6 +182,7 @@ fn unchain_part<K: RecordKeys, Z: Sizes>(
     requires whole { length blocks.old ≡ sum (Z.list sizes) }
     ensures starts { result.start ≡ start (Z.list sizes) result.number }
     ensures before { result.start ≤ span.from + span.count }
+    ensures last { HasBlock (Z.list sizes) result.number (span.from + span.count - 1) }
     ensures count { length blocks.new ≡ length blocks.old }
     ensures vectors { length vectors.new ≡ length vectors.old }
     ensures unchained { (decryption : ℕ → List ℕ → List ℕ) → K.decrypt keys.now decryption
@@ -218,7 +219,7 @@ fn unchain<K: RecordKeys, Z: Sizes>(
     ensures goes_on { (decryption : ℕ → List ℕ → List ℕ) → K.decrypt keys.now decryption
         → GoOn (Z.list sizes) vectors.old blocks.old vectors.new }
 {
-    let mut room = LaneKeys::unwritten();
+    let mut room = LaneKeys::zeros();
     let mut current = Record {
         number: 0,
         start: 0,

@@ -4,9 +4,10 @@
 //! next block of every record goes into its chain, and the chains go through the passes together.
 //! Decryption waits for no other block, and takes the list a batch of blocks at a time.
 
-ghost use Rattle.std.specs.Prelude.{◌≡◌, ◌↔◌, ◌≤◌, ◌<◌, ◌+◌, ℕ, List, IsTrue, length, replicate, sum, slice_index};
+ghost use Rattle.std.specs.Prelude.{◌≡◌, ◌↔◌, ◌≤◌, ◌<◌, ◌+◌, ◌-◌, ℕ, List, IsTrue, length, replicate, sum, slice_index};
 ghost use Rattle.des.specs.Cbc.{xor_blocks};
 ghost use Rattle.des_fast.specs.EachKey.{lane_answer};
+ghost use Rattle.des_fast.specs.Largest.{IsLargest};
 ghost use Rattle.des_fast.specs.Records.{start};
 ghost use Rattle.des_fast.specs.RecordStates.{HasBlock, AreWritten, AreChainedBelow, AreUnchainedBelow};
 ghost use Rattle.des_fast.specs.Transposition.{block_at};
@@ -100,17 +101,15 @@ impl Group {
         requires counts { length (Z.list sizes) ≤ usize.MAX }
         requires fits { sum (Z.list sizes) ≤ usize.MAX }
         ensures end { result.end ≡ start (Z.list sizes) (self.from + self.count) }
-        ensures longest { (k : ℕ) → k < self.count
-            → slice_index (Z.list sizes) (self.from + k) ≤ result.steps }
+        ensures longest { IsLargest self.count
+            (λ k. slice_index (Z.list sizes) (self.from + k)) result.steps }
     {
         let mut end = self.start;
         let mut steps = 0;
         'records: for k in 0..self.count {
             let size = sizes.of(self.from + k);
             end += size;
-            if steps < size {
-                steps = size;
-            }
+            steps = steps.max(size);
         }
         Extent { steps, end }
     }
@@ -245,7 +244,7 @@ pub struct Span {
 }
 
 /// Takes a span of the blocks out of the chains, where the answers to its blocks are known, and
-/// returns the record of its last block.
+/// returns the record of its last block, or of an empty span the one it was given.
 pub(super) fn take_out<Z: Sizes>(
     vectors: &mut [[u8; 8]],
     sizes: Z,
@@ -261,6 +260,9 @@ pub(super) fn take_out<Z: Sizes>(
     requires whole { length blocks.old ≡ sum (Z.list sizes) }
     ensures starts { result.start ≡ start (Z.list sizes) result.number }
     ensures before { result.start ≤ span.from + span.count }
+    ensures last { 1 ≤ span.count
+        → HasBlock (Z.list sizes) result.number (span.from + span.count - 1) }
+    ensures none { span.count ≡ 0 → result ≡ span.current }
     ensures count { length blocks.new ≡ length blocks.old }
     ensures vectors { length vectors.new ≡ length vectors.old }
     ensures unchained { (decryption : ℕ → List ℕ → List ℕ) (first q : List (List ℕ))

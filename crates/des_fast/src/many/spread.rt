@@ -7,7 +7,7 @@ ghost use Rattle.des.specs.Cbc.{Unchains};
 ghost use Rattle.des_fast.specs.SpreadKeys.{AreSlicesFor, AreSpreadKeys, used};
 
 use super::chain_keys::ChainKeys;
-use super::lanes::{LaneKeys, used};
+use super::lanes::LaneKeys;
 use super::passes::{spread_one, spread_three};
 use super::record_keys::RecordKeys;
 use super::records::{Sizes, Span};
@@ -21,19 +21,17 @@ use des::tdes::{Form, Parts, Triple};
 /// take some 11,000 bytes over vectors of two words, and 22,000 over four.
 #[derive(Drop)]
 pub struct SpreadKeys<S> {
-    encryption: [PassSlices<S>; 3],
-    decryption: [PassSlices<S>; 3],
-    is_triple: bool,
+    encryption: LaneKeys<S>,
+    decryption: LaneKeys<S>,
 }
 
 impl<S: Slice> SpreadKeys<S> {
     // Zeros, for the caller to write over.
     #[inline(always)]
-    fn unwritten() -> SpreadKeys<S> {
+    fn zeros() -> SpreadKeys<S> {
         SpreadKeys {
-            encryption: [PassSlices::unwritten(); 3],
-            decryption: [PassSlices::unwritten(); 3],
-            is_triple: false,
+            encryption: LaneKeys::zeros(),
+            decryption: LaneKeys::zeros(),
         }
     }
 
@@ -45,7 +43,7 @@ impl<S: Slice> SpreadKeys<S> {
             → AreSpreadKeys S.BATCH S.bit self.now encrypted decrypted
             → blocks.new ≡ map encrypted blocks.old }
     {
-        answer::<S>(blocks, used(&self.encryption, self.is_triple));
+        answer::<S>(blocks, self.encryption.passes());
     }
 
     /// Decrypts each block of 8 bytes in place, in order, as `decrypt_many` of a cipher whose keys
@@ -56,7 +54,7 @@ impl<S: Slice> SpreadKeys<S> {
             → AreSpreadKeys S.BATCH S.bit self.now encrypted decrypted
             → blocks.new ≡ map decrypted blocks.old }
     {
-        answer::<S>(blocks, used(&self.decryption, self.is_triple));
+        answer::<S>(blocks, self.decryption.passes());
     }
 
     /// Decrypts in place a list of blocks of 8 bytes that CBC chained from the initialization
@@ -67,14 +65,14 @@ impl<S: Slice> SpreadKeys<S> {
             → AreSpreadKeys S.BATCH S.bit self.now encrypted decrypted
             → Unchains decrypted iv.now blocks.old blocks.new }
     {
-        chains::unchain::<S>(blocks, iv, used(&self.decryption, self.is_triple));
+        chains::unchain::<S>(blocks, iv, self.decryption.passes());
     }
 }
 
 impl<S: Slice> ChainKeys for SpreadKeys<S> {
     type Slices = S;
 
-    ghost encrypt = { λ keys answer. (n : ℕ) → AreSlicesFor S.BATCH S.bit (used keys.is_triple keys.encryption) (answer n) };
+    ghost encrypt = { λ keys answer. (n : ℕ) → AreSlicesFor S.BATCH S.bit (used keys.encryption.is_triple keys.encryption.passes) (answer n) };
 
     ghost are_for = { λ _ _. ⊤ };
 
@@ -85,16 +83,16 @@ impl<S: Slice> ChainKeys for SpreadKeys<S> {
     #[inline(always)]
     fn encryption<'a>(
         &'a self,
-        _from: usize,
-        _count: usize,
-        _room: &'a mut LaneKeys<S>,
+        from: usize,
+        count: usize,
+        room: &'a mut LaneKeys<S>,
     ) -> &'a [PassSlices<S>] {
-        used(&self.encryption, self.is_triple)
+        self.encryption.encryption(from, count, room)
     }
 }
 
 impl<S: Slice> RecordKeys for SpreadKeys<S> {
-    ghost decrypt = { λ keys answer. (n : ℕ) → AreSlicesFor S.BATCH S.bit (used keys.is_triple keys.decryption) (answer n) };
+    ghost decrypt = { λ keys answer. (n : ℕ) → AreSlicesFor S.BATCH S.bit (used keys.decryption.is_triple keys.decryption.passes) (answer n) };
 
     #[inline(always)]
     fn decryption<'a, Z: Sizes>(
@@ -103,7 +101,7 @@ impl<S: Slice> RecordKeys for SpreadKeys<S> {
         _span: Span,
         _room: &'a mut LaneKeys<S>,
     ) -> &'a [PassSlices<S>] {
-        used(&self.decryption, self.is_triple)
+        self.decryption.passes()
     }
 }
 
@@ -117,20 +115,22 @@ pub trait SpreadOnce: ManyBlocks {
 
 impl SpreadOnce for Des {
     fn spread_keys<S: Slice>(&self) -> SpreadKeys<S> {
-        let mut keys = SpreadKeys::unwritten();
-        spread_one(&mut keys.encryption, &self.pass(false));
-        spread_one(&mut keys.decryption, &self.pass(true));
-        keys.is_triple = false;
+        let mut keys = SpreadKeys::zeros();
+        spread_one(&mut keys.encryption.passes, &self.pass(false));
+        keys.encryption.is_triple = false;
+        spread_one(&mut keys.decryption.passes, &self.pass(true));
+        keys.decryption.is_triple = false;
         keys
     }
 }
 
 impl<P: Parts<Single = Des>, F: Form> SpreadOnce for Triple<P, F> {
     fn spread_keys<S: Slice>(&self) -> SpreadKeys<S> {
-        let mut keys = SpreadKeys::unwritten();
-        spread_three(&mut keys.encryption, &self.encryption_passes());
-        spread_three(&mut keys.decryption, &self.decryption_passes());
-        keys.is_triple = true;
+        let mut keys = SpreadKeys::zeros();
+        spread_three(&mut keys.encryption.passes, &self.encryption_passes());
+        keys.encryption.is_triple = true;
+        spread_three(&mut keys.decryption.passes, &self.decryption_passes());
+        keys.decryption.is_triple = true;
         keys
     }
 }

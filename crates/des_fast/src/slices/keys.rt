@@ -83,7 +83,7 @@ fn bit_slice<S: Slice>(words: &[u64; 2], position: usize) -> S
 
 // Makes the slices of C (half 0) or D (half 1) from two words, after those of the half before. The
 // loop goes by rows of seven, as the table does: the compiler writes out so short a loop, sees that
-// all is written, and drops most of the zeros of `unwritten`.
+// all is written over, and drops most of the zeros.
 #[inline(always)]
 fn spread_half<S: Slice>(halves: &mut KeyHalves<S>, words: &[u64; 2], half: usize)
     requires one_of_two { half < 2 }
@@ -114,7 +114,7 @@ fn spread_halves<S: Slice>(halves: &mut KeyHalves<S>, words: &[u64; 2])
 impl<S: Slice> PassSlices<S> {
     /// Zeros, for the caller to write over.
     #[inline(always)]
-    pub(crate) fn unwritten() -> PassSlices<S> {
+    pub(crate) fn zeros() -> PassSlices<S> {
         PassSlices {
             halves: [S::same(false); 112],
             deciphers: false,

@@ -6,7 +6,7 @@ ghost use Rattle.des.specs.Bits.{bits_of_bytes};
 ghost use Rattle.des_fast.specs.Slices.{bit_at_place, bit_of_block};
 
 use super::Slice;
-use super::rows::{block_of, word_of};
+use super::rows::{little_endian_block, little_endian_word};
 use std::simd::prelude::*;
 
 // Positions of the bytes of two vectors of 16 bytes, those of the second counted on from 16: by turns a
@@ -129,14 +129,17 @@ impl Slice for u64x2 {
 
     #[inline(always)]
     fn row_of(blocks: &[[u8; 8]], n: usize) -> Self {
-        Self::from_array([word_of(&blocks[2 * n]), word_of(&blocks[2 * n + 1])])
+        Self::from_array([
+            little_endian_word(&blocks[2 * n]),
+            little_endian_word(&blocks[2 * n + 1]),
+        ])
     }
 
     #[inline(always)]
     fn write_row(&self, blocks: &mut [[u8; 8]], n: usize) {
         let [a, b] = self.to_array();
-        blocks[2 * n] = block_of(a);
-        blocks[2 * n + 1] = block_of(b);
+        blocks[2 * n] = little_endian_block(a);
+        blocks[2 * n + 1] = little_endian_block(b);
     }
 
     ghost placed = { λ b slice. refl };
@@ -227,20 +230,20 @@ impl Slice for u64x4 {
     #[inline(always)]
     fn row_of(blocks: &[[u8; 8]], n: usize) -> Self {
         Self::from_array([
-            word_of(&blocks[4 * n]),
-            word_of(&blocks[4 * n + 1]),
-            word_of(&blocks[4 * n + 2]),
-            word_of(&blocks[4 * n + 3]),
+            little_endian_word(&blocks[4 * n]),
+            little_endian_word(&blocks[4 * n + 1]),
+            little_endian_word(&blocks[4 * n + 2]),
+            little_endian_word(&blocks[4 * n + 3]),
         ])
     }
 
     #[inline(always)]
     fn write_row(&self, blocks: &mut [[u8; 8]], n: usize) {
         let [a, b, c, d] = self.to_array();
-        blocks[4 * n] = block_of(a);
-        blocks[4 * n + 1] = block_of(b);
-        blocks[4 * n + 2] = block_of(c);
-        blocks[4 * n + 3] = block_of(d);
+        blocks[4 * n] = little_endian_block(a);
+        blocks[4 * n + 1] = little_endian_block(b);
+        blocks[4 * n + 2] = little_endian_block(c);
+        blocks[4 * n + 3] = little_endian_block(d);
     }
 
     ghost placed = { λ b slice. refl };

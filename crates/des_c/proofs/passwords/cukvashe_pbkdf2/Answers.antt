@@ -1,6 +1,6 @@
 use Rattle.std.proofs.Common.{rules, ◌≡◌, length, ap, ◌∙◌, Option}
 use Rattle.des_passwords.specs.declared.derivation.Derivation.{Derivation}
-use Rattle.des_c.specs.Passwords.{derive_status, with_pbkdf2}
+use Rattle.des_context.specs.Passwords.{derive_status, with_pbkdf2}
 use Rattle.des_c.proofs.passwords.cukvashe_pbkdf2.Goals as goal
 
 pub returns-clause-status : goal.returns-clause-status

@@ -35,7 +35,7 @@ use denote.Triple.Spec.{Meets, triple_of}
 use denote.Triple.Table.{entered}
 use denote.Triple.Walked.{says, needs, Stays, stay_dropped, walk_of, ends_at, walked, Goes-dropped, Goes-spent_slice, walk_Meets}
 use Rattle.std.proofs.slice.Relends.{length-first_chunks}
-use Rattle.des_context.proofs.LentBlocks.{ys, blocks_lent, lends_blocks}
+use Rattle.des_context.proofs.LentBlocks.{ys, lent, blocks_lent, lends_blocks}
 use Rattle.des_context.specs.contracts.blocks.blocks_mut as lends
 use Rattle.des_context.specs.contracts.blocks.blocks_mut.Key.{name as #blocks_mut}
 use Rattle.des_context.proofs.blocks.blocks_mut.Statement as stated
@@ -57,14 +57,11 @@ module _ {M : Type 1} {𝓤 : Ura M} (𝓛 : Logic 𝓤) (at_mem : Memory → SP
 
   -- the slice is lent for κ, lies at the offset o of the block b, is named γ and holds xs, which are m blocks
   module _ (κ : Lft) (q : Share) (b o : ℕ) (γ : GName) (xs : List ℕ) (m : ℕ) where
-    abbrev bytes : MutBor (List ℕ)
-    bytes = record { ref_ptr = (b, o); ghost_name = γ; now = xs }
-
     abbrev words : List Val × (List Val × Unit {0})
-    words = (mut_slice_vals bytes, (vint w64 m ∷ [], tt))
+    words = (mut_slice_vals (lent (b, o) γ xs), (vint w64 m ∷ [], tt))
 
     abbrev bound : (walk_of 𝓛 lends.ended stayed clauses).Ghost
-    bound = (((κ, tt), (q, tt), tt, (bytes, (m, tt)), words), tt)
+    bound = (((κ, tt), (q, tt), tt, (lent (b, o) γ xs, (m, tt)), words), tt)
 
     abbrev Post : Val → SProp 𝓤
     Post = (walk_of 𝓛 lends.ended stayed clauses).post bound
@@ -73,18 +70,15 @@ module _ {M : Type 1} {𝓤 : Ura M} (𝓛 : Logic 𝓤) (at_mem : Memory → SP
     parts = MutSlice (named 0) κ (Array u8 8) ∷ MutSlice (named 0) κ u8 ∷ []
 
     -- the blocks and the empty slice under their ghost names, and the pair of n blocks and it
-    abbrev one : GName × GName → MutBor (List (List ℕ))
-    one δ = record { ref_ptr = (b, o); ghost_name = δ.0; now = ys xs m }
-
-    abbrev two : GName × GName → MutBor (List ℕ)
-    two δ = record { ref_ptr = (b, o); ghost_name = δ.1; now = [] }
+    abbrev pair : GName × GName → MutBor (List (List ℕ)) × MutBor (List ℕ)
+    pair δ = (lent (b, o) δ.0 (ys xs m), lent (b, o) δ.1 [])
 
     abbrev v : ℕ → Val
     v n = vstruct (vcons (slice_val (b, o) n) (vcons (slice_val (b, o) 0) vnil))
 
     module _ (C : Calls 𝓤 H) (Λ : Loops 𝓤 H) where
       walk : Room u8 (length xs) → m < 2 ^ 64 → m * 8 ≡ length xs
-          → ent 𝓤 (on_entry 𝓛 lends.signature (κ, tt) (q, tt) (bytes, (m, tt)) words)
+          → ent 𝓤 (on_entry 𝓛 lends.signature (κ, tt) (q, tt) (lent (b, o) γ xs, (m, tt)) words)
           (WpFn 𝓤 H C Λ code.function (slice_val (b, o) (length xs) ∷ vint w64 m ∷ []) Post)
       unfolding both_by
       walk room fits exact =
@@ -94,7 +88,7 @@ module _ {M : Type 1} {𝓤 : Ura M} (𝓛 : Logic 𝓤) (at_mem : Memory → SP
           let roomy : Room (Array u8 8) (length (ys xs m)) = subst (Room (Array u8 8)) (sym many) (fits, small) in
           let none : Room u8 0 = (zero, omega arith) in
           qed 𝓛 ((‵ (flft κ q) ⊛ ‵ ftrue)
-          ∷ ‵ (owns (MutSlice (named 0) κ u8 ∷ usize ∷ []) (bytes, (m, tt)) words) ∷ []) ∵
+          ∷ ‵ (owns (MutSlice (named 0) κ u8 ∷ usize ∷ []) (lent (b, o) γ xs, (m, tt)) words) ∷ []) ∵
           enter ! C Λ code.function (slice_val (b, o) (length xs) ∷ vint w64 m ∷ []) _ $
           alloc_all ! (λ l.
           pass_all ! refl ((tt, (tt, (record { fits = room.0 }, tt))), ((tt, record { fits = fits }), tt)) $
@@ -114,14 +108,14 @@ module _ {M : Type 1} {𝓤 : Ura M} (𝓛 : Logic 𝓤) (at_mem : Memory → SP
           (tt, ((tt, (record { fits = fits }, tt)), ((tt, (record { fits = zero }, tt)), tt))) $
           split ! $ move ! (2 ∷ []) $ fsplit ! $ move ! (0 ∷ 2 ∷ []) $
           use2 𝓛 (later (some (blocks_lent 𝓛 (named 0) κ q b o γ xs m)))
-          (lends_blocks 𝓛 (named 0) κ q b o γ xs m exact roomy none (mut_slice_vals bytes)) $ await ! tt $ pick ! (λ δ.
+          (lends_blocks 𝓛 (named 0) κ q b o γ xs m exact roomy none (mut_slice_vals (lent (b, o) γ xs))) $ await ! tt $ pick ! (λ δ.
           split3 ! $ nothing ! $ move ! (2 ∷ 0 ∷ []) $ fjoin ! $ move ! (1 ∷ 0 ∷ []) $ fjoin ! $
           feq_i ! (List Val) (v m ∷ []) (v (length (ys xs m)) ∷ []) (λ k. v (sym many k) ∷ []) $ fjoin ! $
-          fpack ! (Valss parts) (laid_within (shape (tuple_type parts)) (one δ, (two δ, tt)) (v m ∷ []))
+          fpack ! (Valss parts) (laid_within (shape (tuple_type parts)) ((pair δ).0, ((pair δ).1, tt)) (v m ∷ []))
           (slice_val (b, o) (length (ys xs m)) ∷ [], (slice_val (b, o) 0 ∷ [], tt)) $
           move ! (1 ∷ []) $ split ! $ move ! (2 ∷ 0 ∷ 1 ∷ []) $
           returns ! (look_at ! 0 refl) $ free_all ! refl $ keep ! (0 ∷ 1 ∷ 2 ∷ 4 ∷ []) $
-          suffices ! _ (ends_at 𝓛 lends.ended stayed clauses bound (v m) (one δ, two δ) (tt, (tt, tt)) (tt, (tt, tt))) $
+          suffices ! _ (ends_at 𝓛 lends.ended stayed clauses bound (v m) (pair δ) (tt, (tt, tt)) (tt, (tt, tt))) $
           nothing ! $ nothing ! $ fjoin ! $ nothing ! $ fjoin ! $ join ! $ move ! (1 ∷ 3 ∷ []) $ join ! $ join ! $
           frame ! $ says ! (refl, refl) $ done !))
 

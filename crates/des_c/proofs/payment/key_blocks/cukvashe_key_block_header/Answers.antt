@@ -4,13 +4,20 @@ use Rattle.des_c.proofs.payment.key_blocks.cukvashe_key_block_header.Goals as go
 pub returns-in-Ok-clause-found : goal.returns-in-Ok-clause-found
 returns-in-Ok-clause-found c = λ done.
     let found = c.in-Ok.ensures.found in (
-      c.in-Ok.read,
-      (found.0, (found.1.0, (found.1.1.0, (found.1.1.1.0, found.1.1.1.1, c.text_of.ensures)))),
+      record {
+        header = c.in-Ok.read;
+        blocks = found.0;
+        front = found.1.0;
+        rest = found.1.1.0;
+        parts = found.1.1.1.0;
+        is_rest = found.1.1.1.1;
+      },
+      c.text_of.ensures,
     )
 
 pub returns-in-Err-clause-only : goal.returns-in-Err-clause-only
-returns-in-Err-clause-only c = λ of blocks front rest parts sealed.
-    absurd (c.in-Err.ensures.only of blocks front rest parts sealed)
+returns-in-Err-clause-only c = λ layout.
+    absurd (c.in-Err.ensures.only layout.header layout.blocks layout.front layout.rest layout.parts layout.is_rest)
 
 pub returns-in-Err-clause-fault : goal.returns-in-Err-clause-fault
 returns-in-Err-clause-fault c = λ failed.

@@ -9,13 +9,14 @@ put_key-requires c =
     let holds = c.in-Ok.ensures.opened in (key-data-lengths c.in-Ok.bytes holds.1.0 holds.1.1.is_clear).most
 
 pub returns-in-Ok-clause-opened : goal.returns-in-Ok-clause-opened
-returns-in-Ok-clause-opened c = λ done. (
-  c.in-Ok.found,
-  (
-    c.in-Ok.bytes,
-    (c.in-Ok.ensures.opened, c.text_of.ensures, c.put_key.ensures.key, c.put_key.ensures.length),
-  ),
-)
+returns-in-Ok-clause-opened c = λ done. record {
+  header = c.in-Ok.found;
+  bytes = c.in-Ok.bytes;
+  holds = c.in-Ok.ensures.opened;
+  is_text = c.text_of.ensures;
+  is_key = c.put_key.ensures.key;
+  is_size = c.put_key.ensures.length;
+}
 
 pub returns-in-Ok-clause-only : goal.returns-in-Ok-clause-only
 returns-in-Ok-clause-only c = λ of bytes holds.

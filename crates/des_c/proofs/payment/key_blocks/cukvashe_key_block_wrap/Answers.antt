@@ -1,16 +1,13 @@
-use Rattle.std.proofs.Common.{rules, ◌≡◌, ℕ, ◌-◌, ◌≤◌, List, length, map, take, sym, ap, ◌∙◌, arith}
+use Rattle.std.proofs.Common.{rules, ◌≡◌, ℕ, ◌-◌, ◌≤◌, List, length, take, sym, ap, ◌∙◌, arith}
 use Rattle.std.proofs.lemmas.List.{length-take, length-map}
 use Rattle.des_payment.specs.KeyBlocks.{wrap_fault}
 use Rattle.des_payment.specs.declared.key_block_header.Version.{Version}
 use Rattle.des_payment.specs.declared.optional_blocks.OptionalBlock.{OptionalBlock}
 use Rattle.des_c.specs.KeyBlockStatuses.{status_of}
-use Rattle.des_c.specs.KeyBlockTexts.{text_fault, version_of}
+use Rattle.des_c.specs.KeyBlockTexts.{shown, text_fault, version_of}
 use Rattle.des_c.specs.Statuses.{status_after}
 use Rattle.des_context.specs.declared.status.TheConstants.{ERR_OPTIONAL_BLOCK}
 use Rattle.des_c.proofs.payment.key_blocks.cukvashe_key_block_wrap.Goals as goal
-
-abbrev shown : OptionalBlock → List ℕ × List ℕ
-shown block = (block.name, block.content.now)
 
 -- ---- where the header has a fault
 
@@ -49,7 +46,7 @@ returns-clause-header c = λ some. absurd (some (sym c.in-Ok.ensures.fault))
 pub returns-clause-status : goal.returns-clause-status
 returns-clause-status c = λ none readable.
     let pairs : List (List ℕ × List ℕ) =
-    map shown (take c.in-Ok-read_optional_blocks.count c.read_optional_blocks.new.blocks) in
+    shown (take c.in-Ok-read_optional_blocks.count c.read_optional_blocks.new.blocks) in
     let status : c.write_wrapped.result ≡ status_after status_of (wrap_fault c.args.protection.now
     (version_of c.args.header.now) pairs c.args.key.now c.args.padding.now (length c.args.block.now - 1)) =
     c.write_wrapped.ensures.status
@@ -65,46 +62,37 @@ pub returns-clause-unread : goal.returns-clause-unread
 returns-clause-unread c = λ none unreadable.
     let read : List OptionalBlock =
     take c.in-Ok-read_optional_blocks.count c.read_optional_blocks.new.blocks in
-    let few : length (map shown read) ≤ 99 =
+    let few : length (shown read) ≤ 99 =
     omega (
       arith,
-      length-map read shown,
+      length-map {B = List ℕ × List ℕ} read (λ block. (block.name, block.content.now)),
       length-take c.in-Ok-read_optional_blocks.count c.read_optional_blocks.new.blocks,
       c.in-Ok-read_optional_blocks.ensures.few,
     ) in
-    absurd (unreadable (map shown read, (few, c.in-Ok-read_optional_blocks.ensures.read)))
+    absurd (unreadable (shown read, (few, c.in-Ok-read_optional_blocks.ensures.read)))
 
 pub returns-clause-wrapped : goal.returns-clause-wrapped
-returns-clause-wrapped c = λ done. (
-  c.in-Ok.header,
-  (
-    map shown (take c.in-Ok-read_optional_blocks.count c.read_optional_blocks.new.blocks),
-    (
-      c.in-Ok.ensures.header,
-      c.in-Ok-read_optional_blocks.ensures.read,
-      c.write_wrapped.ensures.wrapped (search (rules, done)),
-    ),
-  ),
-)
+returns-clause-wrapped c = λ done. record {
+  header = c.in-Ok.header;
+  blocks = shown (take c.in-Ok-read_optional_blocks.count c.read_optional_blocks.new.blocks);
+  is_text = c.in-Ok.ensures.header;
+  are_optional = c.in-Ok-read_optional_blocks.ensures.read;
+  is_block = c.write_wrapped.ensures.wrapped (search (rules, done));
+}
 
 pub returns-clause-text : goal.returns-clause-text
 returns-clause-text c = λ done.
-    let written = c.write_wrapped.ensures.text (search (rules, done)) in (
-      c.in-Ok.header,
-      (
-        map shown (take c.in-Ok-read_optional_blocks.count c.read_optional_blocks.new.blocks),
-        (
-          written.0,
-          (
-            c.in-Ok.ensures.header,
-            c.in-Ok-read_optional_blocks.ensures.read,
-            c.write_wrapped.ensures.size (search (rules, done)),
-            written.1.0,
-            written.1.1,
-          ),
-        ),
-      ),
-    )
+    let written = c.write_wrapped.ensures.text (search (rules, done)) in
+    record {
+      header = c.in-Ok.header;
+      blocks = shown (take c.in-Ok-read_optional_blocks.count c.read_optional_blocks.new.blocks);
+      sealed = written.0;
+      is_text = c.in-Ok.ensures.header;
+      are_optional = c.in-Ok-read_optional_blocks.ensures.read;
+      is_size = c.write_wrapped.ensures.size (search (rules, done));
+      is_block = written.1.0;
+      is_sealed = written.1.1;
+    }
 
 pub returns-clause-kept : goal.returns-clause-kept
 returns-clause-kept c = λ failed. c.write_wrapped.ensures.kept (search (rules, failed))

@@ -1,4 +1,4 @@
-use Rattle.std.proofs.Common.{rules, ◌≡◌, ℕ, ◌-◌, ◌≤◌, Option, Some, None, List, ◌++◌, length, map, take, drop, refl, sym, ap, ◌∙◌, subst, arith, take-append-drop}
+use Rattle.std.proofs.Common.{rules, ◌≡◌, ℕ, ◌-◌, ◌≤◌, Option, Some, None, List, ◌++◌, length, take, drop, refl, sym, ap, ◌∙◌, subst, arith, take-append-drop}
 use Rattle.std.proofs.lemmas.List.{length-take, get_or-set_same}
 use Rattle.des_payment.specs.KeyBlocks.{IsKeyBlock, wrap_fault}
 use Rattle.des_payment.specs.OptionalBlocks.{filled}
@@ -6,6 +6,7 @@ use Rattle.des_payment.specs.declared.key_block_error.KeyBlockError.{KeyBlockErr
 use Rattle.des_payment.specs.declared.key_block_header.Header.{Header}
 use Rattle.des_payment.proofs.BlockParts.{least}
 use Rattle.des_c.specs.KeyBlockStatuses.{status_of}
+use Rattle.des_c.specs.KeyBlockTexts.{shown}
 use Rattle.des_c.specs.Statuses.{status_after}
 use Rattle.des_c.proofs.EndedTexts.{size-within, take-ended, drop-ended}
 use Rattle.des_c.proofs.payment.key_blocks.write_wrapped.Goals as goal
@@ -27,7 +28,7 @@ told fault n m made same is = ap (status_after status_of) (is ∙ ap fault same)
 
 pub bounds-block-size : goal.bounds-block-size
 bounds-block-size c =
-    let pairs : List (List ℕ × List ℕ) = map (λ block. (block.name, block.content.now)) c.args.optional.now in
+    let pairs : List (List ℕ × List ℕ) = shown c.args.optional.now in
     let size : ℕ = c.in-Ok.size in
     size-within c.args.block.now c.wrap.new.text c.saturating_sub-room.result size c.in-Ok.ensures.within
     c.wrap.auto.text c.saturating_sub-room.ensures
@@ -36,13 +37,13 @@ bounds-block-size c =
 
 pub returns-in-Ok-clause-status : goal.returns-in-Ok-clause-status
 returns-in-Ok-clause-status c =
-    let pairs : List (List ℕ × List ℕ) = map (λ block. (block.name, block.content.now)) c.args.optional.now in
+    let pairs : List (List ℕ × List ℕ) = shown c.args.optional.now in
     told (wrap_fault c.args.protection.now c.args.header.now.version pairs c.args.key.now c.args.padding.now) _ _ None
     (room-length c.args.block.now c.saturating_sub-room.result c.saturating_sub-room.ensures) c.in-Ok.ensures.fault
 
 pub returns-in-Ok-clause-wrapped : goal.returns-in-Ok-clause-wrapped
 returns-in-Ok-clause-wrapped c = λ done.
-    let pairs : List (List ℕ × List ℕ) = map (λ block. (block.name, block.content.now)) c.args.optional.now in
+    let pairs : List (List ℕ × List ℕ) = shown c.args.optional.now in
     subst
     (λ (text : List ℕ).
     IsKeyBlock c.args.protection.now c.args.header.now (filled pairs) c.args.key.now c.args.padding.now text)
@@ -73,7 +74,7 @@ returns-in-Ok-clause-rest c = λ done.
 
 pub returns-in-Err-clause-status : goal.returns-in-Err-clause-status
 returns-in-Err-clause-status c =
-    let pairs : List (List ℕ × List ℕ) = map (λ block. (block.name, block.content.now)) c.args.optional.now in
+    let pairs : List (List ℕ × List ℕ) = shown c.args.optional.now in
     let status : c.status_of.result ≡ status_after status_of (wrap_fault c.args.protection.now
     c.args.header.now.version pairs c.args.key.now c.args.padding.now (length c.args.block.now - 1)) =
     c.status_of.ensures.status

@@ -1,10 +1,10 @@
 use Rattle.std.proofs.Common.{sym, subst, arith}
 use Rattle.des_fast.specs.SpreadKeys.{AreSlicesFor}
-use Rattle.des_fast.proofs.SliceSizes.{pass_slices-le}
+use Rattle.des_fast.proofs.SliceSizes.{lane_keys-le, pass_slices-le}
 use Rattle.des_fast.proofs.many.spread.SpreadKeys.decrypt_cbc.Goals as goal
 
-pub used-requires : goal.used-requires
-used-requires g c = omega (arith, pass_slices-le _ _ g.met.S.Slice.small_gaps g.met.S.Slice.few_bytes)
+pub passes-requires : goal.passes-requires
+passes-requires g c = omega (arith, lane_keys-le _ _ g.met.S.Slice.small_gaps g.met.S.Slice.few_bytes)
 
 pub unchain-requires : goal.unchain-requires
 unchain-requires g c = omega (arith, pass_slices-le _ _ g.met.S.Slice.small_gaps g.met.S.Slice.few_bytes)
@@ -12,4 +12,4 @@ unchain-requires g c = omega (arith, pass_slices-le _ _ g.met.S.Slice.small_gaps
 pub returns-clause-unchained : goal.returns-clause-unchained
 returns-clause-unchained g c encrypted decrypted are =
     c.unchain.ensures.unchained decrypted
-    (subst (λ passes. AreSlicesFor g.S.Slice.BATCH g.S.Slice.bit passes decrypted) (sym c.used.ensures) are.decryption)
+    (subst (λ passes. AreSlicesFor g.S.Slice.BATCH g.S.Slice.bit passes decrypted) (sym c.passes.ensures) are.decryption)

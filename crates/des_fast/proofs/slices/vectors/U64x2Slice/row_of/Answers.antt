@@ -8,8 +8,8 @@ use Rattle.des_fast.proofs.slices.vectors.U64x2Slice.row_of.Goals as goal
 pub returns : goal.returns
 returns c k within at =
     let blocks : List (List ℕ) = c.args.blocks.now in
-    sym (bits_of_lane-bytes (c.word_of.result ∷ c.word_of-2.result ∷ []) (k % 2))
-    ∙ ap bits_of_bytes (each_of_two (HasBlock blocks 2 c.args.n) c.word_of.result c.word_of-2.result
-    (c.word_of.ensures ∙ ap (λ (k : ℕ). get_or blocks k []) (omega arith))
-    (c.word_of-2.ensures ∙ ap (λ (k : ℕ). get_or blocks k []) (omega arith))
+    sym (bits_of_lane-bytes (c.little_endian_word.result ∷ c.little_endian_word-2.result ∷ []) (k % 2))
+    ∙ ap bits_of_bytes (each_of_two (HasBlock blocks 2 c.args.n) c.little_endian_word.result c.little_endian_word-2.result
+    (c.little_endian_word.ensures ∙ ap (λ (k : ℕ). get_or blocks k []) (omega arith))
+    (c.little_endian_word-2.ensures ∙ ap (λ (k : ℕ). get_or blocks k []) (omega arith))
     (k % 2) (omega arith) ∙ ap (λ (i : ℕ). get_or blocks i []) (omega arith))

@@ -1,8 +1,0 @@
-use Rattle.std.proofs.Common.{rules, ◌≡◌}
-use Rattle.des_context.specs.declared.status.TheConstants.{OK}
-use Rattle.des_c.proofs.ciphers.records.cukvashe_narrow_des_encrypt_cbc_records.Goals as goal
-
-pub returns-clause-chained : goal.returns-clause-chained
-returns-clause-chained c = λ done.
-    let same : c.encrypt_cbc_records.result ≡ OK = search (rules, done) in
-    c.encrypt_cbc_records.ensures.chained same

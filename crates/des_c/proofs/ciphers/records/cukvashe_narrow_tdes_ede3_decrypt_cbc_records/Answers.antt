@@ -1,8 +1,0 @@
-use Rattle.std.proofs.Common.{rules, ◌≡◌}
-use Rattle.des_context.specs.declared.status.TheConstants.{OK}
-use Rattle.des_c.proofs.ciphers.records.cukvashe_narrow_tdes_ede3_decrypt_cbc_records.Goals as goal
-
-pub returns-clause-chained : goal.returns-clause-chained
-returns-clause-chained c = λ done.
-    let same : c.decrypt_cbc_records.result ≡ OK = search (rules, done) in
-    c.decrypt_cbc_records.ensures.chained same

@@ -1,0 +1,65 @@
+//! The exports that make a context, and those that encrypt by CBC, block after block at any width.
+
+ghost use Rattle.std.specs.Prelude.{◌≡◌, ◌≢◌, ◌↔◌, ◌+◌, ◌*◌, ℕ, List, length, IsTrue};
+ghost use Rattle.des.specs.Cbc.{Chains, next_vector};
+ghost use Rattle.des_context.specs.Bytes.{AreWhole, FitInto, blocks_of};
+ghost use Rattle.des_context.specs.Contexts.{HasAForm, IsContextOf, IsQuiet};
+ghost use Rattle.des_context.specs.Forms.{relation_of};
+
+use des_context::status::{ERR_BLOCKS, ERR_KEY_LENGTH, OK};
+use des_context::{calls, contexts};
+
+/// Makes a context of 17, 33 or 49 words from a key of one, two or three parts of 8 bytes, a quiet
+/// one, whose calls read no table, or a quick one. The status of a key of another length is
+/// `ERR_KEY_LENGTH`; the context then stays as it was.
+#[unsafe(no_mangle)]
+pub extern "C" fn cukvashe_internal_init(context: &mut [u64], key: &[u8], quiet: bool) -> i32
+    requires { HasAForm context.old }
+    ensures accepted { (result ≡ OK) ↔ (2 * length key.now + 1 ≡ length context.old) }
+    ensures refused { (result ≡ ERR_KEY_LENGTH) ↔ (2 * length key.now + 1 ≢ length context.old) }
+    ensures made { result ≡ OK → IsContextOf context.new key.now }
+    ensures quiet { result ≡ OK → IsQuiet context.new ↔ IsTrue quiet }
+    ensures kept { result ≢ OK → context.new ≡ context.old }
+{
+    contexts::init(context, key, quiet)
+}
+
+/// Encrypts bytes in place by CBC from the vector, which becomes the last ciphertext block. The
+/// status is `ERR_BLOCKS` where the bytes are not whole blocks; they and the vector then stay.
+#[unsafe(no_mangle)]
+pub extern "C" fn cukvashe_internal_encrypt_cbc(
+    context: &[u64],
+    iv: &mut [u8; 8],
+    bytes: &mut [u8],
+) -> i32
+    requires { (key : List ℕ) × IsContextOf context.now key }
+    ensures accepted { (result ≡ OK) ↔ AreWhole bytes.old }
+    ensures refused { (result ≡ ERR_BLOCKS) ↔ ¬ (AreWhole bytes.old) }
+    ensures chained { result ≡ OK → (key : List ℕ) → IsContextOf context.now key
+        → Chains (relation_of key) iv.old (blocks_of bytes.old) (blocks_of bytes.new) }
+    ensures goes_on { result ≡ OK → iv.new ≡ next_vector iv.old (blocks_of bytes.new) }
+    ensures kept { result ≢ OK → (bytes.new ≡ bytes.old) × (iv.new ≡ iv.old) }
+{
+    calls::encrypt_cbc(context, iv, bytes)
+}
+
+/// Writes the bytes of `input`, encrypted as by `cukvashe_internal_encrypt_cbc`, to `output`. The
+/// status is `ERR_BLOCKS` where they are not whole blocks or the two differ in length; `output` and
+/// the vector then stay.
+#[unsafe(no_mangle)]
+pub extern "C" fn cukvashe_internal_encrypt_cbc_to(
+    context: &[u64],
+    iv: &mut [u8; 8],
+    input: &[u8],
+    output: &mut [u8],
+) -> i32
+    requires { (key : List ℕ) × IsContextOf context.now key }
+    ensures accepted { (result ≡ OK) ↔ FitInto output.old input.now }
+    ensures refused { (result ≡ ERR_BLOCKS) ↔ ¬ (FitInto output.old input.now) }
+    ensures chained { result ≡ OK → (key : List ℕ) → IsContextOf context.now key
+        → Chains (relation_of key) iv.old (blocks_of input.now) (blocks_of output.new) }
+    ensures goes_on { result ≡ OK → iv.new ≡ next_vector iv.old (blocks_of output.new) }
+    ensures kept { result ≢ OK → (output.new ≡ output.old) × (iv.new ≡ iv.old) }
+{
+    calls::encrypt_cbc_to(context, iv, input, output)
+}

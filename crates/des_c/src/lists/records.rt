@@ -1,0 +1,56 @@
+//! The exports of records that CBC chains, each from a vector of its own.
+
+ghost use Rattle.std.specs.Prelude.{◌≡◌, ◌≢◌, ◌↔◌, ℕ, List, length};
+ghost use Rattle.des_fast.specs.Records.{GoOn};
+ghost use Rattle.des_context.specs.Forms.{relation_of};
+ghost use Rattle.des_context.specs.Contexts.{IsContextOf};
+ghost use Rattle.des_context.specs.Records.{AreSizesOf, ChainsEach};
+
+use super::Width;
+use des_context::records::{decrypt_cbc_records, encrypt_cbc_records};
+use des_context::status::{ERR_COUNTS, OK};
+
+/// Encrypts records in place by CBC: `sizes[k]` blocks are record k, one record after another, and
+/// `vectors[k]`, from which it is chained, becomes its last ciphertext block. The status is
+/// `ERR_COUNTS` where the numbers of vectors and sizes differ, or the sizes do not add up to the
+/// number of blocks; vectors and blocks then stay.
+#[unsafe(no_mangle)]
+pub extern "C" fn cukvashe_internal_encrypt_cbc_records(
+    context: &[u64],
+    vectors: &mut [[u8; 8]],
+    sizes: &[usize],
+    blocks: &mut [[u8; 8]],
+) -> i32
+    requires { (key : List ℕ) × IsContextOf context.now key }
+    ensures accepted { (result ≡ OK) ↔ AreSizesOf sizes.now vectors.old blocks.old }
+    ensures refused { (result ≡ ERR_COUNTS) ↔ ¬ (AreSizesOf sizes.now vectors.old blocks.old) }
+    ensures chained { result ≡ OK → (key : List ℕ) → IsContextOf context.now key
+        → ChainsEach (relation_of key) sizes.now vectors.old blocks.old blocks.new }
+    ensures goes_on { result ≡ OK → GoOn sizes.now vectors.old blocks.new vectors.new }
+    ensures count { (length vectors.new ≡ length vectors.old)
+        × (length blocks.new ≡ length blocks.old) }
+    ensures kept { result ≢ OK → (vectors.new ≡ vectors.old) × (blocks.new ≡ blocks.old) }
+{
+    encrypt_cbc_records::<Width>(context, vectors, sizes, blocks)
+}
+
+/// Decrypts records in place that CBC chained. The status is as of encryption.
+#[unsafe(no_mangle)]
+pub extern "C" fn cukvashe_internal_decrypt_cbc_records(
+    context: &[u64],
+    vectors: &mut [[u8; 8]],
+    sizes: &[usize],
+    blocks: &mut [[u8; 8]],
+) -> i32
+    requires { (key : List ℕ) × IsContextOf context.now key }
+    ensures accepted { (result ≡ OK) ↔ AreSizesOf sizes.now vectors.old blocks.old }
+    ensures refused { (result ≡ ERR_COUNTS) ↔ ¬ (AreSizesOf sizes.now vectors.old blocks.old) }
+    ensures chained { result ≡ OK → (key : List ℕ) → IsContextOf context.now key
+        → ChainsEach (relation_of key) sizes.now vectors.old blocks.new blocks.old }
+    ensures goes_on { result ≡ OK → GoOn sizes.now vectors.old blocks.old vectors.new }
+    ensures count { (length vectors.new ≡ length vectors.old)
+        × (length blocks.new ≡ length blocks.old) }
+    ensures kept { result ≢ OK → (vectors.new ≡ vectors.old) × (blocks.new ≡ blocks.old) }
+{
+    decrypt_cbc_records::<Width>(context, vectors, sizes, blocks)
+}

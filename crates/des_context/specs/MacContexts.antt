@@ -1,0 +1,40 @@
+-- What the words of a MAC and its message stand for.
+use Rattle.std.specs.Prelude.{◌≡◌, ◌≢◌, ℕ, ◌*◌, ◌/◌, nat_eq, List, length, take, drop, if◌then◌else◌}
+use Rattle.des_mac.specs.IsProgress.{IsProgressOf}
+use Rattle.des_context.specs.declared.macs.Message.{Message}
+use Rattle.des_context.specs.Contexts.{HasAForm, IsContextOf}
+use Rattle.des_context.specs.Forms.{encryption_of}
+use Rattle.des_context.specs.MacAlgorithms.{IsAlgorithm}
+
+-- the words of the chain, and its key: those of the first key, where algorithm 3 has two
+abbrev pub words_of_chain : ℕ → List ℕ → List ℕ
+words_of_chain algorithm words = if nat_eq algorithm 3 then take 17 words else words
+
+abbrev pub key_of_chain : ℕ → List ℕ → List ℕ
+key_of_chain algorithm key = if nat_eq algorithm 3 then take 8 key else key
+
+-- there are as many words as of a MAC by the algorithm: of one context, or of two of DES
+abbrev pub HasMacForm : ℕ → List ℕ → Type 0
+HasMacForm algorithm words = (algorithm ≢ 3 → HasAForm words) × (algorithm ≡ 3 → length words ≡ 34)
+
+-- how many bytes a key of so many words has
+abbrev pub key_size_of : List ℕ → ℕ
+key_size_of words = length words / 16 * 8
+
+-- the words are those of the key: its context, or of algorithm 3 the contexts of two keys of DES, one after the other
+pub record AreMacWordsOf (algorithm : ℕ) (words key : List ℕ) : Type 0 where
+  pub by : IsAlgorithm algorithm
+  pub chain : IsContextOf (words_of_chain algorithm words) (key_of_chain algorithm key)
+  pub second : algorithm ≡ 3 → (length key ≡ 16) × IsContextOf (drop 17 words) (drop 8 key)
+
+-- they are those of the key, and the message is the bytes m, to be padded by the method
+pub record IsMacOf (algorithm : ℕ) (words : List ℕ) (message : Message) (padding : ℕ) (key m : List ℕ)
+    : Type 0 where
+  pub made : AreMacWordsOf algorithm words key
+  pub padded_by : message.padding ≡ padding
+  pub progress : IsProgressOf (encryption_of (key_of_chain algorithm key)) message.progress m
+
+-- they are those of some key, and the message is some bytes, to be padded by some method
+abbrev pub IsAMac : ℕ → List ℕ → Message → Type 0
+IsAMac algorithm words message =
+    (padding : ℕ) × ((key : List ℕ) × ((m : List ℕ) × IsMacOf algorithm words message padding key m))

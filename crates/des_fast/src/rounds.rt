@@ -1,0 +1,243 @@
+//! The rounds, of one block or of some side by side.
+//!
+//! A half block is kept as its expansion E in a word of groups, as in `halves`.
+
+ghost use Rattle.std.specs.Prelude.{◌≡◌, ◌<◌, ◌≤◌, ◌-◌, ℕ, [], bit_xor, min, slice_index_or};
+ghost use Rattle.des.specs.Bits.{select, xor_bits};
+ghost use Rattle.des.specs.Tables.{permutation};
+ghost use Rattle.des.specs.CipherFunction.{substitute, cipher_function};
+ghost use Rattle.des.specs.Rounds.{after_rounds};
+ghost use Rattle.des_fast.specs.Slices.{InEachBlock};
+ghost use Rattle.des_fast.specs.Groups.{IsOfGroups, IsExpansion, bits_of_groups, half_of};
+ghost use Rattle.des_fast.specs.HalfBlocks.{round_keys_of, half_blocks_of};
+ghost use Rattle.des_fast.specs.SideBySide.{AreExpansions, in_direction};
+
+use crate::halves::{HalfBlock, Halves, RoundKey};
+use crate::quiet::{boxes, fours};
+use std::simd::prelude::*;
+
+/// A word of groups of each of some blocks.
+pub trait Groups: Copy {
+    /// How many blocks there are.
+    const BLOCKS: usize;
+
+    ghost BLOCKS: { ℕ };
+
+    // The word of block b, from 0.
+    ghost word: { ℕ → Self → ℕ };
+
+    /// The same word for each block.
+    fn same(groups: u64) -> Self
+        ensures { InEachBlock BLOCKS (λ b. word b result ≡ groups) };
+
+    /// `self ^ other`.
+    fn xor(self, other: Self) -> Self
+        ensures { InEachBlock BLOCKS (λ b. word b result ≡ bit_xor (word b self) (word b other)) };
+
+    /// The substitution by S1 to S8 of the 48 bits of each block, and P after it, as the word of
+    /// groups of its expansion E (FIPS 46-3, cipher function).
+    fn substitute(self) -> Self
+        requires { InEachBlock BLOCKS (λ b. IsOfGroups (word b self)) }
+        ensures expansion { InEachBlock BLOCKS (λ b. IsExpansion (word b result)) }
+        ensures substituted { InEachBlock BLOCKS (λ b. half_of (word b result)
+            ≡ select permutation (substitute (bits_of_groups (word b self)))) };
+
+    /// The first of these words, one for each block.
+    fn of_words(words: [u64; 4]) -> Self
+        ensures { InEachBlock BLOCKS (λ b. word b result ≡ slice_index_or words b 0) };
+
+    /// The words of the blocks, and then the last of them again.
+    fn into_words(self) -> [u64; 4]
+        ensures { (b : ℕ) → b < 4 → slice_index_or result b 0 ≡ word (min b (BLOCKS - 1)) self };
+
+    // There are some blocks, and at most four.
+    ghost some_blocks: { 1 ≤ BLOCKS };
+
+    ghost at_most: { BLOCKS ≤ 4 };
+}
+
+/// One block.
+impl Groups for u64 {
+    ghost use Rattle.std.proofs.Common.{lit≤};
+
+    const BLOCKS: usize = 1;
+
+    ghost BLOCKS = { 1 };
+
+    ghost word = { λ b groups. groups };
+
+    #[inline(always)]
+    fn same(groups: u64) -> u64 {
+        groups
+    }
+
+    #[inline(always)]
+    fn xor(self, other: u64) -> u64 {
+        self ^ other
+    }
+
+    #[inline(always)]
+    fn substitute(self) -> u64 {
+        boxes::substitute(self)
+    }
+
+    #[inline(always)]
+    fn of_words(words: [u64; 4]) -> u64 {
+        words[0]
+    }
+
+    #[inline(always)]
+    fn into_words(self) -> [u64; 4] {
+        [self; 4]
+    }
+
+    ghost some_blocks = { lit≤ tt };
+
+    ghost at_most = { lit≤ tt };
+}
+
+/// Four blocks.
+impl Groups for u64x4 {
+    ghost use Rattle.std.proofs.Common.{lit≤};
+
+    const BLOCKS: usize = 4;
+
+    ghost BLOCKS = { 4 };
+
+    ghost word = { λ b groups. slice_index_or groups b 0 };
+
+    #[inline(always)]
+    fn same(groups: u64) -> u64x4 {
+        u64x4::splat(groups)
+    }
+
+    #[inline(always)]
+    fn xor(self, other: u64x4) -> u64x4 {
+        self ^ other
+    }
+
+    #[inline(always)]
+    fn substitute(self) -> u64x4 {
+        fours::substitute(self)
+    }
+
+    #[inline(always)]
+    fn of_words(words: [u64; 4]) -> u64x4 {
+        u64x4::from_array(words)
+    }
+
+    #[inline(always)]
+    fn into_words(self) -> [u64; 4] {
+        self.to_array()
+    }
+
+    ghost some_blocks = { lit≤ tt };
+
+    ghost at_most = { lit≤ tt };
+}
+
+// The half block that a round makes: the left half, xor f of the right half and the round key (FIPS
+// 46-3, enciphering).
+#[inline(always)]
+fn next<G: Groups>(left: G, right: G, round_key: RoundKey) -> G
+    requires left { AreExpansions G.BLOCKS G.word left }
+    requires right { AreExpansions G.BLOCKS G.word right }
+    ensures expansions { AreExpansions G.BLOCKS G.word result }
+    ensures halves { InEachBlock G.BLOCKS (λ b. half_of (G.word b result)
+        ≡ xor_bits (half_of (G.word b left))
+        (cipher_function (half_of (G.word b right)) (bits_of_groups round_key.groups))) }
+{
+    left.xor(right.xor(G::same(round_key.groups)).substitute())
+}
+
+// The round key of a round, from 0, in the order of enciphering or of deciphering.
+#[inline(always)]
+fn round_key_of(round_keys: &[RoundKey; 16], deciphers: bool, round: usize) -> RoundKey
+    requires { round < 16 }
+    ensures { bits_of_groups result.groups
+        ≡ slice_index_or (in_direction deciphers (round_keys_of round_keys.now)) round [] }
+{
+    if deciphers {
+        round_keys[15 - round]
+    } else {
+        round_keys[round]
+    }
+}
+
+// Sixteen rounds in one direction. It is inlined where the direction is known, so that no round asks
+// for it.
+#[inline(always)]
+fn rounds<G: Groups>(left: G, right: G, round_keys: &[RoundKey; 16], deciphers: bool) -> (G, G)
+    requires left { AreExpansions G.BLOCKS G.word left }
+    requires right { AreExpansions G.BLOCKS G.word right }
+    ensures left { AreExpansions G.BLOCKS G.word result.0 }
+    ensures right { AreExpansions G.BLOCKS G.word result.1 }
+    ensures halves { InEachBlock G.BLOCKS (λ b.
+        (half_of (G.word b result.0), half_of (G.word b result.1))
+        ≡ after_rounds (in_direction deciphers (round_keys_of round_keys.now))
+        (half_of (G.word b left)) (half_of (G.word b right))) }
+{
+    let mut next_left = left;
+    let mut next_right = right;
+    for i in 0..8usize {
+        next_left = next(
+            next_left,
+            next_right,
+            round_key_of(round_keys, deciphers, 2 * i),
+        );
+        next_right = next(
+            next_right,
+            next_left,
+            round_key_of(round_keys, deciphers, 2 * i + 1),
+        );
+    }
+    (next_left, next_right)
+}
+
+/// The halves after sixteen rounds, with the round keys in their order or, to decipher, from the
+/// last to the first (FIPS 46-3, enciphering and deciphering).
+#[inline]
+pub(crate) fn after_rounds<G: Groups>(
+    left: G,
+    right: G,
+    round_keys: &[RoundKey; 16],
+    deciphers: bool,
+) -> (G, G)
+    requires left { AreExpansions G.BLOCKS G.word left }
+    requires right { AreExpansions G.BLOCKS G.word right }
+    ensures left { AreExpansions G.BLOCKS G.word result.0 }
+    ensures right { AreExpansions G.BLOCKS G.word result.1 }
+    ensures halves { InEachBlock G.BLOCKS (λ b.
+        (half_of (G.word b result.0), half_of (G.word b result.1))
+        ≡ after_rounds (in_direction deciphers (round_keys_of round_keys.now))
+        (half_of (G.word b left)) (half_of (G.word b right))) }
+{
+    if deciphers {
+        rounds(left, right, round_keys, true)
+    } else {
+        rounds(left, right, round_keys, false)
+    }
+}
+
+/// The same of the halves of one block.
+#[inline]
+pub(crate) fn halves_after_rounds(
+    halves: Halves,
+    round_keys: &[RoundKey; 16],
+    deciphers: bool,
+) -> Halves
+    ensures { half_blocks_of result
+        ≡ after_rounds (in_direction deciphers (round_keys_of round_keys.now))
+        (half_of halves.left.groups) (half_of halves.right.groups) }
+{
+    let (left, right) = after_rounds(
+        halves.left.groups,
+        halves.right.groups,
+        round_keys,
+        deciphers,
+    );
+    Halves {
+        left: HalfBlock { groups: left },
+        right: HalfBlock { groups: right },
+    }
+}
