@@ -39,9 +39,9 @@
  *
  * Calls with a quick context, one that init made, read tables at addresses that depend on the key and the data, where
  * this header says so. Calls with a quiet one, made by init_quiet, answer alike and read none. They take about three
- * times as long for a single block, CBC encryption and MACs, and up to five times for CBC decryption of 3 to 10 blocks;
- * ECB and CBC decryption of 32 blocks and more take at most the time of 32 blocks more. Take quiet ones if programs of
- * others run on the processor, which could learn the addresses. A copy of a context is of its kind.
+ * times as long for a single block, CBC encryption and MACs, and up to four times for ECB and CBC decryption of 2 to 10
+ * blocks; ECB and CBC decryption of 32 blocks and more take at most the time of 32 blocks more. Take quiet ones if
+ * programs of others run on the processor, which could learn the addresses. A copy of a context is of its kind.
  *
  * Nothing is claimed about time. The calls that can read tables at addresses that depend on secrets, or branch on
  * secrets, say so below. On x86-64 with Linux it is tested with valgrind that init, pad, the calls of lists, ECB and CBC
@@ -66,9 +66,10 @@
  * for riscv64 and Windows the code is compiled of that for x86-64, and tested. No standard defines cukvashe_weak_key_test,
  * cukvashe_set_odd_parity, cukvashe_equal_but_parity, check values, components, PIN verification and card verification
  * values: their rules are the words below. cukvashe_bytes_to_key and cukvashe_NAME_open_salted follow OpenSSL. Tested and
- * not proved are the few lines of C in the library: they choose the width of the vectors, hand the arguments of some
- * calls to proved ones in another order, make of the length of a list its number of blocks, and of a part of a key block
- * its place, wipe the stack, and are cukvashe_wipe, cukvashe_strerror and cukvashe_version.
+ * not proved are the few lines of C in the library: they choose the width of the vectors, tell proved calls which cipher
+ * or MAC is meant, hand them the arguments in another order, make of the length of a list its number of blocks, which
+ * they compare with that of keys, and of a part of a key block its place, wipe the stack, and are cukvashe_wipe,
+ * cukvashe_strerror and cukvashe_version.
  */
 #ifndef CUKVASHE_DES_H
 #define CUKVASHE_DES_H
@@ -98,51 +99,59 @@ extern "C" {
 #pragma GCC visibility push(default)
 #endif
 
-/* Statuses. */
-#define CUKVASHE_OK 0
-#define CUKVASHE_ERR_KEY_LENGTH 1       /* no key of the cipher has this length */
-#define CUKVASHE_ERR_BLOCKS 2           /* the length is not a multiple of 8 */
-#define CUKVASHE_ERR_WEAK_KEY 3         /* the weak key test refuses the key */
-#define CUKVASHE_ERR_PADDING_METHOD 4   /* no padding method has this number */
-#define CUKVASHE_ERR_TAG 5              /* the tag is not that of the message */
-#define CUKVASHE_ERR_NO_SERIAL 6        /* there is no next key serial number */
-#define CUKVASHE_ERR_FORMAT 7           /* the first digit of the PIN block is not that of the format */
-#define CUKVASHE_ERR_PIN_LENGTH 8       /* the PIN, or the one that the block says it has, does not have 4 to 12 digits */
-#define CUKVASHE_ERR_PIN_DIGIT 9        /* a character of the PIN, or a digit of the PIN in the block, is not 0 to 9 */
-#define CUKVASHE_ERR_ACCOUNT_LENGTH 10  /* the account number has fewer digits than the call takes, or more than 19 */
-#define CUKVASHE_ERR_ACCOUNT_DIGIT 11   /* a character of the account number is not a digit */
-#define CUKVASHE_ERR_FILL 12            /* a fill digit is not one that the format allows */
-#define CUKVASHE_ERR_EXPIRY_LENGTH 13   /* the expiry date does not have four digits */
-#define CUKVASHE_ERR_EXPIRY_DIGIT 14    /* a character of the expiry date is not a digit */
-#define CUKVASHE_ERR_SERVICE_LENGTH 15  /* the service code does not have three digits */
-#define CUKVASHE_ERR_SERVICE_DIGIT 16   /* a character of the service code is not a digit */
-#define CUKVASHE_ERR_PADDING 17         /* the last block does not end with the padding */
-#define CUKVASHE_ERR_CAPACITY 18        /* the buffer has no room for the padding, or for what is opened */
-#define CUKVASHE_ERR_COUNTS 19          /* numbers of elements do not agree: a count, or a sum of counts, and a length */
-#define CUKVASHE_ERR_KEY_INDEX 20       /* the index of the key pair is not 1 to 6 */
-#define CUKVASHE_ERR_TABLE_LENGTH 21    /* the decimalization table does not have sixteen digits */
-#define CUKVASHE_ERR_TABLE_DIGIT 22     /* a character of the decimalization table is not a digit */
-#define CUKVASHE_ERR_TABLE_VARIETY 23   /* the decimalization table has fewer than eight different digits */
-#define CUKVASHE_ERR_WRONG_PIN 24       /* the PIN is not the one */
-#define CUKVASHE_ERR_FORMATS 25         /* there is no translation of PIN blocks from this format */
-#define CUKVASHE_ERR_PIN_BLOCK 26       /* decrypted, the PIN block is not one of its format and account number */
-#define CUKVASHE_ERR_SEQUENCE_LENGTH 27 /* the sequence number does not have two digits */
-#define CUKVASHE_ERR_SEQUENCE_DIGIT 28  /* a character of the sequence number is not a digit */
-#define CUKVASHE_ERR_DATA_LENGTH 29     /* the issuer's data have more than 8 bytes */
-#define CUKVASHE_ERR_PROTECTION_KEY_LENGTH 30    /* the protection key does not have 16 or 24 bytes */
-#define CUKVASHE_ERR_KEY_BLOCK_LENGTH 31         /* the key block is not as long as it says, or too long for its buffer */
-#define CUKVASHE_ERR_VERSION 32                  /* the version of the key block is none that the call takes */
-#define CUKVASHE_ERR_HEADER 33                   /* no number of optional blocks, or a field not of letters and digits */
-#define CUKVASHE_ERR_OPTIONAL_BLOCK 34           /* the optional blocks can't be read, end wrongly, or are over 99 */
-#define CUKVASHE_ERR_KEY_DATA_LENGTH 35          /* encrypted key data and MAC do not have a length that they can have */
-#define CUKVASHE_ERR_KEY_BLOCK_DIGIT 36          /* a character of encrypted key data or MAC is not 0 to 9 or A to F */
-#define CUKVASHE_ERR_KEY_BLOCK_MAC 37            /* the MAC is not that of the key block */
-#define CUKVASHE_ERR_PADDING_LENGTH 38           /* the padding of the key does not fill blocks, or is too long */
-#define CUKVASHE_ERR_NO_OPTIONAL_BLOCK 39        /* the key block has no optional block at this place */
-#define CUKVASHE_ERR_HASH 40                     /* no hash function that the call takes has this number */
-#define CUKVASHE_ERR_ITERATIONS 41               /* the number of iterations is 0, or above 2^32 - 1 */
-#define CUKVASHE_ERR_NOT_SALTED 42               /* the bytes do not begin with Salted__ */
-#define CUKVASHE_ERR_SALT_LENGTH 43              /* the bytes end within the salt, or it does not have 0 or 8 bytes */
+/* Statuses, each with the sentence that cukvashe_strerror gives. */
+#define CUKVASHE_OK 0                         /* success */
+#define CUKVASHE_ERR_KEY_LENGTH 1             /* the key does not have a length that the call takes */
+#define CUKVASHE_ERR_BLOCKS 2                 /* the length is not a multiple of 8 bytes */
+#define CUKVASHE_ERR_WEAK_KEY 3               /* the key is weak, or two of its parts are one key */
+#define CUKVASHE_ERR_PADDING_METHOD 4         /* the padding method is not one that the call takes */
+#define CUKVASHE_ERR_TAG 5                    /* the tag is not that of the message */
+#define CUKVASHE_ERR_NO_SERIAL 6              /* there is no next key serial number */
+#define CUKVASHE_ERR_FORMAT 7                 /* the first digit of the PIN block is not that of the format */
+#define CUKVASHE_ERR_PIN_LENGTH 8             /* the PIN does not have 4 to 12 digits */
+#define CUKVASHE_ERR_PIN_DIGIT 9              /* a character of the PIN is not a digit */
+#define CUKVASHE_ERR_ACCOUNT_LENGTH 10        /* the account number does not have 8 to 19 digits, for a PVV 12 to 19,
+                                                 for a CVV 13 to 19 */
+#define CUKVASHE_ERR_ACCOUNT_DIGIT 11         /* a character of the account number is not a digit */
+#define CUKVASHE_ERR_FILL 12                  /* a fill digit is not one that the format allows */
+#define CUKVASHE_ERR_EXPIRY_LENGTH 13         /* the expiry date does not have four digits */
+#define CUKVASHE_ERR_EXPIRY_DIGIT 14          /* a character of the expiry date is not a digit */
+#define CUKVASHE_ERR_SERVICE_LENGTH 15        /* the service code does not have three digits */
+#define CUKVASHE_ERR_SERVICE_DIGIT 16         /* a character of the service code is not a digit */
+#define CUKVASHE_ERR_PADDING 17               /* the data do not end with the padding */
+#define CUKVASHE_ERR_CAPACITY 18              /* the buffer has no room for the padding, or for what is opened */
+#define CUKVASHE_ERR_COUNTS 19                /* the numbers of elements do not agree: a count, or a sum of counts,
+                                                 and a length */
+#define CUKVASHE_ERR_KEY_INDEX 20             /* the index of the key pair is not 1 to 6 */
+#define CUKVASHE_ERR_TABLE_LENGTH 21          /* the decimalization table does not have sixteen digits */
+#define CUKVASHE_ERR_TABLE_DIGIT 22           /* a character of the decimalization table is not a digit */
+#define CUKVASHE_ERR_TABLE_VARIETY 23         /* the decimalization table has fewer than eight different digits */
+#define CUKVASHE_ERR_WRONG_PIN 24             /* the PIN is not the one */
+#define CUKVASHE_ERR_FORMATS 25               /* there is no translation of PIN blocks from this format,
+                                                 only from 0, 1 and 3 */
+#define CUKVASHE_ERR_PIN_BLOCK 26             /* decrypted, the PIN block is not one of its format and account number */
+#define CUKVASHE_ERR_SEQUENCE_LENGTH 27       /* the sequence number does not have two digits */
+#define CUKVASHE_ERR_SEQUENCE_DIGIT 28        /* a character of the sequence number is not a digit */
+#define CUKVASHE_ERR_DATA_LENGTH 29           /* the issuer's data have more than 8 bytes */
+#define CUKVASHE_ERR_PROTECTION_KEY_LENGTH 30 /* the protection key does not have 16 or 24 bytes */
+#define CUKVASHE_ERR_KEY_BLOCK_LENGTH 31      /* the key block is not as long as its header says,
+                                                 longer than 9999 characters, or too long for its buffer */
+#define CUKVASHE_ERR_VERSION 32               /* the version of the key block is not one that the call takes */
+#define CUKVASHE_ERR_HEADER 33                /* the number of optional blocks is not two digits and two zeros,
+                                                 or a field to be written is not letters and digits */
+#define CUKVASHE_ERR_OPTIONAL_BLOCK 34        /* the optional blocks can't be read: a wrong length,
+                                                 an end off a multiple of eight, or more than 99 */
+#define CUKVASHE_ERR_KEY_DATA_LENGTH 35       /* the encrypted key data do not have a length that they can have */
+#define CUKVASHE_ERR_KEY_BLOCK_DIGIT 36       /* a character of the encrypted key data or the MAC
+                                                 is not 0 to 9 or A to F */
+#define CUKVASHE_ERR_KEY_BLOCK_MAC 37         /* the MAC is not that of the key block */
+#define CUKVASHE_ERR_PADDING_LENGTH 38        /* the padding of the key does not have 6, 14 or 22 bytes,
+                                                 or has more than 30 with the key */
+#define CUKVASHE_ERR_NO_OPTIONAL_BLOCK 39     /* the key block has no optional block at this place */
+#define CUKVASHE_ERR_HASH 40                  /* the hash function is not one that the call takes */
+#define CUKVASHE_ERR_ITERATIONS 41            /* the number of iterations is not 1 to 2^32 - 1 */
+#define CUKVASHE_ERR_NOT_SALTED 42            /* the bytes do not begin with Salted__ */
+#define CUKVASHE_ERR_SALT_LENGTH 43           /* the bytes end within the salt, or it does not have 0 or 8 bytes */
 
 /* Sizes, in bytes. */
 #define CUKVASHE_BLOCK_SIZE 8

@@ -18,7 +18,7 @@ export const BLOCK_SIZE = 8;
 export const TAG_SIZE = 8;
 
 // The SHA-256 of the module that this file was built with.
-const MODULE_SUM = "fb5ee727b966751426e11d7f929e47a5072b3a7ae5f94099a5f4a2a53bdc087b";
+const MODULE_SUM = "65bc18b0a79fc90d589cebe7c796d13adcbe9bcc6b91b878c4d2a9ec2dfa8e0a";
 
 // The bytes of the module's stack, which lies at its address 0. `build` links it so.
 const STACK_SIZE = 131072;
@@ -86,55 +86,157 @@ export const IterationCount = fault("IterationCount");
 export const NotSalted = fault("NotSalted");
 export const SaltLength = fault("SaltLength");
 
-// The statuses of cukvashe_des.h that are tested here, and those that are errors by themselves.
+// The statuses of cukvashe_des.h and, at the place of its number, the sentence of each: made of it by bindings/statuses.
 const OK = 0;
+const KEY_LENGTH = 1;
 const BLOCKS = 2;
 const WEAK_KEY = 3;
+const PADDING_METHOD = 4;
+const TAG = 5;
+const NO_SERIAL = 6;
+const FORMAT = 7;
+const PIN_LENGTH = 8;
+const PIN_DIGIT = 9;
+const ACCOUNT_LENGTH = 10;
+const ACCOUNT_DIGIT = 11;
+const FILL = 12;
+const EXPIRY_LENGTH = 13;
+const EXPIRY_DIGIT = 14;
+const SERVICE_LENGTH = 15;
+const SERVICE_DIGIT = 16;
 const PADDING = 17;
+const CAPACITY = 18;
+const COUNTS = 19;
+const KEY_INDEX = 20;
+const TABLE_LENGTH = 21;
+const TABLE_DIGIT = 22;
+const TABLE_VARIETY = 23;
+const WRONG_PIN = 24;
+const FORMATS = 25;
+const PIN_BLOCK = 26;
+const SEQUENCE_LENGTH = 27;
+const SEQUENCE_DIGIT = 28;
+const DATA_LENGTH = 29;
+const PROTECTION_KEY_LENGTH = 30;
+const KEY_BLOCK_LENGTH = 31;
+const VERSION = 32;
+const HEADER = 33;
+const OPTIONAL_BLOCK = 34;
+const KEY_DATA_LENGTH = 35;
+const KEY_BLOCK_DIGIT = 36;
+const KEY_BLOCK_MAC = 37;
+const PADDING_LENGTH = 38;
 const NO_OPTIONAL_BLOCK = 39;
-const SALT = 43;
+const HASH = 40;
+const ITERATIONS = 41;
+const NOT_SALTED = 42;
+const SALT_LENGTH = 43;
+const SENTENCES = [
+  "success",
+  "the key does not have a length that the call takes",
+  "the length is not a multiple of 8 bytes",
+  "the key is weak, or two of its parts are one key",
+  "the padding method is not one that the call takes",
+  "the tag is not that of the message",
+  "there is no next key serial number",
+  "the first digit of the PIN block is not that of the format",
+  "the PIN does not have 4 to 12 digits",
+  "a character of the PIN is not a digit",
+  "the account number does not have 8 to 19 digits, for a PVV 12 to 19, for a CVV 13 to 19",
+  "a character of the account number is not a digit",
+  "a fill digit is not one that the format allows",
+  "the expiry date does not have four digits",
+  "a character of the expiry date is not a digit",
+  "the service code does not have three digits",
+  "a character of the service code is not a digit",
+  "the data do not end with the padding",
+  "the buffer has no room for the padding, or for what is opened",
+  "the numbers of elements do not agree: a count, or a sum of counts, and a length",
+  "the index of the key pair is not 1 to 6",
+  "the decimalization table does not have sixteen digits",
+  "a character of the decimalization table is not a digit",
+  "the decimalization table has fewer than eight different digits",
+  "the PIN is not the one",
+  "there is no translation of PIN blocks from this format, only from 0, 1 and 3",
+  "decrypted, the PIN block is not one of its format and account number",
+  "the sequence number does not have two digits",
+  "a character of the sequence number is not a digit",
+  "the issuer's data have more than 8 bytes",
+  "the protection key does not have 16 or 24 bytes",
+  "the key block is not as long as its header says, longer than 9999 characters, or too long for its buffer",
+  "the version of the key block is not one that the call takes",
+  "the number of optional blocks is not two digits and two zeros, or a field to be written is not letters and digits",
+  "the optional blocks can't be read: a wrong length, an end off a multiple of eight, or more than 99",
+  "the encrypted key data do not have a length that they can have",
+  "a character of the encrypted key data or the MAC is not 0 to 9 or A to F",
+  "the MAC is not that of the key block",
+  "the padding of the key does not have 6, 14 or 22 bytes, or has more than 30 with the key",
+  "the key block has no optional block at this place",
+  "the hash function is not one that the call takes",
+  "the number of iterations is not 1 to 2^32 - 1",
+  "the bytes do not begin with Salted__",
+  "the bytes end within the salt, or it does not have 0 or 8 bytes",
+];
+// This ends what bindings/statuses made.
+
+// The error of each status that is one by itself.
 const FAULTS = new Map([
-  [1, [KeyLength, "a key has 8, 16 or 24 bytes"]],
-  [7, [Format, "the PIN block is of another format"]],
-  [8, [PinLength, "a PIN has 4 to 12 digits"]],
-  [9, [PinDigit, "a PIN has digits alone"]],
-  [10, [AccountLength, "an account number has 8 to 19 digits, for a PVV 12 to 19, for a CVV 13 to 19"]],
-  [11, [AccountDigit, "an account number has digits alone"]],
-  [12, [Fill, "a fill digit is none of those of the format"]],
-  [13, [ExpiryLength, "an expiry date has four digits"]],
-  [14, [ExpiryDigit, "an expiry date has digits alone"]],
-  [15, [ServiceLength, "a service code has three digits"]],
-  [16, [ServiceDigit, "a service code has digits alone"]],
-  [20, [KeyIndex, "the index of a key pair is 1 to 6"]],
-  [21, [TableLength, "a decimalization table has sixteen digits"]],
-  [22, [TableDigit, "a decimalization table has digits alone"]],
-  [23, [TableVariety, "a decimalization table has at least eight different digits"]],
-  [24, [WrongPin, "the PIN is not the one"]],
-  [25, [Formats, "PIN blocks are translated from formats 0, 1 and 3"]],
-  [26, [PinBlock, "the PIN block is not one of its format and account number"]],
-  [27, [SequenceLength, "a sequence number has two digits"]],
-  [28, [SequenceDigit, "a sequence number has digits alone"]],
-  [29, [DataLength, "the data of an issuer have at most 8 bytes"]],
-  [30, [ProtectionKeyLength, "a protection key has 16 or 24 bytes"]],
-  [31, [KeyBlockLength, "a key block has as many characters as it says, at most 9999"]],
-  [32, [KeyBlockVersion, "a key block is read of version A, B or C, and made of version B or C"]],
-  [33, [KeyBlockField, "the number of optional blocks is not two digits and two zeros, or a field to be written is not letters and digits"]],
-  [34, [OptionalBlock, "the optional blocks can't be read: a wrong length, an end off a multiple of eight, or more than 99"]],
-  [35, [KeyDataLength, "the encrypted key does not have a length that it can have"]],
-  [36, [KeyBlockDigit, "an encrypted key and its MAC have digits 0 to 9 and A to F alone"]],
-  [37, [KeyBlockMac, "the MAC is not that of the key block"]],
-  [38, [PaddingLength, "the padding has 6, 14 or 22 bytes, with the key at most 30"]],
-  [40, [HashName, 'the hash function of PBKDF2 is "sha1" or "sha256"']],
-  [41, [IterationCount, "the iterations are 1 at least, and at most 2^32 - 1"]],
-  [42, [NotSalted, "the data do not begin with Salted__"]],
-  [SALT, [SaltLength, "the data end within the salt"]],
+  [KEY_LENGTH, KeyLength],
+  [PADDING_METHOD, PaddingMethod],
+  [TAG, TagMismatch],
+  [FORMAT, Format],
+  [PIN_LENGTH, PinLength],
+  [PIN_DIGIT, PinDigit],
+  [ACCOUNT_LENGTH, AccountLength],
+  [ACCOUNT_DIGIT, AccountDigit],
+  [FILL, Fill],
+  [EXPIRY_LENGTH, ExpiryLength],
+  [EXPIRY_DIGIT, ExpiryDigit],
+  [SERVICE_LENGTH, ServiceLength],
+  [SERVICE_DIGIT, ServiceDigit],
+  [PADDING, PaddingMismatch],
+  [KEY_INDEX, KeyIndex],
+  [TABLE_LENGTH, TableLength],
+  [TABLE_DIGIT, TableDigit],
+  [TABLE_VARIETY, TableVariety],
+  [WRONG_PIN, WrongPin],
+  [FORMATS, Formats],
+  [PIN_BLOCK, PinBlock],
+  [SEQUENCE_LENGTH, SequenceLength],
+  [SEQUENCE_DIGIT, SequenceDigit],
+  [DATA_LENGTH, DataLength],
+  [PROTECTION_KEY_LENGTH, ProtectionKeyLength],
+  [KEY_BLOCK_LENGTH, KeyBlockLength],
+  [VERSION, KeyBlockVersion],
+  [HEADER, KeyBlockField],
+  [OPTIONAL_BLOCK, OptionalBlock],
+  [KEY_DATA_LENGTH, KeyDataLength],
+  [KEY_BLOCK_DIGIT, KeyBlockDigit],
+  [KEY_BLOCK_MAC, KeyBlockMac],
+  [PADDING_LENGTH, PaddingLength],
+  [HASH, HashName],
+  [ITERATIONS, IterationCount],
+  [NOT_SALTED, NotSalted],
+  [SALT_LENGTH, SaltLength],
 ]);
+
+// What stands after a sentence that leaves it to the call.
+const TAKEN = new Map([
+  [KEY_LENGTH, ": 8, 16 or 24 bytes"],
+  [PADDING_METHOD, ": 1 or 2"],
+  [VERSION, ": A, B or C to read, B or C to make"],
+  [HASH, ': for PBKDF2 "sha1" or "sha256"'],
+]);
+
+/** The error of a status, with its sentence. */
+function faultOf(status) {
+  const Fault = FAULTS.get(status);
+  return new Fault(SENTENCES[status] + (TAKEN.get(status) ?? ""));
+}
 
 /** Throws the error of a status of the payment calls. */
 function check(status) {
-  if (status === OK) return;
-  const [Fault, words] = FAULTS.get(status);
-  throw new Fault(words);
+  if (status !== OK) throw faultOf(status);
 }
 
 // ---- Arguments: each is tested, and taken once, before anything is laid down ----------------------------------------
@@ -456,8 +558,18 @@ const hexOf = (bytes) => Array.from(bytes, (byte) => byte.toString(16).padStart(
 
 // ---- What holds a key -----------------------------------------------------------------------------------------------
 
-// Of each class of ciphers or MACs the name of its calls in C, the size of its key, and how many words its context has.
+// Of each class of ciphers or MACs the bytes of its key, and the words of its cipher's context, of the retail MAC of both
+// keys; of a MAC also its number in ISO/IEC 9797-1. By these a call knows what it works with.
 const kinds = new Map();
+
+// The words of a MAC's context after those of its cipher: how far it has come in its message.
+const MESSAGE_WORDS = 4;
+
+/** What a call takes of a context that is laid down: where it is and its words, of a MAC its number and its message too. */
+function contextAt({ words, algorithm }, at) {
+  const count = BigInt(words);
+  return algorithm === undefined ? [at, count] : [algorithm, at, count, at + 8n * count];
+}
 
 // Of each cipher, MAC and terminal its kind, its context, which is null once it was closed, and the instance that made it. No
 // text of an object shows them.
@@ -491,12 +603,15 @@ function stateOf(object, Base) {
   return state;
 }
 
-/** The context of a key; null where a padding method is refused. */
-function contextOf({ name, words }, key, ...padding) {
+// The last word of the calls that make a context, of one that is not quiet.
+const QUICK = 0;
+
+/** The context that a call makes of a key; null where a padding method is refused. */
+function contextOf(call, kind, size, key, ...padding) {
   return inside((memory) => {
-    const at = memory.room(8 * words);
-    const status = memory.call(`${name}_init`, at, ...memory.list(key), ...padding);
-    return status === OK ? memory.taken(at, 8 * words) : null;
+    const at = memory.room(size);
+    const status = memory.call(call, ...contextAt(kind, at), ...memory.list(key), ...padding, QUICK);
+    return status === OK ? memory.taken(at, size) : null;
   });
 }
 
@@ -523,32 +638,29 @@ class Cipher extends Keyed {
     super();
     refuseMore(more, "a cipher takes a key alone, and neither a vector nor options");
     const kind = kindOf(new.target, Cipher, "a cipher");
-    keep(this, kind, contextOf(kind, keyOf(key, kind.keySize)));
+    keep(this, kind, contextOf("internal_init", kind, 8 * kind.words, keyOf(key, kind.keySize)));
   }
 
   /** The data, each block of 8 bytes encrypted by itself. */
   encryptEcb(data, ...more) {
-    return ecb(this, "encrypt_ecb", data, more);
+    return ecb(this, "internal_encrypt_ecb", data, more);
   }
 
   /** The data, each block of 8 bytes decrypted by itself. */
   decryptEcb(data, ...more) {
-    return ecb(this, "decrypt_ecb", data, more);
+    return ecb(this, "internal_decrypt_ecb", data, more);
   }
 
   /** The data, encrypted by cipher block chaining from an initialization vector of 8 bytes. */
   encryptCbc(iv, data, ...more) {
-    return cbc(this, "encrypt_cbc", iv, data, more);
+    return cbc(this, "internal_encrypt_cbc", iv, data, more);
   }
 
   /** The data, decrypted by cipher block chaining from an initialization vector of 8 bytes. Padding stays. */
   decryptCbc(iv, data, ...more) {
-    return cbc(this, "decrypt_cbc", iv, data, more);
+    return cbc(this, "internal_decrypt_cbc", iv, data, more);
   }
 }
-
-// Encryption by CBC is one export for all widths of vectors, so its name has no width.
-const widthOf = (call) => (call === "encrypt_cbc" ? "" : "narrow_");
 
 function ecb(cipher, call, data, more) {
   refuseMore(more, "ECB takes data alone, and no initialization vector");
@@ -566,8 +678,8 @@ function answered(cipher, call, data, vectors) {
   const bytes = bytesOf(data, "data");
   return inside((memory) => {
     const [at, length] = memory.list(bytes);
-    const laid = [memory.put(context), ...vectors.map((vector) => memory.put(vector))];
-    if (memory.call(`${widthOf(call)}${kind.name}_${call}`, ...laid, at, length) !== OK) {
+    const laid = [...contextAt(kind, memory.put(context)), ...vectors.map((vector) => memory.put(vector))];
+    if (memory.call(call, ...laid, at, length) !== OK) {
       throw new BlockLength(`${bytes.length} bytes are not whole blocks of ${BLOCK_SIZE}`);
     }
     return memory.taken(at, bytes.length);
@@ -589,9 +701,9 @@ export class TdesEde3 extends Cipher {
   static keySize = 24;
 }
 
-kinds.set(Des, { name: "des", keySize: 8, words: 17 });
-kinds.set(TdesEde2, { name: "tdes_ede2", keySize: 16, words: 33 });
-kinds.set(TdesEde3, { name: "tdes_ede3", keySize: 24, words: 49 });
+kinds.set(Des, { keySize: 8, words: 17 });
+kinds.set(TdesEde2, { keySize: 16, words: 33 });
+kinds.set(TdesEde3, { keySize: 24, words: 49 });
 
 /** The kind of a class of ciphers, the first argument of a call. */
 const cipherOf = (Class) => kindOf(Class, Cipher, "the first argument");
@@ -611,7 +723,7 @@ class Mac extends Keyed {
     const bytes = bytesOf(data, "data");
     inside((memory) => {
       const at = memory.put(context);
-      memory.call(`${kind.name}_update`, at, ...memory.list(bytes));
+      memory.call("internal_mac_update", ...contextAt(kind, at), ...memory.list(bytes));
       memory.take(at, context);
     });
     return this;
@@ -623,7 +735,7 @@ class Mac extends Keyed {
   digest(encoding) {
     if (encoding !== undefined && encoding !== "hex") throw new TypeError('digest takes no argument but "hex"');
     const { kind, context } = stateOf(this, Mac);
-    const tag = written(TAG_SIZE, `${kind.name}_final`, (memory) => [memory.put(context)]);
+    const tag = written(TAG_SIZE, "internal_mac_final", (memory) => contextAt(kind, memory.put(context)));
     return encoding === "hex" ? hexOf(tag) : tag;
   }
 
@@ -652,10 +764,15 @@ class Mac extends Keyed {
 function accepted(mac, tag, least) {
   const { kind, context } = stateOf(mac, Mac);
   const bytes = bytesOf(tag, "a tag");
-  const status = inside((memory) => memory.call(`${kind.name}_verify`, memory.put(context), ...memory.list(bytes)));
-  if (status !== OK || bytes.length < least) throw new TagMismatch("the tag is not that of the message");
+  const lay = (memory) => [...contextAt(kind, memory.put(context)), ...memory.list(bytes)];
+  const status = inside((memory) => memory.call("internal_mac_verify", ...lay(memory)));
+  if (status !== OK || bytes.length < least) throw faultOf(TAG);
   return true;
 }
+
+/** The context of a MAC of no bytes, or null. */
+const macContextOf = (kind, key, padding) =>
+  contextOf("internal_mac_init", kind, 8 * (kind.words + MESSAGE_WORDS), key, padding);
 
 /** A MAC with a padding method of ISO/IEC 9797-1: 1, zeros, or 2, a one bit and zeros. */
 class PaddedMac extends Mac {
@@ -664,12 +781,15 @@ class PaddedMac extends Mac {
     refuseMore(more, "a MAC takes a key, a padding method and data alone");
     const kind = kindOf(new.target, PaddedMac, "a MAC");
     const [held, method, bytes] = [keyOf(key, kind.keySize), paddingOf(padding), bytesOf(data, "data")];
-    const context = contextOf(kind, held, method);
-    if (context === null) throw new PaddingMethod("padding is by method 1 or 2");
+    const context = macContextOf(kind, held, method);
+    if (context === null) throw faultOf(PADDING_METHOD);
     keep(this, kind, context);
     this.update(bytes);
   }
 }
+
+// The padding of CMAC, which takes no other.
+const CMAC_PADDING = 2;
 
 /** CMAC, which needs no padding method. */
 class Cmac extends Mac {
@@ -678,7 +798,7 @@ class Cmac extends Mac {
     refuseMore(more, "CMAC takes a key and data alone");
     const kind = kindOf(new.target, Cmac, "a MAC");
     const [held, bytes] = [keyOf(key, kind.keySize), bytesOf(data, "data")];
-    keep(this, kind, contextOf(kind, held));
+    keep(this, kind, macContextOf(kind, held, CMAC_PADDING));
     this.update(bytes);
   }
 }
@@ -713,12 +833,12 @@ export class CmacTdesEde3 extends Cmac {
   static keySize = 24;
 }
 
-kinds.set(CbcMacDes, { name: "cbc_mac_des", keySize: 8, words: 21 });
-kinds.set(CbcMacTdesEde2, { name: "cbc_mac_tdes_ede2", keySize: 16, words: 37 });
-kinds.set(CbcMacTdesEde3, { name: "cbc_mac_tdes_ede3", keySize: 24, words: 53 });
-kinds.set(RetailMacDes, { name: "retail_mac_des", keySize: 16, words: 38 });
-kinds.set(CmacTdesEde2, { name: "cmac_tdes_ede2", keySize: 16, words: 37 });
-kinds.set(CmacTdesEde3, { name: "cmac_tdes_ede3", keySize: 24, words: 53 });
+kinds.set(CbcMacDes, { algorithm: 1, keySize: 8, words: 17 });
+kinds.set(CbcMacTdesEde2, { algorithm: 1, keySize: 16, words: 33 });
+kinds.set(CbcMacTdesEde3, { algorithm: 1, keySize: 24, words: 49 });
+kinds.set(RetailMacDes, { algorithm: 3, keySize: 16, words: 34 });
+kinds.set(CmacTdesEde2, { algorithm: 5, keySize: 16, words: 33 });
+kinds.set(CmacTdesEde3, { algorithm: 5, keySize: 24, words: 49 });
 
 // ---- Padding --------------------------------------------------------------------------------------------------------
 
@@ -741,7 +861,7 @@ export function pad(data, method) {
     const capacity = bytes.length + BLOCK_SIZE;
     const [at, length] = [memory.room(capacity), memory.room(8)];
     memory.lay(at, bytes);
-    memory.call("narrow_pad", at, BigInt(capacity), BigInt(bytes.length), number, length);
+    memory.call("internal_pad", at, BigInt(capacity), BigInt(bytes.length), number, length);
     return memory.taken(at, memory.word(length));
   });
 }
@@ -758,7 +878,7 @@ export function unpad(data, method) {
     const length = memory.room(8);
     const status = memory.call("unpad", at, size, number, length);
     if (status === BLOCKS) throw new BlockLength(`${bytes.length} bytes are not whole blocks of ${BLOCK_SIZE}`);
-    if (status !== OK) throw new PaddingMismatch("the data do not end with the padding");
+    check(status);
     return memory.taken(at, memory.word(length));
   });
 }
@@ -787,7 +907,7 @@ export function withOddParity(key) {
 export function equalButParity(first, second) {
   const one = keyOf(first, ...SIZES);
   const other = keyOf(second, one.length);
-  return inside((memory) => memory.call("narrow_equal_but_parity", ...memory.list(one), ...memory.list(other))) !== 0;
+  return inside((memory) => memory.call("internal_equal_but_parity", ...memory.list(one), ...memory.list(other))) !== 0;
 }
 
 const CHECK_VALUE_SIZE = 3;
@@ -796,9 +916,9 @@ const CHECK_VALUE_SIZE = 3;
  * The check value of a key, three bytes: the first of the block of zeros encrypted. `cipher` is a class, as TdesEde2.
  */
 export function checkValue(cipher, key) {
-  const { name, keySize } = cipherOf(cipher);
+  const { keySize } = cipherOf(cipher);
   const bytes = keyOf(key, keySize);
-  return written(CHECK_VALUE_SIZE, `${name}_check_value`, (memory) => memory.list(bytes));
+  return written(CHECK_VALUE_SIZE, "internal_check_value", (memory) => [BigInt(keySize), ...memory.list(bytes)]);
 }
 
 /** The check value of a key of 8, 16 or 24 bytes, or of a component, by its length: by DES, or by triple DES (EDE). */
@@ -820,11 +940,11 @@ export function combine(first, second, ...others) {
   const other = keyOf(second, size);
   const more = others.map((component) => keyOf(component, size));
   return inside((memory) => {
-    const laid = [memory.put(one), memory.put(other)];
+    const laid = [...memory.list(one), ...memory.list(other)];
     const rest = memory.room(size * more.length);
     more.forEach((component, place) => memory.lay(rest + BigInt(size * place), component));
     const at = memory.room(size);
-    if (memory.call(`combine_${size}`, ...laid, rest, BigInt(more.length), at) !== OK) {
+    if (memory.call("internal_combine", ...laid, rest, BigInt(size * more.length), at, BigInt(size)) !== OK) {
       throw new WeakKey("the weak key test refuses the key that the components make");
     }
     return memory.taken(at, size);
@@ -1330,7 +1450,7 @@ export function keyBlockOptionalBlocks(block) {
     const [at, size] = memory.list(text);
     const [name, content] = [memory.room(3), memory.words([Number(at), 0])];
     for (;;) {
-      const status = memory.call("narrow_key_block_optional_block", at, size, BigInt(found.length), name, content);
+      const status = memory.call("internal_key_block_optional_block", at, size, BigInt(found.length), name, content);
       if (status === NO_OPTIONAL_BLOCK) return found;
       check(status);
       const start = memory.word(content) - Number(at);
@@ -1356,9 +1476,7 @@ function hashOf(name) {
 /** A number of iterations, of which there is one at least, or one that is refused. */
 function iterationsOf(number) {
   if (typeof number !== "number") throw new TypeError("iterations: a number is needed");
-  if (!(Number.isInteger(number) && number >= 1)) {
-    throw new IterationCount("the iterations are 1 at least, and at most 2^32 - 1");
-  }
+  if (!(Number.isInteger(number) && number >= 1)) throw faultOf(ITERATIONS);
   return BigInt(Math.min(number, TOO_MANY_ITERATIONS));
 }
 
@@ -1376,7 +1494,7 @@ function derived(name, hash, password, salt, words, length) {
     const at = memory.room(length);
     const laid = [...memory.list(secret), ...memory.list(grains), ...words, at, BigInt(length)];
     const status = memory.call(name, hash, ...laid);
-    if (status === SALT) throw new SaltLength(`the salt of bytesToKey has 0 or 8 bytes, not ${grains.length}`);
+    if (status === SALT_LENGTH) throw new SaltLength(`the salt of bytesToKey has 0 or 8 bytes, not ${grains.length}`);
     check(status);
     return memory.taken(at, length);
   });
@@ -1404,15 +1522,14 @@ export function bytesToKey(hashName, password, salt, length) {
  */
 export function openSalted(cipher, password, data, options = {}) {
   const { hashName = "sha256", iterations } = optionsOf(options, "hashName", "iterations");
-  const { name } = cipherOf(cipher);
+  const { keySize } = cipherOf(cipher);
   const [secret, bytes] = [bytesOf(password, "a password"), bytesOf(data, "data")];
   const [hash, count] = [hashOf(hashName), iterations === undefined ? 0n : iterationsOf(iterations)];
   return inside((memory) => {
     const [plain, length] = [memory.room(bytes.length), memory.room(8)];
     const laid = [...memory.list(secret), ...memory.list(bytes), plain, BigInt(bytes.length), length];
-    const status = memory.call(`${name}_open_salted`, hash, count, ...laid);
+    const status = memory.call("internal_open_salted", BigInt(keySize), hash, count, ...laid);
     if (status === BLOCKS) throw new BlockLength(`${bytes.length} bytes are not whole blocks of ${BLOCK_SIZE}`);
-    if (status === PADDING) throw new PaddingMismatch("the data do not end with the padding");
     check(status);
     return memory.taken(plain, memory.word(length));
   });
@@ -1422,21 +1539,21 @@ export function openSalted(cipher, password, data, options = {}) {
 
 /** The blocks, each of 8 bytes encrypted under the key at its place. `cipher` is a class, as TdesEde2. */
 export function encryptEach(cipher, keys, blocks) {
-  return answeredEach("encrypt_each", cipher, keys, blocks);
+  return answeredEach("internal_encrypt_each", cipher, keys, blocks);
 }
 
 /** The blocks, each decrypted under the key at its place, as `encryptEach` encrypts it. */
 export function decryptEach(cipher, keys, blocks) {
-  return answeredEach("decrypt_each", cipher, keys, blocks);
+  return answeredEach("internal_decrypt_each", cipher, keys, blocks);
 }
 
-function answeredEach(each, cipher, keys, blocks) {
+function answeredEach(call, cipher, keys, blocks) {
   const given = listOf(blocks, BLOCK_SIZE, BlockLength, "blocks");
-  const { name, keySize } = cipherOf(cipher);
+  const { keySize } = cipherOf(cipher);
   const held = listOf(keys, keySize, KeyLength, "keys");
   return inside((memory) => {
     const [at, count] = memory.list(given, BLOCK_SIZE);
-    if (memory.call(`narrow_${name}_${each}`, ...memory.list(held, keySize), at, count) !== OK) {
+    if (memory.call(call, BigInt(keySize), ...memory.list(held), at, count) !== OK) {
       throw new CountMismatch("the numbers of keys and blocks differ");
     }
     return memory.taken(at, given.length);
@@ -1445,12 +1562,12 @@ function answeredEach(each, cipher, keys, blocks) {
 
 /** The check values of keys, three bytes for each, as `checkValue` makes them. */
 export function checkValues(cipher, keys) {
-  const { name, keySize } = cipherOf(cipher);
+  const { keySize } = cipherOf(cipher);
   const held = listOf(keys, keySize, KeyLength, "keys");
   const count = held.length / keySize;
   return inside((memory) => {
     const at = memory.room(CHECK_VALUE_SIZE * count);
-    memory.call(`narrow_${name}_check_values`, ...memory.list(held, keySize), at, BigInt(count));
+    memory.call("internal_check_values", BigInt(keySize), ...memory.list(held), at, BigInt(count));
     return memory.taken(at, CHECK_VALUE_SIZE * count);
   });
 }
@@ -1467,7 +1584,7 @@ export function dukptTransactionKeys(base, serials) {
   return inside((memory) => {
     const at = memory.room(TRANSACTION_KEY_SIZE * count);
     const laid = [memory.put(key), ...memory.list(numbers, SERIAL_SIZE)];
-    memory.call("narrow_dukpt_transaction_keys", ...laid, at, BigInt(count));
+    memory.call("internal_dukpt_transaction_keys", ...laid, at, BigInt(count));
     return memory.taken(at, TRANSACTION_KEY_SIZE * count);
   });
 }
@@ -1477,15 +1594,15 @@ export function dukptTransactionKeys(base, serials) {
  * record after the other, and the k-th 8 bytes of `vectors`. `cipher` is one that has a key.
  */
 export function encryptCbcRecords(cipher, vectors, counts, blocks) {
-  return recorded("encrypt_cbc_records", cipher, vectors, counts, blocks);
+  return recorded("internal_encrypt_cbc_records", cipher, vectors, counts, blocks);
 }
 
 /** Records, each decrypted by cipher block chaining, as `encryptCbcRecords` encrypts them. Padding stays. */
 export function decryptCbcRecords(cipher, vectors, counts, blocks) {
-  return recorded("decrypt_cbc_records", cipher, vectors, counts, blocks);
+  return recorded("internal_decrypt_cbc_records", cipher, vectors, counts, blocks);
 }
 
-function recorded(records, cipher, vectors, counts, blocks) {
+function recorded(call, cipher, vectors, counts, blocks) {
   const { kind, context } = stateOf(cipher, Cipher);
   const sizes = numbersOf(counts, "counts");
   const chains = listOf(vectors, BLOCK_SIZE, VectorLength, "vectors");
@@ -1493,28 +1610,28 @@ function recorded(records, cipher, vectors, counts, blocks) {
   if (chains.length / BLOCK_SIZE !== sizes.length) throw new CountMismatch("the numbers of vectors and counts differ");
   return inside((memory) => {
     const [at, count] = memory.list(given, BLOCK_SIZE);
-    const laid = [memory.put(context), ...memory.list(chains, BLOCK_SIZE), memory.words(sizes), BigInt(sizes.length)];
-    if (memory.call(`narrow_${kind.name}_${records}`, ...laid, at, count) !== OK) {
+    const laid = [...contextAt(kind, memory.put(context)), ...memory.list(chains, BLOCK_SIZE)];
+    if (memory.call(call, ...laid, memory.words(sizes), BigInt(sizes.length), at, count) !== OK) {
       throw new CountMismatch("the counts do not add up to the number of blocks");
     }
     return memory.taken(at, given.length);
   });
 }
 
-/** The kind of a class of MACs, with its calls' word for a padding method, or none. */
+/** The kind of a class of MACs, with the number of its padding method. */
 function macsOf(Class, padding) {
   const kind = kindOf(Class, Mac, "the first argument");
   if (Class.prototype instanceof Cmac) {
     if (padding !== null) throw new TypeError("the padding method: CMAC takes none, so give null");
-    return { ...kind, method: [] };
+    return { ...kind, method: CMAC_PADDING };
   }
   const method = paddingOf(padding);
-  if (method === 0) throw new PaddingMethod("padding is by method 1 or 2");
-  return { ...kind, method: [method] };
+  if (method === 0) throw faultOf(PADDING_METHOD);
+  return { ...kind, method };
 }
 
 /** The tags of messages that stand one after the other, by a call. `lay` gives what it takes of keys. */
-function tagsOf(call, lay, method, lengths, bytes) {
+function tagsOf(call, { algorithm, method }, lay, lengths, bytes) {
   return inside((memory) => {
     const tags = memory.room(TAG_SIZE * lengths.length);
     let next = Number(memory.put(bytes));
@@ -1524,7 +1641,7 @@ function tagsOf(call, lay, method, lengths, bytes) {
       next += length;
     }
     const count = BigInt(lengths.length);
-    memory.call(call, ...lay(memory), ...method, memory.words(pairs), count, tags, count);
+    memory.call(call, algorithm, method, ...lay(memory), memory.words(pairs), count, tags, count);
     return memory.taken(tags, TAG_SIZE * lengths.length);
   });
 }
@@ -1544,19 +1661,20 @@ function messagesOf(lengths, messages) {
  * `mac` is a class, as RetailMacDes; the padding method is 1 or 2, of CMAC null.
  */
 export function macs(mac, key, padding, lengths, messages) {
-  const { name, keySize, method } = macsOf(mac, padding);
-  const held = keyOf(key, keySize);
+  const kind = macsOf(mac, padding);
+  const held = keyOf(key, kind.keySize);
   const [numbers, bytes] = messagesOf(lengths, messages);
-  return tagsOf(`narrow_${name}_macs`, (memory) => [memory.put(held)], method, numbers, bytes);
+  return tagsOf("internal_macs", kind, (memory) => memory.list(held), numbers, bytes);
 }
 
 /** The tags of messages, each under the key at its place, as `macs` makes them under one. */
 export function macsEach(mac, keys, padding, lengths, messages) {
-  const { name, keySize, method } = macsOf(mac, padding);
-  const held = listOf(keys, keySize, KeyLength, "keys");
+  const kind = macsOf(mac, padding);
+  const held = listOf(keys, kind.keySize, KeyLength, "keys");
   const [numbers, bytes] = messagesOf(lengths, messages);
-  if (held.length / keySize !== numbers.length) throw new CountMismatch("the numbers of keys and messages differ");
-  return tagsOf(`narrow_${name}_macs_each`, (memory) => memory.list(held, keySize), method, numbers, bytes);
+  if (held.length / kind.keySize !== numbers.length) throw new CountMismatch("the numbers of keys and messages differ");
+  const lay = (memory) => [BigInt(kind.keySize), ...memory.list(held)];
+  return tagsOf("internal_macs_each", kind, lay, numbers, bytes);
 }
 
 /**
@@ -1569,7 +1687,7 @@ export function wrongTags(tags, expected) {
   const count = given.length / TAG_SIZE;
   const right = inside((memory) => {
     const at = memory.room(count);
-    memory.call("narrow_compare_tags", ...memory.list(given, 8), ...memory.list(wanted, 8), at, BigInt(count));
+    memory.call("internal_compare_tags", ...memory.list(given, 8), ...memory.list(wanted, 8), at, BigInt(count));
     return memory.taken(at, count);
   });
   return Array.from(right.keys()).filter((place) => right[place] === 0);
