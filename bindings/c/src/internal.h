@@ -107,7 +107,7 @@ bool cukvashe_internal_is_v3(const struct processor *words);
 struct processor cukvashe_internal_processor(void);
 #endif
 
-/* Writes zeros over so many bytes of the stack and some more, below the frame of its caller: there lies what a call left that this made. */
+/* Writes zeros over `size` bytes of the stack, and MORE (stack.c), below its caller's frame: there lies what the caller's calls left. */
 void cukvashe_internal_wipe_stack(size_t size);
 
 /* A call of the header that is given or gives a key, a password or a PIN: it goes on to the call that does the work, and wipes after it. */

@@ -1,4 +1,4 @@
-/* Up to so many blocks one narrow batch is faster than one wide batch. Made by bindings/statuses of des_fast. */
+/* The longest list, in blocks, that is faster by narrow calls than by wide ones. Made by bindings/statuses of des_fast. */
 #ifndef WAYS_H
 #define WAYS_H
 #define MOST_NARROW 128
