@@ -27,25 +27,28 @@ enum { PUBLIC, ONE_BY_ONE, NARROW, WIDE };
 /* Pieces that are too short for a batch. */
 enum { FEW = 8 * 18 };
 
+/* The data as the exports take them: blocks, and the number of bytes. */
+#define DATA data, length / CUKVASHE_BLOCK_SIZE, length
+
 /* The calls of a cipher: ECB both ways, CBC both ways, and by one way or another where there are several. */
 #define CALLS(name)                                                                                            \
   static cukvashe_##name name##_context;                                                                       \
   static int name##_ecb(const struct ours *by, uint8_t *data, size_t length) {                                 \
     const cukvashe_##name *c = &name##_context;                                                                \
     if (by->way == NARROW)                                                                                     \
-      return by->encrypts ? cukvashe_internal_encrypt_ecb(WORDS_OF(*c), data, length)                          \
-                          : cukvashe_internal_decrypt_ecb(WORDS_OF(*c), data, length);                         \
+      return by->encrypts ? cukvashe_internal_encrypt_ecb(WORDS_OF(*c), DATA)                                  \
+                          : cukvashe_internal_decrypt_ecb(WORDS_OF(*c), DATA);                                 \
     if (by->way == WIDE)                                                                                       \
-      return by->encrypts ? cukvashe_wide_encrypt_ecb(WORDS_OF(*c), data, length)                              \
-                          : cukvashe_wide_decrypt_ecb(WORDS_OF(*c), data, length);                             \
+      return by->encrypts ? cukvashe_wide_encrypt_ecb(WORDS_OF(*c), DATA)                                      \
+                          : cukvashe_wide_decrypt_ecb(WORDS_OF(*c), DATA);                                     \
     return by->encrypts ? cukvashe_##name##_encrypt_ecb(c, data, length)                                       \
                         : cukvashe_##name##_decrypt_ecb(c, data, length);                                      \
   }                                                                                                            \
   static int name##_cbc(const struct ours *by, uint8_t *data, size_t length) {                                 \
     const cukvashe_##name *c = &name##_context;                                                                \
     if (by->encrypts) return cukvashe_##name##_encrypt_cbc(c, iv, data, length);                               \
-    if (by->way == NARROW) return cukvashe_internal_decrypt_cbc(WORDS_OF(*c), iv, data, length);               \
-    if (by->way == WIDE) return cukvashe_wide_decrypt_cbc(WORDS_OF(*c), iv, data, length);                     \
+    if (by->way == NARROW) return cukvashe_internal_decrypt_cbc(WORDS_OF(*c), iv, DATA);                       \
+    if (by->way == WIDE) return cukvashe_wide_decrypt_cbc(WORDS_OF(*c), iv, DATA);                             \
     return cukvashe_##name##_decrypt_cbc(c, iv, data, length);                                                 \
   }                                                                                                            \
   static void name##_call(void *state, size_t bytes) {                                                         \

@@ -199,7 +199,7 @@ static gcry_cipher_hd_t gcrypt_of(bool is_triple) {
 #endif
 
 static void rows_of_few(bool is_triple) {
-  static const size_t sizes[] = {1, 2, 3, 4, 8, 9, 12, 16, 20, 24, 31, 32};
+  static const size_t sizes[] = {1, 2, 3, 4, 8, 9, 12, 16, 20, 24, 31, 32, 40};
   struct timed row[5] = {{is_triple ? quick_ede3 : quick_des, NULL, 0},
                          {is_triple ? quiet_ede3_list : quiet_des_list, NULL, 0},
                          {is_triple ? blocks_one_by_one : des_one_by_one, NULL, 0},

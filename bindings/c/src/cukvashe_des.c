@@ -1,7 +1,7 @@
 /*
  * What of the library is C: calls of the header over the proved exports that are there once for all ciphers and MACs, in the header's
- * order of arguments; which of two exports is taken, by the length of a list and the processor; lists of blocks by their length in bytes,
- * and a part of a text by its place; texts; and wiping.
+ * order of arguments; which of two exports is taken, by the length of a list and the processor; lists of blocks by their length in bytes;
+ * texts; and wiping.
  */
 #include "internal.h"
 #include <string.h>
@@ -13,7 +13,7 @@
  */
 #if HAS_WIDE
 /* The processor is asked once, since a virtual one may take long to answer. Threads that ask at once all store one answer. */
-static bool has_wide(void) {
+static bool processor_is_wide(void) {
   enum { NOT_ASKED, NO, YES };
   static int answer = NOT_ASKED;
   int known = __atomic_load_n(&answer, __ATOMIC_RELAXED);
@@ -25,7 +25,7 @@ static bool has_wide(void) {
   return known == YES;
 }
 
-static bool takes_wide(size_t count) { return count > MOST_NARROW && has_wide(); }
+static bool takes_wide(size_t count) { return count > MOST_NARROW && processor_is_wide(); }
 
 #define CHOOSE(COUNT, CALL, ...)                                                                                      \
   (takes_wide(COUNT) ? cukvashe_wide_##CALL(__VA_ARGS__) : cukvashe_internal_##CALL(__VA_ARGS__))
@@ -47,36 +47,36 @@ static bool takes_wide(size_t count) { return count > MOST_NARROW && has_wide();
 /* Calls with a context. From a buffer to itself is the call in place: the exports of two buffers take two that do not overlap. */
 #define DEFINE_CIPHER(NAME, WORDS)                                                                                    \
   int cukvashe_##NAME##_encrypt_ecb(const cukvashe_##NAME *context, uint8_t *data, size_t length) {                   \
-    return CHOOSE(BLOCKS, encrypt_ecb, context->words, WORDS, data, length);                                          \
+    return CHOOSE(BLOCKS, encrypt_ecb, context->words, WORDS, data, BLOCKS, length);                                  \
   }                                                                                                                   \
   int cukvashe_##NAME##_decrypt_ecb(const cukvashe_##NAME *context, uint8_t *data, size_t length) {                   \
-    return CHOOSE(BLOCKS, decrypt_ecb, context->words, WORDS, data, length);                                          \
+    return CHOOSE(BLOCKS, decrypt_ecb, context->words, WORDS, data, BLOCKS, length);                                  \
   }                                                                                                                   \
   int cukvashe_##NAME##_encrypt_ecb_to(const cukvashe_##NAME *context, const uint8_t *input, uint8_t *output,         \
                                        size_t length) {                                                               \
     if (input == output) return cukvashe_##NAME##_encrypt_ecb(context, output, length);                               \
-    return CHOOSE(BLOCKS, encrypt_ecb_to, context->words, WORDS, input, length, output, length);                      \
+    return CHOOSE(BLOCKS, encrypt_ecb_to, context->words, WORDS, input, BLOCKS, output, BLOCKS, length);              \
   }                                                                                                                   \
   int cukvashe_##NAME##_decrypt_ecb_to(const cukvashe_##NAME *context, const uint8_t *input, uint8_t *output,         \
                                        size_t length) {                                                               \
     if (input == output) return cukvashe_##NAME##_decrypt_ecb(context, output, length);                               \
-    return CHOOSE(BLOCKS, decrypt_ecb_to, context->words, WORDS, input, length, output, length);                      \
+    return CHOOSE(BLOCKS, decrypt_ecb_to, context->words, WORDS, input, BLOCKS, output, BLOCKS, length);              \
   }                                                                                                                   \
   int cukvashe_##NAME##_encrypt_cbc(const cukvashe_##NAME *context, uint8_t iv[8], uint8_t *data, size_t length) {    \
-    return cukvashe_internal_encrypt_cbc(context->words, WORDS, iv, data, length);                                    \
+    return cukvashe_internal_encrypt_cbc(context->words, WORDS, iv, data, BLOCKS, length);                            \
   }                                                                                                                   \
   int cukvashe_##NAME##_decrypt_cbc(const cukvashe_##NAME *context, uint8_t iv[8], uint8_t *data, size_t length) {    \
-    return CHOOSE(BLOCKS, decrypt_cbc, context->words, WORDS, iv, data, length);                                      \
+    return CHOOSE(BLOCKS, decrypt_cbc, context->words, WORDS, iv, data, BLOCKS, length);                              \
   }                                                                                                                   \
   int cukvashe_##NAME##_encrypt_cbc_to(const cukvashe_##NAME *context, uint8_t iv[8], const uint8_t *input,           \
                                        uint8_t *output, size_t length) {                                              \
     if (input == output) return cukvashe_##NAME##_encrypt_cbc(context, iv, output, length);                           \
-    return cukvashe_internal_encrypt_cbc_to(context->words, WORDS, iv, input, length, output, length);                \
+    return cukvashe_internal_encrypt_cbc_to(context->words, WORDS, iv, input, BLOCKS, output, BLOCKS, length);        \
   }                                                                                                                   \
   int cukvashe_##NAME##_decrypt_cbc_to(const cukvashe_##NAME *context, uint8_t iv[8], const uint8_t *input,           \
                                        uint8_t *output, size_t length) {                                              \
     if (input == output) return cukvashe_##NAME##_decrypt_cbc(context, iv, output, length);                           \
-    return CHOOSE(BLOCKS, decrypt_cbc_to, context->words, WORDS, iv, input, length, output, length);                  \
+    return CHOOSE(BLOCKS, decrypt_cbc_to, context->words, WORDS, iv, input, BLOCKS, output, BLOCKS, length);          \
   }                                                                                                                   \
   int cukvashe_##NAME##_encrypt_cbc_records(const cukvashe_##NAME *context, uint8_t *vectors, const size_t *counts,   \
                                             size_t records_count, uint8_t *bytes, size_t length) {                    \
@@ -116,9 +116,9 @@ DEFINE_CIPHER(tdes_ede3, 49)
         cukvashe_internal_open_salted(KEY_SIZE, (uint32_t)hash, iterations, password, password_length, bytes, length, \
                                       plain, room, plain_length))
 
-DEFINE_CIPHER_OF_KEYS(des, 17, 8, 496, 1168, 10944, 19424, 13040, 21520, 11648)
-DEFINE_CIPHER_OF_KEYS(tdes_ede2, 33, 16, 496, 1168, 10768, 17360, 13040, 21632, 11648)
-DEFINE_CIPHER_OF_KEYS(tdes_ede3, 49, 24, 496, 1168, 10784, 17360, 13056, 19424, 11648)
+DEFINE_CIPHER_OF_KEYS(des, 17, 8, 496, 1168, 10944, 19424, 13040, 21520, 13344)
+DEFINE_CIPHER_OF_KEYS(tdes_ede2, 33, 16, 496, 1168, 10768, 17360, 13040, 21632, 13344)
+DEFINE_CIPHER_OF_KEYS(tdes_ede3, 49, 24, 496, 1168, 10784, 17360, 13056, 19424, 13344)
 
 /* MACs of a message in pieces. */
 #define DEFINE_MAC(NAME, ALGORITHM, WORDS)                                                                            \
@@ -155,10 +155,10 @@ DEFINE_MAC(cmac_tdes_ede3, ALGORITHM_CMAC, 49)
         CHOOSE(count, macs_each, ALGORITHM, (uint32_t)method, KEY_SIZE, keys, count * KEY_SIZE, messages, count,      \
                tags, count))
 
-DEFINE_MAC_OF_KEYS(cbc_mac_des, ALGORITHM_CBC_MAC, 17, 8, 576, 26912, 38736, 18336, 21648)
-DEFINE_MAC_OF_KEYS(cbc_mac_tdes_ede2, ALGORITHM_CBC_MAC, 33, 16, 576, 16320, 23792, 18336, 23936)
-DEFINE_MAC_OF_KEYS(cbc_mac_tdes_ede3, ALGORITHM_CBC_MAC, 49, 24, 576, 16320, 23792, 18336, 23936)
-DEFINE_MAC_OF_KEYS(retail_mac_des, ALGORITHM_RETAIL_MAC, 34, 16, 576, 26912, 38736, 23904, 38896)
+DEFINE_MAC_OF_KEYS(cbc_mac_des, ALGORITHM_CBC_MAC, 17, 8, 576, 25936, 36736, 19360, 27872)
+DEFINE_MAC_OF_KEYS(cbc_mac_tdes_ede2, ALGORITHM_CBC_MAC, 33, 16, 576, 14352, 21824, 21536, 30144)
+DEFINE_MAC_OF_KEYS(cbc_mac_tdes_ede3, ALGORITHM_CBC_MAC, 49, 24, 576, 16176, 23648, 21536, 27888)
+DEFINE_MAC_OF_KEYS(retail_mac_des, ALGORITHM_RETAIL_MAC, 34, 16, 576, 15328, 21776, 19360, 27872)
 
 #define DEFINE_CMAC_OF_KEYS(NAME, WORDS, KEY_SIZE, INIT, MACS, MACS_WIDE, EACH, EACH_WIDE)                            \
   WIPES(int, NAME##_init, INIT, (cukvashe_##NAME * context, const uint8_t *key, size_t key_length),                   \
@@ -175,8 +175,8 @@ DEFINE_MAC_OF_KEYS(retail_mac_des, ALGORITHM_RETAIL_MAC, 34, 16, 576, 26912, 387
              CHOOSE(count, macs_each, ALGORITHM_CMAC, CUKVASHE_MAC_PADDING_2, KEY_SIZE, keys, count * KEY_SIZE,       \
                     messages, count, tags, count))
 
-DEFINE_CMAC_OF_KEYS(cmac_tdes_ede2, 33, 16, 576, 16320, 23808, 18336, 24000)
-DEFINE_CMAC_OF_KEYS(cmac_tdes_ede3, 49, 24, 576, 16320, 23808, 18336, 24000)
+DEFINE_CMAC_OF_KEYS(cmac_tdes_ede2, 33, 16, 576, 14384, 21872, 21552, 30240)
+DEFINE_CMAC_OF_KEYS(cmac_tdes_ede3, 49, 24, 576, 16208, 23696, 21552, 27984)
 
 void cukvashe_compare_tags(const uint8_t *tags, const uint8_t *expected, bool *right, size_t count) {
   (void)cukvashe_internal_compare_tags(tags, count, expected, count, right, count);
@@ -202,17 +202,6 @@ WIPES(bool, equal_but_parity, 32, (const uint8_t *first, const uint8_t *second, 
 DEFINE_COMBINE(8, 304)
 DEFINE_COMBINE(16, 304)
 DEFINE_COMBINE(24, 304)
-
-/* The export gives the content as a part of the block, by where it stands. */
-int cukvashe_key_block_optional_block(const char *block, size_t block_length, size_t place, char name[3],
-                                      size_t *offset, size_t *length) {
-  cukvashe_message content = {(const uint8_t *)block, 0};
-  int status = cukvashe_internal_key_block_optional_block(block, block_length, place, name, &content);
-  if (status != CUKVASHE_OK) return status;
-  *offset = (size_t)(content.bytes - (const uint8_t *)block);
-  *length = content.length;
-  return status;
-}
 
 const char *cukvashe_version(void) { return CUKVASHE_VERSION; }
 

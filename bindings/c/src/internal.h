@@ -2,7 +2,7 @@
 #ifndef INTERNAL_H
 #define INTERNAL_H
 
-#include "ways.h"
+#include "narrow.h"
 #include <cukvashe_des.h>
 
 /* Whether the library has wide calls. It takes them where the processor has x86-64-v3. */
@@ -13,15 +13,16 @@
 #endif
 
 /*
- * The proved exports (crates/des_c) that do not have the arguments of a call of the header. Each is there once for all ciphers, or MACs,
- * and knows which one it is by the words of a context, 17, 33 or 49 for a key of one part, two or three, by the size of a key in bytes,
+ * The proved exports (crates/des_c) that do not have the arguments of a call of the header. Those of ciphers and MACs are there once for
+ * all, and know which one it is by the words of a context, 17, 33 or 49 for a key of one part, two or three, by the size of a key in bytes,
  * and by the number of an algorithm. They take a slice as a pointer and a number of elements, so each of two slices has a number of its
  * own; a slice of slices is a pointer to such pairs, as cukvashe_message.
  */
 int cukvashe_internal_init(uint64_t *context, size_t words, const uint8_t *key, size_t key_length, bool quiet);
-int cukvashe_internal_encrypt_cbc(const uint64_t *context, size_t words, uint8_t iv[8], uint8_t *bytes, size_t length);
+int cukvashe_internal_encrypt_cbc(const uint64_t *context, size_t words, uint8_t iv[8], uint8_t *blocks,
+                                  size_t blocks_count, size_t length);
 int cukvashe_internal_encrypt_cbc_to(const uint64_t *context, size_t words, uint8_t iv[8], const uint8_t *input,
-                                     size_t input_length, uint8_t *output, size_t output_length);
+                                     size_t input_count, uint8_t *output, size_t output_count, size_t length);
 int cukvashe_internal_check_value(size_t key_size, const uint8_t *key, size_t key_length, uint8_t value[3]);
 int cukvashe_internal_open_salted(size_t key_size, uint32_t hash, size_t iterations, const uint8_t *password,
                                   size_t password_length, const uint8_t *bytes, size_t length, uint8_t *plain,
@@ -33,10 +34,8 @@ bool cukvashe_internal_equal_but_parity(const uint8_t *first, size_t first_lengt
 int cukvashe_internal_pad(uint8_t *buffer, size_t capacity, size_t length, int method, size_t *padded_length);
 int cukvashe_internal_compare_tags(const uint8_t *tags, size_t tags_count, const uint8_t *expected,
                                    size_t expected_count, bool *right, size_t right_count);
-int cukvashe_internal_key_block_optional_block(const char *block, size_t block_length, size_t place, char name[3],
-                                               cukvashe_message *content);
 
-/* MACs by the numbers of their algorithms in ISO/IEC 9797-1:2011. CMAC takes padding method 2 here. */
+/* MACs by the numbers of their algorithms in ISO/IEC 9797-1:2011. CMAC takes padding method 1 or 2 here too, which plays no part. */
 enum algorithm { ALGORITHM_CBC_MAC = 1, ALGORITHM_RETAIL_MAC = 3, ALGORITHM_CMAC = 5 };
 
 /* The context of a MAC is that of its cipher, of the retail MAC those of both keys, and then a message: how far it has come. */
@@ -50,15 +49,18 @@ int cukvashe_internal_mac_verify(uint32_t algorithm, const uint64_t *context, si
                                  const uint8_t *tag, size_t tag_length);
 
 /* Those that work through lists of blocks, keys or messages in batches (crates/des_c/src/lists): 128 at a time, on any processor. */
-int cukvashe_internal_encrypt_ecb(const uint64_t *context, size_t words, uint8_t *bytes, size_t length);
-int cukvashe_internal_decrypt_ecb(const uint64_t *context, size_t words, uint8_t *bytes, size_t length);
-int cukvashe_internal_encrypt_ecb_to(const uint64_t *context, size_t words, const uint8_t *input, size_t input_length,
-                                     uint8_t *output, size_t output_length);
-int cukvashe_internal_decrypt_ecb_to(const uint64_t *context, size_t words, const uint8_t *input, size_t input_length,
-                                     uint8_t *output, size_t output_length);
-int cukvashe_internal_decrypt_cbc(const uint64_t *context, size_t words, uint8_t iv[8], uint8_t *bytes, size_t length);
+int cukvashe_internal_encrypt_ecb(const uint64_t *context, size_t words, uint8_t *blocks, size_t blocks_count,
+                                  size_t length);
+int cukvashe_internal_decrypt_ecb(const uint64_t *context, size_t words, uint8_t *blocks, size_t blocks_count,
+                                  size_t length);
+int cukvashe_internal_encrypt_ecb_to(const uint64_t *context, size_t words, const uint8_t *input, size_t input_count,
+                                     uint8_t *output, size_t output_count, size_t length);
+int cukvashe_internal_decrypt_ecb_to(const uint64_t *context, size_t words, const uint8_t *input, size_t input_count,
+                                     uint8_t *output, size_t output_count, size_t length);
+int cukvashe_internal_decrypt_cbc(const uint64_t *context, size_t words, uint8_t iv[8], uint8_t *blocks,
+                                  size_t blocks_count, size_t length);
 int cukvashe_internal_decrypt_cbc_to(const uint64_t *context, size_t words, uint8_t iv[8], const uint8_t *input,
-                                     size_t input_length, uint8_t *output, size_t output_length);
+                                     size_t input_count, uint8_t *output, size_t output_count, size_t length);
 int cukvashe_internal_encrypt_cbc_records(const uint64_t *context, size_t words, uint8_t *vectors, size_t vectors_count,
                                           const size_t *sizes, size_t sizes_count, uint8_t *blocks,
                                           size_t blocks_count);

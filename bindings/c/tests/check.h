@@ -84,30 +84,32 @@ DEFINE_PUBLIC(tdes_ede3)
 /* Each width as well, whatever the length: names that the library hides. */
 #include "../src/internal.h"
 
-/* A context, as an export takes it. */
+/* A context, and data in one buffer and in two, as an export takes them: blocks, and how many bytes they are. */
 #define WORDS_OF(CONTEXT) (CONTEXT).words, sizeof(CONTEXT).words / sizeof *(CONTEXT).words
+#define IN_PLACE data, length / CUKVASHE_BLOCK_SIZE, length
+#define FROM_TO input, length / CUKVASHE_BLOCK_SIZE, output, length / CUKVASHE_BLOCK_SIZE, length
 
 #define DEFINE_FORCED(name, width)                                                                                    \
   static int name##_##width##_encrypt_ecb(const union context *c, uint8_t *data, size_t length) {                     \
-    return cukvashe_##width##_encrypt_ecb(WORDS_OF(c->name), data, length);                                           \
+    return cukvashe_##width##_encrypt_ecb(WORDS_OF(c->name), IN_PLACE);                                               \
   }                                                                                                                   \
   static int name##_##width##_decrypt_ecb(const union context *c, uint8_t *data, size_t length) {                     \
-    return cukvashe_##width##_decrypt_ecb(WORDS_OF(c->name), data, length);                                           \
+    return cukvashe_##width##_decrypt_ecb(WORDS_OF(c->name), IN_PLACE);                                               \
   }                                                                                                                   \
   static int name##_##width##_encrypt_ecb_to(const union context *c, const uint8_t *input, uint8_t *output,           \
                                              size_t length) {                                                         \
-    return cukvashe_##width##_encrypt_ecb_to(WORDS_OF(c->name), input, length, output, length);                       \
+    return cukvashe_##width##_encrypt_ecb_to(WORDS_OF(c->name), FROM_TO);                                             \
   }                                                                                                                   \
   static int name##_##width##_decrypt_ecb_to(const union context *c, const uint8_t *input, uint8_t *output,           \
                                              size_t length) {                                                         \
-    return cukvashe_##width##_decrypt_ecb_to(WORDS_OF(c->name), input, length, output, length);                       \
+    return cukvashe_##width##_decrypt_ecb_to(WORDS_OF(c->name), FROM_TO);                                             \
   }                                                                                                                   \
   static int name##_##width##_decrypt_cbc(const union context *c, uint8_t *iv, uint8_t *data, size_t length) {        \
-    return cukvashe_##width##_decrypt_cbc(WORDS_OF(c->name), iv, data, length);                                       \
+    return cukvashe_##width##_decrypt_cbc(WORDS_OF(c->name), iv, IN_PLACE);                                           \
   }                                                                                                                   \
   static int name##_##width##_decrypt_cbc_to(const union context *c, uint8_t *iv, const uint8_t *input,               \
                                              uint8_t *output, size_t length) {                                        \
-    return cukvashe_##width##_decrypt_cbc_to(WORDS_OF(c->name), iv, input, length, output, length);                   \
+    return cukvashe_##width##_decrypt_cbc_to(WORDS_OF(c->name), iv, FROM_TO);                                         \
   }
 
 #define FORCED_WAY(name, width)                                                                                       \

@@ -62,24 +62,26 @@ static int made(const char *name, const uintptr_t *arguments, size_t size) {
 }
 
 #define IN_PLACE(WIDTH, CALL)                                                                                         \
-  int cukvashe_##WIDTH##_##CALL(const uint64_t *context, size_t words, uint8_t *bytes, size_t length) {               \
-    return made(#WIDTH " " #CALL, ARGUMENTS(A(context), words, A(bytes), length));                                    \
+  int cukvashe_##WIDTH##_##CALL(const uint64_t *context, size_t words, uint8_t *blocks, size_t blocks_count,          \
+                                size_t length) {                                                                      \
+    return made(#WIDTH " " #CALL, ARGUMENTS(A(context), words, A(blocks), blocks_count, length));                     \
   }
 #define TO_OTHER(WIDTH, CALL)                                                                                         \
-  int cukvashe_##WIDTH##_##CALL(const uint64_t *context, size_t words, const uint8_t *input, size_t input_length,     \
-                                uint8_t *output, size_t output_length) {                                              \
-    return made(#WIDTH " " #CALL, ARGUMENTS(A(context), words, A(input), input_length, A(output), output_length));    \
+  int cukvashe_##WIDTH##_##CALL(const uint64_t *context, size_t words, const uint8_t *input, size_t input_count,      \
+                                uint8_t *output, size_t output_count, size_t length) {                                \
+    return made(#WIDTH " " #CALL,                                                                                     \
+                ARGUMENTS(A(context), words, A(input), input_count, A(output), output_count, length));                \
   }
 #define CHAIN(WIDTH, CALL)                                                                                            \
-  int cukvashe_##WIDTH##_##CALL(const uint64_t *context, size_t words, uint8_t iv[8], uint8_t *bytes,                 \
-                                size_t length) {                                                                      \
-    return made(#WIDTH " " #CALL, ARGUMENTS(A(context), words, A(iv), A(bytes), length));                             \
+  int cukvashe_##WIDTH##_##CALL(const uint64_t *context, size_t words, uint8_t iv[8], uint8_t *blocks,                \
+                                size_t blocks_count, size_t length) {                                                 \
+    return made(#WIDTH " " #CALL, ARGUMENTS(A(context), words, A(iv), A(blocks), blocks_count, length));              \
   }
 #define CHAIN_TO_OTHER(WIDTH, CALL)                                                                                   \
   int cukvashe_##WIDTH##_##CALL(const uint64_t *context, size_t words, uint8_t iv[8], const uint8_t *input,           \
-                                size_t input_length, uint8_t *output, size_t output_length) {                         \
+                                size_t input_count, uint8_t *output, size_t output_count, size_t length) {            \
     return made(#WIDTH " " #CALL,                                                                                     \
-                ARGUMENTS(A(context), words, A(iv), A(input), input_length, A(output), output_length));               \
+                ARGUMENTS(A(context), words, A(iv), A(input), input_count, A(output), output_count, length));         \
   }
 #define RECORDS(WIDTH, CALL)                                                                                          \
   int cukvashe_##WIDTH##_##CALL(const uint64_t *context, size_t words, uint8_t *vectors, size_t vectors_count,        \
@@ -180,16 +182,6 @@ int cukvashe_internal_pad(uint8_t *buffer, size_t capacity, size_t length, int m
   return made("internal pad", ARGUMENTS(A(buffer), capacity, length, (uintptr_t)method, A(padded_length)));
 }
 
-/* The content is the last two characters before the length, of the block at place 7. */
-int cukvashe_internal_key_block_optional_block(const char *block, size_t block_length, size_t place, char name[3],
-                                               cukvashe_message *content) {
-  CHECK(content->bytes == (const uint8_t *)block && content->length == 0);
-  made("internal key_block_optional_block", ARGUMENTS(A(block), block_length, place, A(name)));
-  if (place != 7) return STATUS;
-  *content = (cukvashe_message){(const uint8_t *)block + block_length - 2, 2};
-  return CUKVASHE_OK;
-}
-
 static bool answer;
 
 bool cukvashe_internal_equal_but_parity(const uint8_t *first, size_t first_length, const uint8_t *second,
@@ -222,32 +214,33 @@ static size_t number;
 #define CIPHER(NAME, WORDS, KEY_SIZE)                                                                                 \
   static cukvashe_##NAME NAME;                                                                                        \
   static void NAME##_of_length(size_t length) {                                                                       \
-    const char *width = width_of(length / 8);                                                                         \
+    const size_t blocks = length / 8;                                                                                 \
+    const char *width = width_of(blocks);                                                                             \
     const uintptr_t context = A(NAME.words);                                                                          \
     CHECK(cukvashe_##NAME##_encrypt_ecb(&NAME, output, length) == STATUS);                                            \
-    WAS(width, "encrypt_ecb", context, WORDS, A(output), length);                                                     \
+    WAS(width, "encrypt_ecb", context, WORDS, A(output), blocks, length);                                             \
     CHECK(cukvashe_##NAME##_decrypt_ecb(&NAME, output, length) == STATUS);                                            \
-    WAS(width, "decrypt_ecb", context, WORDS, A(output), length);                                                     \
+    WAS(width, "decrypt_ecb", context, WORDS, A(output), blocks, length);                                             \
     CHECK(cukvashe_##NAME##_encrypt_ecb_to(&NAME, input, output, length) == STATUS);                                  \
-    WAS(width, "encrypt_ecb_to", context, WORDS, A(input), length, A(output), length);                                \
+    WAS(width, "encrypt_ecb_to", context, WORDS, A(input), blocks, A(output), blocks, length);                        \
     CHECK(cukvashe_##NAME##_decrypt_ecb_to(&NAME, input, output, length) == STATUS);                                  \
-    WAS(width, "decrypt_ecb_to", context, WORDS, A(input), length, A(output), length);                                \
+    WAS(width, "decrypt_ecb_to", context, WORDS, A(input), blocks, A(output), blocks, length);                        \
     CHECK(cukvashe_##NAME##_encrypt_cbc(&NAME, iv, output, length) == STATUS);                                        \
-    WAS("internal", "encrypt_cbc", context, WORDS, A(iv), A(output), length);                                         \
+    WAS("internal", "encrypt_cbc", context, WORDS, A(iv), A(output), blocks, length);                                 \
     CHECK(cukvashe_##NAME##_decrypt_cbc(&NAME, iv, output, length) == STATUS);                                        \
-    WAS(width, "decrypt_cbc", context, WORDS, A(iv), A(output), length);                                              \
+    WAS(width, "decrypt_cbc", context, WORDS, A(iv), A(output), blocks, length);                                      \
     CHECK(cukvashe_##NAME##_encrypt_cbc_to(&NAME, iv, input, output, length) == STATUS);                              \
-    WAS("internal", "encrypt_cbc_to", context, WORDS, A(iv), A(input), length, A(output), length);                    \
+    WAS("internal", "encrypt_cbc_to", context, WORDS, A(iv), A(input), blocks, A(output), blocks, length);            \
     CHECK(cukvashe_##NAME##_decrypt_cbc_to(&NAME, iv, input, output, length) == STATUS);                              \
-    WAS(width, "decrypt_cbc_to", context, WORDS, A(iv), A(input), length, A(output), length);                         \
+    WAS(width, "decrypt_cbc_to", context, WORDS, A(iv), A(input), blocks, A(output), blocks, length);                 \
     CHECK(cukvashe_##NAME##_encrypt_ecb_to(&NAME, output, output, length) == STATUS);                                 \
-    WAS(width, "encrypt_ecb", context, WORDS, A(output), length);                                                     \
+    WAS(width, "encrypt_ecb", context, WORDS, A(output), blocks, length);                                             \
     CHECK(cukvashe_##NAME##_decrypt_ecb_to(&NAME, output, output, length) == STATUS);                                 \
-    WAS(width, "decrypt_ecb", context, WORDS, A(output), length);                                                     \
+    WAS(width, "decrypt_ecb", context, WORDS, A(output), blocks, length);                                             \
     CHECK(cukvashe_##NAME##_encrypt_cbc_to(&NAME, iv, output, output, length) == STATUS);                             \
-    WAS("internal", "encrypt_cbc", context, WORDS, A(iv), A(output), length);                                         \
+    WAS("internal", "encrypt_cbc", context, WORDS, A(iv), A(output), blocks, length);                                 \
     CHECK(cukvashe_##NAME##_decrypt_cbc_to(&NAME, iv, output, output, length) == STATUS);                             \
-    WAS(width, "decrypt_cbc", context, WORDS, A(iv), A(output), length);                                              \
+    WAS(width, "decrypt_cbc", context, WORDS, A(iv), A(output), blocks, length);                                      \
   }                                                                                                                   \
   static void NAME##_of_records(size_t count, size_t length) {                                                        \
     const uintptr_t context = A(NAME.words);                                                                          \
@@ -391,18 +384,6 @@ static void hands_on_any_blocks(size_t length) {
   for (size_t i = 0; i < sizeof counts / sizeof *counts; i++) hands_on_blocks(counts[i], length);
 }
 
-static void gives_places(void) {
-  static const char text[30];
-  char name[3];
-  size_t offset = 3, length = 4;
-  CHECK(cukvashe_key_block_optional_block(text, 30, 6, name, &offset, &length) == STATUS && offset == 3 && length == 4);
-  WAS("internal", "key_block_optional_block", A(text), 30, 6, A(name));
-  CHECK(cukvashe_key_block_optional_block(text, 30, 7, name, &offset, &length) == CUKVASHE_OK && offset == 28 && length == 2);
-  WAS("internal", "key_block_optional_block", A(text), 30, 7, A(name));
-  CHECK(cukvashe_key_block_optional_block(NULL, 0, 6, name, &offset, &length) == STATUS);
-  WAS("internal", "key_block_optional_block", A(NULL), 0, 6, A(name));
-}
-
 static void hands_on_the_rest(void) {
   des_of_key();
   tdes_ede2_of_key();
@@ -481,7 +462,6 @@ int main(int count, char **words) {
   for (size_t i = 0; i < sizeof lengths / sizeof *lengths; i++) hands_on_any_blocks(lengths[i]);
   CHECK(questions == HAS_WIDE);
   hands_on_the_rest();
-  gives_places();
   cukvashe_wipe(NULL, 0);
   CHECK(cukvashe_strerror(-1) == cukvashe_strerror(INT_MIN) && cukvashe_strerror(0) != cukvashe_strerror(-1));
   for (size_t i = 0; i < SECRET; i++) secret[i] = (uint8_t)(3 * i + 101);

@@ -1,12 +1,12 @@
 -- The fields of a key block's header as C has them.
-use Rattle.std.specs.Prelude.{◌≡◌, ℕ, ◌≤◌, ◌==◌, ◌&&◌, ◌||◌, Bool, not, if◌then◌else◌, List, [], ◌∷◌, ◌++◌, length, map, take, slice_index, Option, Some, None, IsTrue}
+use Rattle.std.specs.Prelude.{◌≡◌, ℕ, ◌≤◌, ◌==◌, ◌&&◌, ◌||◌, Bool, not, if◌then◌else◌, List, [], ◌∷◌, ◌++◌, length, map}
+use Rattle.std.specs.Prelude.{take, drop, slice_index, Option, Some, None}
 use Rattle.std.specs.Char.{is_ascii_alphanumeric}
 use Rattle.des_payment.specs.KeyBlockHeaders.{version_text, usage_text, algorithm_text, mode_text, exportability_text}
-use Rattle.des_payment.specs.KeyBlockReading.{is_sealed_length}
-use Rattle.des_payment.specs.KeyBlocks.{key_data, front_text, size_of_block, HasParts, HoldsKey, IsKeyBlock, IsSealed}
+use Rattle.des_payment.specs.KeyBlocks.{key_data, front_text, size_of_block, HoldsKey, IsKeyBlock, IsSealed}
 use Rattle.des_payment.specs.OptionalBlocks.{AreOptionalBlocks, filled}
 use Rattle.des_payment.specs.declared.key_block_error.KeyBlockError.{KeyBlockError}
-use Rattle.des_payment.specs.declared.key_block_error.KeyBlockError.TheVariants.{Version as VersionFault, Header as HeaderFault}
+use Rattle.des_payment.specs.declared.key_block_error.KeyBlockError.TheVariants
 use Rattle.des_payment.specs.declared.key_block_header.Header.{Header}
 use Rattle.des_payment.specs.declared.key_block_header.Version.{Version}
 use Rattle.des_payment.specs.declared.key_block_header.Version.TheVariants.{B, C}
@@ -27,12 +27,7 @@ IsTextOf text header =
 -- a zero byte stands after it where the text is written
 abbrev pub IsWrittenTextOf : HeaderText → Header → Type 0
 IsWrittenTextOf text header =
-    (text.version ≡ version_text header.version)
-    × (text.usage ≡ usage_text header.usage ++ 0 ∷ [])
-    × (text.algorithm ≡ algorithm_text header.algorithm)
-    × (text.mode ≡ mode_text header.mode)
-    × (text.key_version ≡ header.key_version ++ 0 ∷ [])
-    × (text.exportability ≡ exportability_text header.exportability)
+    IsTextOf text header × (drop 2 text.usage ≡ 0 ∷ []) × (drop 2 text.key_version ≡ 0 ∷ [])
 
 -- ---- what is made
 
@@ -56,8 +51,8 @@ is_written text =
 -- the first fault, if a block can't be made under these fields
 abbrev pub text_fault : HeaderText → Option KeyBlockError
 text_fault text =
-    if not (is_made text) then Some VersionFault
-    else if not (is_written text) then Some HeaderFault
+    if not (is_made text) then Some TheVariants.Version
+    else if not (is_written text) then Some TheVariants.Header
     else None
 
 -- optional blocks stand one after the other, at most 99
@@ -70,15 +65,6 @@ AreReadable text = (blocks : List (List ℕ × List ℕ)) × ((length blocks ≤
 abbrev pub shown : List OptionalBlock → List (List ℕ × List ℕ)
 shown blocks = map (λ block. (block.name, block.content.now)) blocks
 
--- the parts of a block, as they show without a key: a header, optional blocks, and a rest as long as its version has it
-pub record HasLayout (block : List ℕ) : Type 0 where
-  pub header : Header
-  pub blocks : List (List ℕ × List ℕ)
-  pub front : List ℕ
-  pub rest : List ℕ
-  pub parts : HasParts header blocks front rest block
-  pub is_rest : IsTrue (is_sealed_length header.version (length rest))
-
 -- a block was opened: what it holds, and its texts as they were written
 pub record IsUnwrapped (protection block : List ℕ) (text : HeaderText) (key : List ℕ) (size : ℕ) : Type 0 where
   pub header : Header
@@ -88,23 +74,22 @@ pub record IsUnwrapped (protection block : List ℕ) (text : HeaderText) (key : 
   pub is_key : key ≡ with_zeros 24 bytes
   pub is_size : size ≡ length bytes
 
--- a block is that of a header, of optional blocks, a key and padding: of the texts of the header and of the blocks
-pub record IsWrapped (protection : List ℕ) (text : HeaderText) (optional key padding block : List ℕ) : Type 0 where
-  pub header : Header
-  pub blocks : List (List ℕ × List ℕ)
-  pub is_text : IsTextOf text header
-  pub are_optional : AreOptionalBlocks blocks optional
-  pub is_block : IsKeyBlock protection header (filled blocks) key padding block
+-- a text of so many characters is the block of a header, of optional blocks, a key and padding: what is written before
+-- key data, and then these, encrypted and authenticated
+pub record IsMade (protection : List ℕ) (header : Header) (blocks : List (List ℕ × List ℕ)) (key padding text : List ℕ)
+    (size : ℕ) : Type 0 where
+  pub sealed : List ℕ
+  pub is_block : IsKeyBlock protection header (filled blocks) key padding text
+  pub is_size : size ≡ size_of_block header.version blocks key padding
+  pub is_text : text ≡ front_text header (filled blocks) size ++ sealed
+  pub is_sealed : IsSealed header.version protection (front_text header (filled blocks) size) (key_data key padding)
+      sealed
 
--- the same block as a text: what is written before key data, and then these, encrypted and authenticated
-pub record IsWrappedText (protection : List ℕ) (text : HeaderText) (optional key padding block : List ℕ) (size : ℕ)
+-- the same of a header and of optional blocks of which these are the texts
+pub record IsWrapped (protection : List ℕ) (text : HeaderText) (optional key padding block : List ℕ) (size : ℕ)
     : Type 0 where
   pub header : Header
   pub blocks : List (List ℕ × List ℕ)
-  pub sealed : List ℕ
   pub is_text : IsTextOf text header
   pub are_optional : AreOptionalBlocks blocks optional
-  pub is_size : size ≡ size_of_block header.version blocks key padding
-  pub is_block : block ≡ front_text header (filled blocks) size ++ sealed
-  pub is_sealed : IsSealed header.version protection (front_text header (filled blocks) size) (key_data key padding)
-      sealed
+  pub is_made : IsMade protection header blocks key padding block size

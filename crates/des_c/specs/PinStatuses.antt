@@ -1,13 +1,13 @@
 -- The statuses of the faults of PIN blocks.
 use Rattle.std.specs.Prelude.{ℤ}
-use Rattle.des_context.specs.declared.status.TheConstants.{ERR_FORMAT, ERR_PIN_LENGTH, ERR_PIN_DIGIT, ERR_ACCOUNT_LENGTH, ERR_ACCOUNT_DIGIT, ERR_FILL}
+use Rattle.des_context.specs.declared.status.TheConstants
 use Rattle.des_payment.specs.declared.pin_error.PinError.{PinError}
-use Rattle.des_payment.specs.declared.pin_error.PinError.TheVariants.{PinLength, PinDigit, AccountLength, AccountDigit, Fill, Format}
+use Rattle.des_payment.specs.declared.pin_error.PinError.TheVariants
 
 abbrev pub status_of : PinError → ℤ
-status_of Format = ERR_FORMAT
-status_of PinLength = ERR_PIN_LENGTH
-status_of PinDigit = ERR_PIN_DIGIT
-status_of AccountLength = ERR_ACCOUNT_LENGTH
-status_of AccountDigit = ERR_ACCOUNT_DIGIT
-status_of Fill = ERR_FILL
+status_of TheVariants.Format = TheConstants.ERR_FORMAT
+status_of TheVariants.PinLength = TheConstants.ERR_PIN_LENGTH
+status_of TheVariants.PinDigit = TheConstants.ERR_PIN_DIGIT
+status_of TheVariants.AccountLength = TheConstants.ERR_ACCOUNT_LENGTH
+status_of TheVariants.AccountDigit = TheConstants.ERR_ACCOUNT_DIGIT
+status_of TheVariants.Fill = TheConstants.ERR_FILL

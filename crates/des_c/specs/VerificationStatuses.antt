@@ -1,24 +1,24 @@
 -- The statuses of the faults of PIN verification.
 use Rattle.std.specs.Prelude.{ℕ, ℤ, List}
 use Rattle.std.specs.Option.{option_or}
-use Rattle.des_context.specs.declared.status.TheConstants.{ERR_ACCOUNT_LENGTH, ERR_ACCOUNT_DIGIT, ERR_KEY_INDEX, ERR_KEY_LENGTH, ERR_PIN_LENGTH, ERR_TABLE_LENGTH, ERR_TABLE_DIGIT, ERR_TABLE_VARIETY, ERR_WRONG_PIN}
+use Rattle.des_context.specs.declared.status.TheConstants
 use Rattle.des_payment.specs.PinBlocks.{pin_fault}
 use Rattle.des_payment.specs.PinVerification.{pvv_fault, table_fault, key_fault}
 use Rattle.des_payment.specs.declared.verification_error.VerificationError.{VerificationError}
-use Rattle.des_payment.specs.declared.verification_error.VerificationError.TheVariants.{AccountLength, AccountDigit, KeyIndex, KeyLength, PinLength, TableLength, TableDigit, TableVariety, WrongPin}
+use Rattle.des_payment.specs.declared.verification_error.VerificationError.TheVariants
 use Rattle.des_c.specs.PinStatuses.{status_of as status_of_pin}
 use Rattle.des_c.specs.Statuses.{status_after, status_or}
 
 abbrev pub status_of : VerificationError → ℤ
-status_of AccountLength = ERR_ACCOUNT_LENGTH
-status_of AccountDigit = ERR_ACCOUNT_DIGIT
-status_of KeyIndex = ERR_KEY_INDEX
-status_of KeyLength = ERR_KEY_LENGTH
-status_of PinLength = ERR_PIN_LENGTH
-status_of TableLength = ERR_TABLE_LENGTH
-status_of TableDigit = ERR_TABLE_DIGIT
-status_of TableVariety = ERR_TABLE_VARIETY
-status_of WrongPin = ERR_WRONG_PIN
+status_of TheVariants.AccountLength = TheConstants.ERR_ACCOUNT_LENGTH
+status_of TheVariants.AccountDigit = TheConstants.ERR_ACCOUNT_DIGIT
+status_of TheVariants.KeyIndex = TheConstants.ERR_KEY_INDEX
+status_of TheVariants.KeyLength = TheConstants.ERR_KEY_LENGTH
+status_of TheVariants.PinLength = TheConstants.ERR_PIN_LENGTH
+status_of TheVariants.TableLength = TheConstants.ERR_TABLE_LENGTH
+status_of TheVariants.TableDigit = TheConstants.ERR_TABLE_DIGIT
+status_of TheVariants.TableVariety = TheConstants.ERR_TABLE_VARIETY
+status_of TheVariants.WrongPin = TheConstants.ERR_WRONG_PIN
 
 -- ---- the status of the first fault, `OK` where there is none
 

@@ -1,9 +1,9 @@
 //! The exports that make a context, and those that encrypt by CBC, block after block at any width.
 
-ghost use Rattle.std.specs.Prelude.{◌≡◌, ◌≢◌, ◌↔◌, ◌+◌, ◌*◌, ℕ, List, length, IsTrue};
+ghost use Rattle.std.specs.Prelude.{◌≡◌, ◌≢◌, ◌↔◌, ◌+◌, ◌*◌, ℕ, List, length};
 ghost use Rattle.des.specs.Cbc.{Chains, next_vector};
-ghost use Rattle.des_context.specs.Bytes.{AreWhole, FitInto, blocks_of};
-ghost use Rattle.des_context.specs.Contexts.{HasAForm, IsContextOf, IsQuiet};
+ghost use Rattle.des_context.specs.Bytes.{AreBytesOf, FitInto};
+ghost use Rattle.des_context.specs.Contexts.{HasAForm, IsContextOf, IsMarked};
 ghost use Rattle.des_context.specs.Forms.{relation_of};
 
 use des_context::status::{ERR_BLOCKS, ERR_KEY_LENGTH, OK};
@@ -18,7 +18,7 @@ pub extern "C" fn cukvashe_internal_init(context: &mut [u64], key: &[u8], quiet:
     ensures accepted { (result ≡ OK) ↔ (2 * length key.now + 1 ≡ length context.old) }
     ensures refused { (result ≡ ERR_KEY_LENGTH) ↔ (2 * length key.now + 1 ≢ length context.old) }
     ensures made { result ≡ OK → IsContextOf context.new key.now }
-    ensures quiet { result ≡ OK → IsQuiet context.new ↔ IsTrue quiet }
+    ensures quiet { result ≡ OK → IsMarked quiet context.new }
     ensures kept { result ≢ OK → context.new ≡ context.old }
 {
     contexts::init(context, key, quiet)
@@ -30,17 +30,18 @@ pub extern "C" fn cukvashe_internal_init(context: &mut [u64], key: &[u8], quiet:
 pub extern "C" fn cukvashe_internal_encrypt_cbc(
     context: &[u64],
     iv: &mut [u8; 8],
-    bytes: &mut [u8],
+    blocks: &mut [[u8; 8]],
+    size: usize,
 ) -> i32
     requires { (key : List ℕ) × IsContextOf context.now key }
-    ensures accepted { (result ≡ OK) ↔ AreWhole bytes.old }
-    ensures refused { (result ≡ ERR_BLOCKS) ↔ ¬ (AreWhole bytes.old) }
+    ensures accepted { (result ≡ OK) ↔ AreBytesOf blocks.old size }
+    ensures refused { (result ≡ ERR_BLOCKS) ↔ ¬ (AreBytesOf blocks.old size) }
     ensures chained { result ≡ OK → (key : List ℕ) → IsContextOf context.now key
-        → Chains (relation_of key) iv.old (blocks_of bytes.old) (blocks_of bytes.new) }
-    ensures goes_on { result ≡ OK → iv.new ≡ next_vector iv.old (blocks_of bytes.new) }
-    ensures kept { result ≢ OK → (bytes.new ≡ bytes.old) × (iv.new ≡ iv.old) }
+        → Chains (relation_of key) iv.old blocks.old blocks.new }
+    ensures goes_on { result ≡ OK → iv.new ≡ next_vector iv.old blocks.new }
+    ensures kept { result ≢ OK → (blocks.new ≡ blocks.old) × (iv.new ≡ iv.old) }
 {
-    calls::encrypt_cbc(context, iv, bytes)
+    calls::encrypt_cbc(context, iv, blocks, size)
 }
 
 /// Writes the bytes of `input`, encrypted as by `cukvashe_internal_encrypt_cbc`, to `output`. The
@@ -50,16 +51,21 @@ pub extern "C" fn cukvashe_internal_encrypt_cbc(
 pub extern "C" fn cukvashe_internal_encrypt_cbc_to(
     context: &[u64],
     iv: &mut [u8; 8],
-    input: &[u8],
-    output: &mut [u8],
+    input: &[[u8; 8]],
+    output: &mut [[u8; 8]],
+    size: usize,
 ) -> i32
     requires { (key : List ℕ) × IsContextOf context.now key }
-    ensures accepted { (result ≡ OK) ↔ FitInto output.old input.now }
-    ensures refused { (result ≡ ERR_BLOCKS) ↔ ¬ (FitInto output.old input.now) }
+    ensures accepted { (result ≡ OK) ↔ FitInto output.old input.now size }
+    ensures refused { (result ≡ ERR_BLOCKS) ↔ ¬ (FitInto output.old input.now size) }
     ensures chained { result ≡ OK → (key : List ℕ) → IsContextOf context.now key
-        → Chains (relation_of key) iv.old (blocks_of input.now) (blocks_of output.new) }
-    ensures goes_on { result ≡ OK → iv.new ≡ next_vector iv.old (blocks_of output.new) }
+        → Chains (relation_of key) iv.old input.now output.new }
+    ensures goes_on { result ≡ OK → iv.new ≡ next_vector iv.old output.new }
     ensures kept { result ≢ OK → (output.new ≡ output.old) × (iv.new ≡ iv.old) }
 {
-    calls::encrypt_cbc_to(context, iv, input, output)
+    if calls::copy_whole(input, output, size) {
+        calls::encrypt_cbc(context, iv, output, size)
+    } else {
+        ERR_BLOCKS
+    }
 }

@@ -20,9 +20,9 @@ use des_context::status::{ERR_KEY_LENGTH, ERR_WEAK_KEY, OK};
 #[unsafe(no_mangle)]
 pub extern "C" fn cukvashe_weak_key_test(key: &[u8]) -> i32
     ensures passed { (result ≡ OK)
-        ↔ (IsKeyLength (length key.now) × (IsRefused key.now → ⊥)) }
+        ↔ (IsKeyLength (length key.now) × ¬ (IsRefused key.now)) }
     ensures refused { (result ≡ ERR_WEAK_KEY) ↔ (IsKeyLength (length key.now) × IsRefused key.now) }
-    ensures key_length { (result ≡ ERR_KEY_LENGTH) ↔ (IsKeyLength (length key.now) → ⊥) }
+    ensures key_length { (result ≡ ERR_KEY_LENGTH) ↔ ¬ (IsKeyLength (length key.now)) }
 {
     if !matches!(key.len(), 8 | 16 | 24) {
         return ERR_KEY_LENGTH;

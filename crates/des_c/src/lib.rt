@@ -1,13 +1,13 @@
-//! The library for C: the ciphers of `des_fast` and the MACs of `des_mac` over contexts of the
-//! caller's, the weak key test and parity, and the calls of `des_payment`. Each export states what
-//! the call that it makes promises, and `bindings/c/cukvashe_des.h` says what a caller has to
-//! uphold.
+//! The library for C. The exports of contexts, MACs, lists, components and passwords are mostly
+//! lines over calls of `des_context`. The others call other crates, and have code that turns texts
+//! and faults into those of C. Each states what it does, and `bindings/c/cukvashe_des.h` says what a
+//! caller has to uphold.
 //!
-//! The exports that begin with `cukvashe_internal_` are not the header's: one serves each cipher,
-//! MAC and padding that a call is for, and is told by the number of a context's words, the size of
-//! a key or a number of a standard which one is meant. The library hides them. The header's calls
+//! The exports that begin with `cukvashe_internal_` are not the header's: they take other arguments,
+//! or serve all ciphers or MACs, and are told by the number of a context's words, the size of a key
+//! or a number of a standard which one is meant. The library hides them. The header's calls
 //! are lines of C over them, in `bindings/c/src/cukvashe_des.c`, and `bindings/c/src/internal.h`
-//! declares them. All other exports are calls of the header as they stand.
+//! declares them. Every other export is a call of the header, with its arguments.
 //!
 //! The exports of `lists`, and no others, depend on the width of vectors. The library has them
 //! twice, from this one text: as they stand here, and for vectors of 256 bits.

@@ -3,7 +3,7 @@
 
 ghost use Rattle.std.specs.Prelude.{◌≡◌, ◌≢◌, ◌↔◌, ◌<◌, ℕ, List, [], ◌++◌, length, drop, slice_index_or, false, IsTrue};
 ghost use Rattle.des_mac.specs.Tags.{IsTruncated};
-ghost use Rattle.des_context.specs.Contexts.{IsQuiet};
+ghost use Rattle.des_context.specs.Contexts.{IsMarked};
 ghost use Rattle.des_context.specs.MacAlgorithms.{IsAlgorithm, mac_by};
 ghost use Rattle.des_context.specs.MacContexts.{HasMacForm, IsAMac, IsMacOf, key_size_of, words_of_chain};
 ghost use Rattle.des_context.specs.PaddingMethods.{status_of};
@@ -13,9 +13,9 @@ use des_context::status::{ERR_COUNTS, ERR_TAG, OK};
 use des_mac::many;
 
 /// Makes the words of a MAC of the bytes of a key, quiet ones, whose calls read no table, or quick
-/// ones, and the message of no bytes, with padding method 1 or 2. The status of a key of another
-/// length than the words have room for is `ERR_KEY_LENGTH`, of another padding
-/// `ERR_PADDING_METHOD`; the words and the message then stay as they were.
+/// ones, and the message of no bytes, with padding method 1 or 2, which plays no part in CMAC. The
+/// status of a key of another length than the words have room for is `ERR_KEY_LENGTH`, of another
+/// padding `ERR_PADDING_METHOD`; the words and the message then stay as they were.
 #[unsafe(no_mangle)]
 pub extern "C" fn cukvashe_internal_mac_init(
     algorithm: u32,
@@ -29,9 +29,9 @@ pub extern "C" fn cukvashe_internal_mac_init(
     requires form { HasMacForm algorithm context.old }
     ensures status { result ≡ status_of (key_size_of context.old) (length key.now) padding }
     ensures made { result ≡ OK → IsMacOf algorithm context.new message.new padding key.now [] }
-    ensures quiet { result ≡ OK → IsQuiet (words_of_chain algorithm context.new) ↔ IsTrue quiet }
+    ensures quiet { result ≡ OK → IsMarked quiet (words_of_chain algorithm context.new) }
     ensures second_quiet { result ≡ OK → algorithm ≡ 3
-        → IsQuiet (drop 17 context.new) ↔ IsTrue quiet }
+        → IsMarked quiet (drop 17 context.new) }
     ensures kept { result ≢ OK → (context.new ≡ context.old) × (message.new ≡ message.old) }
 {
     macs::init(algorithm, context, message, key, padding, quiet)
@@ -83,7 +83,7 @@ pub extern "C" fn cukvashe_internal_mac_verify(
         → (result ≡ OK) ↔ IsTruncated tag.now (mac_by algorithm padding key m) }
     ensures refused { (padding : ℕ) (key m : List ℕ)
         → IsMacOf algorithm context.now message.now padding key m
-        → (result ≡ ERR_TAG) ↔ (IsTruncated tag.now (mac_by algorithm padding key m) → ⊥) }
+        → (result ≡ ERR_TAG) ↔ ¬ (IsTruncated tag.now (mac_by algorithm padding key m)) }
 {
     macs::verify(algorithm, context, message, tag)
 }

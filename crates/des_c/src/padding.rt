@@ -1,6 +1,6 @@
 //! The exports of padding to whole blocks, and back.
 
-ghost use Rattle.std.specs.Prelude.{◌≡◌, ◌≢◌, ◌↔◌, ◌⊎◌, ◌+◌, ◌-◌, ◌%◌, ◌<◌, ◌≤◌, ℕ, List, length, take, drop};
+ghost use Rattle.std.specs.Prelude.{◌≡◌, ◌≢◌, ◌↔◌, ◌⊎◌, ◌<◌, ◌≤◌, ℕ, List, length, take, drop};
 ghost use Rattle.des_context.specs.Bytes.{AreWhole};
 ghost use Rattle.des_io.specs.PaddedBytes.{padded};
 ghost use Rattle.des_io.specs.declared.padding.Padding.{Padding};

@@ -1,14 +1,12 @@
 //! The exports of keys from passwords, and of what `openssl enc` encrypted under them.
 
-ghost use Rattle.std.specs.Prelude.{◌≡◌, ◌≢◌, ◌≤◌, List, ℕ, Some, length, take, drop};
+ghost use Rattle.std.specs.Prelude.{◌≡◌, ◌≢◌, Some, length};
 ghost use Rattle.des_context.specs.Keys.{IsKeyLength};
-ghost use Rattle.des_context.specs.Passwords.{with_no_pbkdf2, with_pbkdf2, derivation_by, derive_status, bytes_to_key_status};
-ghost use Rattle.des_context.specs.Salted.{HoldsPlain, IsSaltedFault};
+ghost use Rattle.des_context.specs.Passwords.{with_no_pbkdf2, with_pbkdf2, derivation_by, IsDeriveStatus, IsSaltLength};
+ghost use Rattle.des_context.specs.Salted.{HoldsPlain, IsSaltedFault, Opens};
 ghost use Rattle.des_passwords.specs.Derivations.{derived};
 
-use des_context::passwords::{
-    by_bytes_to_key, by_pbkdf2, derivation_of, is_salt_length, write_key,
-};
+use des_context::passwords::{by_bytes_to_key, by_pbkdf2, derivation_of, write_key};
 use des_context::salted::open_salted;
 use des_context::status::{ERR_SALT_LENGTH, OK};
 use des_passwords::Derivation;
@@ -25,7 +23,7 @@ pub extern "C" fn cukvashe_pbkdf2(
     iterations: usize,
     key: &mut [u8],
 ) -> i32
-    ensures status { result ≡ derive_status (with_pbkdf2 hash iterations) (length key.old) }
+    ensures status { IsDeriveStatus (with_pbkdf2 hash iterations) (length key.old) result }
     ensures key { result ≡ OK → (by : Derivation) → with_pbkdf2 hash iterations ≡ Some by
         → key.new ≡ derived by password.now salt.now (length key.old) }
     ensures kept { result ≢ OK → key.new ≡ key.old }
@@ -43,12 +41,14 @@ pub extern "C" fn cukvashe_bytes_to_key(
     salt: &[u8],
     key: &mut [u8],
 ) -> i32
-    ensures status { result ≡ bytes_to_key_status hash (length salt.now) (length key.old) }
+    ensures salt { ¬ (IsSaltLength (length salt.now)) → result ≡ ERR_SALT_LENGTH }
+    ensures status { IsSaltLength (length salt.now)
+        → IsDeriveStatus (with_no_pbkdf2 hash) (length key.old) result }
     ensures key { result ≡ OK → (by : Derivation) → with_no_pbkdf2 hash ≡ Some by
         → key.new ≡ derived by password.now salt.now (length key.old) }
     ensures kept { result ≢ OK → key.new ≡ key.old }
 {
-    if !is_salt_length(salt.len()) {
+    if salt.len() != 0 && salt.len() != 8 {
         return ERR_SALT_LENGTH;
     }
     write_key(by_bytes_to_key(hash), password, salt, key)
@@ -59,8 +59,8 @@ pub extern "C" fn cukvashe_bytes_to_key(
 /// which is `-des-ede3-cbc`, under one of 24. `hash` is the number of the hash function of `-md`,
 /// `iterations` that of `-iter`, 10000 of `-pbkdf2` alone, and 0 of neither. The status is that of
 /// the first fault, and then `plain` and `plain_length` stay: `ERR_HASH`, `ERR_NOT_SALTED`,
-/// `ERR_SALT_LENGTH`, `ERR_ITERATIONS`, `ERR_BLOCKS`, `ERR_PADDING`, which a wrong password shows
-/// as, but one in 256, and `ERR_CAPACITY`.
+/// `ERR_SALT_LENGTH`, `ERR_ITERATIONS`, `ERR_BLOCKS`, `ERR_PADDING`, as for all but about one wrong
+/// password in 256, and `ERR_CAPACITY`.
 #[unsafe(no_mangle)]
 pub extern "C" fn cukvashe_internal_open_salted(
     key_size: usize,
@@ -72,18 +72,9 @@ pub extern "C" fn cukvashe_internal_open_salted(
     plain_length: &mut usize,
 ) -> i32
     requires { IsKeyLength key_size }
-    ensures opened { result ≡ OK → HoldsPlain key_size (derivation_by hash iterations)
-        password.now bytes.now (take plain_length.new plain.new) }
-    ensures only { (held : List ℕ) → HoldsPlain key_size (derivation_by hash iterations)
-        password.now bytes.now held → length held ≤ length plain.old
-        → (result ≡ OK) × (take plain_length.new plain.new ≡ held) }
-    ensures within { result ≡ OK → plain_length.new ≤ length plain.new }
-    ensures rest { result ≡ OK
-        → drop plain_length.new plain.new ≡ drop plain_length.new plain.old }
-    ensures fault { result ≢ OK → IsSaltedFault key_size (derivation_by hash iterations)
-        password.now bytes.now (length plain.old) result }
-    ensures kept { result ≢ OK
-        → (plain.new ≡ plain.old) × (plain_length.new ≡ plain_length.old) }
+    ensures { Opens (HoldsPlain key_size (derivation_by hash iterations) password.now bytes.now)
+        (IsSaltedFault key_size (derivation_by hash iterations) password.now bytes.now
+        (length plain.old)) plain.old plain.new plain_length.old plain_length.new result }
 {
     let derivation = derivation_of(hash, iterations);
     open_salted(key_size, derivation, password, bytes, plain, plain_length)

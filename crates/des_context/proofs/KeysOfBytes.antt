@@ -1,45 +1,31 @@
--- Keys of one size in a list of bytes: what each makes by its own length is what it makes by the size.
-use Rattle.std.proofs.Common.{◌≡◌, ℕ, zero, suc, ◌*◌, ◌/◌, ◌≤◌, List, [], ◌∷◌, length, take, drop, map, refl, ap, ap₂, sym, ◌∙◌, arith, length-take-le}
+-- Keys of one size in a list of bytes: what makes the same of each key of the size makes the same of them all.
+use Rattle.std.proofs.Common.{◌≡◌, ℕ, zero, suc, ◌*◌, ◌/◌, ◌≤◌, List, [], ◌∷◌, length, take, drop, map, refl, ap₂, arith, length-take-le}
 use Rattle.std.specs.Simd.{first_chunks}
 use Rattle.std.specs.Simd.Lanes.{zip2}
 use Rattle.std.proofs.Math.Nat.{div-mul-le_self}
 use Rattle.std.proofs.lemmas.List.{length-drop}
-use Rattle.des_context.specs.declared.ciphers.Form.{Form}
-use Rattle.des_context.specs.Forms.{form_of_length}
 use Rattle.des_context.specs.Keys.{keys_of}
 
--- what a key makes by a form
-module _ {A : Type 0} (size : ℕ) (by : Form → List ℕ → A) where
-  abbrev by_size : List ℕ → A
-  by_size key = by (form_of_length size) key
+module _ {A B : Type 0} (size : ℕ) (f g : List ℕ → A → B)
+    (same : (key : List ℕ) → length key ≡ size → (x : A) → f key x ≡ g key x) where
+  chunks-same : (n : ℕ) (bytes : List ℕ) (xs : List A) → n * size ≤ length bytes
+      → zip2 f (first_chunks size n bytes) xs ≡ zip2 g (first_chunks size n bytes) xs
+  chunks-same zero bytes xs room = refl
+  chunks-same (suc n) bytes [] room = refl
+  chunks-same (suc n) bytes (x ∷ xs) room =
+      ap₂ ◌∷◌ (same (take size bytes) (length-take-le size bytes (omega (arith, room))) x)
+      (chunks-same n (drop size bytes) xs (omega (arith, room, length-drop size bytes)))
 
-  abbrev by_length : List ℕ → A
-  by_length key = by (form_of_length (length key)) key
+  pub zipped-same : (bytes : List ℕ) (xs : List A) → zip2 f (keys_of size bytes) xs ≡ zip2 g (keys_of size bytes) xs
+  zipped-same bytes xs = chunks-same (length bytes / size) bytes xs (div-mul-le_self (length bytes) size)
 
-  same : (n : ℕ) (bytes : List ℕ) → n * size ≤ length bytes
-      → map by_size (first_chunks size n bytes) ≡ map by_length (first_chunks size n bytes)
-  same zero bytes room = refl
-  same (suc n) bytes room =
-      let key : List ℕ = take size bytes in
-      let sized : length key ≡ size = length-take-le size bytes (omega (arith, room)) in
-      ap₂ ◌∷◌ (ap (λ m. by (form_of_length m) key) (sym sized))
-      (same n (drop size bytes) (omega (arith, room, length-drop size bytes)))
+module _ {A : Type 0} (size : ℕ) (f g : List ℕ → A) (same : (key : List ℕ) → length key ≡ size → f key ≡ g key) where
+  mapped-chunks : (n : ℕ) (bytes : List ℕ) → n * size ≤ length bytes
+      → map f (first_chunks size n bytes) ≡ map g (first_chunks size n bytes)
+  mapped-chunks zero bytes room = refl
+  mapped-chunks (suc n) bytes room =
+      ap₂ ◌∷◌ (same (take size bytes) (length-take-le size bytes (omega (arith, room))))
+      (mapped-chunks n (drop size bytes) (omega (arith, room, length-drop size bytes)))
 
-  pub mapped-by_length : (bytes : List ℕ) (keys : List (List ℕ)) → keys ≡ keys_of size bytes
-      → map by_size keys ≡ map by_length (keys_of size bytes)
-  mapped-by_length bytes keys cut =
-      ap (map by_size) cut ∙ same (length bytes / size) bytes (div-mul-le_self (length bytes) size)
-
--- each function at its place is applied to a block
-applied : (f : List ℕ → List ℕ → List ℕ) (keys blocks : List (List ℕ))
-    → zip2 f keys blocks ≡ zip2 (λ g block. g block) (map f keys) blocks
-applied f [] blocks = refl
-applied f (key ∷ keys) [] = refl
-applied f (key ∷ keys) (block ∷ blocks) = ap (◌∷◌ (f key block)) (applied f keys blocks)
-
-pub zipped-by_length : (size : ℕ) (by : Form → List ℕ → List ℕ → List ℕ) (bytes : List ℕ) (keys blocks : List (List ℕ))
-    → keys ≡ keys_of size bytes → zip2 (by_size size by) keys blocks ≡ zip2 (by_length size by) (keys_of size bytes) blocks
-zipped-by_length size by bytes keys blocks cut =
-    applied (by_size size by) keys blocks
-    ∙ ap (λ functions. zip2 (λ g block. g block) functions blocks) (mapped-by_length size by bytes keys cut)
-    ∙ sym (applied (by_length size by) (keys_of size bytes) blocks)
+  pub mapped-same : (bytes : List ℕ) → map f (keys_of size bytes) ≡ map g (keys_of size bytes)
+  mapped-same bytes = mapped-chunks (length bytes / size) bytes (div-mul-le_self (length bytes) size)

@@ -1,14 +1,9 @@
-mod LentBlocks
-mod BlocksOfBytes
-mod SpreadSizes
 mod JoinedParts
-mod PartWords
-mod MadeContexts
-mod MacCases
 mod KeysOfBytes
-mod WholeBlocks
+mod MacCases
+mod MadeContexts
+mod OpenedBlocks
 pub mod PaddedCounts
-mod DecryptedBytes
-mod OpenedBytes
-mod OpenedTexts
+mod PartWords
 pub mod PasswordParts
+mod RelationsByLength

@@ -1,5 +1,5 @@
 -- Bytes as blocks of eight.
-use Rattle.std.specs.Prelude.{◌≡◌, ℕ, ◌%◌, ◌/◌, List, length}
+use Rattle.std.specs.Prelude.{◌≡◌, ℕ, ◌*◌, ◌%◌, ◌/◌, List, length}
 use Rattle.std.specs.Simd.{first_chunks}
 
 -- bytes are whole blocks
@@ -10,6 +10,10 @@ AreWhole bytes = length bytes % 8 ≡ 0
 abbrev pub blocks_of : List ℕ → List (List ℕ)
 blocks_of bytes = first_chunks 8 (length bytes / 8) bytes
 
--- bytes are whole blocks, and there is room for as many bytes
-abbrev pub FitInto : List ℕ → List ℕ → Type 0
-FitInto room bytes = (length room ≡ length bytes) × AreWhole bytes
+-- the bytes of these blocks are so many
+abbrev pub AreBytesOf : List (List ℕ) → ℕ → Type 0
+AreBytesOf blocks size = size ≡ 8 * length blocks
+
+-- the blocks have so many bytes, and the room has as many places
+abbrev pub FitInto : List (List ℕ) → List (List ℕ) → ℕ → Type 0
+FitInto room blocks size = (length room ≡ length blocks) × AreBytesOf blocks size

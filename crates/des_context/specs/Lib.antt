@@ -1,6 +1,6 @@
 pub mod Bytes
 pub mod Forms
-pub mod Ciphers
+pub mod FormLaws
 pub mod Contexts
 pub mod Keys
 pub mod Records

@@ -27,14 +27,14 @@ pub record AreMacWordsOf (algorithm : ℕ) (words key : List ℕ) : Type 0 where
   pub chain : IsContextOf (words_of_chain algorithm words) (key_of_chain algorithm key)
   pub second : algorithm ≡ 3 → (length key ≡ 16) × IsContextOf (drop 17 words) (drop 8 key)
 
--- they are those of the key, and the message is the bytes m, to be padded by the method
+-- the words are those of the key, and the message is the bytes m, to be padded by the method
 pub record IsMacOf (algorithm : ℕ) (words : List ℕ) (message : Message) (padding : ℕ) (key m : List ℕ)
     : Type 0 where
   pub made : AreMacWordsOf algorithm words key
   pub padded_by : message.padding ≡ padding
   pub progress : IsProgressOf (encryption_of (key_of_chain algorithm key)) message.progress m
 
--- they are those of some key, and the message is some bytes, to be padded by some method
+-- the words are those of some key, and the message is some bytes, to be padded by some method
 abbrev pub IsAMac : ℕ → List ℕ → Message → Type 0
 IsAMac algorithm words message =
     (padding : ℕ) × ((key : List ℕ) × ((m : List ℕ) × IsMacOf algorithm words message padding key m))

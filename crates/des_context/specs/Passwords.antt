@@ -1,11 +1,12 @@
 -- Keys from passwords by the numbers of hash functions.
-use Rattle.std.specs.Prelude.{ℕ, ℤ, ◌*◌, ◌==◌, ◌||◌, Bool, if◌then◌else◌, nat_le, nat_lt, Option, Some, None}
+use Rattle.std.specs.Prelude.{◌≡◌, ◌⊎◌, ℕ, ℤ, ◌==◌, if◌then◌else◌, nat_le, Option, Some, None}
 use Rattle.des_context.specs.declared.passwords.TheConstants.{MD5, SHA1, SHA256}
-use Rattle.des_context.specs.declared.status.TheConstants.{OK, ERR_HASH, ERR_ITERATIONS, ERR_KEY_LENGTH, ERR_SALT_LENGTH}
+use Rattle.des_context.specs.declared.status.TheConstants.{OK, ERR_HASH, ERR_ITERATIONS, ERR_KEY_LENGTH}
+use Rattle.des_passwords.specs.Derivations.{IsDerivable, HasNoIteration, IsTooLong}
 use Rattle.des_passwords.specs.declared.derivation.Derivation.{Derivation}
 use Rattle.des_passwords.specs.declared.derivation.Derivation.TheVariants.{Md5, Sha1, Sha256, Pbkdf2Sha1, Pbkdf2Sha256}
 
--- more iterations than PBKDF2 counts are none
+-- PBKDF2 counts in 32 bits: more iterations are taken for 0, which it refuses
 abbrev pub count_of : ℕ → ℕ
 count_of iterations = if nat_le iterations 0xFFFFFFFF then iterations else 0
 
@@ -27,29 +28,13 @@ abbrev pub derivation_by : ℕ → ℕ → Option Derivation
 derivation_by hash iterations =
     if iterations == 0 then with_no_pbkdf2 hash else with_pbkdf2 hash iterations
 
--- ---- statuses
-
--- by PBKDF2 with so many iterations over digests of so many bytes
-abbrev pub pbkdf2_status : ℕ → ℕ → ℕ → ℤ
-pbkdf2_status count size length =
-    if count == 0 then ERR_ITERATIONS
-    else if nat_lt (0xFFFFFFFF * size) length then ERR_KEY_LENGTH
-    else OK
-
--- of a key of so many bytes
-abbrev pub derive_status : Option Derivation → ℕ → ℤ
-derive_status None length = ERR_HASH
-derive_status (Some Md5) length = OK
-derive_status (Some Sha1) length = OK
-derive_status (Some Sha256) length = OK
-derive_status (Some (Pbkdf2Sha1 count)) length = pbkdf2_status count 20 length
-derive_status (Some (Pbkdf2Sha256 count)) length = pbkdf2_status count 32 length
+-- the status of the derivation of a key of so many bytes
+abbrev pub IsDeriveStatus : Option Derivation → ℕ → ℤ → Type 0
+IsDeriveStatus None length status = status ≡ ERR_HASH
+IsDeriveStatus (Some by) length status =
+    ((status ≡ OK) × IsDerivable by length) ⊎ ((status ≡ ERR_ITERATIONS) × HasNoIteration by)
+    ⊎ ((status ≡ ERR_KEY_LENGTH) × IsTooLong by length)
 
 -- OpenSSL's function reads 8 bytes of salt, or has none
-abbrev pub is_salt_length : ℕ → Bool
-is_salt_length salt = (salt == 0) || (salt == 8)
-
--- without PBKDF2, of a salt and a key of so many bytes
-abbrev pub bytes_to_key_status : ℕ → ℕ → ℕ → ℤ
-bytes_to_key_status hash salt length =
-    if is_salt_length salt then derive_status (with_no_pbkdf2 hash) length else ERR_SALT_LENGTH
+abbrev pub IsSaltLength : ℕ → Type 0
+IsSaltLength bytes = (bytes ≡ 0) ⊎ (bytes ≡ 8)

@@ -8,7 +8,7 @@ abbrev pub AreSizesOf : List ℕ → List (List ℕ) → List (List ℕ) → Typ
 AreSizesOf sizes vectors blocks = (length vectors ≡ length sizes) × (sum sizes ≡ length blocks)
 
 -- each record of p is chained into that of q from the vector at its place, under a relation of blocks
-abbrev pub ChainsEach : (List ℕ → List ℕ → Type 0) → List ℕ → List (List ℕ) → List (List ℕ) → List (List ℕ) → Type 0
+unfoldable pub ChainsEach : (List ℕ → List ℕ → Type 0) → List ℕ → List (List ℕ) → List (List ℕ) → List (List ℕ) → Type 0
 ChainsEach Relates sizes vectors p q =
     (k : ℕ) → k < length vectors
     → Chains Relates (slice_index_or vectors k []) (record_of sizes p k) (record_of sizes q k)

@@ -1,45 +1,51 @@
 -- What `openssl enc` encrypted under a password by CBC: what there is to be opened, and the first fault.
 use Rattle.std.specs.Prelude.{◌≡◌, ◌≢◌, ◌⊎◌, ◌<◌, ◌≤◌, ℕ, ℤ, ◌+◌, List, ◌++◌, length, take, drop, codes, Option, Some, None}
 use Rattle.des.specs.Cbc.{Chains}
+use Rattle.des.specs.Relations.{IsTheOne}
 use Rattle.des_context.specs.Bytes.{AreWhole, blocks_of}
 use Rattle.des_context.specs.Forms.{relation_of}
 use Rattle.des_context.specs.declared.status.TheConstants.{OK, ERR_HASH, ERR_ITERATIONS, ERR_NOT_SALTED, ERR_SALT_LENGTH, ERR_BLOCKS, ERR_PADDING, ERR_CAPACITY}
 use Rattle.des_io.specs.PaddedBytes.{padded}
+use Rattle.des_io.specs.Streams.{joined}
 use Rattle.des_io.specs.declared.padding.Padding.TheVariants.{Pkcs7}
 use Rattle.des_passwords.specs.Derivations.{derived, HasNoIteration, IsDerivable}
 use Rattle.des_passwords.specs.Salted.{IsSalted}
 use Rattle.des_passwords.specs.declared.derivation.Derivation.{Derivation}
-use Rattle.des_passwords.specs.declared.salted.SaltedError.{SaltedError}
-use Rattle.des_passwords.specs.declared.salted.SaltedError.TheVariants.{NotSalted, SaltCut}
-
-abbrev pub salted_status : SaltedError → ℤ
-salted_status NotSalted = ERR_NOT_SALTED
-salted_status SaltCut = ERR_SALT_LENGTH
 
 -- ---- what is opened
+
+-- the bytes of the blocks that CBC chained to these from a vector
+abbrev pub IsPlainOf : (List ℕ → List ℕ → Type 0) → List ℕ → List (List ℕ) → List ℕ → Type 0
+IsPlainOf relation vector blocks bytes = (p : List (List ℕ)) × Chains relation vector p blocks × (joined p ≡ bytes)
 
 -- bytes and their padding, by PKCS#7, are what was encrypted by CBC from a vector
 abbrev pub IsOpened : (List ℕ → List ℕ → Type 0) → List ℕ → List ℕ → List ℕ → Type 0
 IsOpened relation vector encrypted plain =
-    AreWhole encrypted × Chains relation vector (blocks_of (padded Pkcs7 plain)) (blocks_of encrypted)
+    AreWhole encrypted × IsPlainOf relation vector (blocks_of encrypted) (padded Pkcs7 plain)
 
--- the key of so many bytes and the vector of a password and of the salt before what is encrypted
-pub record IsUnder (size : ℕ) (derivation : Option Derivation) (password bytes : List ℕ) : Type 0 where
+-- there is a plaintext of the blocks at the front, and that and the end are what is opened
+pub record EndsWith (relation : List ℕ → List ℕ → Type 0) (vector encrypted : List ℕ) (front : List (List ℕ))
+    (end : List ℕ) : Type 0 where
+  pub some : (start : List ℕ) × IsPlainOf relation vector front start
+  pub opens : (start : List ℕ) → IsPlainOf relation vector front start
+      → IsTheOne (IsOpened relation vector encrypted) (start ++ end)
+
+-- the key of so many bytes and the vector are those of a password and of the salt before what is encrypted
+pub record IsUnder (size : ℕ) (derivation : Option Derivation) (password bytes key vector encrypted : List ℕ) : Type 0 where
   pub by : Derivation
   pub salt : List ℕ
-  pub encrypted : List ℕ
-  pub key : List ℕ
-  pub vector : List ℕ
   pub is_by : derivation ≡ Some by
   pub derivable : IsDerivable by (size + 8)
   pub is_salted : IsSalted bytes salt encrypted
   pub size_of_key : length key ≡ size
   pub derives : key ++ vector ≡ derived by password salt (size + 8)
 
-abbrev pub HoldsPlain : ℕ → Option Derivation → List ℕ → List ℕ → List ℕ → Type 0
-HoldsPlain size derivation password bytes plain =
-    (under : IsUnder size derivation password bytes)
-    × IsOpened (relation_of under.key) under.vector under.encrypted plain
+pub record HoldsPlain (size : ℕ) (derivation : Option Derivation) (password bytes plain : List ℕ) : Type 0 where
+  pub key : List ℕ
+  pub vector : List ℕ
+  pub encrypted : List ℕ
+  pub under : IsUnder size derivation password bytes key vector encrypted
+  pub opened : IsOpened (relation_of key) vector encrypted plain
 
 -- ---- what is not
 
@@ -64,17 +70,17 @@ IsOpeningFault relation vector encrypted room status =
 abbrev pub IsSaltedFault : ℕ → Option Derivation → List ℕ → List ℕ → ℕ → ℤ → Type 0
 IsSaltedFault size derivation password bytes room status =
     IsPartsFault derivation bytes status
-    ⊎ (under : IsUnder size derivation password bytes)
-    × IsOpeningFault (relation_of under.key) under.vector under.encrypted room status
+    ⊎ (key : List ℕ) × ((vector : List ℕ) × ((encrypted : List ℕ)
+    × (IsUnder size derivation password bytes key vector encrypted
+    × IsOpeningFault (relation_of key) vector encrypted room status)))
 
 -- ---- what a call does
 
--- it writes the plaintext that there is, as `Holds` says, to the front of a buffer, and its size; at a fault nothing
+-- it writes the one plaintext that there is, as `Holds` says, to the front of a buffer, and its size; or nothing, at a
+-- fault, where there is none that has room
 pub record Opens (Holds : List ℕ → Type 0) (IsFault : ℤ → Type 0) (old new : List ℕ) (old_size size : ℕ) (status : ℤ)
     : Type 0 where
-  pub opened : status ≡ OK → Holds (take size new)
-  pub only : (held : List ℕ) → Holds held → length held ≤ length old → (status ≡ OK) × (take size new ≡ held)
-  pub within : status ≡ OK → size ≤ length new
-  pub rest : status ≡ OK → drop size new ≡ drop size old
-  pub fault : status ≢ OK → IsFault status
-  pub kept : status ≢ OK → (new ≡ old) × (size ≡ old_size)
+  pub opened : status ≡ OK → (plain : List ℕ) × IsTheOne Holds plain
+      × (length plain ≡ size) × (new ≡ plain ++ drop size old)
+  pub refused : status ≢ OK → IsFault status × ((held : List ℕ) → Holds held → length old < length held)
+      × (new ≡ old) × (size ≡ old_size)

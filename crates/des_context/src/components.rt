@@ -7,7 +7,7 @@ ghost use Rattle.des_context.specs.Keys.{IsKeyLength, keys_of};
 
 use crate::status::{ERR_WEAK_KEY, OK};
 
-// The component that bytes are.
+// The bytes as an array.
 fn component<const N: usize>(bytes: &[u8]) -> &[u8; N]
     requires size { IsKeyLength N }
     requires sized { length bytes.now ≡ N }
@@ -21,11 +21,12 @@ fn component<const N: usize>(bytes: &[u8]) -> &[u8; N]
 fn combine_sized<const N: usize>(first: &[u8], second: &[u8], others: &[u8], key: &mut [u8]) -> i32
     requires size { IsKeyLength N }
     requires sized { (length first.now ≡ N) × (length second.now ≡ N) × (length key.old ≡ N) }
-    ensures accepted { (result ≡ OK)
-        ↔ ¬ (IsRefused (combined (first.now ∷ second.now ∷ keys_of N others.now))) }
-    ensures refused { (result ≡ ERR_WEAK_KEY)
-        ↔ IsRefused (combined (first.now ∷ second.now ∷ keys_of N others.now)) }
-    ensures key { result ≡ OK → key.new ≡ combined (first.now ∷ second.now ∷ keys_of N others.now) }
+    ensures accepted { (result ≡ OK) ↔ ¬ (IsRefused
+        (combined (first.now ∷ second.now ∷ keys_of (length key.old) others.now))) }
+    ensures refused { (result ≡ ERR_WEAK_KEY) ↔ IsRefused
+        (combined (first.now ∷ second.now ∷ keys_of (length key.old) others.now)) }
+    ensures key { result ≡ OK → key.new
+        ≡ combined (first.now ∷ second.now ∷ keys_of (length key.old) others.now) }
     ensures kept { result ≢ OK → key.new ≡ key.old }
 {
     let (others, _) = others.as_chunks::<N>();

@@ -6,18 +6,14 @@
 ghost use Rattle.std.specs.Prelude.{◌≡◌, ◌≢◌, ◌↔◌, ◌≤◌, ◌<◌, ◌+◌, ◌*◌, ℕ, List, length, IsTrue};
 ghost use Rattle.des.specs.Blocks.{part};
 ghost use Rattle.des_fast.specs.Words.{AreRoundKeysOf};
-ghost use Rattle.des_fast.specs.Des.{IsDesMadeFrom};
-ghost use Rattle.des_context.specs.Forms.{form_of_length};
-ghost use Rattle.des_context.specs.Ciphers.{IsCipherOf};
-ghost use Rattle.des_context.specs.Contexts.{AreWordsOf, HasAForm, IsContextOf, IsQuiet, words_of_part};
+ghost use Rattle.des_context.specs.Contexts.{HasAForm, HasForm, IsContextOf, IsMarked, IsQuiet, words_of_part};
 
-use crate::ciphers::{Cipher, Form};
+use crate::ciphers::Form;
 use crate::status::{ERR_KEY_LENGTH, OK};
 use des::cipher::{KeyInit, are_bytes};
-use des::tdes::{joined, key_part};
-use des_fast::ways::Way;
-use des_fast::words::{from_round_key_words, round_key_words};
-use des_fast::{Des, single};
+use des::tdes::key_part;
+use des_fast::Des;
+use des_fast::words::round_key_words;
 
 // Writes the round keys of a part of a key, numbered from 1, at their place.
 fn write_part(context: &mut [u64], key: &[u8], number: usize)
@@ -25,7 +21,6 @@ fn write_part(context: &mut [u64], key: &[u8], number: usize)
     requires to { 8 * number ≤ length key.now }
     requires room { 16 * number ≤ length context.old }
     ensures made { AreRoundKeysOf (words_of_part number context.new) (part number key.now) }
-    ensures count { length context.new ≡ length context.old }
     ensures kept { (n : ℕ) → 1 ≤ n → n < number
         → words_of_part n context.new ≡ words_of_part n context.old }
 {
@@ -38,7 +33,6 @@ fn write_parts(context: &mut [u64], key: &[u8])
     requires { 2 * length key.now ≤ length context.old }
     ensures made { (n : ℕ) → 1 ≤ n → 8 * n ≤ length key.now
         → AreRoundKeysOf (words_of_part n context.new) (part n key.now) }
-    ensures count { length context.new ≡ length context.old }
 {
     'parts: for k in 0..key.len() / 8 {
         write_part(context, key, k + 1);
@@ -53,7 +47,7 @@ pub fn init(context: &mut [u64], key: &[u8], quiet: bool) -> i32
     ensures accepted { (result ≡ OK) ↔ (2 * length key.now + 1 ≡ length context.old) }
     ensures refused { (result ≡ ERR_KEY_LENGTH) ↔ (2 * length key.now + 1 ≢ length context.old) }
     ensures made { result ≡ OK → IsContextOf context.new key.now }
-    ensures quiet { result ≡ OK → IsQuiet context.new ↔ IsTrue quiet }
+    ensures quiet { result ≡ OK → IsMarked quiet context.new }
     ensures kept { result ≢ OK → context.new ≡ context.old }
 {
     if context.len() / 2 != key.len() {
@@ -77,52 +71,13 @@ pub fn is_quiet(context: &[u64]) -> bool
 
 // The form of a context, by the number of its words.
 #[inline(always)]
-fn form(context: &[u64]) -> Form
-    ensures { (key : List ℕ) → IsContextOf context.now key
-        → result ≡ form_of_length (length key) }
+pub(crate) fn form(context: &[u64]) -> Form
+    requires { (key : List ℕ) × IsContextOf context.now key }
+    ensures { HasForm result context.now }
 {
     match context.len() {
         17 => Form::Des,
         33 => Form::Ede2,
         _ => Form::Ede3,
     }
-}
-
-// The single DES of a part of a key, numbered from 1.
-#[inline(always)]
-pub(crate) fn part<W: Way>(context: &[u64], number: usize) -> single::Des<W>
-    requires from { 1 ≤ number }
-    requires to { 16 * number ≤ length context.now }
-    requires made { (key : List ℕ) × AreRoundKeysOf (words_of_part number context.now) key }
-    ensures { (key : List ℕ) → AreRoundKeysOf (words_of_part number context.now) key
-        → IsDesMadeFrom result key }
-{
-    let (parts, _) = context.as_chunks::<16>();
-    from_round_key_words(&parts[number - 1])
-}
-
-// The cipher of a form.
-#[inline(always)]
-fn cipher_of_form<W: Way>(form: Form, context: &[u64]) -> Cipher<W>
-    requires { (key : List ℕ) × AreWordsOf form context.now key }
-    ensures { (key : List ℕ) → AreWordsOf form context.now key → IsCipherOf result key }
-{
-    match form {
-        Form::Des => Cipher::Single(part(context, 1)),
-        Form::Ede2 => Cipher::Two(joined::of_two(part(context, 1), part(context, 2))),
-        Form::Ede3 => Cipher::Three(joined::of_three(
-            part(context, 1),
-            part(context, 2),
-            part(context, 3),
-        )),
-    }
-}
-
-/// The cipher of a context, which reads tables or not, as the way `W` has it.
-#[inline(always)]
-pub fn cipher<W: Way>(context: &[u64]) -> Cipher<W>
-    requires { (key : List ℕ) × IsContextOf context.now key }
-    ensures { (key : List ℕ) → IsContextOf context.now key → IsCipherOf result key }
-{
-    cipher_of_form(form(context), context)
 }

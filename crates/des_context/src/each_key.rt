@@ -1,28 +1,30 @@
 //! The calls over lists in which each block has a key of its own, once for every cipher and every
 //! width.
 
-ghost use Rattle.std.specs.Prelude.{◌≡◌, ◌≢◌, ◌↔◌, length, map, IsOk, OnOk, OnErr};
+ghost use Rattle.std.specs.Prelude.{◌≡◌, ◌≢◌, ◌↔◌, length};
 ghost use Rattle.std.specs.Simd.Lanes.{zip2};
 ghost use Rattle.des_context.specs.Forms.{decryption_of, encryption_of};
 ghost use Rattle.des_context.specs.Keys.{IsKeyLength, keys_of};
 
+use crate::ciphers::OfContext;
 use crate::status::{ERR_COUNTS, OK};
-use des::cipher::NotEqualError;
 use des_fast::many::{KeyForEach, Slice};
 use des_fast::{Des, TdesEde2, TdesEde3};
 
-// Encrypts the blocks by a cipher. Not inlined: the room of one cipher's call would be that of all.
+// Encrypts the blocks by a cipher.
 #[inline(never)]
-fn encrypt_by<S: Slice, C: KeyForEach>(
-    keys: &[C::Key],
-    blocks: &mut [[u8; 8]],
-) -> Result<(), NotEqualError>
-    ensures accepted { IsOk result ↔ (length keys.now ≡ length blocks.old) }
-    ensures ok { OnOk result (blocks.new
-        ≡ zip2 C.encryption (map C.Key.bytes_of keys.now) blocks.old) }
-    ensures err { OnErr result (blocks.new ≡ blocks.old) }
+fn encrypt_by<C: OfContext + KeyForEach, S: Slice>(keys: &[u8], blocks: &mut [[u8; 8]]) -> i32
+    ensures accepted { (result ≡ OK) ↔ (length (keys_of C.KEY_SIZE keys.now) ≡ length blocks.old) }
+    ensures refused { (result ≡ ERR_COUNTS)
+        ↔ (length (keys_of C.KEY_SIZE keys.now) ≢ length blocks.old) }
+    ensures answered { result ≡ OK
+        → blocks.new ≡ zip2 encryption_of (keys_of C.KEY_SIZE keys.now) blocks.old }
+    ensures kept { result ≢ OK → blocks.new ≡ blocks.old }
 {
-    C::encrypt_each_by::<S>(keys, blocks)
+    match C::encrypt_each_by::<S>(C::keys_in(keys), blocks) {
+        Ok(()) => OK,
+        Err(_) => ERR_COUNTS,
+    }
 }
 
 /// Encrypts each block in place under the key at its place: `keys` are keys of `key_size` bytes,
@@ -37,29 +39,27 @@ pub fn encrypt_each<S: Slice>(key_size: usize, keys: &[u8], blocks: &mut [[u8; 8
         → blocks.new ≡ zip2 encryption_of (keys_of key_size keys.now) blocks.old }
     ensures kept { result ≢ OK → blocks.new ≡ blocks.old }
 {
-    let done = match key_size {
-        8 => encrypt_by::<S, Des>(keys.as_chunks::<8>().0, blocks),
-        16 => encrypt_by::<S, TdesEde2>(keys.as_chunks::<16>().0, blocks),
-        _ => encrypt_by::<S, TdesEde3>(keys.as_chunks::<24>().0, blocks),
-    };
-    match done {
-        Ok(()) => OK,
-        Err(_) => ERR_COUNTS,
+    match key_size {
+        8 => encrypt_by::<Des, S>(keys, blocks),
+        16 => encrypt_by::<TdesEde2, S>(keys, blocks),
+        _ => encrypt_by::<TdesEde3, S>(keys, blocks),
     }
 }
 
-// Decrypts the blocks by a cipher. Not inlined: the room of one cipher's call would be that of all.
+// Decrypts the blocks by a cipher.
 #[inline(never)]
-fn decrypt_by<S: Slice, C: KeyForEach>(
-    keys: &[C::Key],
-    blocks: &mut [[u8; 8]],
-) -> Result<(), NotEqualError>
-    ensures accepted { IsOk result ↔ (length keys.now ≡ length blocks.old) }
-    ensures ok { OnOk result (blocks.new
-        ≡ zip2 C.decryption (map C.Key.bytes_of keys.now) blocks.old) }
-    ensures err { OnErr result (blocks.new ≡ blocks.old) }
+fn decrypt_by<C: OfContext + KeyForEach, S: Slice>(keys: &[u8], blocks: &mut [[u8; 8]]) -> i32
+    ensures accepted { (result ≡ OK) ↔ (length (keys_of C.KEY_SIZE keys.now) ≡ length blocks.old) }
+    ensures refused { (result ≡ ERR_COUNTS)
+        ↔ (length (keys_of C.KEY_SIZE keys.now) ≢ length blocks.old) }
+    ensures answered { result ≡ OK
+        → blocks.new ≡ zip2 decryption_of (keys_of C.KEY_SIZE keys.now) blocks.old }
+    ensures kept { result ≢ OK → blocks.new ≡ blocks.old }
 {
-    C::decrypt_each_by::<S>(keys, blocks)
+    match C::decrypt_each_by::<S>(C::keys_in(keys), blocks) {
+        Ok(()) => OK,
+        Err(_) => ERR_COUNTS,
+    }
 }
 
 /// Decrypts each block in place under the key at its place. Keys and status are as of
@@ -73,13 +73,9 @@ pub fn decrypt_each<S: Slice>(key_size: usize, keys: &[u8], blocks: &mut [[u8; 8
         → blocks.new ≡ zip2 decryption_of (keys_of key_size keys.now) blocks.old }
     ensures kept { result ≢ OK → blocks.new ≡ blocks.old }
 {
-    let done = match key_size {
-        8 => decrypt_by::<S, Des>(keys.as_chunks::<8>().0, blocks),
-        16 => decrypt_by::<S, TdesEde2>(keys.as_chunks::<16>().0, blocks),
-        _ => decrypt_by::<S, TdesEde3>(keys.as_chunks::<24>().0, blocks),
-    };
-    match done {
-        Ok(()) => OK,
-        Err(_) => ERR_COUNTS,
+    match key_size {
+        8 => decrypt_by::<Des, S>(keys, blocks),
+        16 => decrypt_by::<TdesEde2, S>(keys, blocks),
+        _ => decrypt_by::<TdesEde3, S>(keys, blocks),
     }
 }

@@ -1,9 +1,8 @@
 //! Contexts for callers in other languages: a cipher as plain words, in memory of the caller's own,
-//! and all that the calls of the library for C do, once for every cipher and every width. What
-//! `des_c` exports is a line over a call of this crate.
+//! and what the calls of the library for C do over them, over lists and over passwords, once for
+//! every cipher and every width. `des_c` exports these calls, and beside them those of other crates.
 #![tactic(auto)]
 
-pub mod blocks;
 pub mod calls;
 pub mod ciphers;
 pub mod components;

@@ -6,7 +6,6 @@ ghost use Rattle.std.specs.Prelude.{◌≡◌, ◌≢◌, ◌↔◌, ◌≤◌, 
 ghost use Rattle.std.specs.Simd.Lanes.{zip2};
 ghost use Rattle.des.specs.Blocks.{part};
 ghost use Rattle.des.specs.Des.{encryption, decryption};
-ghost use Rattle.des_mac.specs.CbcMac.{cbc_mac};
 ghost use Rattle.des_mac.specs.ManyMessages.{texts};
 ghost use Rattle.des_mac.specs.Padding.{padded};
 ghost use Rattle.des_mac.specs.RetailMac.{retail_mac_of};
@@ -14,6 +13,7 @@ ghost use Rattle.des_context.specs.Keys.{keys_of};
 ghost use Rattle.des_context.specs.MacAlgorithms.{IsMacKeyLength, mac_by};
 ghost use Rattle.des_context.specs.PaddingMethods.{padding_by, status_of_each, status_of_lists};
 
+use crate::ciphers::OfContext;
 use crate::status::{ERR_COUNTS, ERR_PADDING_METHOD, OK};
 use des::cipher::{KeyBytes, NotEqualError};
 use des::tdes::key_part;
@@ -21,47 +21,52 @@ use des_fast::many::{KeyForEach, Slice};
 use des_fast::{Des, TdesEde2, TdesEde3};
 use des_mac::{Method1, Method2, many};
 
-// The key of these bytes.
-fn key_of<K: KeyBytes>(bytes: &[u8]) -> K
-    requires { length bytes.now ≡ K.LEN }
-    ensures { K.bytes_of result ≡ bytes.now }
-{
-    K::from_bytes(bytes).unwrap()
-}
-
-// The tags of CBC-MAC under one key, by padding method 2 or else 1.
-fn cbc_macs_by<S: Slice, C: KeyForEach + Drop>(
-    key: &C::Key,
+// The tags of CBC-MAC (algorithm 1, by padding method 1 or 2), or of CMAC (5), under one key.
+#[inline(never)]
+fn chain_macs_by<C: OfContext + KeyForEach, S: Slice>(
+    algorithm: u32,
     padding: u32,
+    key: &[u8],
     messages: &[&[u8]],
     tags: &mut [[u8; 8]],
 ) -> Result<(), NotEqualError>
+    requires chains { algorithm ≢ 3 }
+    requires key { length key.now ≡ C.KEY_SIZE }
     ensures accepted { IsOk result ↔ (length tags.old ≡ length messages.now) }
-    ensures tags { OnOk result (tags.new ≡ map (λ m. cbc_mac (C.encryption
-        (C.Key.bytes_of key.now)) (padded (padding_by padding) m)) (texts messages.now)) }
+    ensures tags { OnOk result
+        (tags.new ≡ map (mac_by algorithm padding key.now) (texts messages.now)) }
     ensures kept { OnErr result (tags.new ≡ tags.old) }
 {
-    if padding == 2 {
-        many::cbc_macs_by::<S, C, Method2>(key, messages, tags)
+    let key = C::Key::from_bytes(key).unwrap();
+    if algorithm != 1 {
+        many::cmacs_by::<S, C>(&key, messages, tags)
+    } else if padding == 2 {
+        many::cbc_macs_by::<S, C, Method2>(&key, messages, tags)
     } else {
-        many::cbc_macs_by::<S, C, Method1>(key, messages, tags)
+        many::cbc_macs_by::<S, C, Method1>(&key, messages, tags)
     }
 }
 
-// The tags of CBC-MAC, each under the key at its place, by padding method 2 or else 1.
-fn cbc_macs_each_by<S: Slice, C: KeyForEach + Drop>(
-    keys: &[C::Key],
+// The same, each under the key at its place.
+#[inline(never)]
+fn chain_macs_each_by<C: OfContext + KeyForEach, S: Slice>(
+    algorithm: u32,
     padding: u32,
+    keys: &[u8],
     messages: &[&[u8]],
     tags: &mut [[u8; 8]],
 ) -> Result<(), NotEqualError>
-    ensures accepted { IsOk result ↔ ((length keys.now ≡ length tags.old)
+    requires { algorithm ≢ 3 }
+    ensures accepted { IsOk result ↔ ((length (keys_of C.KEY_SIZE keys.now) ≡ length tags.old)
         × (length tags.old ≡ length messages.now)) }
-    ensures tags { OnOk result (tags.new ≡ zip2 (λ key m. cbc_mac (C.encryption key)
-        (padded (padding_by padding) m)) (map C.Key.bytes_of keys.now) (texts messages.now)) }
+    ensures tags { OnOk result (tags.new ≡ zip2 (mac_by algorithm padding)
+        (keys_of C.KEY_SIZE keys.now) (texts messages.now)) }
     ensures kept { OnErr result (tags.new ≡ tags.old) }
 {
-    if padding == 2 {
+    let keys = C::keys_in(keys);
+    if algorithm != 1 {
+        many::cmacs_each_by::<S, C>(keys, messages, tags)
+    } else if padding == 2 {
         many::cbc_macs_each_by::<S, C, Method2>(keys, messages, tags)
     } else {
         many::cbc_macs_each_by::<S, C, Method1>(keys, messages, tags)
@@ -199,20 +204,18 @@ fn macs_by<S: Slice>(
     ensures kept { OnErr result (tags.new ≡ tags.old) }
 {
     match (algorithm, key.len()) {
-        (1, 8) => cbc_macs_by::<S, Des>(&key_of(key), padding, messages, tags),
-        (1, 16) => cbc_macs_by::<S, TdesEde2>(&key_of(key), padding, messages, tags),
-        (1, _) => cbc_macs_by::<S, TdesEde3>(&key_of(key), padding, messages, tags),
         (3, _) => {
             let (first, second) = (key_part(key, 1), key_part(key, 2));
             retail_macs_by::<S>(&first, &second, padding, messages, tags)
         }
-        (_, 16) => many::cmacs_by::<S, TdesEde2>(&key_of(key), messages, tags),
-        _ => many::cmacs_by::<S, TdesEde3>(&key_of(key), messages, tags),
+        (_, 8) => chain_macs_by::<Des, S>(algorithm, padding, key, messages, tags),
+        (_, 16) => chain_macs_by::<TdesEde2, S>(algorithm, padding, key, messages, tags),
+        _ => chain_macs_by::<TdesEde3, S>(algorithm, padding, key, messages, tags),
     }
 }
 
-/// Writes the tag of each message at its place, with padding method 1 or 2; CMAC is called with 2,
-/// and has a padding of its own. The status of another padding is `ERR_PADDING_METHOD`, that of
+/// Writes the tag of each message at its place, with padding method 1 or 2, which plays no part in
+/// CMAC. The status of another padding is `ERR_PADDING_METHOD`, that of
 /// messages and tags of different numbers `ERR_COUNTS`; the tags then stay as they were.
 pub fn macs<S: Slice>(
     algorithm: u32,
@@ -253,22 +256,10 @@ fn macs_each_by<S: Slice>(
     ensures kept { OnErr result (tags.new ≡ tags.old) }
 {
     match (algorithm, key_size) {
-        (1, 8) => cbc_macs_each_by::<S, Des>(keys.as_chunks::<8>().0, padding, messages, tags),
-        (1, 16) => cbc_macs_each_by::<S, TdesEde2>(
-            keys.as_chunks::<16>().0,
-            padding,
-            messages,
-            tags,
-        ),
-        (1, _) => cbc_macs_each_by::<S, TdesEde3>(
-            keys.as_chunks::<24>().0,
-            padding,
-            messages,
-            tags,
-        ),
-        (3, _) => write_retail_macs::<S>(keys.as_chunks::<16>().0, padding, messages, tags),
-        (_, 16) => many::cmacs_each_by::<S, TdesEde2>(keys.as_chunks::<16>().0, messages, tags),
-        _ => many::cmacs_each_by::<S, TdesEde3>(keys.as_chunks::<24>().0, messages, tags),
+        (3, _) => write_retail_macs::<S>(keys.as_chunks().0, padding, messages, tags),
+        (_, 8) => chain_macs_each_by::<Des, S>(algorithm, padding, keys, messages, tags),
+        (_, 16) => chain_macs_each_by::<TdesEde2, S>(algorithm, padding, keys, messages, tags),
+        _ => chain_macs_each_by::<TdesEde3, S>(algorithm, padding, keys, messages, tags),
     }
 }
 

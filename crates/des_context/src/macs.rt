@@ -2,22 +2,20 @@
 //! gives the algorithm: 1 is CBC-MAC, 3 the retail MAC over DES, 5 CMAC. The words of a MAC are a
 //! context of its key; those of the retail MAC are 34, the contexts of two keys of DES.
 
-ghost use Rattle.std.specs.Prelude.{◌≡◌, ◌≢◌, ◌↔◌, ℕ, List, [], ◌++◌, length, take, drop, IsTrue};
+ghost use Rattle.std.specs.Prelude.{◌≡◌, ◌≢◌, ◌↔◌, ℕ, List, [], ◌++◌, length, take, drop};
 ghost use Rattle.des.specs.Blocks.{IsKey};
-ghost use Rattle.des_mac.specs.CbcMac.{cbc_mac as cbc_mac_of};
-ghost use Rattle.des_mac.specs.Cmac.{cmac as cmac_of};
 ghost use Rattle.des_mac.specs.IsProgress.{HoldsOneBlock, IsProgressOf};
 ghost use Rattle.des_mac.specs.Padding.{padded};
 ghost use Rattle.des_mac.specs.RetailMac.{retail_mac_of};
 ghost use Rattle.des_mac.specs.Tags.{IsTruncated};
-ghost use Rattle.des_context.specs.Contexts.{IsContextOf, IsQuiet};
+ghost use Rattle.des_context.specs.Contexts.{HasForm, IsContextOf, IsMarked};
 ghost use Rattle.des_context.specs.Forms.{encryption_of};
 ghost use Rattle.des_context.specs.MacAlgorithms.{IsAlgorithm, mac_by};
 ghost use Rattle.des_context.specs.MacContexts.{AreMacWordsOf, HasMacForm, IsAMac, IsMacOf, key_size_of, words_of_chain};
 ghost use Rattle.des_context.specs.PaddingMethods.{padding_by, status_of};
 
-use crate::ciphers::{Cipher, over};
-use crate::contexts::{self, cipher, is_quiet, part};
+use crate::ciphers::{OfContext, by_form};
+use crate::contexts::{self, is_quiet};
 use crate::status::{ERR_KEY_LENGTH, ERR_PADDING_METHOD, ERR_TAG, OK};
 use des::cipher::KeyedCipher;
 use des_fast::single::Des;
@@ -45,30 +43,38 @@ impl Message {
             padding,
         }
     }
+}
 
-    // Adds bytes, under the cipher of the chain. All MACs take bytes in alike, by the chain.
-    fn extend<C: KeyedCipher + Drop>(&mut self, cipher: C, bytes: &[u8])
-        requires { HoldsOneBlock self.old.progress }
-        ensures progress { (key m : List ℕ) → IsKey C.KEY_SIZE key → C.is_made_from cipher key
-            → IsProgressOf (C.encryption key) self.old.progress m
-            → IsProgressOf (C.encryption key) self.new.progress (m ++ bytes.now) }
-        ensures padding { self.new.padding ≡ self.old.padding }
-    {
-        let mut mac = CbcMac::<C, Method1>::resume(cipher, &self.progress);
-        mac.update(bytes);
-        self.progress = mac.progress();
-    }
+// Adds bytes to a message, under the cipher of a context: all MACs take bytes in alike, by the
+// chain.
+#[inline(never)]
+fn extend<C: OfContext>(context: &[u64], message: &mut Message, bytes: &[u8])
+    requires form { HasForm C.FORM context.now }
+    requires made { (key : List ℕ) × IsContextOf context.now key }
+    requires progress { HoldsOneBlock message.old.progress }
+    ensures progress { (key m : List ℕ) → IsContextOf context.now key
+        → IsProgressOf (encryption_of key) message.old.progress m
+        → IsProgressOf (encryption_of key) message.new.progress (m ++ bytes.now) }
+    ensures padding { message.new.padding ≡ message.old.padding }
+{
+    let mut mac = CbcMac::<C, Method1>::resume(C::of(context), &message.progress);
+    mac.update(bytes);
+    message.progress = mac.progress();
+}
 
-    // Adds bytes, under the cipher of a context, which reads tables or not, as the way has it.
-    fn extend_by<W: Way>(&mut self, context: &[u64], bytes: &[u8])
-        requires context { (key : List ℕ) × IsContextOf context.now key }
-        requires progress { HoldsOneBlock self.old.progress }
-        ensures progress { (key m : List ℕ) → IsContextOf context.now key
-            → IsProgressOf (encryption_of key) self.old.progress m
-            → IsProgressOf (encryption_of key) self.new.progress (m ++ bytes.now) }
-        ensures padding { self.new.padding ≡ self.old.padding }
-    {
-        over!(cipher::<W>(context), cipher => self.extend(cipher, bytes));
+// The same by a cipher that reads tables, or by one that does not where the context is quiet.
+fn extend_by_context(context: &[u64], message: &mut Message, bytes: &[u8])
+    requires made { (key : List ℕ) × IsContextOf context.now key }
+    requires progress { HoldsOneBlock message.old.progress }
+    ensures progress { (key m : List ℕ) → IsContextOf context.now key
+        → IsProgressOf (encryption_of key) message.old.progress m
+        → IsProgressOf (encryption_of key) message.new.progress (m ++ bytes.now) }
+    ensures padding { message.new.padding ≡ message.old.padding }
+{
+    if is_quiet(context) {
+        by_form!(extend::<Quiet>(context, message, bytes));
+    } else {
+        by_form!(extend::<Tables>(context, message, bytes));
     }
 }
 
@@ -78,13 +84,14 @@ fn write_words(algorithm: u32, context: &mut [u64], key: &[u8], quiet: bool)
     requires form { HasMacForm algorithm context.old }
     requires key { length key.now ≡ key_size_of context.old }
     ensures made { AreMacWordsOf algorithm context.new key.now }
-    ensures quiet { IsQuiet (words_of_chain algorithm context.new) ↔ IsTrue quiet }
-    ensures second_quiet { algorithm ≡ 3 → IsQuiet (drop 17 context.new) ↔ IsTrue quiet }
+    ensures quiet { IsMarked quiet (words_of_chain algorithm context.new) }
+    ensures second_quiet { algorithm ≡ 3 → IsMarked quiet (drop 17 context.new) }
 {
     if algorithm == 3 {
         let (first, second) = context.split_at_mut(17);
-        contexts::init(first, &key[..8], quiet);
-        contexts::init(second, &key[8..], quiet);
+        let (first_key, second_key) = key.split_at(8);
+        contexts::init(first, first_key, quiet);
+        contexts::init(second, second_key, quiet);
     } else {
         contexts::init(context, key, quiet);
     }
@@ -106,9 +113,9 @@ pub fn init(
     requires form { HasMacForm algorithm context.old }
     ensures status { result ≡ status_of (key_size_of context.old) (length key.now) padding }
     ensures made { result ≡ OK → IsMacOf algorithm context.new message.new padding key.now [] }
-    ensures quiet { result ≡ OK → IsQuiet (words_of_chain algorithm context.new) ↔ IsTrue quiet }
+    ensures quiet { result ≡ OK → IsMarked quiet (words_of_chain algorithm context.new) }
     ensures second_quiet { result ≡ OK → algorithm ≡ 3
-        → IsQuiet (drop 17 context.new) ↔ IsTrue quiet }
+        → IsMarked quiet (drop 17 context.new) }
     ensures kept { result ≢ OK → (context.new ≡ context.old) × (message.new ≡ message.old) }
 {
     if key.len() != context.len() / 16 * 8 {
@@ -141,24 +148,21 @@ pub fn update(algorithm: u32, context: &[u64], message: &mut Message, bytes: &[u
         → IsMacOf algorithm context.now message.old padding key m
         → IsMacOf algorithm context.now message.new padding key (m ++ bytes.now) }
 {
-    let words = chain_words(algorithm, context);
-    if is_quiet(words) {
-        message.extend_by::<Quiet>(words, bytes);
-    } else {
-        message.extend_by::<Tables>(words, bytes);
-    }
+    extend_by_context(chain_words(algorithm, context), message, bytes);
 }
 
-// The tag of CBC-MAC, or else of CMAC, of a message, under a cipher.
-fn chain_tag<C: KeyedCipher + Drop>(algorithm: u32, cipher: C, message: &Message) -> [u8; 8]
-    requires { HoldsOneBlock message.now.progress }
-    ensures cbc_mac { algorithm ≡ 1 → (key m : List ℕ) → IsKey C.KEY_SIZE key
-        → C.is_made_from cipher key → IsProgressOf (C.encryption key) message.now.progress m
-        → result ≡ cbc_mac_of (C.encryption key) (padded (padding_by message.now.padding) m) }
-    ensures cmac { algorithm ≢ 1 → (key m : List ℕ) → IsKey C.KEY_SIZE key
-        → C.is_made_from cipher key → IsProgressOf (C.encryption key) message.now.progress m
-        → result ≡ cmac_of (C.encryption key) m }
+// The tag of CBC-MAC, or else of CMAC, of a message, under the cipher of a context.
+#[inline(never)]
+fn chain_tag<C: OfContext>(context: &[u64], algorithm: u32, message: &Message) -> [u8; 8]
+    requires form { HasForm C.FORM context.now }
+    requires made { (key : List ℕ) × IsContextOf context.now key }
+    requires progress { HoldsOneBlock message.now.progress }
+    requires chains { algorithm ≢ 3 }
+    ensures { (key m : List ℕ) → IsContextOf context.now key
+        → IsProgressOf (encryption_of key) message.now.progress m
+        → result ≡ mac_by algorithm message.now.padding key m }
 {
+    let cipher = C::of(context);
     if algorithm != 1 {
         Cmac::<C>::resume(cipher, &message.progress).finalize()
     } else if message.padding == 2 {
@@ -166,6 +170,18 @@ fn chain_tag<C: KeyedCipher + Drop>(algorithm: u32, cipher: C, message: &Message
     } else {
         CbcMac::<C, Method1>::resume(cipher, &message.progress).finalize()
     }
+}
+
+// The same by a cipher that reads tables or not, as the way has it.
+fn chain_tag_by<W: Way>(context: &[u64], algorithm: u32, message: &Message) -> [u8; 8]
+    requires made { (key : List ℕ) × IsContextOf context.now key }
+    requires progress { HoldsOneBlock message.now.progress }
+    requires chains { algorithm ≢ 3 }
+    ensures { (key m : List ℕ) → IsContextOf context.now key
+        → IsProgressOf (encryption_of key) message.now.progress m
+        → result ≡ mac_by algorithm message.now.padding key m }
+{
+    by_form!(chain_tag::<W>(context, algorithm, message))
 }
 
 // The tag of the retail MAC of a message, under two ciphers.
@@ -193,11 +209,11 @@ fn tag_by<W: Way>(algorithm: u32, context: &[u64], message: &Message) -> [u8; 8]
         → result ≡ mac_by algorithm padding key m }
 {
     if algorithm == 3 {
-        let first: Des<W> = part(&context[..17], 1);
-        let second: Des<W> = part(&context[17..], 1);
-        return retail_tag(first, second, message);
+        let (first, second) = context.split_at(17);
+        retail_tag::<Des<W>>(Des::of(first), Des::of(second), message)
+    } else {
+        chain_tag_by::<W>(context, algorithm, message)
     }
-    over!(cipher::<W>(context), cipher => chain_tag(algorithm, cipher, message))
 }
 
 /// The tag of the message, which may go on.
@@ -222,7 +238,7 @@ pub fn verify(algorithm: u32, context: &[u64], message: &Message, tag_bytes: &[u
         → (result ≡ OK) ↔ IsTruncated tag_bytes.now (mac_by algorithm padding key m) }
     ensures refused { (padding : ℕ) (key m : List ℕ)
         → IsMacOf algorithm context.now message.now padding key m
-        → (result ≡ ERR_TAG) ↔ (IsTruncated tag_bytes.now (mac_by algorithm padding key m) → ⊥) }
+        → (result ≡ ERR_TAG) ↔ ¬ (IsTruncated tag_bytes.now (mac_by algorithm padding key m)) }
 {
     match verify_truncated_left(tag_bytes, &tag(algorithm, context, message)) {
         Ok(()) => OK,

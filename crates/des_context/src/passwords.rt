@@ -2,7 +2,7 @@
 
 ghost use Rattle.std.specs.Prelude.{◌≡◌, ◌≢◌, Some, length};
 ghost use Rattle.des_passwords.specs.Derivations.{derived};
-ghost use Rattle.des_context.specs.Passwords.{count_of as count_of_number, with_no_pbkdf2, with_pbkdf2, derivation_by, derive_status, is_salt_length as is_salt_length_of};
+ghost use Rattle.des_context.specs.Passwords.{with_no_pbkdf2, with_pbkdf2, derivation_by, IsDeriveStatus};
 
 use crate::status::{ERR_HASH, ERR_ITERATIONS, ERR_KEY_LENGTH, OK};
 use des_passwords::{Derivation, DeriveError};
@@ -15,17 +15,6 @@ pub const SHA1: u32 = 22;
 
 /// The number of SHA-256.
 pub const SHA256: u32 = 23;
-
-// A number of iterations. One that is too large is taken for 0, which is none either.
-fn count_of(iterations: usize) -> u32
-    ensures { result ≡ count_of_number iterations }
-{
-    if iterations <= 0xFFFF_FFFF {
-        iterations as u32
-    } else {
-        0
-    }
-}
 
 /// The derivation by `EVP_BytesToKey` and the hash function of a number.
 pub fn by_bytes_to_key(hash: u32) -> Option<Derivation>
@@ -43,7 +32,8 @@ pub fn by_bytes_to_key(hash: u32) -> Option<Derivation>
 pub fn by_pbkdf2(hash: u32, iterations: usize) -> Option<Derivation>
     ensures { result ≡ with_pbkdf2 hash iterations }
 {
-    let count = count_of(iterations);
+    // PBKDF2 counts in 32 bits: a larger number is taken for 0, which it refuses.
+    let count = u32::try_from(iterations).unwrap_or(0);
     match hash {
         SHA1 => Some(Derivation::Pbkdf2Sha1(count)),
         SHA256 => Some(Derivation::Pbkdf2Sha256(count)),
@@ -62,13 +52,6 @@ pub fn derivation_of(hash: u32, iterations: usize) -> Option<Derivation>
     }
 }
 
-/// Whether `EVP_BytesToKey` takes all of a salt: it reads 8 bytes, or has none.
-pub fn is_salt_length(length: usize) -> bool
-    ensures { result ≡ is_salt_length_of length }
-{
-    length == 0 || length == 8
-}
-
 /// Writes the key of a derivation. The status is `ERR_HASH` where there is none, `ERR_ITERATIONS`
 /// where it has no iteration, and `ERR_KEY_LENGTH` where PBKDF2 gives no key so long; and then
 /// `key` stays.
@@ -78,7 +61,7 @@ pub fn write_key(
     salt: &[u8],
     key: &mut [u8],
 ) -> i32
-    ensures status { result ≡ derive_status derivation (length key.old) }
+    ensures status { IsDeriveStatus derivation (length key.old) result }
     ensures key { result ≡ OK → (by : Derivation) → derivation ≡ Some by
         → key.new ≡ derived by password.now salt.now (length key.old) }
     ensures kept { result ≢ OK → key.new ≡ key.old }

@@ -1,31 +1,32 @@
 //! The check values of many keys, and the keys of many transactions, once for every cipher and
 //! every width.
 
-ghost use Rattle.std.specs.Prelude.{◌≡◌, ◌≢◌, ◌↔◌, length, map, take, replicate, IsOk, OnOk, OnErr};
+ghost use Rattle.std.specs.Prelude.{◌≡◌, ◌≢◌, ◌↔◌, length, map, take, replicate};
 ghost use Rattle.des_payment.specs.Dukpt.{initial_key, transaction_key};
 ghost use Rattle.des_context.specs.Forms.{encryption_of};
 ghost use Rattle.des_context.specs.Keys.{IsKeyLength, keys_of};
 
+use crate::ciphers::OfContext;
 use crate::status::{ERR_COUNTS, OK};
-use des::cipher::NotEqualError;
 use des_fast::many::{KeyForEach, Slice};
 use des_fast::{Des, TdesEde2, TdesEde3};
 use des_payment::check_value_lists::check_values_by;
 use des_payment::transaction_lists::transaction_keys_by;
 
-// The check values of keys of a cipher. Not inlined: the room of one cipher's call would be that of
-// all.
+// The check values of keys of a cipher.
 #[inline(never)]
-fn values_by<S: Slice, C: KeyForEach>(
-    keys: &[C::Key],
-    values: &mut [[u8; 3]],
-) -> Result<(), NotEqualError>
-    ensures accepted { IsOk result ↔ (length keys.now ≡ length values.old) }
-    ensures ok { OnOk result (values.new ≡ map
-        (λ key. take 3 (C.encryption (C.Key.bytes_of key) (replicate 8 0))) keys.now) }
-    ensures err { OnErr result (values.new ≡ values.old) }
+fn values_by<C: OfContext + KeyForEach, S: Slice>(keys: &[u8], values: &mut [[u8; 3]]) -> i32
+    ensures accepted { (result ≡ OK) ↔ (length (keys_of C.KEY_SIZE keys.now) ≡ length values.old) }
+    ensures refused { (result ≡ ERR_COUNTS)
+        ↔ (length (keys_of C.KEY_SIZE keys.now) ≢ length values.old) }
+    ensures values { result ≡ OK → values.new
+        ≡ map (λ key. take 3 (encryption_of key (replicate 8 0))) (keys_of C.KEY_SIZE keys.now) }
+    ensures kept { result ≢ OK → values.new ≡ values.old }
 {
-    check_values_by::<S, C>(keys, values)
+    match check_values_by::<S, C>(C::keys_in(keys), values) {
+        Ok(()) => OK,
+        Err(_) => ERR_COUNTS,
+    }
 }
 
 /// The check value of each key at its place: `keys` are keys of `key_size` bytes, one after
@@ -40,14 +41,10 @@ pub fn check_values<S: Slice>(key_size: usize, keys: &[u8], values: &mut [[u8; 3
         ≡ map (λ key. take 3 (encryption_of key (replicate 8 0))) (keys_of key_size keys.now) }
     ensures kept { result ≢ OK → values.new ≡ values.old }
 {
-    let done = match key_size {
-        8 => values_by::<S, Des>(keys.as_chunks::<8>().0, values),
-        16 => values_by::<S, TdesEde2>(keys.as_chunks::<16>().0, values),
-        _ => values_by::<S, TdesEde3>(keys.as_chunks::<24>().0, values),
-    };
-    match done {
-        Ok(()) => OK,
-        Err(_) => ERR_COUNTS,
+    match key_size {
+        8 => values_by::<Des, S>(keys, values),
+        16 => values_by::<TdesEde2, S>(keys, values),
+        _ => values_by::<TdesEde3, S>(keys, values),
     }
 }
 

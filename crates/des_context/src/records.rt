@@ -4,56 +4,56 @@
 ghost use Rattle.std.specs.Prelude.{◌≡◌, ◌≢◌, ◌↔◌, ℕ, List, length};
 ghost use Rattle.des_fast.specs.Records.{GoOn};
 ghost use Rattle.des_context.specs.Forms.{relation_of};
-ghost use Rattle.des_context.specs.Contexts.{IsContextOf};
+ghost use Rattle.des_context.specs.Contexts.{HasForm, IsContextOf};
 ghost use Rattle.des_context.specs.Records.{AreSizesOf, ChainsEach};
 
-use crate::ciphers::{Cipher, over};
-use crate::contexts::cipher;
+use crate::ciphers::{OfContext, by_form};
 use crate::status::{ERR_COUNTS, OK};
-use des::cipher::Relating;
 use des_fast::many::{RecordKeys, Slice, SpreadOnce};
 use des_fast::ways::Tables;
 
-// Encrypts records in place by CBC, by the relation of the cipher's key.
-fn chain<S: Slice, C: Relating + SpreadOnce>(
-    cipher: &C,
+// Encrypts records in place by CBC.
+#[inline(never)]
+fn chain<C: OfContext + SpreadOnce, S: Slice>(
+    context: &[u64],
     vectors: &mut [[u8; 8]],
     sizes: &[usize],
     blocks: &mut [[u8; 8]],
 ) -> i32
+    requires form { HasForm C.FORM context.now }
+    requires made { (key : List ℕ) × IsContextOf context.now key }
     ensures accepted { (result ≡ OK) ↔ AreSizesOf sizes.now vectors.old blocks.old }
     ensures refused { (result ≡ ERR_COUNTS) ↔ ¬ (AreSizesOf sizes.now vectors.old blocks.old) }
-    ensures chained { result ≡ OK → (key : List ℕ) → C.is_made_from cipher.now key
-        → ChainsEach (C.relation key) sizes.now vectors.old blocks.old blocks.new }
+    ensures chained { result ≡ OK → (key : List ℕ) → IsContextOf context.now key
+        → ChainsEach (relation_of key) sizes.now vectors.old blocks.old blocks.new }
     ensures goes_on { result ≡ OK → GoOn sizes.now vectors.old blocks.new vectors.new }
-    ensures count { (length vectors.new ≡ length vectors.old)
-        × (length blocks.new ≡ length blocks.old) }
     ensures kept { result ≢ OK → (vectors.new ≡ vectors.old) × (blocks.new ≡ blocks.old) }
 {
-    let keys = cipher.spread_keys::<S>();
+    let keys = C::of(context).spread_keys::<S>();
     match keys.encrypt_cbc_records(vectors, sizes, blocks) {
         Ok(()) => OK,
         Err(_) => ERR_COUNTS,
     }
 }
 
-// Decrypts records in place that CBC chained, by the relation of the cipher's key.
-fn unchain<S: Slice, C: Relating + SpreadOnce>(
-    cipher: &C,
+// Decrypts records in place that CBC chained.
+#[inline(never)]
+fn unchain<C: OfContext + SpreadOnce, S: Slice>(
+    context: &[u64],
     vectors: &mut [[u8; 8]],
     sizes: &[usize],
     blocks: &mut [[u8; 8]],
 ) -> i32
+    requires form { HasForm C.FORM context.now }
+    requires made { (key : List ℕ) × IsContextOf context.now key }
     ensures accepted { (result ≡ OK) ↔ AreSizesOf sizes.now vectors.old blocks.old }
     ensures refused { (result ≡ ERR_COUNTS) ↔ ¬ (AreSizesOf sizes.now vectors.old blocks.old) }
-    ensures chained { result ≡ OK → (key : List ℕ) → C.is_made_from cipher.now key
-        → ChainsEach (C.relation key) sizes.now vectors.old blocks.new blocks.old }
+    ensures chained { result ≡ OK → (key : List ℕ) → IsContextOf context.now key
+        → ChainsEach (relation_of key) sizes.now vectors.old blocks.new blocks.old }
     ensures goes_on { result ≡ OK → GoOn sizes.now vectors.old blocks.old vectors.new }
-    ensures count { (length vectors.new ≡ length vectors.old)
-        × (length blocks.new ≡ length blocks.old) }
     ensures kept { result ≢ OK → (vectors.new ≡ vectors.old) × (blocks.new ≡ blocks.old) }
 {
-    let keys = cipher.spread_keys::<S>();
+    let keys = C::of(context).spread_keys::<S>();
     match keys.decrypt_cbc_records(vectors, sizes, blocks) {
         Ok(()) => OK,
         Err(_) => ERR_COUNTS,
@@ -80,7 +80,7 @@ pub fn encrypt_cbc_records<S: Slice>(
         × (length blocks.new ≡ length blocks.old) }
     ensures kept { result ≢ OK → (vectors.new ≡ vectors.old) × (blocks.new ≡ blocks.old) }
 {
-    over!(&cipher::<Tables>(context), cipher => chain::<S, _>(cipher, vectors, sizes, blocks))
+    by_form!(chain::<Tables, S>(context, vectors, sizes, blocks))
 }
 
 /// Decrypts records in place that CBC chained, as `encrypt_cbc_records` does. The status is as of
@@ -101,5 +101,5 @@ pub fn decrypt_cbc_records<S: Slice>(
         × (length blocks.new ≡ length blocks.old) }
     ensures kept { result ≢ OK → (vectors.new ≡ vectors.old) × (blocks.new ≡ blocks.old) }
 {
-    over!(&cipher::<Tables>(context), cipher => unchain::<S, _>(cipher, vectors, sizes, blocks))
+    by_form!(unchain::<Tables, S>(context, vectors, sizes, blocks))
 }

@@ -1,55 +1,83 @@
 //! What `openssl enc` encrypted under a password by CBC (manual page openssl-enc(1)), opened.
 
-ghost use Rattle.std.specs.Prelude.{◌≡◌, ◌≢◌, ◌≤◌, ◌+◌, ◌++◌, ℕ, List, IfOk, IfErr, length, take, drop};
-ghost use Rattle.des.specs.Cbc.{Chains, next_vector};
-ghost use Rattle.des_context.specs.Bytes.{AreWhole, blocks_of};
+ghost use Rattle.std.specs.Prelude.{◌≡◌, ◌≢◌, ◌≤◌, ◌+◌, ◌*◌, ◌++◌, ℕ, List, None, IfSome, IfOk, IfErr, length, take, drop};
+ghost use Rattle.des_context.specs.Bytes.{AreWhole};
 ghost use Rattle.des_context.specs.Contexts.{IsContextOf};
 ghost use Rattle.des_context.specs.Forms.{relation_of};
 ghost use Rattle.des_context.specs.Keys.{IsKeyLength};
-ghost use Rattle.des_context.specs.Salted.{salted_status as salted_status_of, HoldsPlain, IsOpened, IsOpeningFault, IsPartsFault, IsSaltedFault, IsUnder, Opens};
+ghost use Rattle.des_context.specs.Salted.{EndsWith, HoldsPlain, IsOpened, IsOpeningFault, IsPartsFault, IsPlainOf, IsSaltedFault, IsUnder, Opens};
 
-use crate::calls::decrypt_cbc;
+use crate::calls::unchain;
 use crate::contexts::init;
 use crate::status::{
     ERR_BLOCKS, ERR_CAPACITY, ERR_HASH, ERR_ITERATIONS, ERR_NOT_SALTED, ERR_PADDING,
     ERR_SALT_LENGTH, OK,
 };
 use des::cbc::next_vector;
-use des::cipher::are_bytes;
+use des::cipher::are_blocks;
 use des_io::padding::{Padding, count_before};
-use des_passwords::{Derivation, SaltedError, read_salted};
+use des_passwords::{Derivation, Salted, SaltedError, read_salted};
 use std::simd::prelude::*;
 
-// The last block of what is encrypted, decrypted: the block before it, or the vector, is its
-// vector.
-fn last_block(context: &[u64], vector: &[u8; 8], front: &[u8], last: &[u8; 8]) -> [u8; 8]
-    requires { (key : List ℕ) × IsContextOf context.now key }
-    ensures { (key : List ℕ) → IsContextOf context.now key → Chains (relation_of key)
-        (next_vector vector.now (blocks_of front.now)) (blocks_of result) (blocks_of last.now) }
+// How many blocks are decrypted together: two batches.
+const PIECE: usize = 256;
+
+// Writes the plaintext of a few blocks to a room of as many bytes.
+fn write_piece(context: &[u64], vector: &[u8; 8], blocks: &[[u8; 8]], room: &mut [u8])
+    requires key { (key : List ℕ) × IsContextOf context.now key }
+    requires few { length blocks.now ≤ 256 }
+    requires room { length room.old ≡ 8 * length blocks.now }
+    ensures { (key : List ℕ) → IsContextOf context.now key
+        → IsPlainOf (relation_of key) vector.now blocks.now room.new }
 {
-    let (blocks, _) = front.as_chunks::<8>();
-    let mut previous = next_vector(vector, blocks);
-    let mut block = *last;
-    decrypt_cbc::<u64x2>(context, &mut previous, &mut block);
-    block
+    let mut piece = [[0; 8]; PIECE];
+    let piece = &mut piece[..blocks.len()];
+    piece.copy_from_slice(blocks);
+    unchain::<u64x2>(context, vector, piece);
+    room.copy_from_slice(piece.as_flattened());
 }
 
-// Writes the plaintext of whole blocks, and other bytes after it.
-fn write_plain(context: &[u64], vector: &[u8; 8], front: &[u8], end: &[u8], plain: &mut [u8])
+// Writes the plaintext of blocks to the front of a buffer.
+fn write_front(context: &[u64], vector: &[u8; 8], blocks: &[[u8; 8]], plain: &mut [u8])
     requires key { (key : List ℕ) × IsContextOf context.now key }
-    requires whole { AreWhole front.now }
-    requires room { length front.now + length end.now ≤ length plain.old }
+    requires room { 8 * length blocks.now ≤ length plain.old }
     ensures { (key : List ℕ) → IsContextOf context.now key → (start : List ℕ)
-        × ((length start ≡ length front.now)
-        × Chains (relation_of key) vector.now (blocks_of start) (blocks_of front.now)
-        × (plain.new ≡ (start ++ end.now)
-        ++ drop (length front.now + length end.now) plain.old)) }
+        × IsPlainOf (relation_of key) vector.now blocks.now start
+        × (plain.new ≡ start ++ drop (8 * length blocks.now) plain.old) }
 {
-    let mut vector = *vector;
-    let (start, rest) = plain.split_at_mut(front.len());
-    start.copy_from_slice(front);
-    decrypt_cbc::<u64x2>(context, &mut vector, start);
-    rest[..end.len()].copy_from_slice(end);
+    let mut from = 0;
+    'pieces: while from < blocks.len() {
+        let to = blocks.len().min(from + PIECE);
+        let previous = next_vector(vector, &blocks[..from]);
+        let room = &mut plain[8 * from..8 * to];
+        write_piece(context, &previous, &blocks[from..to], room);
+        from = to;
+    }
+}
+
+// The blocks before the last one, that one decrypted, and how many bytes of it are before the
+// padding; none where there is no block or no padding.
+fn end_of<'a>(
+    context: &[u64],
+    vector: &[u8; 8],
+    encrypted: &'a [u8],
+) -> Option<(&'a [[u8; 8]], [u8; 8], usize)>
+    requires key { (key : List ℕ) × IsContextOf context.now key }
+    requires whole { AreWhole encrypted.now }
+    ensures none { result ≡ None → (key : List ℕ) → IsContextOf context.now key
+        → (plain : List ℕ) → ¬ (IsOpened (relation_of key) vector.now encrypted.now plain) }
+    ensures some { IfSome result (λ end. (key : List ℕ) → IsContextOf context.now key → EndsWith
+        (relation_of key) vector.now encrypted.now end.0.now (take end.2 end.1)) }
+    ensures size { IfSome result (λ end. (8 * length end.0.now + 8 ≡ length encrypted.now)
+        × (end.2 ≤ 8)) }
+{
+    let (blocks, _) = encrypted.as_chunks::<8>();
+    are_blocks(blocks);
+    let (last, front) = blocks.split_last()?;
+    let mut block = [0; 8];
+    write_piece(context, &next_vector(vector, front), &[*last], &mut block);
+    let count = count_before(Padding::Pkcs7, &block)?;
+    Some((front, block, count))
 }
 
 // Writes what was encrypted by CBC from a vector, without its padding. The end is decrypted first,
@@ -70,61 +98,47 @@ fn open_blocks(
     if encrypted.len() % 8 != 0 {
         return ERR_BLOCKS;
     }
-    are_bytes(encrypted);
-    let Some((front, last)) = encrypted.split_last_chunk::<8>() else {
-        return ERR_PADDING;
+    let (front, block, count) = match end_of(context, vector, encrypted) {
+        Some(end) => end,
+        None => return ERR_PADDING,
     };
-    let block = last_block(context, vector, front, last);
-    let Some(count) = count_before(Padding::Pkcs7, &block) else {
-        return ERR_PADDING;
-    };
-    let size = front.len() + count;
+    let start = 8 * front.len();
+    let size = start + count;
     if plain.len() < size {
         return ERR_CAPACITY;
     }
-    write_plain(context, vector, front, &block[..count], plain);
+    write_front(context, vector, front, plain);
+    plain[start..size].copy_from_slice(&block[..count]);
     *plain_length = size;
     OK
 }
 
-fn salted_status(fault: SaltedError) -> i32
-    ensures status { result ≡ salted_status_of fault }
-    ensures fault { result ≢ OK }
-{
-    match fault {
-        SaltedError::NotSalted => ERR_NOT_SALTED,
-        SaltedError::SaltCut => ERR_SALT_LENGTH,
-    }
-}
-
-// The key, of `size` bytes, and the vector after it of a password and of the salt that stands
-// before what is encrypted, at the front of an array; or the status of the first fault.
-fn parts_of<'a>(
+// The key of a password and of a salt, the first `size` bytes of the array, the vector, and what is
+// encrypted; or the status of the first fault.
+fn derive<'a>(
     size: usize,
     derivation: Option<Derivation>,
     password: &[u8],
     bytes: &'a [u8],
-) -> Result<([u8; 32], &'a [u8]), i32>
+) -> Result<([u8; 32], [u8; 8], &'a [u8]), i32>
     requires { size ≤ 24 }
     ensures fault { IfErr result (λ status. IsPartsFault derivation bytes.now status) }
     ensures refused { IfErr result (λ status. status ≢ OK) }
-    ensures parts { IfOk result (λ parts. (under : IsUnder size derivation password.now bytes.now)
-        × (take (size + 8) parts.0 ≡ under.key ++ under.vector)
-        × (parts.1.now ≡ under.encrypted)) }
+    ensures parts { IfOk result (λ parts. IsUnder size derivation password.now bytes.now
+        (take size parts.0) parts.1 parts.2.now) }
 {
-    let Some(derivation) = derivation else {
-        return Err(ERR_HASH);
-    };
-    let salted = match read_salted(bytes) {
-        Ok(salted) => salted,
-        Err(fault) => return Err(salted_status(fault)),
-    };
-    let salt = salted.salt;
+    let derivation = derivation.ok_or(ERR_HASH)?;
+    let Salted { salt, encrypted } = read_salted(bytes).map_err(|fault| match fault {
+        SaltedError::NotSalted => ERR_NOT_SALTED,
+        SaltedError::SaltCut => ERR_SALT_LENGTH,
+    })?;
     let mut both = [0; 32];
-    match derivation.write_bytes(password, salt, &mut both[..size + 8]) {
-        Ok(()) => Ok((both, salted.encrypted)),
-        Err(_) => Err(ERR_ITERATIONS),
-    }
+    derivation
+        .write_bytes(password, salt, &mut both[..size + 8])
+        .map_err(|_| ERR_ITERATIONS)?;
+    let mut vector = [0; 8];
+    vector.copy_from_slice(&both[size..size + 8]);
+    Ok((both, vector, encrypted))
 }
 
 /// Writes what `openssl enc` encrypted under a password, without its padding, and how many bytes it
@@ -145,15 +159,12 @@ pub fn open_salted(
         (IsSaltedFault key_size derivation password.now bytes.now (length plain.old))
         plain.old plain.new plain_length.old plain_length.new result }
 {
-    let (both, encrypted) = match parts_of(key_size, derivation, password, bytes) {
+    let (key, vector, encrypted) = match derive(key_size, derivation, password, bytes) {
         Ok(parts) => parts,
         Err(status) => return status,
     };
-    let (key, rest) = both[..key_size + 8].split_at(key_size);
-    let mut vector = [0; 8];
-    vector.copy_from_slice(rest);
     let mut words = [0; 49];
     let context = &mut words[..2 * key_size + 1];
-    init(context, key, true);
+    init(context, &key[..key_size], true);
     open_blocks(context, &vector, encrypted, plain, plain_length)
 }

@@ -1,5 +1,5 @@
 -- Blocks answered in place, batch after batch.
-use Rattle.std.proofs.Common.{◌≡◌, ℕ, ◌+◌, ◌<◌, ◌≤◌, List, [], ◌++◌, length, take, drop, map, get_or, ap, ap₂, sym, ◌∙◌, arith, append_assoc, length-take-le, take-add, take_at, drop_at}
+use Rattle.std.proofs.Common.{◌≡◌, ℕ, ◌+◌, ◌<◌, ◌≤◌, List, [], ◌∷◌, ◌++◌, length, take, drop, map, get_or, set, ap, ap₂, sym, ◌∙◌, arith, append_assoc, length-take-le, take-add, take_at, drop_at}
 use Rattle.std.proofs.lemmas.List.{length-map, get_or-map, ext_get_or, map-append, drop-drop, take_all, drop_all, append-nil}
 
 -- answers, one by one
@@ -8,6 +8,13 @@ pub answered-at : (f : List ℕ → List ℕ) (old new : List (List ℕ)) → le
 answered-at f old new count each =
     ext_get_or [] new (map f old) (count ∙ sym (length-map old f))
     (λ k below. each k (omega arith) ∙ sym (get_or-map f old k [] [] (omega arith)))
+
+-- one block
+pub answered-one : (f : List ℕ → List ℕ) (old : List (List ℕ)) (answer : List ℕ) → length old ≡ 1
+    → answer ≡ f (get_or old 0 []) → set old 0 answer ≡ map f old
+answered-one f [] answer one made = absurd (omega (arith, one))
+answered-one f (block ∷ []) answer one made = ap (λ block. block ∷ []) made
+answered-one f (block ∷ other ∷ more) answer one made = absurd (omega (arith, one))
 
 -- ---- lists
 

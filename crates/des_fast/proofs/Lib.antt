@@ -58,3 +58,4 @@ pub mod ChosenTerms
 pub mod ExpandedEntries
 pub mod PassDirections
 pub mod RelatedChains
+mod RelatedTriples

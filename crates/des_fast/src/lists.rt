@@ -10,7 +10,7 @@ ghost use Rattle.des.specs.TripleCiphers.{passed_by, thrice_passed};
 ghost use Rattle.des_fast.specs.Slices.{InEachBlock};
 ghost use Rattle.des_fast.specs.Des.{encrypted, decrypted};
 ghost use Rattle.des_fast.specs.Groups.{half_of};
-ghost use Rattle.des_fast.specs.HalfBlocks.{first_halves, half_blocks_of, last_block};
+ghost use Rattle.des_fast.specs.HalfBlocks.{first_halves, last_block};
 ghost use Rattle.des_fast.specs.SideBySide.{AreExpansions, keys_of, lane};
 
 use crate::halves::{Halves, block_of, word_of};
@@ -43,15 +43,6 @@ pub(crate) trait Answers {
             ≡ answered self.now block) };
 }
 
-// The halves of one block after the rounds of a pass.
-#[inline(always)]
-fn halves_after<'a, V: Way, W>(pass: &Pass<'a, Des<W>>, halves: Halves) -> Halves
-    ensures { half_blocks_of result ≡ after_rounds (keys_of pass.now)
-        (half_of halves.left.groups) (half_of halves.right.groups) }
-{
-    V::after_rounds(halves, &pass.cipher.schedule.round_keys, pass.deciphers)
-}
-
 // The halves of blocks side by side after the rounds of a pass.
 #[inline(always)]
 fn groups_after<'a, G: Groups, W>(pass: &Pass<'a, Des<W>>, left: G, right: G) -> (G, G)
@@ -71,12 +62,13 @@ fn groups_after<'a, G: Groups, W>(pass: &Pass<'a, Des<W>>, left: G, right: G) ->
     )
 }
 
+// The way `V` is the call's, not the cipher's: a list by a cipher of `Tables` may go without them.
 impl<'a, W> Answers for Pass<'a, Des<W>> {
     ghost answered = { passed_by encrypted decrypted };
 
     #[inline]
     fn answer_block<V: Way>(&self, block: &mut [u8; 8]) {
-        *block = halves_after::<V, W>(self, Halves::of_block(block)).into_block();
+        *block = V::after_rounds(Halves::of_block(block), self).into_block();
     }
 
     #[inline]
@@ -90,9 +82,9 @@ impl<'a, W> Answers for ThreePasses<'a, Des<W>> {
 
     #[inline]
     fn answer_block<V: Way>(&self, block: &mut [u8; 8]) {
-        let halves = halves_after::<V, W>(&self.first, Halves::of_block(block)).swapped();
-        let halves = halves_after::<V, W>(&self.second, halves).swapped();
-        *block = halves_after::<V, W>(&self.third, halves).into_block();
+        let halves = V::after_rounds(Halves::of_block(block), &self.first).swapped();
+        let halves = V::after_rounds(halves, &self.second).swapped();
+        *block = V::after_rounds(halves, &self.third).into_block();
     }
 
     #[inline]
@@ -103,8 +95,8 @@ impl<'a, W> Answers for ThreePasses<'a, Des<W>> {
     }
 }
 
-// The words of the first four blocks. A place after the last block repeats it, and is not asked
-// for.
+// The words of the first four blocks. A place after the last block repeats it, and its answer is not
+// used.
 #[inline(always)]
 fn words_of_blocks(blocks: &[[u8; 8]]) -> u64x4
     requires { 1 ≤ length blocks.now }
@@ -149,23 +141,20 @@ fn write_blocks<G: Groups>(blocks: &mut [[u8; 8]], left: G, right: G)
     let left = u64x4::from_array(left.into_words());
     let right = u64x4::from_array(right.into_words());
     let words = permutations::words_of_halves(left, right).to_array();
-    // From the last place on: one after the last block stands for it, and is written over.
+    // The last place first: places after the last block repeat it, and are written over.
     blocks[last.min(3)] = block_of(words[3]);
     blocks[last.min(2)] = block_of(words[2]);
     blocks[last.min(1)] = block_of(words[1]);
     blocks[0] = block_of(words[0]);
 }
 
-// Takes at most as many blocks as go side by side through passes.
-fn answer_part<W: Way, A: Answers>(blocks: &mut [[u8; 8]], passes: &A)
+// Takes some blocks through passes, side by side.
+fn answer_side_by_side<G: Groups, A: Answers>(blocks: &mut [[u8; 8]], passes: &A)
     requires some { 1 ≤ length blocks.old }
-    requires few { length blocks.old ≤ W.Groups.BLOCKS }
+    requires few { length blocks.old ≤ G.BLOCKS }
     ensures { blocks.new ≡ map (A.answered passes.now) blocks.old }
 {
-    if blocks.len() == 1 {
-        return passes.answer_block::<W>(&mut blocks[0]);
-    }
-    let (left, right) = halves_of_blocks::<W::Groups>(blocks);
+    let (left, right) = halves_of_blocks::<G>(blocks);
     let (left, right) = passes.answer_halves(left, right);
     write_blocks(blocks, left, right);
 }
@@ -194,7 +183,12 @@ pub(crate) fn answer<W: Way, A: Answers>(blocks: &mut [[u8; 8]], passes: &A)
     let mut from = 0;
     'parts: while from < blocks.len() {
         let count = next_count::<W>(blocks.len() - from);
-        answer_part::<W, A>(&mut blocks[from..from + count], passes);
+        let part = &mut blocks[from..from + count];
+        if count == 1 {
+            passes.answer_block::<W>(&mut part[0]);
+        } else {
+            answer_side_by_side::<W::Groups, A>(part, passes);
+        }
         from += count;
     }
 }

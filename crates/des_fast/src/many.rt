@@ -5,14 +5,14 @@
 //! and slower elsewhere. What it has after its last whole batch goes three or four blocks side by
 //! side if it is few blocks, and else in a batch that is filled up with zeros, which takes about as
 //! long as a whole one. Few are at most 31 blocks where tables may be read, and at most 10 where
-//! none may be. Encryption by CBC alone goes block after block, since each waits for the one before
+//! none may be. Only encryption by CBC goes block after block, since each waits for the one before
 //! it.
 //!
-//! The calls of a list take `quiet`: if it is true, no table is read at an index that depends on
-//! the key or on a block, which is tested and not proved. All other calls here are quiet ones.
-//! `encrypt_many`, `decrypt_many` and `decrypt_cbc` take 128 blocks at a time, and those named `_by`
-//! the width of the caller: `cipher.encrypt_many_by::<u64x4>(blocks)`. `spread_keys` spreads a key
-//! over slices once, for many short lists, each of which goes in batches.
+//! The calls with `list` in their names take `quiet`: if it is true, no table is read at an index
+//! that depends on the key or on a block, which is tested and not proved. All other calls here are
+//! quiet ones. Those named `_by` take the width of the caller,
+//! `cipher.encrypt_many_by::<u64x4>(blocks)`, and others 128 blocks at a time. `spread_keys` spreads
+//! a key over slices once, for many short lists, each of which goes in batches.
 //!
 //! Many short messages go together, each in a lane of a batch: `KeyForEach` takes a key for each
 //! block of a list, and chains messages in step (those of MACs); `RecordKeys` takes records that
@@ -25,6 +25,7 @@ ghost use Rattle.des.specs.Cbc.{Cbc, Chains, Unchains, xor_blocks};
 ghost use Rattle.des.specs.Relations.{IsTheOne};
 ghost use Rattle.des_fast.specs.SpreadKeys.{AreSlicesFor};
 
+mod batches;
 mod chain_keys;
 mod chains;
 mod ciphers;
@@ -35,10 +36,10 @@ mod passes;
 mod record_keys;
 mod records;
 mod spread;
-mod ways;
 
 pub use crate::slices::Slice;
 use crate::slices::{LARGEST_BATCH, PassSlices};
+pub use batches::MOST_NARROW;
 pub use chain_keys::{ChainKeys, EachKey};
 use des::cbc;
 use des::cipher::{Relating, are_blocks};
@@ -50,7 +51,6 @@ pub use record_keys::RecordKeys;
 pub use records::{Equal, Sizes};
 pub use spread::{SpreadKeys, SpreadOnce};
 use std::simd::prelude::*;
-pub use ways::MOST_NARROW;
 
 // The xor of two blocks.
 #[inline(always)]
@@ -79,85 +79,46 @@ fn answer<S: Slice>(blocks: &mut [[u8; 8]], passes: &[PassSlices<S>])
 
 /// A block cipher that treats many blocks of a list together. No call changes the cipher.
 ///
-/// A type writes four calls: `encrypt_blocks_by`, `decrypt_blocks_by`, `chain_blocks` and
-/// `unchain_blocks_by`. The others rest on them, and say of a list what the relation of the key
-/// makes of it, or take less from the caller. The calls of the five ciphers of this crate take no
-/// memory, but for batches keep the halves C and D of their keys on the stack, spread over slices:
-/// 1,800 bytes for each pass of DES over vectors of two words, 3,600 over vectors of four. An empty
-/// list stays empty, and takes no time.
+/// A type writes the four calls of a list, which say what the relation of the key makes of it too.
+/// The others rest on them, are quiet, and say less. The calls of the five ciphers of this
+/// crate take no memory, but for batches keep the halves C and D of their keys on the stack, spread
+/// over slices: 1,800 bytes for each pass of DES over vectors of two words, 3,600 over vectors of
+/// four. An empty list stays empty, and takes no time.
 pub trait ManyBlocks: Relating {
-    /// Encrypts each block of 8 bytes in place, in order, as `encrypt_blocks` does.
-    fn encrypt_blocks_by<S: Slice>(&self, quiet: bool, blocks: &mut [[u8; 8]])
-        ensures blocks { All IsBlock blocks.old }
-        ensures encrypted { blocks.new ≡ map (Self.encrypted self.now) blocks.old };
-
-    /// Decrypts each block of 8 bytes in place, in order, as `decrypt_blocks` does.
-    fn decrypt_blocks_by<S: Slice>(&self, quiet: bool, blocks: &mut [[u8; 8]])
-        ensures blocks { All IsBlock blocks.old }
-        ensures decrypted { blocks.new ≡ map (Self.decrypted self.now) blocks.old };
-
-    /// Encrypts in place a list of blocks of 8 bytes, chained from the initialization vector, as
-    /// `des::cbc::encrypt` does.
-    fn chain_blocks(&self, quiet: bool, iv: &[u8; 8], blocks: &mut [[u8; 8]])
-        ensures blocks { All IsBlock blocks.old }
-        ensures chained { Cbc (Self.encrypted self.now) iv.now blocks.old blocks.new };
-
-    /// Decrypts in place a list of blocks of 8 bytes that CBC chained from the initialization
-    /// vector, as `des::cbc::decrypt` does.
-    fn unchain_blocks_by<S: Slice>(&self, quiet: bool, iv: &[u8; 8], blocks: &mut [[u8; 8]])
-        ensures blocks { All IsBlock blocks.old }
-        ensures unchained { Unchains (Self.decrypted self.now) iv.now blocks.old blocks.new };
-
     /// Encrypts each block of 8 bytes in place, in order, as `encrypt_blocks` does, in batches of
     /// `S::BATCH` blocks and the few that are left over side by side.
-    final fn encrypt_list_by<S: Slice>(&self, quiet: bool, blocks: &mut [[u8; 8]])
-        ensures blocks { All IsBlock blocks.new }
+    fn encrypt_list_by<S: Slice>(&self, quiet: bool, blocks: &mut [[u8; 8]])
+        ensures blocks { All IsBlock blocks.old }
         ensures encrypted { blocks.new ≡ map (Self.encrypted self.now) blocks.old }
         ensures answered { (key : List ℕ) → Self.is_made_from self.now key
-            → IsTheOne (λ answers. AnswersEach (Self.relation key) blocks.old answers) blocks.new }
-    {
-        self.encrypt_blocks_by::<S>(quiet, blocks);
-        are_blocks(blocks);
-    }
+            → IsTheOne (λ answers. AnswersEach (Self.relation key) blocks.old answers) blocks.new };
 
     /// Decrypts each block of 8 bytes in place, in order, as `decrypt_blocks` does, in batches of
     /// `S::BATCH` blocks and the few that are left over side by side.
-    final fn decrypt_list_by<S: Slice>(&self, quiet: bool, blocks: &mut [[u8; 8]])
-        ensures blocks { All IsBlock blocks.new }
+    fn decrypt_list_by<S: Slice>(&self, quiet: bool, blocks: &mut [[u8; 8]])
+        ensures blocks { All IsBlock blocks.old }
         ensures decrypted { blocks.new ≡ map (Self.decrypted self.now) blocks.old }
         ensures answered { (key : List ℕ) → Self.is_made_from self.now key
-            → IsTheOne (λ answers. AnswersEach (Self.relation key) answers blocks.old) blocks.new }
-    {
-        self.decrypt_blocks_by::<S>(quiet, blocks);
-        are_blocks(blocks);
-    }
+            → IsTheOne (λ answers. AnswersEach (Self.relation key) answers blocks.old) blocks.new };
 
     /// Encrypts in place a list of blocks of 8 bytes by CBC (FIPS 81, cipher block chaining mode),
     /// chained from the initialization vector, as `des::cbc::encrypt` does, block after block:
     /// plaintext goes in, and the ciphertext comes out, as many blocks. Padding and authentication
     /// are left to the caller.
-    final fn encrypt_cbc_list(&self, quiet: bool, iv: &[u8; 8], blocks: &mut [[u8; 8]])
-        ensures blocks { All IsBlock blocks.new }
+    fn encrypt_cbc_list(&self, quiet: bool, iv: &[u8; 8], blocks: &mut [[u8; 8]])
+        ensures blocks { All IsBlock blocks.old }
         ensures chained { Cbc (Self.encrypted self.now) iv.now blocks.old blocks.new }
         ensures related { (key : List ℕ) → Self.is_made_from self.now key
-            → Chains (Self.relation key) iv.now blocks.old blocks.new }
-    {
-        self.chain_blocks(quiet, iv, blocks);
-        are_blocks(blocks);
-    }
+            → Chains (Self.relation key) iv.now blocks.old blocks.new };
 
     /// Decrypts in place a list of blocks of 8 bytes that CBC chained from the initialization
     /// vector, as `decrypt_cbc` does, in batches of `S::BATCH` blocks and the few that are left over
     /// side by side.
-    final fn decrypt_cbc_list_by<S: Slice>(&self, quiet: bool, iv: &[u8; 8], blocks: &mut [[u8; 8]])
-        ensures blocks { All IsBlock blocks.new }
+    fn decrypt_cbc_list_by<S: Slice>(&self, quiet: bool, iv: &[u8; 8], blocks: &mut [[u8; 8]])
+        ensures blocks { All IsBlock blocks.old }
         ensures unchained { Unchains (Self.decrypted self.now) iv.now blocks.old blocks.new }
         ensures related { (key : List ℕ) → Self.is_made_from self.now key
-            → Chains (Self.relation key) iv.now blocks.new blocks.old }
-    {
-        self.unchain_blocks_by::<S>(quiet, iv, blocks);
-        are_blocks(blocks);
-    }
+            → Chains (Self.relation key) iv.now blocks.new blocks.old };
 
     /// Encrypts each block of 8 bytes in place, in order, as `encrypt_blocks` does, `S::BATCH`
     /// blocks at a time.
@@ -165,7 +126,7 @@ pub trait ManyBlocks: Relating {
         ensures blocks { All IsBlock blocks.old }
         ensures encrypted { blocks.new ≡ map (Self.encrypted self.now) blocks.old }
     {
-        self.encrypt_blocks_by::<S>(true, blocks);
+        self.encrypt_list_by::<S>(true, blocks);
     }
 
     /// Decrypts each block of 8 bytes in place, in order, as `decrypt_blocks` does, `S::BATCH`
@@ -174,7 +135,7 @@ pub trait ManyBlocks: Relating {
         ensures blocks { All IsBlock blocks.old }
         ensures decrypted { blocks.new ≡ map (Self.decrypted self.now) blocks.old }
     {
-        self.decrypt_blocks_by::<S>(true, blocks);
+        self.decrypt_list_by::<S>(true, blocks);
     }
 
     /// Decrypts in place a list of blocks of 8 bytes that CBC chained from the initialization
@@ -183,7 +144,7 @@ pub trait ManyBlocks: Relating {
         ensures blocks { All IsBlock blocks.old }
         ensures unchained { Unchains (Self.decrypted self.now) iv.now blocks.old blocks.new }
     {
-        self.unchain_blocks_by::<S>(true, iv, blocks);
+        self.decrypt_cbc_list_by::<S>(true, iv, blocks);
     }
 
     /// Encrypts each block of 8 bytes in place, in order, as `encrypt_blocks` does, 128 blocks at a

@@ -1,8 +1,8 @@
 //! The five ciphers with no table read at an index that depends on a key or a block, and no branch
-//! on either: the boxes are selections between vectors. They have the names, traits and definitions
-//! of the ciphers that read tables, answer alike, and take three times as long for a block. The
-//! blocks of a list go four side by side, in about half that time; `many` takes lists of few blocks
-//! so.
+//! on either: the boxes are selections between vectors. They have the names and definitions of
+//! the ciphers that read tables, the traits of `des::cipher`, answer alike, and take three times as
+//! long for a block. The blocks of a list go four side by side, in about half that time. The calls
+//! of `many` are those of the others, with the argument `quiet`.
 //!
 //! The source is written so. That a compiler keeps to it on each processor is not proved, and no
 //! claim is made on the time that a call takes.

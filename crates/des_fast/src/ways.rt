@@ -3,12 +3,14 @@
 ghost use Rattle.std.specs.Prelude.{◌≡◌};
 ghost use Rattle.des.specs.Rounds.{after_rounds};
 ghost use Rattle.des_fast.specs.Groups.{half_of};
-ghost use Rattle.des_fast.specs.HalfBlocks.{round_keys_of, half_blocks_of};
-ghost use Rattle.des_fast.specs.SideBySide.{in_direction};
+ghost use Rattle.des_fast.specs.HalfBlocks.{half_blocks_of};
+ghost use Rattle.des_fast.specs.SideBySide.{keys_of};
 
-use crate::halves::{Halves, RoundKey};
+use crate::halves::Halves;
 use crate::rounds::{Groups, halves_after_rounds};
+use crate::single::Des;
 use crate::threes::ThreeGroups;
+use des::tdes::Pass;
 use std::simd::prelude::*;
 
 /// A way by which the boxes are looked up.
@@ -19,11 +21,10 @@ pub trait Way: Copy {
     /// The last blocks of a list go one by one if they are at most so many: that is quicker.
     const ONE_BY_ONE: usize;
 
-    /// The halves of one block after sixteen rounds, with the round keys in their order or, to
-    /// decipher, from the last to the first (FIPS 46-3, enciphering and deciphering).
-    fn after_rounds(halves: Halves, round_keys: &[RoundKey; 16], deciphers: bool) -> Halves
-        ensures { half_blocks_of result
-            ≡ after_rounds (in_direction deciphers (round_keys_of round_keys.now))
+    /// The halves of one block after the sixteen rounds of a pass, with the round keys in their order
+    /// or, to decipher, from the last to the first (FIPS 46-3, enciphering and deciphering).
+    fn after_rounds<'a, W>(halves: Halves, pass: &Pass<'a, Des<W>>) -> Halves
+        ensures { half_blocks_of result ≡ after_rounds (keys_of pass.now)
             (half_of halves.left.groups) (half_of halves.right.groups) };
 }
 
@@ -38,8 +39,9 @@ impl Way for Tables {
     const ONE_BY_ONE: usize = 1;
 
     #[inline(always)]
-    fn after_rounds(halves: Halves, round_keys: &[RoundKey; 16], deciphers: bool) -> Halves {
-        if deciphers {
+    fn after_rounds<'a, W>(halves: Halves, pass: &Pass<'a, Des<W>>) -> Halves {
+        let round_keys = &pass.cipher.schedule.round_keys;
+        if pass.deciphers {
             halves.deciphered(round_keys)
         } else {
             halves.enciphered(round_keys)
@@ -58,7 +60,7 @@ impl Way for Quiet {
     const ONE_BY_ONE: usize = 2;
 
     #[inline(always)]
-    fn after_rounds(halves: Halves, round_keys: &[RoundKey; 16], deciphers: bool) -> Halves {
-        halves_after_rounds(halves, round_keys, deciphers)
+    fn after_rounds<'a, W>(halves: Halves, pass: &Pass<'a, Des<W>>) -> Halves {
+        halves_after_rounds(halves, &pass.cipher.schedule.round_keys, pass.deciphers)
     }
 }

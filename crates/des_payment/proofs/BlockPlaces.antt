@@ -1,8 +1,10 @@
--- The optional block at a place of a text of them: none, the first, and one after the first.
-use Rattle.std.proofs.Common.{◌≡◌, ◌≢◌, ℕ, zero, suc, ◌-◌, List, [], ◌∷◌, ◌++◌, length, take, drop, Option, Some, None, refl, sym, ap, ap₂, ◌∙◌, subst, arith}
+-- The optional block at a place of a text of them: none, the first, and one after the first; and the text up to its end.
+use Rattle.std.proofs.Common.{◌≡◌, ◌≢◌, ℕ, zero, suc, ◌+◌, ◌-◌, List, [], ◌∷◌, ◌++◌, length, take, drop, Option, Some, None, refl, sym, ap, ap₂, ◌∙◌, subst, arith}
 use Rattle.std.specs.Prelude.{slice_get}
+use Rattle.std.proofs.Math.Seq.{take-nil}
 use Rattle.std.proofs.lemmas.List.{length-take, take_at, drop_at}
 use Rattle.des_payment.specs.OptionalBlocks.{IsOptionalBlock, AreOptionalBlocks}
+use Rattle.des_payment.proofs.OptionalBlockLists.{block-before}
 use Rattle.des_payment.proofs.OneBlockTexts.{name-once, content-once}
 use Rattle.des_payment.proofs.OptionalBlockTexts.{block-least}
 
@@ -58,3 +60,27 @@ place-after (block ∷ blocks) name content text size (suc place) answer are fou
     let this : suc place - 1 ≡ place = omega arith in
     after blocks (subst (λ (t : List ℕ). AreOptionalBlocks blocks t) (sym there) are.1.1.2)
     ∙ ap (slice_get blocks) this
+
+-- the first block, and those of the text after it up to some place
+pub front-after : (blocks : List (List ℕ × List ℕ)) (text : List ℕ) (size place n count total : ℕ)
+    → AreOptionalBlocks blocks text → BeginsWith text size → count ≡ suc place → total ≡ size + n
+    → ((others : List (List ℕ × List ℕ)) → AreOptionalBlocks others (drop size text)
+    → AreOptionalBlocks (take place others) (take n (drop size text)))
+    → AreOptionalBlocks (take count blocks) (take total text)
+unfolding AreOptionalBlocks
+front-after [] text size place n count total are only counted sum after =
+    rw (counted, are, take-nil {A = ℕ} total) refl
+front-after (block ∷ blocks) text size place n count total are only counted sum after =
+    let first : List ℕ = are.0 in
+    let long : size ≡ length first = only block.0 block.1 first are.1.0 are.1.1.1 are.1.1.0 in
+    let front : take size text ≡ first = ap (take size) are.1.1.0 ∙ take_at first are.1.0 size (sym long) in
+    let back : drop size text ≡ are.1.0 = ap (drop size) are.1.1.0 ∙ drop_at first are.1.0 size (sym long) in
+    rw (counted, sum)
+    (block-before size n block.0 block.1 text (take place blocks)
+    (subst (λ (t : List ℕ). IsOptionalBlock block.0 block.1 t) (sym front) are.1.1.1)
+    (after blocks (subst (λ (t : List ℕ). AreOptionalBlocks blocks t) (sym back) are.1.1.2)))
+
+-- of no characters there are none
+pub ends-none : (blocks : List (List ℕ × List ℕ)) (text : List ℕ) → AreOptionalBlocks (take 0 blocks) (take 0 text)
+unfolding AreOptionalBlocks
+ends-none blocks text = refl

@@ -37,6 +37,10 @@ pub record HasPartsSo (Fact : Version → List ℕ → List ℕ → Type 0) (blo
   pub parts : HasParts header blocks front rest block
   pub fact : Fact header.version front rest
 
+-- it has the parts of a block, as they show without a key: a rest as long as its version has it
+abbrev pub HasLayout : List ℕ → Type 0
+HasLayout block = HasPartsSo (λ version front rest. IsTrue (is_sealed_length version (length rest))) block
+
 -- ---- the first fault
 
 -- one that shows without a key

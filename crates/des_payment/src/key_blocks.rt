@@ -8,7 +8,7 @@ ghost use Rattle.des.specs.Blocks.{AreBytes, IsBlock};
 ghost use Rattle.des_payment.specs.Hex.{hex_of};
 ghost use Rattle.des_payment.specs.KeyBlockHeaders.{IsHeader, IsNamed, header_text as header_text_of};
 ghost use Rattle.des_payment.specs.KeyBlocks.{joined, key_data, mac_size as mac_size_of, is_protection_key, is_key_data, parts_fault, HasParts, IsSealed, HoldsKey, IsKeyBlock, front_text, size_of_block, wrap_fault};
-ghost use Rattle.des_payment.specs.KeyBlockReading.{AreAlike, is_sealed_length as is_sealed_length_of, AreHexDigits, HasLayoutFault, HasSealFault, HasFault};
+ghost use Rattle.des_payment.specs.KeyBlockReading.{AreAlike, is_sealed_length as is_sealed_length_of, AreHexDigits, HasLayout, HasLayoutFault, HasSealFault, HasFault};
 ghost use Rattle.des_payment.specs.KeyLengths.{is_key as is_key_of};
 ghost use Rattle.des_payment.specs.OptionalBlocks.{AreOptionalBlocks, blocks_text, filled, size_of_all as size_of_contents};
 
@@ -281,16 +281,52 @@ pub fn header(block: &[u8]) -> Result<Header, KeyBlockError>
     Ok(header)
 }
 
-// The block at a place, from 0, of a text of optional blocks, or `None` where there are no more.
-fn block_at(text: &[u8], place: usize) -> Option<OptionalBlock<'_>>
-    ensures { (blocks : List (List ℕ × List ℕ)) → AreOptionalBlocks blocks text.now
-        → option_map (λ block. (block.name, block.content.now)) result ≡ slice_get blocks place }
+// The block at a place, from 0, of a text of optional blocks, and how many characters stand before
+// its content, or `None` where there are no more.
+fn block_at(text: &[u8], place: usize) -> Option<(OptionalBlock<'_>, usize)>
+    ensures within { IfSome result (λ found.
+        found.1 + length found.0.content.now ≤ length text.now) }
+    ensures content { IfSome result (λ found. found.0.content.now
+        ≡ take (length found.0.content.now) (drop found.1 text.now)) }
+    ensures found { (blocks : List (List ℕ × List ℕ)) → AreOptionalBlocks blocks text.now
+        → option_map (λ found. (found.0.name, found.0.content.now)) result
+        ≡ slice_get blocks place }
+    ensures end { (blocks : List (List ℕ × List ℕ)) → AreOptionalBlocks blocks text.now
+        → IfSome result (λ found. AreOptionalBlocks (take (place + 1) blocks)
+        (take (found.1 + length found.0.content.now) text.now)) }
 {
     let (block, size) = first_block(text)?;
     if place == 0 {
-        return Some(block);
+        return Some((block, size - block.content.len()));
     }
-    block_at(&text[size..], place - 1)
+    let (block, before) = block_at(&text[size..], place - 1)?;
+    Some((block, size + before))
+}
+
+/// The optional block of a block at a place, from 0, and how many characters of the block stand
+/// before its content, or `None` where there are no more. Nothing of it is authenticated.
+pub fn placed_optional_block(
+    block: &[u8],
+    place: usize,
+) -> Result<Option<(OptionalBlock<'_>, usize)>, KeyBlockError>
+    ensures parts { IfOk result (λ _. HasLayout block.now) }
+    ensures found { (layout : HasLayout block.now) → IsOkAnd result (λ found.
+        option_map (λ found. (found.0.name, found.0.content.now)) found
+        ≡ slice_get layout.blocks place) }
+    ensures within { IfOk result (λ found. IfSome found (λ found.
+        found.1 + length found.0.content.now ≤ length block.now)) }
+    ensures content { IfOk result (λ found. IfSome found (λ found. found.0.content.now
+        ≡ take (length found.0.content.now) (drop found.1 block.now))) }
+    ensures end { (layout : HasLayout block.now) → IfOk result (λ found. IfSome found (λ found.
+        AreOptionalBlocks (take (place + 1) layout.blocks)
+        (drop 16 (take (found.1 + length found.0.content.now) block.now)))) }
+    ensures fault { IfErr result (λ error. HasLayoutFault block.now error) }
+{
+    let (_, size) = layout_of(block)?;
+    match block_at(&block[HEADER..size], place) {
+        Some((found, before)) => Ok(Some((found, HEADER + before))),
+        None => Ok(None),
+    }
 }
 
 /// The optional block of a block at a place, from 0, or `None` where there are no more. Nothing of
@@ -309,8 +345,10 @@ pub fn optional_block(
         ≡ slice_get blocks place) }
     ensures fault { IfErr result (λ error. HasLayoutFault block.now error) }
 {
-    let (_, size) = layout_of(block)?;
-    Ok(block_at(&block[HEADER..size], place))
+    match placed_optional_block(block, place)? {
+        Some((found, _)) => Ok(Some(found)),
+        None => Ok(None),
+    }
 }
 
 // Key data: the key's length in bits, the key and the padding, and zeros to 32 bytes.

@@ -70,6 +70,9 @@ pub(crate) fn first_block(text: &[u8]) -> Option<(OptionalBlock<'_>, usize)>
     ensures within { IfSome result (λ found. found.1 ≤ length text.now) }
     ensures first { IfSome result (λ found.
         IsOptionalBlock found.0.name found.0.content.now (take found.1 text.now)) }
+    ensures short { IfSome result (λ found. length found.0.content.now ≤ found.1) }
+    ensures content { IfSome result (λ found. found.0.content.now ≡ take (length found.0.content.now)
+        (drop (found.1 - length found.0.content.now) text.now)) }
     ensures only { (name content first rest : List ℕ) → IsOptionalBlock name content first
         → text.now ≡ first ++ rest → IsSomeAnd result (λ found. found.1 ≡ length first) }
 {

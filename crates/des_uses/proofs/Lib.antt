@@ -3,5 +3,4 @@ pub mod JoinedParts
 pub mod KeyedChains
 pub mod RelatedAnswers
 pub mod ReversedSchedules
-mod SpreadSizes
 pub mod ZippedLists

@@ -4,7 +4,7 @@ ghost use Rattle.std.specs.Prelude.{◌≡◌, ◌≢◌, ◌↔◌, ℕ, List};
 ghost use Rattle.des.specs.Blocks.{AnswersEach};
 ghost use Rattle.des.specs.Cbc.{Chains, next_vector};
 ghost use Rattle.des.specs.Relations.{IsTheOne};
-ghost use Rattle.des_context.specs.Bytes.{AreWhole, FitInto, blocks_of};
+ghost use Rattle.des_context.specs.Bytes.{AreBytesOf, FitInto};
 ghost use Rattle.des_context.specs.Contexts.{IsContextOf};
 ghost use Rattle.des_context.specs.Forms.{relation_of};
 
@@ -15,31 +15,37 @@ use des_context::status::{ERR_BLOCKS, OK};
 /// Encrypts bytes in place, each block of eight by itself. The status is `ERR_BLOCKS` where they
 /// are not whole blocks; they then stay as they were.
 #[unsafe(no_mangle)]
-pub extern "C" fn cukvashe_internal_encrypt_ecb(context: &[u64], bytes: &mut [u8]) -> i32
+pub extern "C" fn cukvashe_internal_encrypt_ecb(
+    context: &[u64],
+    blocks: &mut [[u8; 8]],
+    size: usize,
+) -> i32
     requires { (key : List ℕ) × IsContextOf context.now key }
-    ensures accepted { (result ≡ OK) ↔ AreWhole bytes.old }
-    ensures refused { (result ≡ ERR_BLOCKS) ↔ ¬ (AreWhole bytes.old) }
+    ensures accepted { (result ≡ OK) ↔ AreBytesOf blocks.old size }
+    ensures refused { (result ≡ ERR_BLOCKS) ↔ ¬ (AreBytesOf blocks.old size) }
     ensures answered { result ≡ OK → (key : List ℕ) → IsContextOf context.now key
-        → IsTheOne (λ answers. AnswersEach (relation_of key) (blocks_of bytes.old) answers)
-        (blocks_of bytes.new) }
-    ensures kept { result ≢ OK → bytes.new ≡ bytes.old }
+        → IsTheOne (λ answers. AnswersEach (relation_of key) blocks.old answers) blocks.new }
+    ensures kept { result ≢ OK → blocks.new ≡ blocks.old }
 {
-    calls::encrypt_ecb::<Width>(context, bytes)
+    calls::encrypt_ecb::<Width>(context, blocks, size)
 }
 
 /// Decrypts bytes in place, each block of eight by itself. The status is `ERR_BLOCKS` where they
 /// are not whole blocks; they then stay as they were.
 #[unsafe(no_mangle)]
-pub extern "C" fn cukvashe_internal_decrypt_ecb(context: &[u64], bytes: &mut [u8]) -> i32
+pub extern "C" fn cukvashe_internal_decrypt_ecb(
+    context: &[u64],
+    blocks: &mut [[u8; 8]],
+    size: usize,
+) -> i32
     requires { (key : List ℕ) × IsContextOf context.now key }
-    ensures accepted { (result ≡ OK) ↔ AreWhole bytes.old }
-    ensures refused { (result ≡ ERR_BLOCKS) ↔ ¬ (AreWhole bytes.old) }
+    ensures accepted { (result ≡ OK) ↔ AreBytesOf blocks.old size }
+    ensures refused { (result ≡ ERR_BLOCKS) ↔ ¬ (AreBytesOf blocks.old size) }
     ensures answered { result ≡ OK → (key : List ℕ) → IsContextOf context.now key
-        → IsTheOne (λ answers. AnswersEach (relation_of key) answers (blocks_of bytes.old))
-        (blocks_of bytes.new) }
-    ensures kept { result ≢ OK → bytes.new ≡ bytes.old }
+        → IsTheOne (λ answers. AnswersEach (relation_of key) answers blocks.old) blocks.new }
+    ensures kept { result ≢ OK → blocks.new ≡ blocks.old }
 {
-    calls::decrypt_ecb::<Width>(context, bytes)
+    calls::decrypt_ecb::<Width>(context, blocks, size)
 }
 
 /// Writes the bytes of `input`, encrypted as by `cukvashe_internal_encrypt_ecb`, to `output`. The
@@ -48,18 +54,22 @@ pub extern "C" fn cukvashe_internal_decrypt_ecb(context: &[u64], bytes: &mut [u8
 #[unsafe(no_mangle)]
 pub extern "C" fn cukvashe_internal_encrypt_ecb_to(
     context: &[u64],
-    input: &[u8],
-    output: &mut [u8],
+    input: &[[u8; 8]],
+    output: &mut [[u8; 8]],
+    size: usize,
 ) -> i32
     requires { (key : List ℕ) × IsContextOf context.now key }
-    ensures accepted { (result ≡ OK) ↔ FitInto output.old input.now }
-    ensures refused { (result ≡ ERR_BLOCKS) ↔ ¬ (FitInto output.old input.now) }
+    ensures accepted { (result ≡ OK) ↔ FitInto output.old input.now size }
+    ensures refused { (result ≡ ERR_BLOCKS) ↔ ¬ (FitInto output.old input.now size) }
     ensures answered { result ≡ OK → (key : List ℕ) → IsContextOf context.now key
-        → IsTheOne (λ answers. AnswersEach (relation_of key) (blocks_of input.now) answers)
-        (blocks_of output.new) }
+        → IsTheOne (λ answers. AnswersEach (relation_of key) input.now answers) output.new }
     ensures kept { result ≢ OK → output.new ≡ output.old }
 {
-    calls::encrypt_ecb_to::<Width>(context, input, output)
+    if calls::copy_whole(input, output, size) {
+        calls::encrypt_ecb::<Width>(context, output, size)
+    } else {
+        ERR_BLOCKS
+    }
 }
 
 /// Writes the bytes of `input`, decrypted as by `cukvashe_internal_decrypt_ecb`, to `output`. The
@@ -67,18 +77,22 @@ pub extern "C" fn cukvashe_internal_encrypt_ecb_to(
 #[unsafe(no_mangle)]
 pub extern "C" fn cukvashe_internal_decrypt_ecb_to(
     context: &[u64],
-    input: &[u8],
-    output: &mut [u8],
+    input: &[[u8; 8]],
+    output: &mut [[u8; 8]],
+    size: usize,
 ) -> i32
     requires { (key : List ℕ) × IsContextOf context.now key }
-    ensures accepted { (result ≡ OK) ↔ FitInto output.old input.now }
-    ensures refused { (result ≡ ERR_BLOCKS) ↔ ¬ (FitInto output.old input.now) }
+    ensures accepted { (result ≡ OK) ↔ FitInto output.old input.now size }
+    ensures refused { (result ≡ ERR_BLOCKS) ↔ ¬ (FitInto output.old input.now size) }
     ensures answered { result ≡ OK → (key : List ℕ) → IsContextOf context.now key
-        → IsTheOne (λ answers. AnswersEach (relation_of key) answers (blocks_of input.now))
-        (blocks_of output.new) }
+        → IsTheOne (λ answers. AnswersEach (relation_of key) answers input.now) output.new }
     ensures kept { result ≢ OK → output.new ≡ output.old }
 {
-    calls::decrypt_ecb_to::<Width>(context, input, output)
+    if calls::copy_whole(input, output, size) {
+        calls::decrypt_ecb::<Width>(context, output, size)
+    } else {
+        ERR_BLOCKS
+    }
 }
 
 /// Decrypts bytes in place that CBC chained from the vector, which becomes the last ciphertext
@@ -88,17 +102,18 @@ pub extern "C" fn cukvashe_internal_decrypt_ecb_to(
 pub extern "C" fn cukvashe_internal_decrypt_cbc(
     context: &[u64],
     iv: &mut [u8; 8],
-    bytes: &mut [u8],
+    blocks: &mut [[u8; 8]],
+    size: usize,
 ) -> i32
     requires { (key : List ℕ) × IsContextOf context.now key }
-    ensures accepted { (result ≡ OK) ↔ AreWhole bytes.old }
-    ensures refused { (result ≡ ERR_BLOCKS) ↔ ¬ (AreWhole bytes.old) }
+    ensures accepted { (result ≡ OK) ↔ AreBytesOf blocks.old size }
+    ensures refused { (result ≡ ERR_BLOCKS) ↔ ¬ (AreBytesOf blocks.old size) }
     ensures chained { result ≡ OK → (key : List ℕ) → IsContextOf context.now key
-        → Chains (relation_of key) iv.old (blocks_of bytes.new) (blocks_of bytes.old) }
-    ensures goes_on { result ≡ OK → iv.new ≡ next_vector iv.old (blocks_of bytes.old) }
-    ensures kept { result ≢ OK → (bytes.new ≡ bytes.old) × (iv.new ≡ iv.old) }
+        → Chains (relation_of key) iv.old blocks.new blocks.old }
+    ensures goes_on { result ≡ OK → iv.new ≡ next_vector iv.old blocks.old }
+    ensures kept { result ≢ OK → (blocks.new ≡ blocks.old) × (iv.new ≡ iv.old) }
 {
-    calls::decrypt_cbc::<Width>(context, iv, bytes)
+    calls::decrypt_cbc::<Width>(context, iv, blocks, size)
 }
 
 /// Writes the bytes of `input`, decrypted as by `cukvashe_internal_decrypt_cbc`, to `output`. The
@@ -108,16 +123,21 @@ pub extern "C" fn cukvashe_internal_decrypt_cbc(
 pub extern "C" fn cukvashe_internal_decrypt_cbc_to(
     context: &[u64],
     iv: &mut [u8; 8],
-    input: &[u8],
-    output: &mut [u8],
+    input: &[[u8; 8]],
+    output: &mut [[u8; 8]],
+    size: usize,
 ) -> i32
     requires { (key : List ℕ) × IsContextOf context.now key }
-    ensures accepted { (result ≡ OK) ↔ FitInto output.old input.now }
-    ensures refused { (result ≡ ERR_BLOCKS) ↔ ¬ (FitInto output.old input.now) }
+    ensures accepted { (result ≡ OK) ↔ FitInto output.old input.now size }
+    ensures refused { (result ≡ ERR_BLOCKS) ↔ ¬ (FitInto output.old input.now size) }
     ensures chained { result ≡ OK → (key : List ℕ) → IsContextOf context.now key
-        → Chains (relation_of key) iv.old (blocks_of output.new) (blocks_of input.now) }
-    ensures goes_on { result ≡ OK → iv.new ≡ next_vector iv.old (blocks_of input.now) }
+        → Chains (relation_of key) iv.old output.new input.now }
+    ensures goes_on { result ≡ OK → iv.new ≡ next_vector iv.old input.now }
     ensures kept { result ≢ OK → (output.new ≡ output.old) × (iv.new ≡ iv.old) }
 {
-    calls::decrypt_cbc_to::<Width>(context, iv, input, output)
+    if calls::copy_whole(input, output, size) {
+        calls::decrypt_cbc::<Width>(context, iv, output, size)
+    } else {
+        ERR_BLOCKS
+    }
 }

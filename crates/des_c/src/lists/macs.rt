@@ -12,9 +12,9 @@ use super::Width;
 use des_context::mac_lists;
 use des_context::status::OK;
 
-/// Writes the tag of each message at its place, with padding method 1 or 2; CMAC is called with 2,
-/// and has a padding of its own. The status of another padding is `ERR_PADDING_METHOD`, that of
-/// messages and tags of different numbers `ERR_COUNTS`; the tags then stay as they were.
+/// Writes the tag of each message at its place, with padding method 1 or 2, which plays no part in
+/// CMAC. The status of another padding is `ERR_PADDING_METHOD`, that of messages and tags of
+/// different numbers `ERR_COUNTS`; the tags then stay as they were.
 #[unsafe(no_mangle)]
 pub extern "C" fn cukvashe_internal_macs(
     algorithm: u32,

@@ -10,28 +10,28 @@ use super::Width;
 use des_context::records::{decrypt_cbc_records, encrypt_cbc_records};
 use des_context::status::{ERR_COUNTS, OK};
 
-/// Encrypts records in place by CBC: `sizes[k]` blocks are record k, one record after another, and
+/// Encrypts records in place by CBC: `counts[k]` blocks are record k, one record after another, and
 /// `vectors[k]`, from which it is chained, becomes its last ciphertext block. The status is
-/// `ERR_COUNTS` where the numbers of vectors and sizes differ, or the sizes do not add up to the
+/// `ERR_COUNTS` where the numbers of vectors and counts differ, or the counts do not add up to the
 /// number of blocks; vectors and blocks then stay.
 #[unsafe(no_mangle)]
 pub extern "C" fn cukvashe_internal_encrypt_cbc_records(
     context: &[u64],
     vectors: &mut [[u8; 8]],
-    sizes: &[usize],
+    counts: &[usize],
     blocks: &mut [[u8; 8]],
 ) -> i32
     requires { (key : List ℕ) × IsContextOf context.now key }
-    ensures accepted { (result ≡ OK) ↔ AreSizesOf sizes.now vectors.old blocks.old }
-    ensures refused { (result ≡ ERR_COUNTS) ↔ ¬ (AreSizesOf sizes.now vectors.old blocks.old) }
+    ensures accepted { (result ≡ OK) ↔ AreSizesOf counts.now vectors.old blocks.old }
+    ensures refused { (result ≡ ERR_COUNTS) ↔ ¬ (AreSizesOf counts.now vectors.old blocks.old) }
     ensures chained { result ≡ OK → (key : List ℕ) → IsContextOf context.now key
-        → ChainsEach (relation_of key) sizes.now vectors.old blocks.old blocks.new }
-    ensures goes_on { result ≡ OK → GoOn sizes.now vectors.old blocks.new vectors.new }
+        → ChainsEach (relation_of key) counts.now vectors.old blocks.old blocks.new }
+    ensures goes_on { result ≡ OK → GoOn counts.now vectors.old blocks.new vectors.new }
     ensures count { (length vectors.new ≡ length vectors.old)
         × (length blocks.new ≡ length blocks.old) }
     ensures kept { result ≢ OK → (vectors.new ≡ vectors.old) × (blocks.new ≡ blocks.old) }
 {
-    encrypt_cbc_records::<Width>(context, vectors, sizes, blocks)
+    encrypt_cbc_records::<Width>(context, vectors, counts, blocks)
 }
 
 /// Decrypts records in place that CBC chained. The status is as of encryption.
@@ -39,18 +39,18 @@ pub extern "C" fn cukvashe_internal_encrypt_cbc_records(
 pub extern "C" fn cukvashe_internal_decrypt_cbc_records(
     context: &[u64],
     vectors: &mut [[u8; 8]],
-    sizes: &[usize],
+    counts: &[usize],
     blocks: &mut [[u8; 8]],
 ) -> i32
     requires { (key : List ℕ) × IsContextOf context.now key }
-    ensures accepted { (result ≡ OK) ↔ AreSizesOf sizes.now vectors.old blocks.old }
-    ensures refused { (result ≡ ERR_COUNTS) ↔ ¬ (AreSizesOf sizes.now vectors.old blocks.old) }
+    ensures accepted { (result ≡ OK) ↔ AreSizesOf counts.now vectors.old blocks.old }
+    ensures refused { (result ≡ ERR_COUNTS) ↔ ¬ (AreSizesOf counts.now vectors.old blocks.old) }
     ensures chained { result ≡ OK → (key : List ℕ) → IsContextOf context.now key
-        → ChainsEach (relation_of key) sizes.now vectors.old blocks.new blocks.old }
-    ensures goes_on { result ≡ OK → GoOn sizes.now vectors.old blocks.old vectors.new }
+        → ChainsEach (relation_of key) counts.now vectors.old blocks.new blocks.old }
+    ensures goes_on { result ≡ OK → GoOn counts.now vectors.old blocks.old vectors.new }
     ensures count { (length vectors.new ≡ length vectors.old)
         × (length blocks.new ≡ length blocks.old) }
     ensures kept { result ≢ OK → (vectors.new ≡ vectors.old) × (blocks.new ≡ blocks.old) }
 {
-    decrypt_cbc_records::<Width>(context, vectors, sizes, blocks)
+    decrypt_cbc_records::<Width>(context, vectors, counts, blocks)
 }

@@ -1,16 +1,17 @@
 //! The exports of key blocks (ANSI X9.143, ASC X9 TR-31).
 
-ghost use Rattle.std.specs.Prelude.{◌≡◌, ◌≢◌, ◌⊎◌, ◌↔◌, ◌≤◌, ◌+◌, ◌-◌, ◌++◌, ℕ, List, Some, None, IfOk, IfSome, IfNone, IsTrue, IsFalse, length as length_of, take, drop, slice_get, slice_index};
+ghost use Rattle.std.specs.Prelude.{◌≡◌, ◌≢◌, ◌⊎◌, ◌↔◌, ◌≤◌, ◌+◌, ◌-◌, ℕ, List, [], ◌∷◌, Some, None, IfOk, IsTrue, length as length_of, take, drop, slice_get, slice_index};
 ghost use Rattle.std.specs.Result.{result_err};
 ghost use Rattle.des_payment.specs.KeyBlockHeaders.{version_text};
-ghost use Rattle.des_payment.specs.KeyBlockReading.{HasFault, HasLayoutFault};
-ghost use Rattle.des_payment.specs.KeyBlocks.{key_data, front_text, size_of_block, wrap_fault, HoldsKey, IsKeyBlock, IsSealed};
-ghost use Rattle.des_payment.specs.OptionalBlocks.{AreOptionalBlocks, filled};
+ghost use Rattle.des_payment.specs.KeyBlockReading.{HasFault, HasLayout, HasLayoutFault};
+ghost use Rattle.des_payment.specs.KeyBlocks.{wrap_fault, HoldsKey};
+ghost use Rattle.des_payment.specs.OptionalBlocks.{AreOptionalBlocks};
 ghost use Rattle.des_c.specs.KeyBlockStatuses.{status_of as status_of_fault};
-ghost use Rattle.des_c.specs.KeyBlockTexts.{are_alphanumeric as are_alphanumeric_characters, is_made, is_written as is_written_text, shown, text_fault, version_of as version_of_text, AreReadable, HasLayout, IsTextOf, IsUnwrapped, IsWrapped, IsWrappedText, IsWrittenTextOf};
+ghost use Rattle.des_c.specs.KeyBlockTexts.{are_alphanumeric as are_alphanumeric_characters, is_made, is_written as is_written_text, shown, text_fault, version_of as version_of_text, AreReadable, IsMade, IsTextOf, IsUnwrapped, IsWrapped, IsWrittenTextOf};
 ghost use Rattle.des_c.specs.Statuses.{status_after};
 ghost use Rattle.des_c.specs.Texts.{with_zeros};
 
+use super::put;
 use des_context::status::{
     ERR_HEADER, ERR_KEY_BLOCK_DIGIT, ERR_KEY_BLOCK_LENGTH, ERR_KEY_BLOCK_MAC, ERR_KEY_DATA_LENGTH,
     ERR_KEY_LENGTH, ERR_NO_OPTIONAL_BLOCK, ERR_OPTIONAL_BLOCK, ERR_PADDING_LENGTH,
@@ -18,7 +19,7 @@ use des_context::status::{
 };
 use des_payment::key_block_error::KeyBlockError;
 use des_payment::key_block_header::{Algorithm, Exportability, Header, Mode, Usage, Version};
-use des_payment::key_blocks::{BlockKey, header, optional_block, unwrap, wrap};
+use des_payment::key_blocks::{header, placed_optional_block, unwrap, wrap};
 use des_payment::optional_blocks::{OptionalBlock, read_optional_blocks};
 
 fn status_of(fault: KeyBlockError) -> i32
@@ -52,23 +53,36 @@ pub struct HeaderText {
     exportability: u8,
 }
 
+// A text of two, and a zero byte after it.
+fn ended(text: [u8; 2]) -> [u8; 3]
+    ensures text { take 2 result ≡ text }
+    ensures end { drop 2 result ≡ 0 ∷ [] }
+{
+    [text[0], text[1], 0]
+}
+
 // The characters of a header's fields.
 fn text_of(header: &Header) -> HeaderText
     ensures { IsWrittenTextOf result header.now }
 {
-    let usage = header.usage.text();
-    let key_version = header.key_version;
     HeaderText {
         version: header.version.character(),
-        usage: [usage[0], usage[1], 0],
+        usage: ended(header.usage.text()),
         algorithm: header.algorithm.character(),
         mode: header.mode.character(),
-        key_version: [key_version[0], key_version[1], 0],
+        key_version: ended(header.key_version),
         exportability: header.exportability.character(),
     }
 }
 
-// Whether a text of two is of letters and digits. What stands after it plays no part.
+// A text of two. What stands after it plays no part.
+fn two_of(text: &[u8; 3]) -> [u8; 2]
+    ensures { result ≡ take 2 text.now }
+{
+    [text[0], text[1]]
+}
+
+// Whether a text of two is of letters and digits.
 fn are_alphanumeric(text: &[u8; 3]) -> bool
     ensures { result ≡ are_alphanumeric_characters text.now }
 {
@@ -87,16 +101,13 @@ fn is_written(text: &HeaderText) -> bool
 }
 
 // The version of a block that can be made.
-fn version_of(text: &HeaderText) -> Option<Version>
-    ensures some { IfSome result (λ _. IsTrue (is_made text.now)) }
-    ensures version { IfSome result (λ version. version ≡ version_of_text text.now) }
-    ensures text { IfSome result (λ version. text.now.version ≡ version_text version) }
-    ensures none { IfNone result (IsFalse (is_made text.now)) }
+fn version_of(text: &HeaderText) -> Version
+    ensures version { result ≡ version_of_text text.now }
+    ensures text { IsTrue (is_made text.now) → text.now.version ≡ version_text result }
 {
     match text.version {
-        b'B' => Some(Version::B),
-        b'C' => Some(Version::C),
-        _ => None,
+        b'B' => Version::B,
+        _ => Version::C,
     }
 }
 
@@ -106,33 +117,20 @@ fn header_of(text: &HeaderText) -> Result<Header, KeyBlockError>
     ensures header { IfOk result (λ header. IsTextOf text.now header) }
     ensures version { IfOk result (λ header. header.version ≡ version_of_text text.now) }
 {
-    let version = match version_of(text) {
-        Some(version) => version,
-        None => return Err(KeyBlockError::Version),
-    };
+    if text.version != b'B' && text.version != b'C' {
+        return Err(KeyBlockError::Version);
+    }
     if !is_written(text) {
         return Err(KeyBlockError::Header);
     }
     Ok(Header {
-        version,
-        usage: Usage::of([text.usage[0], text.usage[1]]),
+        version: version_of(text),
+        usage: Usage::of(two_of(&text.usage)),
         algorithm: Algorithm::of(text.algorithm),
         mode: Mode::of(text.mode),
-        key_version: [text.key_version[0], text.key_version[1]],
+        key_version: two_of(&text.key_version),
         exportability: Exportability::of(text.exportability),
     })
-}
-
-// Writes a key: its bytes, and then zeros.
-fn put_key(made: &BlockKey, key: &mut [u8; 24], length: &mut usize)
-    requires { length_of made.now ≤ 24 }
-    ensures key { key.new ≡ with_zeros 24 made.now }
-    ensures length { length.new ≡ length_of made.now }
-{
-    let bytes = made.bytes();
-    *key = [0; 24];
-    key[..bytes.len()].copy_from_slice(bytes);
-    *length = bytes.len();
 }
 
 /// The header and the key of a key block, under a protection key of 16 or 24 bytes: the key's 8, 16
@@ -157,9 +155,11 @@ pub extern "C" fn cukvashe_key_block_unwrap(
         × (length.new ≡ length.old) }
 {
     match unwrap(protection, block) {
-        Ok((found, bytes)) => {
+        Ok((found, opened)) => {
+            let bytes = opened.bytes();
             *header = text_of(&found);
-            put_key(&bytes, key, length);
+            put(bytes, key);
+            *length = bytes.len();
             OK
         }
         Err(fault) => status_of(fault),
@@ -187,37 +187,40 @@ pub extern "C" fn cukvashe_key_block_header(block: &[u8], text: &mut HeaderText)
 }
 
 /// The optional block of a block at a place, from 0: its name and a zero byte, and where its
-/// content stands in the block. The status is that of the block's first fault that shows without a
-/// key, and then `ERR_NO_OPTIONAL_BLOCK` where there are no more; and then both stay. Nothing of it
-/// is authenticated.
+/// content stands in the block and how many characters it has. The status is that of the block's
+/// first fault that shows without a key, and then `ERR_NO_OPTIONAL_BLOCK` where there are no more;
+/// and then all three stay. Nothing of it is authenticated.
 #[unsafe(no_mangle)]
-pub extern "C" fn cukvashe_internal_key_block_optional_block<'a>(
-    block: &'a [u8],
+pub extern "C" fn cukvashe_key_block_optional_block(
+    block: &[u8],
     place: usize,
     name: &mut [u8; 3],
-    content: &mut &'a [u8],
+    offset: &mut usize,
+    length: &mut usize,
 ) -> i32
-    ensures found { (layout : HasLayout block.now) → result ≡ OK
-        → slice_get layout.blocks place ≡ Some (take 2 name.new, content.new.now) }
+    ensures found { (layout : HasLayout block.now) → result ≡ OK → slice_get layout.blocks place
+        ≡ Some (take 2 name.new, take length.new (drop offset.new block.now)) }
+    ensures place { (layout : HasLayout block.now) → result ≡ OK → AreOptionalBlocks
+        (take (place + 1) layout.blocks) (drop 16 (take (offset.new + length.new) block.now)) }
+    ensures within { result ≡ OK → offset.new + length.new ≤ length_of block.now }
     ensures none { (layout : HasLayout block.now)
         → (result ≡ ERR_NO_OPTIONAL_BLOCK) ↔ (slice_get layout.blocks place ≡ None) }
     ensures parts { (result ≡ OK) ⊎ (result ≡ ERR_NO_OPTIONAL_BLOCK) → HasLayout block.now }
     ensures end { result ≡ OK → slice_index name.new 2 ≡ 0 }
     ensures fault { result ≢ OK → result ≢ ERR_NO_OPTIONAL_BLOCK → (error : KeyBlockError)
         × ((result ≡ status_of_fault error) × HasLayoutFault block.now error) }
-    ensures kept { result ≢ OK → (name.new ≡ name.old) × (content.new ≡ content.old) }
+    ensures kept { result ≢ OK → (name.new ≡ name.old) × (offset.new ≡ offset.old)
+        × (length.new ≡ length.old) }
 {
-    let found = match optional_block(block, place) {
-        Ok(found) => found,
-        Err(fault) => return status_of(fault),
-    };
-    match found {
-        Some(found) => {
-            *name = [found.name[0], found.name[1], 0];
-            *content = found.content;
+    match placed_optional_block(block, place) {
+        Ok(Some((found, before))) => {
+            *name = ended(found.name);
+            *offset = before;
+            *length = found.content.len();
             OK
         }
-        None => ERR_NO_OPTIONAL_BLOCK,
+        Ok(None) => ERR_NO_OPTIONAL_BLOCK,
+        Err(fault) => status_of(fault),
     }
 }
 
@@ -234,17 +237,8 @@ fn write_wrapped(
     ensures status { result ≡ status_after status_of_fault (wrap_fault protection.now
         header.now.version (shown optional.now)
         key.now padding.now (length_of block.old - 1)) }
-    ensures wrapped { result ≡ OK → IsKeyBlock protection.now header.now
-        (filled (shown optional.now))
-        key.now padding.now (take length.new block.new) }
-    ensures size { result ≡ OK → length.new ≡ size_of_block header.now.version
-        (shown optional.now) key.now padding.now }
-    ensures text { result ≡ OK → (sealed : List ℕ) × ((take length.new block.new
-        ≡ front_text header.now
-        (filled (shown optional.now)) length.new ++ sealed)
-        × IsSealed header.now.version protection.now (front_text header.now
-        (filled (shown optional.now)) length.new)
-        (key_data key.now padding.now) sealed) }
+    ensures wrapped { result ≡ OK → IsMade protection.now header.now (shown optional.now) key.now
+        padding.now (take length.new block.new) length.new }
     ensures end { result ≡ OK → slice_index block.new length.new ≡ 0 }
     ensures rest { result ≡ OK
         → drop (length.new + 1) block.new ≡ drop (length.new + 1) block.old }
@@ -295,8 +289,6 @@ pub extern "C" fn cukvashe_key_block_wrap(
     ensures unread { text_fault header.now ≡ None → ¬ (AreReadable optional.now)
         → result ≡ ERR_OPTIONAL_BLOCK }
     ensures wrapped { result ≡ OK → IsWrapped protection.now header.now optional.now key.now
-        padding.now (take length.new block.new) }
-    ensures text { result ≡ OK → IsWrappedText protection.now header.now optional.now key.now
         padding.now (take length.new block.new) length.new }
     ensures end { result ≡ OK → slice_index block.new length.new ≡ 0 }
     ensures rest { result ≡ OK

@@ -12,6 +12,7 @@ ghost use Rattle.des_c.specs.PinStatuses.{status_of as status_of_fault};
 ghost use Rattle.des_c.specs.Statuses.{status_after};
 ghost use Rattle.des_c.specs.Texts.{with_zeros};
 
+use super::put;
 use des_context::status::{
     ERR_ACCOUNT_DIGIT, ERR_ACCOUNT_LENGTH, ERR_FILL, ERR_FORMAT, ERR_PIN_DIGIT, ERR_PIN_LENGTH, OK,
 };
@@ -50,15 +51,6 @@ fn write_block(made: Result<[u8; 8], PinError>, block: &mut [u8; 8]) -> i32
     }
 }
 
-// Writes a PIN: its digits, and then zero bytes.
-pub(crate) fn put_pin(digits: &Pin, pin: &mut [u8; 13])
-    ensures { pin.new ≡ with_zeros 13 digits.now }
-{
-    let text = digits.text();
-    *pin = [0; 13];
-    pin[..text.len()].copy_from_slice(text);
-}
-
 // Writes the PIN that was read, if one was.
 fn write_pin(read: Result<Pin, PinError>, pin: &mut [u8; 13]) -> i32
     ensures status { result ≡ status_after status_of_fault (result_err read) }
@@ -70,7 +62,7 @@ fn write_pin(read: Result<Pin, PinError>, pin: &mut [u8; 13]) -> i32
 {
     match read {
         Ok(read) => {
-            put_pin(&read, pin);
+            put(read.text(), pin);
             OK
         }
         Err(fault) => status_of(fault),
@@ -124,10 +116,7 @@ pub extern "C" fn cukvashe_pin_encode_2(pin: &[u8], block: &mut [u8; 8]) -> i32
     ensures kept { result ≢ OK → block.new ≡ block.old }
 {
     match Pin::new(pin) {
-        Ok(pin) => {
-            *block = encode_format_2(&pin);
-            OK
-        }
+        Ok(pin) => write_block(Ok(encode_format_2(&pin)), block),
         Err(fault) => status_of(fault),
     }
 }

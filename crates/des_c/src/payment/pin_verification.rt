@@ -10,7 +10,8 @@ ghost use Rattle.des_c.specs.VerificationStatuses.{status_of as status_of_fault,
 ghost use Rattle.des_c.specs.Statuses.{status_after};
 ghost use Rattle.des_c.specs.Texts.{with_zeros};
 
-use super::pin_blocks::{put_pin, status_of as pin_status_of};
+use super::pin_blocks::status_of as pin_status_of;
+use super::put;
 use des_context::status::{
     ERR_ACCOUNT_DIGIT, ERR_ACCOUNT_LENGTH, ERR_KEY_INDEX, ERR_KEY_LENGTH, ERR_PIN_LENGTH,
     ERR_TABLE_DIGIT, ERR_TABLE_LENGTH, ERR_TABLE_VARIETY, ERR_WRONG_PIN, OK,
@@ -191,7 +192,7 @@ fn write_pin(made: Result<Pin, VerificationError>, pin: &mut [u8; 13]) -> i32
 {
     match made {
         Ok(made) => {
-            put_pin(&made, pin);
+            put(made.text(), pin);
             OK
         }
         Err(fault) => status_of(fault),

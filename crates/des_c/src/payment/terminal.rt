@@ -4,7 +4,7 @@ ghost use Rattle.std.specs.Prelude.{◌≡◌, ◌≢◌, ◌<◌, ℕ, List, re
 ghost use Rattle.std.specs.Int.{w64, trailing_zeros};
 ghost use Rattle.des_fast.specs.Transposition.{block_at};
 ghost use Rattle.des_payment.specs.Dukpt.{last_bytes, counter_of, with_counter, transaction_key, IsUsable, IsNextCounter};
-ghost use Rattle.des_payment.specs.Terminals.{HasFutureKeys};
+ghost use Rattle.des_payment.specs.Terminals.{place_of, register_after, HasFutureKeys};
 
 use des_context::status::{ERR_NO_SERIAL, OK};
 use des_payment::terminal::Terminal;
@@ -45,6 +45,10 @@ pub extern "C" fn cukvashe_dukpt_terminal_next_key(
     ensures forgotten { result ≡ OK
         → block_at terminal.new.keys (trailing_zeros w64 (counter_of terminal.new.serial))
         ≡ replicate 16 0 }
+    ensures taken { result ≡ OK → key.new
+        ≡ block_at terminal.old.keys (place_of (last_bytes terminal.new.serial)) }
+    ensures registers { result ≡ OK → (place : ℕ) → block_at terminal.new.keys place
+        ≡ register_after (last_bytes terminal.new.serial) terminal.old.keys place }
     ensures none { result ≢ OK → (result ≡ ERR_NO_SERIAL) × ((counter : ℕ)
         → counter_of terminal.old.serial < counter → ¬ (IsUsable counter)) }
     ensures kept { result ≢ OK → (terminal.new ≡ terminal.old)

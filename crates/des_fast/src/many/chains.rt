@@ -8,8 +8,8 @@ ghost use Rattle.des.specs.Blocks.{IsBlock};
 ghost use Rattle.des.specs.Cbc.{Cbc, Unchains};
 ghost use Rattle.des_fast.specs.SpreadKeys.{AreSlicesFor};
 
+use super::batches::FEW_BY_TABLES;
 use super::lanes::write_answers;
-use super::ways::FEW_BY_TABLES;
 use super::{LARGEST_BATCH, Slice};
 use crate::lists::{self, Answers};
 use crate::slices::PassSlices;

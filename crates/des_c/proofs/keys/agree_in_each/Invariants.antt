@@ -1,7 +1,8 @@
-use Rattle.std.proofs.Common.{ℕ, ◌<◌, [], get_or}
+use Rattle.std.proofs.Common.{take}
+use Rattle.std.specs.List.{AllZip}
 use Rattle.des.specs.Parity.{AgreeOutsideParity}
 use Rattle.des_c.proofs.keys.agree_in_each.Given as goal
 
 -- the parts before the index agree
 abbrev pub invariant-loop-i : goal.invariant-loop-i
-invariant-loop-i l = (k : ℕ) → k < l.i → AgreeOutsideParity (get_or l.parts k []) (get_or l.others k [])
+invariant-loop-i l = AllZip AgreeOutsideParity (take l.i l.parts) (take l.i l.others)

@@ -8,4 +8,4 @@ returns-clause-made c done =
     let key : List ℕ = c.args.key.now in
     let count : length key ≡ 8 * parts_of c.requires.0 = omega (arith, c.requires.1) in
     IsContextOf-written c.requires.0 c.write_parts.new.context key c.if-quiet.context (count, c.are_bytes.ensures)
-    (c.write_parts.ensures.count ∙ c.requires.1) c.write_parts.ensures.made
+    (c.write_parts.auto.context ∙ c.requires.1) c.write_parts.ensures.made

@@ -1,5 +1,5 @@
 use Rattle.std.proofs.Common.{arith}
-use Rattle.des_uses.proofs.SpreadSizes.{spread_keys-le}
+use Rattle.des_fast.proofs.SliceSizes.{spread_keys-le}
 use Rattle.des_uses.proofs.spread_records.encrypt_records.Goals as goal
 
 -- the keys are those of the cipher

@@ -3,7 +3,7 @@ use Rattle.std.proofs.lemmas.List.Elements.{All-take, All-drop, All-get_or}
 use Rattle.des.specs.Blocks.{IsBlock}
 use Rattle.des.proofs.ChainedBlocks.{Cbc-from_Unchains}
 use Rattle.des_fast.specs.Records.{start, record_of}
-use Rattle.des_uses.proofs.SpreadSizes.{spread_keys-le}
+use Rattle.des_fast.proofs.SliceSizes.{spread_keys-le}
 use Rattle.des_uses.proofs.spread_records.read_records.Goals as goal
 
 -- the keys are those of the cipher, whose encryption undoes its decryption

@@ -1,4 +1,3 @@
-use Rattle.std.proofs.Common.{rules}
 use Rattle.des_c.proofs.payment.key_blocks.cukvashe_key_block_header.Goals as goal
 
 pub returns-in-Ok-clause-found : goal.returns-in-Ok-clause-found
@@ -10,15 +9,11 @@ returns-in-Ok-clause-found c = λ done.
         front = found.1.0;
         rest = found.1.1.0;
         parts = found.1.1.1.0;
-        is_rest = found.1.1.1.1;
+        fact = found.1.1.1.1;
       },
       c.text_of.ensures,
     )
 
 pub returns-in-Err-clause-only : goal.returns-in-Err-clause-only
 returns-in-Err-clause-only c = λ layout.
-    absurd (c.in-Err.ensures.only layout.header layout.blocks layout.front layout.rest layout.parts layout.is_rest)
-
-pub returns-in-Err-clause-fault : goal.returns-in-Err-clause-fault
-returns-in-Err-clause-fault c = λ failed.
-    (c.in-Err.fault, (search (rules, c.status_of.ensures.status), c.in-Err.ensures.fault))
+    absurd (c.in-Err.ensures.only layout.header layout.blocks layout.front layout.rest layout.parts layout.fact)

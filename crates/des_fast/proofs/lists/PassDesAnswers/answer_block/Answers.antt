@@ -8,6 +8,6 @@ use Rattle.des_fast.proofs.lists.PassDesAnswers.answer_block.Goals as goal
 pub returns : goal.returns
 returns g c =
     let keys : List (List Bool) = keys_of c.args.self.now in
-    answer_by-one keys c.args.block.now c.into_block.result (half_blocks_of c.halves_after.result)
-    (c.halves_after.ensures ∙ ap (after keys) c.of_block.ensures.halves) c.into_block.ensures
+    answer_by-one keys c.args.block.now c.into_block.result (half_blocks_of c.after_rounds.result)
+    (c.after_rounds.ensures ∙ ap (after keys) c.of_block.ensures.halves) c.into_block.ensures
     ∙ ap (λ (f : List ℕ → List ℕ). f c.args.block.now) (passed_by-keys c.args.self.now)

@@ -1,5 +1,0 @@
-/* The longest list, in blocks, that is faster by narrow calls than by wide ones. Made by bindings/statuses of des_fast. */
-#ifndef WAYS_H
-#define WAYS_H
-#define MOST_NARROW 128
-#endif

@@ -1,5 +1,0 @@
-mod AgreeingParts
-mod OddKeys
-mod KeyIndexes
-mod HeaderFields
-mod EndedTexts

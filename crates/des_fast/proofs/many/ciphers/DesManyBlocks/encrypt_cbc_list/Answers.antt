@@ -1,0 +1,19 @@
+use Rattle.std.proofs.Common.{ℕ, List, ◌<◌}
+use Rattle.std.proofs.lemmas.List.Elements.{All-from_get_or}
+use Rattle.des.specs.Blocks.{IsBlock}
+use Rattle.des.specs.Enciphering.{Enciphers}
+use Rattle.des.specs.Laws.Passes.{IsGraphOf-alike}
+use Rattle.des_fast.specs.Des.{encrypted}
+use Rattle.des_fast.specs.Laws.DesLaws.{IsPass-Des, Agree-encrypted}
+use Rattle.des_fast.proofs.RelatedChains.{Chains-related}
+use Rattle.des_fast.proofs.many.ciphers.DesManyBlocks.encrypt_cbc_list.Goals as goal
+
+pub returns-clause-related : goal.returns-clause-related
+returns-clause-related c key made =
+    let cipher = c.args.self.now in
+    let iv : List ℕ = c.args.iv.now in
+    let is_iv : IsBlock iv = (c.told-iv, All-from_get_or (λ byte. byte < 256) iv 0 (λ i within. c.fits-iv i)) in
+    Chains-related (λ x y. Enciphers key x y) (encrypted cipher)
+    (IsGraphOf-alike (λ x y. Enciphers key x y) (Agree-encrypted cipher key made.0) made.1.0) iv c.args.blocks.now
+    c.chain_list.new.blocks is_iv c.chain_list.ensures.blocks (IsPass-Des cipher).forth_is_block
+    (rw c.pass.ensures at c.chain_list.ensures.chained)

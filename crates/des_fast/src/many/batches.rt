@@ -1,0 +1,32 @@
+//! Which way a list goes: in batches, which read no table, or side by side.
+
+ghost use Rattle.std.specs.Prelude.{◌≡◌, ◌≢◌, ◌≤◌, ◌-◌, ◌%◌};
+
+use super::Slice;
+
+/// The most blocks of a list that is quicker over vectors of two words, even where the processor
+/// has vectors of four: a batch of 128 takes less time than one of 256. For those who choose the
+/// width of a call by the length of a list: `bindings/statuses` copies it for C.
+pub const MOST_NARROW: usize = 128;
+
+// The most blocks that go side by side, where tables may be read and where none may be, whatever
+// the cipher, the direction and the width. On a processor where a batch took 1.68 microseconds of DES
+// and 4.06 of EDE3, 31 blocks by tables took 1.67 and 4.37 (28: 1.51 and 3.96), and without tables
+// 10 blocks 1.61 and 4.53 (8: 1.09 and 3.01).
+pub(super) const FEW_BY_TABLES: usize = 31;
+
+const FEW_QUIET: usize = 10;
+
+/// How many blocks of a list go in batches, from the first on: the whole batches, and what is left
+/// over too unless it is few blocks. Few go side by side. The clause `batches` is for speed alone: no
+/// whole batch goes side by side.
+#[inline(always)]
+pub(super) fn in_batches<S: Slice>(count: usize, quiet: bool) -> usize
+    ensures there { result ≤ count }
+    ensures batches { result ≢ count → result ≡ count - count % S.BATCH }
+    ensures few { count - result ≤ 31 }
+{
+    let few = if quiet { FEW_QUIET } else { FEW_BY_TABLES };
+    let left = count % S::BATCH;
+    if left <= few { count - left } else { count }
+}
