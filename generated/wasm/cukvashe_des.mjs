@@ -18,7 +18,7 @@ export const BLOCK_SIZE = 8;
 export const TAG_SIZE = 8;
 
 // The SHA-256 of the module that this file was built with.
-const MODULE_SUM = "65bc18b0a79fc90d589cebe7c796d13adcbe9bcc6b91b878c4d2a9ec2dfa8e0a";
+const MODULE_SUM = "77fd39c92a4f443829e50f4d60afcebdc5a8c7ca43eec693eab89ed8a25ca709";
 
 // The bytes of the module's stack, which lies at its address 0. `build` links it so.
 const STACK_SIZE = 131072;
@@ -679,7 +679,7 @@ function answered(cipher, call, data, vectors) {
   return inside((memory) => {
     const [at, length] = memory.list(bytes);
     const laid = [...contextAt(kind, memory.put(context)), ...vectors.map((vector) => memory.put(vector))];
-    if (memory.call(call, ...laid, at, length) !== OK) {
+    if (memory.call(call, ...laid, at, length / BigInt(BLOCK_SIZE), length) !== OK) {
       throw new BlockLength(`${bytes.length} bytes are not whole blocks of ${BLOCK_SIZE}`);
     }
     return memory.taken(at, bytes.length);
@@ -1448,13 +1448,13 @@ export function keyBlockOptionalBlocks(block) {
   return inside((memory) => {
     const found = [];
     const [at, size] = memory.list(text);
-    const [name, content] = [memory.room(3), memory.words([Number(at), 0])];
+    const [name, offset, length] = [memory.room(3), memory.room(8), memory.room(8)];
     for (;;) {
-      const status = memory.call("internal_key_block_optional_block", at, size, BigInt(found.length), name, content);
+      const status = memory.call("key_block_optional_block", at, size, BigInt(found.length), name, offset, length);
       if (status === NO_OPTIONAL_BLOCK) return found;
       check(status);
-      const start = memory.word(content) - Number(at);
-      const characters = text.subarray(start, start + memory.word(content + 8n));
+      const start = memory.word(offset);
+      const characters = text.subarray(start, start + memory.word(length));
       found.push([charactersOf(memory.taken(name, 2)), charactersOf(characters)]);
     }
   });
