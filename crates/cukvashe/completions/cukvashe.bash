@@ -1,61 +1,78 @@
-# Completion for bash.
+# Completion for bash, made by docs/reference/make.
 _cukvashe() {
-  local key='--key-file --key-fd --key-env' account='--account --account-file --check-digit'
-  local stream="$key --iv --padding --weak-keys --in --out --progress" words='' command=${COMP_WORDS[1]}
-  local natural="$key --validation --table --any-table" password='--password-file --password-fd --password-env'
-  local protection='--protection-key-file --protection-key-fd --protection-key-env'
-  case $command in pin | pvv | offset | emv | key-block) command+=" ${COMP_WORDS[2]}" ;; esac
-  case $COMP_CWORD:$3 in
-    1:*) words='encrypt decrypt decrypt-pem mac check-value weak combine parity dukpt cvv pin pvv offset emv key-block' ;;
-    2:encrypt | 2:decrypt) words='des-ecb des-cbc des-ede-ecb des-ede-cbc des-ede3-ecb des-ede3-cbc' ;;
-    2:mac) words='cbc-mac retail cmac' ;;
-    2:pin) words='encode decode translate' ;;
-    2:pvv) words='make verify' ;;
-    2:offset) words='make verify natural' ;;
-    2:emv) words='card-key session-key cryptogram response-1 response-2' ;;
-    2:key-block) words='header unwrap wrap' ;;
-    3:encode | 3:decode) words='0 1 2 3' ;;
-    3:translate) words='0 1 3' ;;
-    *:--padding) [ "$command" = mac ] && words='1 2' || words='pkcs7 iso7816 zeros none' ;;
-    *:--iv) [ "$command" = encrypt ] && words=random || words=first-block ;;
-    *:--weak-keys) words='refuse warn accept' ;;
-    *:--check-digit) words='warn refuse' ;;
-    *:--length) [ "$command" = mac ] && words='4 5 6 7 8' || words='4 5 6 7 8 9 10 11 12' ;;
-    *:--bytes) words='2 3' ;;
-    *:--index) words='1 2 3 4 5 6' ;;
-    *:--show) words='fields key' ;;
-    *:--form) words='pem der' ;;
-    *:--version) words='B C' ;;
-    *:--progress | *:--response | *:--any-table | *:--any-count | *:--no-salt | *:--base64 | *:[!-]*)
-      case $command in
-        encrypt) words="$stream $password --derive --any-count" ;;
-        decrypt) words="$stream $password --derive --any-count --from --blocks --no-salt --base64" ;;
-        decrypt-pem) words="$password --any-count --form --in --out" ;;
-        mac) words="$key --padding --in --length --verify" ;;
-        check-value) words="$key --bytes" ;;
-        weak | parity) words=$key ;;
-        combine) words="$key --part-file --count" ;;
-        dukpt) [ "$COMP_CWORD" = 3 ] && words='pin mac data data-variant' || words="$key --response" ;;
-        cvv) words="$key $account --expiry --service" ;;
-        'pin encode') words="$account --pin-file --fill" ;;
-        'pin decode') words="$account --block-file" ;;
-        'pin translate')
-          [ "$COMP_CWORD" = 4 ] && words='0 3' || words="$key $account --block-file --fill --to-key-file --to-key-fd --to-key-env" ;;
-        'pvv make') words="$key $account --index --pin-file" ;;
-        'pvv verify') words="$key $account --index --value --pin-file" ;;
-        'offset make') words="$natural --pin-file" ;;
-        'offset verify') words="$natural --offset --pin-file" ;;
-        'offset natural') words="$natural --length" ;;
-        'emv card-key') words="$key $account --sequence" ;;
-        'emv session-key') words="$key --counter --cryptogram" ;;
-        'emv cryptogram') words="$key --data-file" ;;
-        'emv response-1') words="$key --cryptogram --code" ;;
-        'emv response-2') words="$key --cryptogram --status --data" ;;
-        'key-block header') words=--block-file ;;
-        'key-block unwrap') words="$protection --block-file --show" ;;
-        'key-block wrap')
-          words="$key $protection --version --usage --algorithm --mode --key-version"
-          words+=' --exportability --optional'
+  local words='' command=${COMP_WORDS[1]} place=$((COMP_CWORD - 1))
+  case $command in
+    pin | pvv | offset | emv | key-block) command+=" ${COMP_WORDS[2]}" place=$((place - 1)) ;;
+  esac
+  case "$COMP_CWORD:$command" in
+    1:*) words='encrypt decrypt decrypt-pem mac check-value parity weak combine dukpt cvv pin pvv offset emv key-block' ;;
+    2:'pin '*) words='encode decode translate' ;;
+    2:'pvv '*) words='make verify' ;;
+    2:'offset '*) words='make verify natural' ;;
+    2:'emv '*) words='card-key session-key cryptogram response-1 response-2' ;;
+    2:'key-block '*) words='header unwrap wrap' ;;
+    *)
+      case "$command:$place:$3" in
+        'encrypt:1:'* | 'decrypt:1:'*) words='des-ecb des-cbc des-ede-ecb des-ede-cbc des-ede3-ecb des-ede3-cbc' ;;
+        'mac:1:'*) words='cbc-mac retail cmac' ;;
+        'dukpt:2:'*) words='pin mac data data-variant' ;;
+        'pin encode:1:'* | 'pin decode:1:'*) words='0 1 2 3' ;;
+        'pin translate:1:'*) words='0 1 3' ;;
+        'pin translate:2:'*) words='0 3' ;;
+        'encrypt:'*':--iv') words='random' ;;
+        'decrypt:'*':--iv') words='first-block' ;;
+        'encrypt:'*':--padding' | 'decrypt:'*':--padding') words='pkcs7 iso7816 zeros none' ;;
+        'mac:'*':--padding') words='1 2' ;;
+        *':--weak-keys') words='refuse warn accept' ;;
+        *':--form') words='pem der' ;;
+        'mac:'*':--length') words='4 5 6 7 8' ;;
+        'offset natural:'*':--length') words='4 5 6 7 8 9 10 11 12' ;;
+        *':--bytes') words='2 3' ;;
+        *':--check-digit') words='warn refuse' ;;
+        *':--index') words='1 2 3 4 5 6' ;;
+        *':--show') words='fields key' ;;
+        *':--version') words='B C' ;;
+        *':--any-count' | *':--any-table' | *':--base64' | *':--no-salt' | *':--progress' | *':--response' | *:*:[!-]*)
+          case $command in
+            encrypt)
+              words='--iv --padding --weak-keys --in --out --progress --key-file --key-fd --key-env --password-file --password-fd --password-env
+              --derive --any-count'
+              ;;
+            decrypt)
+              words='--iv --padding --weak-keys --from --blocks --in --out --progress --key-file --key-fd --key-env --password-file
+              --password-fd --password-env --derive --any-count --no-salt --base64'
+              ;;
+            decrypt-pem) words='--form --any-count --in --out --password-file --password-fd --password-env' ;;
+            mac) words='--padding --in --length --verify --key-file --key-fd --key-env' ;;
+            check-value) words='--bytes --key-file --key-fd --key-env' ;;
+            parity) words='--key-file --key-fd --key-env' ;;
+            weak) words='--key-file --key-fd --key-env' ;;
+            combine) words='--part-file --count --key-file --key-fd --key-env' ;;
+            dukpt) words='--response --key-file --key-fd --key-env' ;;
+            cvv) words='--expiry --service --account --account-file --check-digit --key-file --key-fd --key-env' ;;
+            'pin encode') words='--pin-file --fill --account --account-file --check-digit' ;;
+            'pin decode') words='--block-file --account --account-file --check-digit' ;;
+            'pin translate')
+              words='--block-file --fill --account --account-file --check-digit --key-file --key-fd --key-env --to-key-file --to-key-fd
+              --to-key-env'
+              ;;
+            'pvv make') words='--index --pin-file --account --account-file --check-digit --key-file --key-fd --key-env' ;;
+            'pvv verify') words='--index --value --pin-file --account --account-file --check-digit --key-file --key-fd --key-env' ;;
+            'offset make') words='--validation --table --any-table --pin-file --key-file --key-fd --key-env' ;;
+            'offset verify') words='--offset --validation --table --any-table --pin-file --key-file --key-fd --key-env' ;;
+            'offset natural') words='--validation --table --any-table --length --key-file --key-fd --key-env' ;;
+            'emv card-key') words='--sequence --account --account-file --check-digit --key-file --key-fd --key-env' ;;
+            'emv session-key') words='--counter --cryptogram --key-file --key-fd --key-env' ;;
+            'emv cryptogram') words='--data-file --key-file --key-fd --key-env' ;;
+            'emv response-1') words='--cryptogram --code --key-file --key-fd --key-env' ;;
+            'emv response-2') words='--cryptogram --status --data --key-file --key-fd --key-env' ;;
+            'key-block header') words='--block-file' ;;
+            'key-block unwrap') words='--block-file --show --protection-key-file --protection-key-fd --protection-key-env' ;;
+            'key-block wrap')
+              words='--version --usage --algorithm --mode --key-version --exportability --optional --key-file --key-fd --key-env
+              --protection-key-file --protection-key-fd --protection-key-env'
+              ;;
+          esac
           ;;
       esac
       ;;

@@ -1,16 +1,10 @@
 pub mod Prefixes
 pub mod Faults
 pub mod Verdicts
+pub mod Components
 pub mod CheckDigits
 pub mod KeyVerdicts
-pub mod AlikeStreams
-pub mod AlikeFaults
-pub mod ObjectIdentifiers
-pub mod PemLines
 pub mod DerivationTexts
-pub mod SaltHeadings
-pub mod PasswordRuns
-pub mod KeyPlains
 pub mod OptionalLines
 pub mod ProtectionSizes
 pub mod WrapFaults

@@ -25,7 +25,7 @@ unwrapped : (n : ℕ) (result : Result (List ℕ) FromHexError)
 unwrapped n (Ok bytes) twice is = twice bytes refl
 unwrapped n (Err error) twice is = cc is
 
-twice-bytes : (digits : List ℕ) → is_ok (decode_of digits) ≡ true → length digits ≡ 2 * length (bytes_of digits)
+pub twice-bytes : (digits : List ℕ) → is_ok (decode_of digits) ≡ true → length digits ≡ 2 * length (bytes_of digits)
 twice-bytes digits is =
     unwrapped (length digits) (decode_of digits) (λ bytes same. decoded (length digits % 2 == 1) digits bytes same) is
 
@@ -44,7 +44,7 @@ pub protection-size : (digits key : List ℕ) (first second : Kind) (result : Re
     → ¬ (length digits ≡ 16) → FailsOnlyBy (any_key_fault first second digits) result → IfOk result IsKeySize
     → IfOk result (λ size. take size key ≡ bytes_of digits) → IfOk result (λ size. (size ≡ 16) ⊎ (size ≡ 24))
 protection-size digits key first second (Ok size) long other fails (inl one) same =
-    let read = are-read (is_key_length (length digits) 0) (is_ok (decode_of digits)) first second
+    let read = are-read (is_key_length (length digits) None) (is_ok (decode_of digits)) first second
     (none_from (any_key_fault first second digits) (Ok size) size fails refl) in
     let eight = sym (ap length same) ∙ front-eight size key long one in
     absurd (other (twice-bytes digits read ∙ ap (λ n. 2 * n) eight))

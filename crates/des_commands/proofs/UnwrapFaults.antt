@@ -36,7 +36,7 @@ module _ (protection block : List ℕ) (header : Header) (key : List ℕ) (none 
   -- nothing is at fault: memory is refused, or the lines are given
   pub unwrap-refuses-memory : (result : Result (Vec ℕ Global) Kind) (kind : Kind) → result ≡ Err kind → kind ≡ Memory
       → FailsAsUnwrapped protection block result
-  unwrap-refuses-memory result kind was memory = inr (inr (none, (header, (key, (holds, rw was memory)))))
+  unwrap-refuses-memory result kind was memory = rw none (inr (header, (key, (holds, rw was memory))))
 
   pub unwrap-passes : (lines : Vec ℕ Global) → FailsAsUnwrapped protection block (Ok lines)
-  unwrap-passes lines = inr (inr (none, (header, (key, (holds, tt)))))
+  unwrap-passes lines = rw none (inr (header, (key, (holds, tt))))

@@ -1,5 +1,5 @@
--- Answers: yes or no, and tags that are shown or verified.
-use Rattle.std.specs.Prelude.{ℕ, ◌%◌, ◌&&◌, ◌||◌, ◌==◌, nat_lt, Bool, not, if◌then◌else◌, List, length, codes, Option, Some}
+-- Answers: no, and tags that are shown or verified.
+use Rattle.std.specs.Prelude.{ℕ, ◌%◌, ◌&&◌, ◌||◌, ◌==◌, nat_lt, Bool, not, if◌then◌else◌, List, length, Option, Some}
 use Rattle.des_commands.specs.declared.fault.Kind.{Kind}
 use Rattle.des_commands.specs.declared.fault.Kind.TheVariants.{Tag}
 use Rattle.des_commands.specs.Texts.{text_fault}
@@ -8,10 +8,6 @@ use Rattle.des_commands.specs.Texts.{text_fault}
 -- answer is no
 abbrev pub status_after : ℕ → Bool → ℕ
 status_after written is_no = if (written == 0) && is_no then 1 else written
-
--- the line of a key that is weak, or of one that is not
-abbrev pub weak_line : Bool → List ℕ
-weak_line is_weak = if is_weak then codes "weak\n" else codes "not weak\n"
 
 -- the fault of a tag's digits, if they have one: there are two for each of 4 to 8 bytes
 abbrev pub tag_fault : List ℕ → Option Kind

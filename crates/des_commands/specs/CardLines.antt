@@ -1,27 +1,27 @@
--- What answers a command on a card's keys and cryptograms, by the texts that are read.
-use Rattle.std.specs.Prelude.{ℕ, ◌%◌, ◌==◌, ◌||◌, nat_lt, not, if◌then◌else◌, List, length, Option, Some}
+-- What answers a calculation with a card's keys and cryptograms, by what was read for it.
+use Rattle.std.specs.Prelude.{◌≡◌, ℕ, ◌%◌, ◌==◌, ◌||◌, nat_lt, not, if◌then◌else◌, List, length, Option, Some, Result}
 use Rattle.std.specs.Option.{option_map, option_or}
+use Rattle.std.specs.declared.vec.Vec.{Vec}
+use Rattle.std.specs.declared.alloc.Global.{Global}
 use Rattle.des_payment.specs.CardCryptograms.{card_key, card_fault, application_key, session_key, cryptogram, response_1, response_2}
-use Rattle.des_commands.specs.declared.command.Beside.{Beside}
-use Rattle.des_commands.specs.declared.command.CardCommand.{CardCommand}
-use Rattle.des_commands.specs.declared.command.CardCommand.TheVariants.{CardKey, ApplicationKey, SessionKey, Cryptogram as MakeCryptogram, Response1, Response2}
+use Rattle.des_commands.specs.declared.command.Inputs.{Inputs}
+use Rattle.des_commands.specs.declared.command.CardCalculation.{CardCalculation}
+use Rattle.des_commands.specs.declared.command.CardCalculation.TheVariants.{CardKey, ApplicationKey, SessionKey, Cryptogram as MakeCryptogram, Response1, Response2}
 use Rattle.des_commands.specs.declared.fault.Kind.{Kind}
-use Rattle.des_commands.specs.declared.fault.Kind.TheVariants.{KeyLength, KeyText, Counter, Cryptogram, Code, Status, Data, DataText, Emv}
+use Rattle.des_commands.specs.declared.fault.Kind.TheVariants.{Counter, Cryptogram, ResponseCode, CardStatus, IssuerData, CryptogramData, Emv}
+use Rattle.des_commands.specs.Faults.{FailsBy}
+use Rattle.des_commands.specs.Keys.{pair_fault}
 use Rattle.des_commands.specs.Texts.{bytes_of, text_fault, digits_fault, hex_line}
-
--- the fault of the digits of a key of two halves
-abbrev pub pair_fault : List ℕ → Option Kind
-pair_fault digits = digits_fault 16 (KeyLength 16) KeyText digits
 
 -- ---- keys
 
 -- the key of a card
-abbrev pub card_key_of : List ℕ → List ℕ → List ℕ → List ℕ
-card_key_of sequence account digits = card_key (bytes_of digits) account sequence
+abbrev pub card_key_of : List ℕ → Inputs → List ℕ
+card_key_of sequence inputs = card_key (bytes_of inputs.text.now) inputs.account.now sequence
 
-abbrev pub card_key_fault : List ℕ → List ℕ → List ℕ → Option Kind
-card_key_fault sequence account digits =
-    option_or (pair_fault digits) (option_map Emv (card_fault account sequence))
+abbrev pub card_key_fault : List ℕ → Inputs → Option Kind
+card_key_fault sequence inputs =
+    option_or (pair_fault inputs.text.now) (option_map Emv (card_fault inputs.account.now sequence))
 
 -- the keys of a session, by a counter or by a cryptogram
 abbrev pub application_key_of : List ℕ → List ℕ → List ℕ
@@ -35,17 +35,17 @@ session_fault size fault text digits = option_or (pair_fault digits) (digits_fau
 
 -- ---- cryptograms
 
-abbrev pub cryptogram_of : List ℕ → List ℕ → List ℕ
-cryptogram_of key digits = cryptogram (bytes_of key) (bytes_of digits)
+abbrev pub cryptogram_of : Inputs → List ℕ
+cryptogram_of inputs = cryptogram (bytes_of inputs.key.now) (bytes_of inputs.text.now)
 
 -- the fault of the digits of data, of which there is one byte at least
 abbrev pub data_text_fault : List ℕ → Option Kind
 data_text_fault digits =
-    if (length digits == 0) || not (length digits % 2 == 0) then Some DataText
-    else text_fault DataText digits
+    if (length digits == 0) || not (length digits % 2 == 0) then Some CryptogramData
+    else text_fault CryptogramData digits
 
-abbrev pub cryptogram_fault : List ℕ → List ℕ → Option Kind
-cryptogram_fault key digits = option_or (pair_fault key) (data_text_fault digits)
+abbrev pub cryptogram_fault : Inputs → Option Kind
+cryptogram_fault inputs = option_or (pair_fault inputs.key.now) (data_text_fault inputs.text.now)
 
 -- ---- responses
 
@@ -57,7 +57,7 @@ request_fault request = digits_fault 8 Cryptogram Cryptogram request
 
 abbrev pub response_1_fault : List ℕ → List ℕ → List ℕ → Option Kind
 response_1_fault request code digits =
-    option_or (pair_fault digits) (option_or (request_fault request) (digits_fault 2 Code Code code))
+    option_or (pair_fault digits) (option_or (request_fault request) (digits_fault 2 ResponseCode ResponseCode code))
 
 abbrev pub response_2_of : List ℕ → List ℕ → List ℕ → List ℕ → List ℕ
 response_2_of request status issued digits =
@@ -66,32 +66,36 @@ response_2_of request status issued digits =
 -- the fault of the digits of the issuer's data, at most eight bytes
 abbrev pub issuer_data_fault : List ℕ → Option Kind
 issuer_data_fault issued =
-    if nat_lt 16 (length issued) || not (length issued % 2 == 0) then Some Data
-    else text_fault Data issued
+    if nat_lt 16 (length issued) || not (length issued % 2 == 0) then Some IssuerData
+    else text_fault IssuerData issued
 
 abbrev pub response_2_fault : List ℕ → List ℕ → List ℕ → List ℕ → Option Kind
 response_2_fault request status issued digits =
     option_or (pair_fault digits)
     (option_or (request_fault request)
-    (option_or (digits_fault 4 Status Status status) (issuer_data_fault issued)))
+    (option_or (digits_fault 4 CardStatus CardStatus status) (issuer_data_fault issued)))
 
--- ---- commands
+-- ---- calculations
 
-abbrev pub card_line : CardCommand → Beside → List ℕ → List ℕ
-card_line (CardKey sequence) beside text = hex_line (card_key_of sequence.now beside.account.now text)
-card_line (ApplicationKey counter) beside text = hex_line (application_key_of counter.now text)
-card_line (SessionKey block) beside text = hex_line (session_key_of block.now text)
-card_line MakeCryptogram beside text = hex_line (cryptogram_of beside.key.now text)
-card_line (Response1 request code) beside text = hex_line (response_1_of request.now code.now text)
-card_line (Response2 request status issued) beside text =
-    hex_line (response_2_of request.now status.now issued.now text)
+-- the line answers the calculation
+abbrev pub IsCardLine : CardCalculation → Inputs → List ℕ → Type 0
+IsCardLine (CardKey sequence) inputs line = line ≡ hex_line (card_key_of sequence.now inputs)
+IsCardLine (ApplicationKey counter) inputs line = line ≡ hex_line (application_key_of counter.now inputs.text.now)
+IsCardLine (SessionKey block) inputs line = line ≡ hex_line (session_key_of block.now inputs.text.now)
+IsCardLine MakeCryptogram inputs line = line ≡ hex_line (cryptogram_of inputs)
+IsCardLine (Response1 request code) inputs line =
+    line ≡ hex_line (response_1_of request.now code.now inputs.text.now)
+IsCardLine (Response2 request status issued) inputs line =
+    line ≡ hex_line (response_2_of request.now status.now issued.now inputs.text.now)
 
--- the first fault
-abbrev pub card_command_fault : CardCommand → Beside → List ℕ → Option Kind
-card_command_fault (CardKey sequence) beside text = card_key_fault sequence.now beside.account.now text
-card_command_fault (ApplicationKey counter) beside text = session_fault 2 Counter counter.now text
-card_command_fault (SessionKey block) beside text = session_fault 8 Cryptogram block.now text
-card_command_fault MakeCryptogram beside text = cryptogram_fault beside.key.now text
-card_command_fault (Response1 request code) beside text = response_1_fault request.now code.now text
-card_command_fault (Response2 request status issued) beside text =
-    response_2_fault request.now status.now issued.now text
+-- it fails by its first fault
+abbrev pub FailsAsCard : CardCalculation → Inputs → Result (Vec ℕ Global) Kind → Type 0
+FailsAsCard (CardKey sequence) inputs result = FailsBy (card_key_fault sequence.now inputs) result
+FailsAsCard (ApplicationKey counter) inputs result =
+    FailsBy (session_fault 2 Counter counter.now inputs.text.now) result
+FailsAsCard (SessionKey block) inputs result = FailsBy (session_fault 8 Cryptogram block.now inputs.text.now) result
+FailsAsCard MakeCryptogram inputs result = FailsBy (cryptogram_fault inputs) result
+FailsAsCard (Response1 request code) inputs result =
+    FailsBy (response_1_fault request.now code.now inputs.text.now) result
+FailsAsCard (Response2 request status issued) inputs result =
+    FailsBy (response_2_fault request.now status.now issued.now inputs.text.now) result

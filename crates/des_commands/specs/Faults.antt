@@ -15,7 +15,7 @@ use Rattle.des_commands.specs.declared.fault.Reason.{Reason}
 use Rattle.des_commands.specs.declared.fault.FileFault.{FileFault}
 use Rattle.des_commands.specs.declared.fault.FileFault.TheVariants.{Salted, SaltedText, NotSalted, SaltCut, Base64, Begin, End, NotEncrypted, NoDekInfo, Cipher as OtherCipher, DekVector, EmptyLine, Structure, Algorithm as OtherAlgorithm, KeyDerivation, Iterations, KeySize, Prf, KeyPadding, Password as OtherPassword, Unpadded}
 use Rattle.des_commands.specs.declared.fault.Kind.{Kind}
-use Rattle.des_commands.specs.declared.fault.Kind.TheVariants.{Usage, Source, Variable, InputLength, KeyLength, KeyText, ToKeyLength, ToKeyText, WeakKey, Components, Vector, Tag, Value, Offset, Validation, Counter, Cryptogram, Code, Status, Data, DataText, BlockLength, BlockText, SerialLength, SerialText, SerialCounter, FillLength, FillText, CheckDigit, Pin, Card, Translation, Verification, Emv, Field as FieldFault, KeyBlock, File, EmptyPassword, Memory, Read, Write, Length, Start, Padding}
+use Rattle.des_commands.specs.declared.fault.Kind.TheVariants.{Usage, Source, Variable, InputLength, KeyLength, KeyText, ToKeyLength, ToKeyText, WeakKey, Components, Vector, Tag, Value, Offset, Validation, Counter, Cryptogram, ResponseCode, CardStatus, IssuerData, CryptogramData, BlockLength, BlockText, SerialLength, SerialText, SerialCounter, FillLength, FillText, CheckDigit, Pin, Card, Translation, Verification, Emv, Field as FieldFault, KeyBlock, File, EmptyPassword, Memory, Read, Write, Length, Start, Padding}
 
 -- the name of a fault of a file under a password
 abbrev pub file_name : FileFault → List ℕ
@@ -60,10 +60,10 @@ name_of Offset = codes "Offset"
 name_of Validation = codes "Validation"
 name_of Counter = codes "Counter"
 name_of Cryptogram = codes "Cryptogram"
-name_of Code = codes "Code"
-name_of Status = codes "Status"
-name_of Data = codes "Data"
-name_of DataText = codes "DataText"
+name_of ResponseCode = codes "Code"
+name_of CardStatus = codes "Status"
+name_of IssuerData = codes "Data"
+name_of CryptogramData = codes "DataText"
 name_of BlockLength = codes "BlockLength"
 name_of BlockText = codes "BlockText"
 name_of SerialLength = codes "SerialLength"
@@ -87,6 +87,11 @@ name_of (Write _) = codes "Write"
 name_of Length = codes "Length"
 name_of Start = codes "Start"
 name_of Padding = codes "Padding"
+
+-- what a fault of what has a name is about: refused memory is about nothing
+abbrev pub about_of : Kind → List ℕ → List ℕ
+about_of Memory name = []
+about_of kind name = name
 
 -- ---- lines
 
@@ -139,6 +144,11 @@ FailsBy None result = IfErr result (λ kind. kind ≡ Memory)
 abbrev pub FailsOnlyBy : {A : Type 0} → Option Kind → Result A Kind → Type 0
 FailsOnlyBy (Some kind) result = result ≡ Err kind
 FailsOnlyBy None result = IsOk result
+
+-- a call gives this fault, where there is one, and else something else holds
+abbrev pub FailsOr : {A : Type 0} → Option Kind → Type 0 → Result A Kind → Type 0
+FailsOr (Some kind) Else result = result ≡ Err kind
+FailsOr None Else result = Else
 
 -- a call gives this fault, where there is one. Else it fails as `WeakKey` where the key is refused,
 -- and only if memory is refused where it is not

@@ -1,4 +1,4 @@
--- What answers a command on key blocks, by the texts that are read.
+-- What answers a calculation with a key block, by what was read for it.
 use Rattle.std.specs.Prelude.{◌≡◌, ◌⊎◌, ℕ, ◌-◌, ◌==◌, ◌&&◌, nat_le, Bool, true, false, if◌then◌else◌, List, [], ◌∷◌, ◌++◌, length, map, take, replicate, codes, Option, Some, None, Result, Err, IsTrue}
 use Rattle.std.specs.Char.{is_ascii_alphanumeric}
 use Rattle.std.specs.List.{list_all, flat_map}
@@ -16,14 +16,15 @@ use Rattle.des_payment.specs.declared.key_block_header.Algorithm.{Algorithm}
 use Rattle.des_payment.specs.declared.key_block_header.Algorithm.TheVariants.{OtherAlgorithm}
 use Rattle.des_payment.specs.declared.key_block_error.KeyBlockError.{KeyBlockError}
 use Rattle.des_payment.specs.declared.key_block_error.KeyBlockError.TheVariants.{ProtectionKeyLength, OptionalBlock}
+use Rattle.des_commands.specs.declared.command.Inputs.{Inputs}
 use Rattle.des_commands.specs.declared.command.Wrapping.{Wrapping}
-use Rattle.des_commands.specs.declared.command.KeyBlockCommand.{KeyBlockCommand}
-use Rattle.des_commands.specs.declared.command.KeyBlockCommand.TheVariants.{Header as TellHeader, Unwrap, Wrap}
+use Rattle.des_commands.specs.declared.command.KeyBlockCalculation.{KeyBlockCalculation}
+use Rattle.des_commands.specs.declared.command.KeyBlockCalculation.TheVariants.{Header as TellHeader, Unwrap, Wrap}
 use Rattle.des_commands.specs.declared.fault.Field.{Field}
 use Rattle.des_commands.specs.declared.fault.Field.TheVariants.{Usage, Algorithm as AlgorithmField, Mode, KeyVersion, Exportability}
 use Rattle.des_commands.specs.declared.fault.Kind.{Kind}
 use Rattle.des_commands.specs.declared.fault.Kind.TheVariants.{KeyText, ToKeyLength, ToKeyText, Field as FieldFault, KeyBlock}
-use Rattle.des_commands.specs.Faults.{FailsBy}
+use Rattle.des_commands.specs.Faults.{FailsBy, FailsOr}
 use Rattle.des_commands.specs.Keys.{any_key_fault}
 use Rattle.des_commands.specs.Texts.{bytes_of, hex_line, text_line}
 
@@ -104,11 +105,10 @@ TellsKey false protection block lines =
 -- the fault of the key's digits, or that of the block under the key, or else only memory may be refused
 abbrev pub FailsAsUnwrapped : List ℕ → List ℕ → Result (Vec ℕ Global) Kind → Type 0
 FailsAsUnwrapped protection block result =
-    ((kind : Kind) × ((protection_fault protection ≡ Some kind) × (result ≡ Err kind)))
-    ⊎ ((error : KeyBlockError) × ((protection_fault protection ≡ None)
-    × (HasFault (bytes_of protection) block error × (result ≡ Err (KeyBlock error)))))
-    ⊎ ((protection_fault protection ≡ None)
-    × ((header : Header) × ((key : List ℕ) × (HoldsKey (bytes_of protection) block header key × FailsBy None result))))
+    FailsOr (protection_fault protection)
+    (((error : KeyBlockError) × (HasFault (bytes_of protection) block error × (result ≡ Err (KeyBlock error))))
+    ⊎ ((header : Header) × ((key : List ℕ) × (HoldsKey (bytes_of protection) block header key × FailsBy None result))))
+    result
 
 -- ---- blocks that are made
 
@@ -151,23 +151,26 @@ pub record IsHeaderOf (wrapping : Wrapping) (header : Header) : Type 0 where
 abbrev pub padding_of : List ℕ → List ℕ → List ℕ
 padding_of random key = take (30 - length key) random
 
--- the block of a header, the optional blocks of a text, and a key
-abbrev pub IsMade : List ℕ → Header → List ℕ → List ℕ → List ℕ → List ℕ → Type 0
-IsMade protection header optional key random block =
-    (blocks : List (List ℕ × List ℕ)) × (AreOptionalBlocks blocks optional
-    × IsKeyBlock protection header (filled blocks) key (padding_of random key) block)
+-- the line of a block of a header, the optional blocks of a text, and a key
+pub record IsMadeLine (protection : List ℕ) (header : Header) (optional key random line : List ℕ) : Type 0 where
+  pub block : List ℕ
+  pub blocks : List (List ℕ × List ℕ)
+  pub are_blocks : AreOptionalBlocks blocks optional
+  pub made : IsKeyBlock protection header (filled blocks) key (padding_of random key) block
+  pub is_line : line ≡ text_line block
 
--- the block of the key that digits write, under the header and the optional blocks of the texts
-pub record IsWrapped (wrapping : Wrapping) (protection digits random block : List ℕ) : Type 0 where
+-- the line of a block of the key that digits write, under the header and the optional blocks of the texts
+pub record IsWrapped (wrapping : Wrapping) (inputs : Inputs) (line : List ℕ) : Type 0 where
   pub header : Header
   pub fields : IsHeaderOf wrapping header
-  pub made : IsMade (bytes_of protection) header wrapping.optional.now (bytes_of digits) random block
+  pub made : IsMadeLine (bytes_of inputs.key.now) header wrapping.optional.now (bytes_of inputs.text.now)
+      inputs.random.now line
 
 -- the first fault of the digits of both keys, of the fields and of the characters of optional blocks
-abbrev pub texts_fault : Wrapping → List ℕ → List ℕ → Option Kind
-texts_fault wrapping protection digits =
-    option_or (protection_fault protection)
-    (option_or (any_key_fault ToKeyLength ToKeyText digits)
+abbrev pub texts_fault : Wrapping → Inputs → Option Kind
+texts_fault wrapping inputs =
+    option_or (protection_fault inputs.key.now)
+    (option_or (any_key_fault ToKeyLength ToKeyText inputs.text.now)
     (option_or (header_text_fault wrapping) (optional_fault wrapping.optional.now)))
 
 -- a text is that of 99 optional blocks at most
@@ -176,30 +179,30 @@ HasBlocks optional =
     (blocks : List (List ℕ × List ℕ)) × (IsTrue (nat_le (length blocks) 99) × AreOptionalBlocks blocks optional)
 
 -- optional blocks that are none, or what no block is made of, or else only memory may be refused
-abbrev pub FailsAsMade : {A : Type 0} → List ℕ → Version → List ℕ → List ℕ → List ℕ → Result A Kind → Type 0
+abbrev pub FailsAsMade : List ℕ → Version → List ℕ → List ℕ → List ℕ → Result (Vec ℕ Global) Kind → Type 0
 FailsAsMade protection version optional key random result =
     ((¬ HasBlocks optional) × (result ≡ Err (KeyBlock OptionalBlock)))
     ⊎ ((blocks : List (List ℕ × List ℕ)) × (AreOptionalBlocks blocks optional
     × FailsBy (option_map KeyBlock (wrap_fault protection version blocks key (padding_of random key) 9999)) result))
 
 -- the texts at fault, or what the block is made of
-abbrev pub FailsAsWrapped : {A : Type 0} → Wrapping → List ℕ → List ℕ → List ℕ → Result A Kind → Type 0
-FailsAsWrapped wrapping protection digits random result =
-    ((kind : Kind) × ((texts_fault wrapping protection digits ≡ Some kind) × (result ≡ Err kind)))
-    ⊎ ((texts_fault wrapping protection digits ≡ None)
-    × FailsAsMade (bytes_of protection) wrapping.version wrapping.optional.now (bytes_of digits) random result)
+abbrev pub FailsAsWrapped : Wrapping → Inputs → Result (Vec ℕ Global) Kind → Type 0
+FailsAsWrapped wrapping inputs result =
+    FailsOr (texts_fault wrapping inputs)
+    (FailsAsMade (bytes_of inputs.key.now) wrapping.version wrapping.optional.now (bytes_of inputs.text.now)
+    inputs.random.now result)
+    result
 
--- ---- commands
+-- ---- calculations
 
--- the lines answer the command
-abbrev pub AnswersKeyBlock : KeyBlockCommand → List ℕ → List ℕ → List ℕ → List ℕ → Type 0
-AnswersKeyBlock TellHeader protection text random lines = TellsHeader text lines
-AnswersKeyBlock (Unwrap shows_key) protection text random lines = TellsKey shows_key protection text lines
-AnswersKeyBlock (Wrap wrapping) protection text random lines =
-    (block : List ℕ) × (IsWrapped wrapping protection text random block × (lines ≡ text_line block))
+-- the lines answer the calculation
+abbrev pub AnswersKeyBlock : KeyBlockCalculation → Inputs → List ℕ → Type 0
+AnswersKeyBlock TellHeader inputs lines = TellsHeader inputs.text.now lines
+AnswersKeyBlock (Unwrap shows_key) inputs lines = TellsKey shows_key inputs.key.now inputs.text.now lines
+AnswersKeyBlock (Wrap wrapping) inputs lines = IsWrapped wrapping inputs lines
 
 -- how it fails
-abbrev pub FailsAsKeyBlock : KeyBlockCommand → List ℕ → List ℕ → List ℕ → Result (Vec ℕ Global) Kind → Type 0
-FailsAsKeyBlock TellHeader protection text random result = FailsAsHeader text result
-FailsAsKeyBlock (Unwrap shows_key) protection text random result = FailsAsUnwrapped protection text result
-FailsAsKeyBlock (Wrap wrapping) protection text random result = FailsAsWrapped wrapping protection text random result
+abbrev pub FailsAsKeyBlock : KeyBlockCalculation → Inputs → Result (Vec ℕ Global) Kind → Type 0
+FailsAsKeyBlock TellHeader inputs result = FailsAsHeader inputs.text.now result
+FailsAsKeyBlock (Unwrap shows_key) inputs result = FailsAsUnwrapped inputs.key.now inputs.text.now result
+FailsAsKeyBlock (Wrap wrapping) inputs result = FailsAsWrapped wrapping inputs result

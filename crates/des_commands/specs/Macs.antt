@@ -1,5 +1,6 @@
 -- The tag of a message under a key, by the method and the key's size.
-use Rattle.std.specs.Prelude.{◌≡◌, ◌⊎◌, ℕ, ◌==◌, if◌then◌else◌, List, length}
+use Rattle.std.specs.Prelude.{◌≡◌, ◌⊎◌, ℕ, ◌==◌, if◌then◌else◌, List, length, Option, None}
+use Rattle.std.specs.Io.KnownBytes.{Consumes, IsAtEnd}
 use Rattle.des.specs.Des.{encryption, decryption}
 use Rattle.des.specs.TripleCiphers.{ede2_encryption, ede3_encryption}
 use Rattle.des_mac.specs.Padding.{padded, zeros_after, one_bit_after}
@@ -26,12 +27,26 @@ abbrev pub padded_by : PaddingMethod → List ℕ → List ℕ
 padded_by One message = padded zeros_after message
 padded_by Two message = padded one_bit_after message
 
-abbrev pub tag_by : Method → List ℕ → List ℕ → List ℕ
-tag_by (CbcMac padding) key message = cbc_mac (encryption_by key) (padded_by padding message)
-tag_by (Retail padding) key message = retail_mac_of 8 encryption decryption key (padded_by padding message)
-tag_by Cmac key message = cmac (encryption_by key) message
+-- over a cipher that answers so; retail MACs are over DES
+abbrev pub tag_over : (answer : List ℕ → List ℕ) → Method → (key message : List ℕ) → List ℕ
+tag_over answer (CbcMac padding) key message = cbc_mac answer (padded_by padding message)
+tag_over answer (Retail padding) key message = retail_mac_of 8 encryption decryption key (padded_by padding message)
+tag_over answer Cmac key message = cmac answer message
 
--- the method takes keys of these bytes
+abbrev pub tag_by : Method → (key message : List ℕ) → List ℕ
+tag_by method key message = tag_over (encryption_by key) method key message
+
+-- all that a reader had was read, and this is its tag
+abbrev pub IsTagOfAll : (tag_of : List ℕ → List ℕ) → (read_from read_to : Option (List ℕ)) → List ℕ → Type 0
+IsTagOfAll tag_of read_from read_to tag =
+    (bytes : List ℕ) × Consumes read_from read_to bytes × IsAtEnd read_to × (tag ≡ tag_of bytes)
+
+-- the method takes keys of these bytes, over a cipher whose keys have as many as `size` says
+abbrev pub IsKeyOver : (size : ℕ) → Method → List ℕ → Type 0
+IsKeyOver size (Retail padding) key = length key ≡ 16
+IsKeyOver size method key = length key ≡ size
+
+-- the same over the cipher of the key's size
 abbrev pub HasKeySize : Method → List ℕ → Type 0
 HasKeySize (Retail padding) key = length key ≡ 16
 HasKeySize method key = (length key ≡ 8) ⊎ ((length key ≡ 16) ⊎ (length key ≡ 24))
@@ -39,4 +54,4 @@ HasKeySize method key = (length key ≡ 8) ⊎ ((length key ≡ 16) ⊎ (length 
 -- a message is not authenticated: the method takes no such key, or the message can't be read
 abbrev pub FailsToAuthenticate : Type 0 → Kind → Type 0
 FailsToAuthenticate IsKey kind =
-    ((¬ IsKey) × (kind ≡ KeyLength 0)) ⊎ ((reason : Reason) × (kind ≡ Read reason))
+    ((¬ IsKey) × (kind ≡ KeyLength None)) ⊎ ((reason : Reason) × (kind ≡ Read reason))

@@ -17,19 +17,15 @@ use Rattle.des_commands.specs.Written.{AppendsPrefix}
 
 -- ---- lines
 
-abbrev pub name_of : Notice → List ℕ
-name_of WeakKey = codes "WeakKey"
-name_of DoubleLength = codes "DoubleLength"
-name_of Limit = codes "Limit"
-
-abbrev pub words_of : Notice → List ℕ
-words_of WeakKey = codes "the key is weak, and is used"
-words_of DoubleLength = codes "the first and third parts of the key are one: this is des-ede with the first two"
-words_of Limit = codes "more than 2^20 blocks (8 MiB) are encrypted under one key (NIST SP 800-67)"
-
 -- the line of a notice has the form of a fault's
 abbrev pub notice_line : Notice → List ℕ → List ℕ
-notice_line notice about = line_with (name_of notice) about (words_of notice)
+notice_line WeakKey about = line_with (codes "WeakKey") about (codes "the key is weak, and is used")
+notice_line DoubleLength about =
+    line_with (codes "DoubleLength") about
+    (codes "the first and third parts of the key are one: this is des-ede with the first two")
+notice_line Limit about =
+    line_with (codes "Limit") about
+    (codes "more than 2^20 blocks (8 MiB) are encrypted under one key (NIST SP 800-67)")
 
 -- ---- keys
 

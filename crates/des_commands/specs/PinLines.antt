@@ -1,24 +1,24 @@
--- What answers a command on a PIN and a key, by the texts that are read.
+-- What answers a calculation with a PIN and a key, by what was read for it.
 use Rattle.std.specs.Prelude.{◌≡◌, ◌⊎◌, ℕ, Bool, true, false, List, replicate, codes, Option, None, Result, Ok, Err, IfOk}
 use Rattle.std.specs.Option.{option_map, option_or}
 use Rattle.std.specs.declared.vec.Vec.{Vec}
 use Rattle.std.specs.declared.alloc.Global.{Global}
 use Rattle.des_payment.specs.Texts.{values, number_fault}
 use Rattle.des_payment.specs.PinBlocks.{pin_fault}
-use Rattle.des_payment.specs.PinVerification.{pvv, pvv_fault as pair_fault, table_fault, key_fault, natural_fault as count_fault, natural_pin, pin_offset, IsRight}
+use Rattle.des_payment.specs.PinVerification.{pvv, pvv_fault as value_fault, table_fault, key_fault, natural_fault as count_fault, natural_pin, pin_offset, IsRight}
 use Rattle.des_payment.specs.Translation.{IsTranslation, translation_fault}
 use Rattle.des_payment.specs.declared.translation.Format.{Format}
 use Rattle.des_payment.specs.declared.translation.Format.TheVariants.{Format0, Format1, Format2, Format3}
 use Rattle.des_payment.specs.declared.verification_error.VerificationError.{VerificationError}
 use Rattle.des_payment.specs.declared.verification_error.VerificationError.TheVariants.{WrongPin}
-use Rattle.des_commands.specs.declared.command.Beside.{Beside}
+use Rattle.des_commands.specs.declared.command.Inputs.{Inputs}
 use Rattle.des_commands.specs.declared.command.NaturalPins.{NaturalPins}
-use Rattle.des_commands.specs.declared.command.PinCommand.{PinCommand}
-use Rattle.des_commands.specs.declared.command.PinCommand.TheVariants.{Translate, MakePvv, VerifyPvv, Natural, MakeOffset, VerifyOffset}
+use Rattle.des_commands.specs.declared.command.PinCalculation.{PinCalculation}
+use Rattle.des_commands.specs.declared.command.PinCalculation.TheVariants.{Translate, MakePvv, VerifyPvv, Natural, MakeOffset, VerifyOffset}
 use Rattle.des_commands.specs.declared.fault.Kind.{Kind}
 use Rattle.des_commands.specs.declared.fault.Kind.TheVariants.{KeyLength, KeyText, ToKeyLength, ToKeyText, Value, Offset, Validation, BlockLength, BlockText, FillLength, FillText, Pin as PinFault, Translation as TranslationFault, Verification as VerificationFault}
 use Rattle.des_commands.specs.Faults.{FailsBy}
-use Rattle.des_commands.specs.Keys.{any_key_fault}
+use Rattle.des_commands.specs.Keys.{any_key_fault, pair_fault}
 use Rattle.des_commands.specs.Texts.{bytes_of, digits_fault, fill_of, hex_line, text_line}
 
 -- ---- PIN blocks
@@ -37,22 +37,22 @@ fill_text_fault Format2 fill = None
 fill_text_fault Format3 fill = digits_fault 5 FillLength FillText fill
 
 -- the block of the same PIN under the outgoing key
-abbrev pub IsTranslated : Format → Format → List ℕ → Beside → List ℕ → List ℕ → Type 0
-IsTranslated from to fill beside digits block =
-    IsTranslation (bytes_of beside.key.now) from (bytes_of beside.to_key.now) to beside.account.now (fill_for to fill)
-    (bytes_of digits) block
+abbrev pub IsTranslated : Format → Format → List ℕ → Inputs → List ℕ → Type 0
+IsTranslated from to fill inputs block =
+    IsTranslation (bytes_of inputs.key.now) from (bytes_of inputs.to_key.now) to inputs.account.now (fill_for to fill)
+    (bytes_of inputs.text.now) block
 
 -- the first fault: of the digits of the key, of the outgoing key, of the block and of the fill digits, and then those of
 -- the translation
-abbrev pub translated_fault : Format → Format → List ℕ → Beside → List ℕ → Option Kind
-translated_fault from to fill beside digits =
-    option_or (any_key_fault (KeyLength 0) KeyText beside.key.now)
-    (option_or (any_key_fault ToKeyLength ToKeyText beside.to_key.now)
-    (option_or (digits_fault 8 BlockLength BlockText digits)
+abbrev pub translated_fault : Format → Format → List ℕ → Inputs → Option Kind
+translated_fault from to fill inputs =
+    option_or (any_key_fault (KeyLength None) KeyText inputs.key.now)
+    (option_or (any_key_fault ToKeyLength ToKeyText inputs.to_key.now)
+    (option_or (digits_fault 8 BlockLength BlockText inputs.text.now)
     (option_or (fill_text_fault to fill)
     (option_map TranslationFault
-    (translation_fault (bytes_of beside.key.now) from (bytes_of beside.to_key.now) to beside.account.now
-    (fill_for to fill) (bytes_of digits))))))
+    (translation_fault (bytes_of inputs.key.now) from (bytes_of inputs.to_key.now) to inputs.account.now
+    (fill_for to fill) (bytes_of inputs.text.now))))))
 
 -- ---- verdicts
 
@@ -69,25 +69,25 @@ TellsOutcome (Err error) result = result ≡ Err (VerificationFault error)
 -- ---- PIN verification values
 
 -- the value of a PIN
-abbrev pub pvv_of : ℕ → Beside → List ℕ → List ℕ
-pvv_of index beside text = pvv (bytes_of beside.key.now) beside.account.now index text
+abbrev pub pvv_of : ℕ → Inputs → List ℕ
+pvv_of index inputs = pvv (bytes_of inputs.key.now) inputs.account.now index inputs.text.now
 
-abbrev pub pvv_fault : ℕ → Beside → List ℕ → Option Kind
-pvv_fault index beside text =
-    option_or (digits_fault 16 (KeyLength 16) KeyText beside.key.now)
-    (option_or (option_map PinFault (pin_fault text))
-    (option_map VerificationFault (pair_fault beside.account.now index)))
+abbrev pub pvv_fault : ℕ → Inputs → Option Kind
+pvv_fault index inputs =
+    option_or (pair_fault inputs.key.now)
+    (option_or (option_map PinFault (pin_fault inputs.text.now))
+    (option_map VerificationFault (value_fault inputs.account.now index)))
 
 -- a value is that of the PIN
-abbrev pub HasPvv : ℕ → List ℕ → Beside → List ℕ → Type 0
-HasPvv index value beside text = value ≡ pvv_of index beside text
+abbrev pub HasPvv : ℕ → List ℕ → Inputs → Type 0
+HasPvv index value inputs = value ≡ pvv_of index inputs
 
-abbrev pub pvv_verdict_fault : ℕ → List ℕ → Beside → List ℕ → Option Kind
-pvv_verdict_fault index value beside text =
-    option_or (digits_fault 16 (KeyLength 16) KeyText beside.key.now)
-    (option_or (option_map PinFault (pin_fault text))
+abbrev pub pvv_verdict_fault : ℕ → List ℕ → Inputs → Option Kind
+pvv_verdict_fault index value inputs =
+    option_or (pair_fault inputs.key.now)
+    (option_or (option_map PinFault (pin_fault inputs.text.now))
     (option_or (number_fault 4 4 Value Value value)
-    (option_map VerificationFault (pair_fault beside.account.now index))))
+    (option_map VerificationFault (value_fault inputs.account.now index))))
 
 -- ---- natural PINs and offsets
 
@@ -109,58 +109,58 @@ natural_pin_by by count digits =
 
 abbrev pub natural_fault : NaturalPins → ℕ → List ℕ → Option Kind
 natural_fault by count digits =
-    option_or (any_key_fault (KeyLength 0) KeyText digits)
+    option_or (any_key_fault (KeyLength None) KeyText digits)
     (option_or (validation_fault by)
     (option_or (table_text_fault by) (option_map VerificationFault (count_fault (bytes_of digits) count))))
 
 -- the offset of a PIN
-abbrev pub offset_by : NaturalPins → Beside → List ℕ → List ℕ
-offset_by by beside text =
-    pin_offset (bytes_of beside.key.now) (values by.table.now) (bytes_of by.validation.now) text
+abbrev pub offset_by : NaturalPins → Inputs → List ℕ
+offset_by by inputs =
+    pin_offset (bytes_of inputs.key.now) (values by.table.now) (bytes_of by.validation.now) inputs.text.now
 
-abbrev pub offset_fault : NaturalPins → Beside → List ℕ → Option Kind
-offset_fault by beside text =
-    option_or (any_key_fault (KeyLength 0) KeyText beside.key.now)
-    (option_or (option_map PinFault (pin_fault text))
+abbrev pub offset_fault : NaturalPins → Inputs → Option Kind
+offset_fault by inputs =
+    option_or (any_key_fault (KeyLength None) KeyText inputs.key.now)
+    (option_or (option_map PinFault (pin_fault inputs.text.now))
     (option_or (validation_fault by)
-    (option_or (table_text_fault by) (option_map VerificationFault (key_fault (bytes_of beside.key.now))))))
+    (option_or (table_text_fault by) (option_map VerificationFault (key_fault (bytes_of inputs.key.now))))))
 
 -- a PIN has this offset
-abbrev pub HasOffset : NaturalPins → List ℕ → Beside → List ℕ → Type 0
-HasOffset by offset beside text =
-    IsRight (bytes_of beside.key.now) (values by.table.now) (bytes_of by.validation.now) offset text
+abbrev pub HasOffset : NaturalPins → List ℕ → Inputs → Type 0
+HasOffset by offset inputs =
+    IsRight (bytes_of inputs.key.now) (values by.table.now) (bytes_of by.validation.now) offset inputs.text.now
 
-abbrev pub offset_verdict_fault : NaturalPins → List ℕ → Beside → List ℕ → Option Kind
-offset_verdict_fault by offset beside text =
-    option_or (any_key_fault (KeyLength 0) KeyText beside.key.now)
-    (option_or (option_map PinFault (pin_fault text))
+abbrev pub offset_verdict_fault : NaturalPins → List ℕ → Inputs → Option Kind
+offset_verdict_fault by offset inputs =
+    option_or (any_key_fault (KeyLength None) KeyText inputs.key.now)
+    (option_or (option_map PinFault (pin_fault inputs.text.now))
     (option_or (validation_fault by)
     (option_or (table_text_fault by)
     (option_or (number_fault 4 12 Offset Offset offset)
-    (option_map VerificationFault (key_fault (bytes_of beside.key.now)))))))
+    (option_map VerificationFault (key_fault (bytes_of inputs.key.now)))))))
 
--- ---- commands
+-- ---- calculations
 
-abbrev pub IsPinLine : PinCommand → Beside → List ℕ → List ℕ → Type 0
-IsPinLine (Translate from to fill) beside text line =
-    (block : List ℕ) × (IsTranslated from to fill.now beside text block × (line ≡ hex_line block))
-IsPinLine (MakePvv index) beside text line = line ≡ text_line (pvv_of index beside text)
-IsPinLine (VerifyPvv index value) beside text line = IsVerdictLine (HasPvv index value.now beside text) line
-IsPinLine (Natural by count) beside text line = line ≡ text_line (natural_pin_by by count text)
-IsPinLine (MakeOffset by) beside text line = line ≡ text_line (offset_by by beside text)
-IsPinLine (VerifyOffset by offset) beside text line = IsVerdictLine (HasOffset by offset.now beside text) line
+abbrev pub IsPinLine : PinCalculation → Inputs → List ℕ → Type 0
+IsPinLine (Translate from to fill) inputs line =
+    (block : List ℕ) × (IsTranslated from to fill.now inputs block × (line ≡ hex_line block))
+IsPinLine (MakePvv index) inputs line = line ≡ text_line (pvv_of index inputs)
+IsPinLine (VerifyPvv index value) inputs line = IsVerdictLine (HasPvv index value.now inputs) line
+IsPinLine (Natural by count) inputs line = line ≡ text_line (natural_pin_by by count inputs.text.now)
+IsPinLine (MakeOffset by) inputs line = line ≡ text_line (offset_by by inputs)
+IsPinLine (VerifyOffset by offset) inputs line = IsVerdictLine (HasOffset by offset.now inputs) line
 
 -- the first fault
-abbrev pub pin_command_fault : PinCommand → Beside → List ℕ → Option Kind
-pin_command_fault (Translate from to fill) beside text = translated_fault from to fill.now beside text
-pin_command_fault (MakePvv index) beside text = pvv_fault index beside text
-pin_command_fault (VerifyPvv index value) beside text = pvv_verdict_fault index value.now beside text
-pin_command_fault (Natural by count) beside text = natural_fault by count text
-pin_command_fault (MakeOffset by) beside text = offset_fault by beside text
-pin_command_fault (VerifyOffset by offset) beside text = offset_verdict_fault by offset.now beside text
+abbrev pub pin_line_fault : PinCalculation → Inputs → Option Kind
+pin_line_fault (Translate from to fill) inputs = translated_fault from to fill.now inputs
+pin_line_fault (MakePvv index) inputs = pvv_fault index inputs
+pin_line_fault (VerifyPvv index value) inputs = pvv_verdict_fault index value.now inputs
+pin_line_fault (Natural by count) inputs = natural_fault by count inputs.text.now
+pin_line_fault (MakeOffset by) inputs = offset_fault by inputs
+pin_line_fault (VerifyOffset by offset) inputs = offset_verdict_fault by offset.now inputs
 
--- the command asks whether a PIN is right
-abbrev pub is_question : PinCommand → Bool
+-- the calculation asks whether a PIN is right
+abbrev pub is_question : PinCalculation → Bool
 is_question (Translate from to fill) = false
 is_question (MakePvv index) = false
 is_question (VerifyPvv index value) = true

@@ -1,5 +1,5 @@
 -- The text that a source gives.
-use Rattle.std.specs.Prelude.{◌≡◌, ◌⊎◌, ℕ, ◌≤◌, ◌<◌, ◌&&◌, ◌||◌, ◌==◌, nat_le, Bool, not, if◌then◌else◌, ◌/◌, List, filter, length, codes, Option}
+use Rattle.std.specs.Prelude.{◌≡◌, ◌⊎◌, ℕ, ◌≤◌, ◌<◌, ◌&&◌, ◌||◌, ◌==◌, nat_le, Bool, true, false, not, if◌then◌else◌, ◌/◌, List, filter, length, codes, Option}
 use Rattle.std.specs.List.{list_any}
 use Rattle.std.specs.Char.{is_ascii_digit, is_ascii_hexdigit}
 use Rattle.std.specs.Io.KnownBytes.{Consumes, IsAtEnd}
@@ -15,25 +15,28 @@ use Rattle.des_commands.specs.Texts.{is_space}
 abbrev pub is_between : ℕ → Bool
 is_between byte = is_space byte || list_any (λ mark. byte == mark) (codes ":-_.,;/\\='\"xX")
 
-abbrev pub count_of : (is_digit : ℕ → Bool) → List ℕ → ℕ
-count_of is_digit path = length (filter is_digit path)
+abbrev pub is_digit : (is_hexadecimal : Bool) → ℕ → Bool
+is_digit is_hexadecimal byte = if is_hexadecimal then is_ascii_hexdigit byte else is_ascii_digit byte
+
+abbrev pub digits_in : (is_hexadecimal : Bool) → List ℕ → ℕ
+digits_in is_hexadecimal path = length (filter (λ byte. is_digit is_hexadecimal byte) path)
 
 -- how many characters are neither digits nor between them
-abbrev pub count_beside : (is_digit : ℕ → Bool) → List ℕ → ℕ
-count_beside is_digit path =
-    length (filter (λ byte. not (is_digit byte) && not (is_between byte)) path)
+abbrev pub others_in : (is_hexadecimal : Bool) → List ℕ → ℕ
+others_in is_hexadecimal path =
+    length (filter (λ byte. not (is_digit is_hexadecimal byte) && not (is_between byte)) path)
 
 -- these digits at least, and for four of them one other character at most
-abbrev pub are_mostly : (is_digit : ℕ → Bool) → (least : ℕ) → List ℕ → Bool
-are_mostly is_digit least path =
-    nat_le least (count_of is_digit path)
-    && nat_le (count_beside is_digit path) (count_of is_digit path / 4)
+abbrev pub are_mostly : (is_hexadecimal : Bool) → (least : ℕ) → List ℕ → Bool
+are_mostly is_hexadecimal least path =
+    nat_le least (digits_in is_hexadecimal path)
+    && nat_le (others_in is_hexadecimal path) (digits_in is_hexadecimal path / 4)
 
 -- a path may be a secret that was typed in the place of a file's name: four decimal digits or more, as
 -- a PIN or an account number, or 15 hexadecimal digits or more, as a key, also with a word before them
 -- or where a character is wrong
 abbrev pub may_be_secret : List ℕ → Bool
-may_be_secret path = are_mostly is_ascii_digit 4 path || are_mostly is_ascii_hexdigit 15 path
+may_be_secret path = are_mostly false 4 path || are_mostly true 15 path
 
 -- a path as a fault shows it
 abbrev pub shown_path : List ℕ → List ℕ

@@ -3,7 +3,7 @@ use Rattle.std.specs.Prelude.{◌≡◌, ◌≢◌, ◌⊎◌, ℕ, Bool, true, 
 use Rattle.std.specs.Borrow.{Bor}
 use Rattle.des_io.specs.declared.padding.Padding.{Padding}
 use Rattle.des_io.specs.declared.padding.Padding.TheVariants.{Pkcs7, Iso7816, Zeros, Unpadded}
-use Rattle.des_commands.specs.declared.fault.Misuse.TheVariants.{Arguments, StandardInputTwice, VectorNeeded, VectorOfEcb, RandomToDecrypt, FirstBlockToEncrypt, PartToEncrypt}
+use Rattle.des_commands.specs.declared.fault.Misuse.TheVariants.{Arguments, StandardInputTwice, VectorNeeded, VectorOfEcb, VectorOfPassword, RandomToDecrypt, FirstBlockToEncrypt, PartToEncrypt}
 use Rattle.des_commands.specs.declared.fault.Kind.{Kind}
 use Rattle.des_commands.specs.declared.fault.Kind.TheVariants.{Usage, Vector as WrongVector}
 use Rattle.des_commands.specs.declared.source.Source.{Source}
@@ -11,7 +11,11 @@ use Rattle.des_commands.specs.declared.source.Source.TheVariants.{StandardInput,
 use Rattle.des_commands.specs.declared.stream_request.Cipher.{Cipher}
 use Rattle.des_commands.specs.declared.stream_request.Cipher.TheVariants.{Des, TdesEde2, TdesEde3}
 use Rattle.des_commands.specs.declared.stream_request.Vector.{Vector}
-use Rattle.des_commands.specs.declared.stream_request.Vector.TheVariants.{Absent, Bytes, Random, FirstBlock}
+use Rattle.des_commands.specs.declared.stream_request.Vector.TheVariants.{Bytes, Random, FirstBlock, OfPassword}
+use Rattle.des_commands.specs.declared.stream_request.StreamMode.{StreamMode}
+use Rattle.des_commands.specs.declared.stream_request.StreamMode.TheVariants.{Ecb, Cbc}
+use Rattle.des_commands.specs.declared.stream_request.Secret.{Secret}
+use Rattle.des_commands.specs.declared.stream_request.Secret.TheVariants.{Key, Password}
 use Rattle.des_commands.specs.declared.stream_request.Part.{Part}
 use Rattle.des_commands.specs.declared.stream_request.WeakKeys.{WeakKeys}
 use Rattle.des_commands.specs.declared.stream_request.WeakKeys.TheVariants.{Refuse, Warn, Accept}
@@ -19,6 +23,7 @@ use Rattle.des_commands.specs.declared.stream_request.Output.{Output}
 use Rattle.des_commands.specs.declared.stream_request.Output.TheVariants.{Unnamed, StandardOutput, File as OutputFile}
 use Rattle.des_commands.specs.declared.stream_request.StreamRequest.{StreamRequest}
 use Rattle.des_commands.specs.declared.arguments.streams.StreamWords.{StreamWords}
+use Rattle.des_commands.specs.StreamRequests.{source_of}
 use Rattle.des_commands.specs.Texts.{bytes_of, digits_fault}
 
 -- ---- words
@@ -53,38 +58,36 @@ abbrev pub text_or : Option (Bor (List ℕ)) → List ℕ → List ℕ
 text_or None other = other
 text_or (Some text) other = text.now
 
--- ---- vectors
+-- ---- modes
 
 -- the vector of a text, in CBC: a word, in the direction that it is for, or 16 hexadecimal digits
-abbrev pub IsChainVector : List ℕ → (encrypts : Bool) → Vector → Type 0
-IsChainVector text encrypts Absent = ⊥
-IsChainVector text true Random = text ≡ codes "random"
-IsChainVector text false Random = ⊥
-IsChainVector text true FirstBlock = ⊥
-IsChainVector text false FirstBlock = text ≡ codes "first-block"
-IsChainVector text encrypts (Bytes iv) =
-    (digits_fault 8 WrongVector WrongVector text ≡ None) × (iv ≡ bytes_of text)
+abbrev pub IsVector : List ℕ → (encrypts : Bool) → Vector → Type 0
+IsVector text true Random = text ≡ codes "random"
+IsVector text false FirstBlock = text ≡ codes "first-block"
+IsVector text encrypts (Bytes iv) = (digits_fault 8 WrongVector WrongVector text ≡ None) × (iv ≡ bytes_of text)
+IsVector text encrypts _ = ⊥
 
 -- why a text is no vector: it is the word of the other direction, or neither a word nor 16 digits
-abbrev pub FailsAsChainVector : List ℕ → (encrypts : Bool) → Kind → Type 0
-FailsAsChainVector text encrypts kind =
+abbrev pub FailsAsVector : List ℕ → (encrypts : Bool) → Kind → Type 0
+FailsAsVector text encrypts kind =
     ((encrypts ≡ false) × (text ≡ codes "random") × (kind ≡ Usage RandomToDecrypt))
     ⊎ ((encrypts ≡ true) × (text ≡ codes "first-block") × (kind ≡ Usage FirstBlockToEncrypt))
     ⊎ ((text ≢ codes "random") × (text ≢ codes "first-block")
     × (digits_fault 8 WrongVector WrongVector text ≡ Some WrongVector) × (kind ≡ WrongVector))
 
--- the vector that an option gives: CBC has one, ECB none
-abbrev pub IsVector : Option (Bor (List ℕ)) → (is_chained encrypts : Bool) → Vector → Type 0
-IsVector None true encrypts vector = ⊥
-IsVector None false encrypts vector = vector ≡ Absent
-IsVector (Some text) true encrypts vector = IsChainVector text.now encrypts vector
-IsVector (Some text) false encrypts vector = ⊥
+-- the mode: ECB has no vector; that of CBC comes of the option, by a key, or of the password
+abbrev pub IsMode : Option (Bor (List ℕ)) → Secret → (is_chained encrypts : Bool) → StreamMode → Type 0
+IsMode None secret false encrypts mode = mode ≡ Ecb
+IsMode None (Password source by) true encrypts mode = mode ≡ Cbc OfPassword
+IsMode (Some text) (Key source) true encrypts (Cbc vector) = IsVector text.now encrypts vector
+IsMode _ _ _ encrypts mode = ⊥
 
-abbrev pub FailsAsVector : Option (Bor (List ℕ)) → (is_chained encrypts : Bool) → Kind → Type 0
-FailsAsVector None true encrypts kind = kind ≡ Usage VectorNeeded
-FailsAsVector None false encrypts kind = ⊥
-FailsAsVector (Some text) true encrypts kind = FailsAsChainVector text.now encrypts kind
-FailsAsVector (Some text) false encrypts kind = kind ≡ Usage VectorOfEcb
+abbrev pub FailsAsMode : Option (Bor (List ℕ)) → Secret → (is_chained encrypts : Bool) → Kind → Type 0
+FailsAsMode None (Key source) true encrypts kind = kind ≡ Usage VectorNeeded
+FailsAsMode (Some text) (Key source) true encrypts kind = FailsAsVector text.now encrypts kind
+FailsAsMode (Some text) (Key source) false encrypts kind = kind ≡ Usage VectorOfEcb
+FailsAsMode (Some text) (Password source by) is_chained encrypts kind = kind ≡ Usage VectorOfPassword
+FailsAsMode _ _ _ encrypts kind = ⊥
 
 -- ---- parts
 
@@ -133,16 +136,17 @@ pub record IsRequest (words : StreamWords) (request : StreamRequest) : Type 0 wh
   pub is_chained : Bool
   pub direction : request.encrypts ≡ words.encrypts
   pub name : words.cipher.now ≡ cipher_name request.cipher is_chained
-  pub vector : IsVector words.iv is_chained words.encrypts request.vector
+  pub mode : IsMode words.iv words.secret is_chained words.encrypts request.mode
   pub padding : padding_word request.padding ≡ text_or words.padding (codes "pkcs7")
   pub weak_keys : weak_keys_word request.weak_keys
       ≡ text_or words.weak_keys (weak_keys_word (default_weak_keys words.encrypts))
   pub part : part_for words.encrypts words.from words.count ≡ Ok request.part
-  pub key : request.key ≡ words.key
+  pub secret : request.secret ≡ words.secret
+  pub coding : request.coding ≡ words.coding
   pub input : IsInput words.input request.input
   pub output : IsOutput words.output request.output
   pub progress : request.shows_progress ≡ words.shows_progress
-  pub once : ¬ IsReadTwice request.key request.input
+  pub once : ¬ IsReadTwice (source_of request.secret) request.input
 
 -- a word is none of those that its option takes
 abbrev pub HasOtherWord : StreamWords → Type 0
@@ -158,6 +162,6 @@ FailsAsRequest words kind =
     (HasOtherWord words × (kind ≡ Usage Arguments))
     ⊎ (part_for words.encrypts words.from words.count ≡ Err kind)
     ⊎ ((cipher : Cipher) × (is_chained : Bool) × (words.cipher.now ≡ cipher_name cipher is_chained)
-    × FailsAsVector words.iv is_chained words.encrypts kind)
-    ⊎ ((input : Source) × IsInput words.input input × IsReadTwice words.key input
+    × FailsAsMode words.iv words.secret is_chained words.encrypts kind)
+    ⊎ ((input : Source) × IsInput words.input input × IsReadTwice (source_of words.secret) input
     × (kind ≡ Usage StandardInputTwice))

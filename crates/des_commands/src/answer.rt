@@ -1,8 +1,8 @@
-//! Answers: whether a key is weak, tags that are shown or verified, and the status of an answer.
+//! Answers: tags that are shown or verified, and the status of an answer.
 
-ghost use Rattle.std.specs.Prelude.{◌≡◌, ◌↔◌, ◌≤◌, [], length, take, false, not, IfOk};
+ghost use Rattle.std.specs.Prelude.{◌≡◌, ◌↔◌, ◌≤◌, length, take, IsTrue, IfOk};
 ghost use Rattle.des_mac.specs.Tags.{IsTruncated};
-ghost use Rattle.des_commands.specs.Answers.{status_after, weak_line, tag_fault};
+ghost use Rattle.des_commands.specs.Answers.{status_after, tag_fault};
 ghost use Rattle.des_commands.specs.Faults.{FailsBy};
 ghost use Rattle.des_commands.specs.Texts.{bytes_of as bytes_of_text, hex_line as hex_line_of};
 
@@ -10,13 +10,6 @@ use crate::digits::{decode, hex_line};
 use crate::fault::Kind;
 use des_mac::mac::verify_truncated_left;
 use std::alloc::{AllocError, Global};
-
-/// What a command writes, and whether its answer is no.
-#[derive(Drop)]
-pub struct Answer {
-    pub text: Vec<u8>,
-    pub is_no: bool,
-}
 
 /// The status that the program ends with: that of writing the answer, or 1 where the answer was
 /// written and is no.
@@ -26,39 +19,18 @@ pub fn status_of(written: u8, is_no: bool) -> u8
     if written == 0 && is_no { 1 } else { written }
 }
 
-/// The answer of a key that is weak, or of one that is not.
-pub fn weak_answer(alloc: Global, is_weak: bool) -> Result<Answer, AllocError>
-    ensures yes { IfOk result (λ answer. answer.is_no ≡ not is_weak) }
-    ensures line { IfOk result (λ answer. answer.text.items ≡ weak_line is_weak) }
+/// The line that shows the first `count` bytes of a tag.
+pub fn tag_line(alloc: Global, tag: &[u8; 8], count: u8) -> Result<Vec<u8>, AllocError>
+    ensures { IfOk result (λ line. line.items ≡ hex_line_of (take count tag.now)) }
 {
-    let line = if is_weak { "weak\n" } else { "not weak\n" };
-    Ok(Answer {
-        text: Vec::from_slice(alloc, line.as_bytes())?,
-        is_no: !is_weak,
-    })
+    hex_line(alloc, &tag[..std::cmp::min(count as usize, 8)])
 }
 
-/// The answer that shows the first `count` bytes of a tag.
-pub fn tag_answer(alloc: Global, tag: &[u8; 8], count: u8) -> Result<Answer, AllocError>
-    ensures line { IfOk result (λ answer. answer.text.items ≡ hex_line_of (take count tag.now)) }
-    ensures yes { IfOk result (λ answer. answer.is_no ≡ false) }
+/// Whether these are the first 4 to 8 bytes of the tag.
+pub fn verified(tag: &[u8; 8], given: &[u8]) -> bool
+    ensures { IsTrue result ↔ IsTruncated given.now tag.now }
 {
-    let count = std::cmp::min(count as usize, 8);
-    Ok(Answer {
-        text: hex_line(alloc, &tag[..count])?,
-        is_no: false,
-    })
-}
-
-/// The answer that writes nothing: no, unless these are the first 4 to 8 bytes of the tag.
-pub fn verified(alloc: Global, tag: &[u8; 8], given: &[u8]) -> Answer
-    ensures silent { result.text.items ≡ [] }
-    ensures yes { (result.is_no ≡ false) ↔ IsTruncated given.now tag.now }
-{
-    Answer {
-        text: Vec::new(alloc),
-        is_no: verify_truncated_left(given, tag).is_err(),
-    }
+    verify_truncated_left(given, tag).is_ok()
 }
 
 /// The 4 to 8 bytes of a tag that hexadecimal digits write. Any other text is the fault `Tag`.

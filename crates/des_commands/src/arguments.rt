@@ -1,15 +1,11 @@
 //! The command line: what its words ask for.
 
-mod forms;
 mod grammar;
-mod key_block_forms;
 mod key_blocks;
-mod password_forms;
 mod passwords;
 mod payment;
-mod payment_forms;
-mod stream_forms;
 pub mod streams;
+mod table;
 mod typed;
 
 ghost use Rattle.std.specs.Prelude.{◌≡◌, IfOk, IfErr, Some};
@@ -17,26 +13,26 @@ ghost use Rattle.des_commands.specs.declared.fault.Kind.TheVariants.{Usage};
 ghost use Rattle.des_commands.specs.declared.fault.Misuse.TheVariants.{StandardInputTwice};
 ghost use Rattle.des_commands.specs.StreamArguments.{IsInput, IsReadTwice};
 
-use crate::command::Purpose;
+use crate::command::{
+    Account, Calculation, CalculationRequest, Command, MacRequest, Purpose, Question,
+};
 use crate::fault::{Fault, Kind, Misuse};
 use crate::mac::{Method, PaddingMethod};
-use crate::request::{Account, Form, Question, Request, Task};
 use crate::source::Source;
 use clap::ArgMatches;
 use des_payment::dukpt::Message;
 pub use grammar::{names_of, parse};
 use key_blocks::key_block_request;
-use passwords::{key_file_request, names_password, password_request, refuse_options};
+use passwords::private_key_request;
 use payment::{emv_request, offset_request, pin_request, pvv_request};
-use streams::{coding_of, input_of, stream_request};
+use streams::{input_of, stream_request};
 use typed::{count_of, is_given, is_set, number_of, place_of, text_of, texts_of};
 
-// A fault, and what it is about.
-fn about<'a>(kind: Kind, about: &'a str) -> Fault<'a>
-    ensures { result.kind ≡ kind }
-{
-    Fault { kind, about }
-}
+/// The request of a calculation, or the fault of its words.
+pub(crate) type Requested<'a> = Result<CalculationRequest<'a>, Fault<'a>>;
+
+// The options that name where a key is: a file, a descriptor and a variable, as `one_of` takes them.
+const KEY: [&str; 3] = ["key-file", "key-fd", "key-env"];
 
 // Options that don't go together.
 fn misuse<'a>(misuse: Misuse, about: &'a str) -> Fault<'a>
@@ -58,13 +54,23 @@ pub(crate) fn file_of<'a>(path: &'a str) -> Source<'a>
     }
 }
 
-// The one of three places that an option names.
+// The fault, where the options don't go together.
+fn refuse<'a>(is_misuse: bool, fault: Misuse) -> Result<(), Fault<'a>> {
+    if is_misuse {
+        return Err(misuse(fault, ""));
+    }
+    Ok(())
+}
+
+// The one of three places that options name: a file, a descriptor and a variable.
 fn one_of<'a>(
-    file: Option<&'a str>,
-    descriptor: Option<u64>,
-    variable: Option<&'a str>,
+    matches: &ArgMatches<'a>,
+    names: [&str; 3],
     fault: Misuse,
 ) -> Result<Source<'a>, Fault<'a>> {
+    let file = text_of(matches, names[0]);
+    let descriptor = number_of(matches, names[1]);
+    let variable = text_of(matches, names[2]);
     match (file, descriptor, variable) {
         (Some(path), None, None) => Ok(file_of(path)),
         (None, Some(0), None) => Ok(Source::StandardInput),
@@ -74,27 +80,25 @@ fn one_of<'a>(
     }
 }
 
-// Where the key is: one place, or else the fault.
-fn key_or<'a>(fault: Misuse, matches: &ArgMatches<'a>) -> Result<Source<'a>, Fault<'a>> {
-    one_of(
-        text_of(matches, "key-file"),
-        number_of(matches, "key-fd"),
-        text_of(matches, "key-env"),
-        fault,
-    )
+// Whether one of the options is given.
+fn names_one(matches: &ArgMatches, names: [&str; 3]) -> bool {
+    names.iter().any(|name| is_given(matches, name))
 }
 
 // Where the key is, of a command that takes no password.
 fn key_of<'a>(matches: &ArgMatches<'a>) -> Result<Source<'a>, Fault<'a>> {
-    key_or(Misuse::KeySource, matches)
+    one_of(matches, KEY, Misuse::KeySource)
+}
+
+// Where the input is that an option names: in a file, or on standard input without the option.
+fn input_at<'a>(matches: &ArgMatches<'a>, name: &str) -> Source<'a> {
+    input_of(text_of(matches, name))
 }
 
 // Where the account number is: one place.
 fn account_of<'a>(matches: &ArgMatches<'a>) -> Result<Account<'a>, Fault<'a>> {
-    match (
-        text_of(matches, "account"),
-        text_of(matches, "account-file"),
-    ) {
+    let file = text_of(matches, "account-file");
+    match (text_of(matches, "account"), file) {
         (Some(digits), None) => Ok(Account::Digits(digits)),
         (None, Some(path)) => Ok(Account::In(file_of(path))),
         _ => Err(misuse(Misuse::Account, "")),
@@ -115,30 +119,16 @@ fn read_once<'a>(first: Source, second: Source) -> Result<(), Fault<'a>>
     }
 }
 
-// The request of a form, with its input and the account number of the options.
-fn with_account<'a>(
-    form: Form<'a>,
-    input: Source<'a>,
-    matches: &ArgMatches<'a>,
-) -> Result<Request<'a>, Fault<'a>> {
-    let account = account_of(matches)?;
-    if let Account::In(source) = account {
-        read_once(input, source)?;
-    }
-    Ok(Request {
-        task: Task::Line(form),
-        input,
-        key: None,
-        to_key: None,
-        account,
-        refuses: text_of(matches, "check-digit") == Some("refuse"),
-    })
+fn is_standard_input(source: Option<Source>) -> bool {
+    matches!(source, Some(Source::StandardInput))
 }
 
-// The request of a task without an account number.
-fn without_account<'a>(task: Task<'a>, input: Source<'a>) -> Request<'a> {
-    Request {
-        task,
+// ---- calculations
+
+// The request of a calculation by its input alone.
+fn by_input<'a>(calculation: Calculation<'a>, input: Source<'a>) -> CalculationRequest<'a> {
+    CalculationRequest {
+        calculation,
         input,
         key: None,
         to_key: None,
@@ -147,88 +137,93 @@ fn without_account<'a>(task: Task<'a>, input: Source<'a>) -> Request<'a> {
     }
 }
 
-// ---- mac
-
-fn padding_of(matches: &ArgMatches) -> Option<PaddingMethod> {
-    match text_of(matches, "padding") {
-        Some("1") => Some(PaddingMethod::One),
-        Some(_) => Some(PaddingMethod::Two),
-        None => None,
-    }
+// The request of a calculation whose input is the key.
+fn by_key<'a>(calculation: Calculation<'a>, matches: &ArgMatches<'a>) -> Requested<'a> {
+    Ok(by_input(calculation, key_of(matches)?))
 }
 
-fn method_of<'a>(name: &str, padding: Option<PaddingMethod>) -> Result<Method, Fault<'a>> {
+// The request, unless it reads standard input twice.
+fn read_each_once<'a>(request: CalculationRequest<'a>) -> Requested<'a> {
+    let account = match request.account {
+        Account::In(source) => Some(source),
+        _ => None,
+    };
+    let sources = [account, request.key, request.to_key, Some(request.input)];
+    let count = sources.iter().filter(|it| is_standard_input(**it)).count();
+    refuse(count > 1, Misuse::StandardInputTwice)?;
+    Ok(request)
+}
+
+// The request with the account number of the options.
+fn with_account<'a>(request: CalculationRequest<'a>, matches: &ArgMatches<'a>) -> Requested<'a> {
+    read_each_once(CalculationRequest {
+        account: account_of(matches)?,
+        refuses: text_of(matches, "check-digit") == Some("refuse"),
+        ..request
+    })
+}
+
+// The request with a key beside its input.
+fn with_key<'a>(request: CalculationRequest<'a>, key: Source<'a>) -> Requested<'a> {
+    let key = Some(key);
+    read_each_once(CalculationRequest { key, ..request })
+}
+
+// ---- mac
+
+fn method_of<'a>(name: &str, padding: Option<&str>) -> Result<Method, Fault<'a>> {
+    let by = match padding {
+        Some("1") => PaddingMethod::One,
+        _ => PaddingMethod::Two,
+    };
     match (name, padding) {
         ("cmac", None) => Ok(Method::Cmac),
         ("cmac", Some(_)) => Err(misuse(Misuse::PaddingOfCmac, "")),
         (_, None) => Err(misuse(Misuse::PaddingNeeded, "")),
-        ("retail", Some(padding)) => Ok(Method::Retail(padding)),
-        (_, Some(padding)) => Ok(Method::CbcMac(padding)),
+        ("retail", Some(_)) => Ok(Method::Retail(by)),
+        (_, Some(_)) => Ok(Method::CbcMac(by)),
     }
 }
 
 fn question_of<'a>(matches: &ArgMatches<'a>) -> Result<Question<'a>, Fault<'a>> {
     match (text_of(matches, "verify"), count_of(matches, "length")) {
-        (None, None) => Ok(Question::Print(8)),
-        (None, Some(count)) => Ok(Question::Print(count)),
+        (None, count) => Ok(Question::Print(count.unwrap_or(8))),
         (Some(digits), None) => Ok(Question::Verify(digits)),
         (Some(_), Some(_)) => Err(misuse(Misuse::LengthOfVerify, "")),
     }
 }
 
-fn mac_request<'a>(matches: &ArgMatches<'a>) -> Result<Request<'a>, Fault<'a>> {
+fn mac_request<'a>(matches: &ArgMatches<'a>) -> Result<MacRequest<'a>, Fault<'a>> {
     let name = place_of(matches, "method");
-    let method = method_of(name, padding_of(matches))?;
+    let method = method_of(name, text_of(matches, "padding"))?;
     let question = question_of(matches)?;
     let key = key_of(matches)?;
-    let message = input_of(text_of(matches, "in"));
+    let message = input_at(matches, "in");
     read_once(key, message)?;
-    let task = Task::Mac {
+    Ok(MacRequest {
         method,
         question,
+        key,
         message,
-    };
-    Ok(without_account(task, key))
+    })
 }
 
 // ---- keys
 
-fn key_request<'a>(task: Task<'a>, matches: &ArgMatches<'a>) -> Result<Request<'a>, Fault<'a>> {
-    Ok(without_account(task, key_of(matches)?))
-}
-
-// Whether a source of a key is named.
-fn names_key(matches: &ArgMatches) -> bool {
-    is_given(matches, "key-file") || is_given(matches, "key-fd") || is_given(matches, "key-env")
-}
-
-// Standard input is the place of one component at most.
-fn parts_once<'a>(paths: &[&str]) -> Result<(), Fault<'a>> {
-    let mut read = Source::File("");
-    for path in paths {
-        let part = file_of(path);
-        read_once(read, part)?;
-        if let Source::StandardInput = part {
-            read = part;
-        }
-    }
-    Ok(())
-}
-
-fn combine_request<'a>(matches: &ArgMatches<'a>) -> Result<Request<'a>, Fault<'a>> {
+fn combine_request<'m, 'a>(matches: &'m ArgMatches<'a>) -> Result<Command<'m, 'a>, Fault<'a>> {
     match (texts_of(matches, "part-file"), count_of(matches, "count")) {
-        (None, Some(count)) => key_request(Task::Line(Form::Combine(count)), matches),
-        (Some(paths), None) if paths.len() >= 2 && !names_key(matches) => {
-            parts_once(paths)?;
-            Ok(without_account(Task::Parts, Source::StandardInput))
+        (None, Some(count)) => {
+            let request = by_key(Calculation::Combine { count }, matches)?;
+            Ok(Command::Calculate(request))
+        }
+        (Some(paths), None) if paths.len() >= 2 && !names_one(matches, KEY) => {
+            let sources = paths.iter().map(|path| Some(file_of(path)));
+            let count = sources.filter(|it| is_standard_input(*it)).count();
+            refuse(count > 1, Misuse::StandardInputTwice)?;
+            Ok(Command::CombineFiles(paths))
         }
         _ => Err(misuse(Misuse::Components, "")),
     }
-}
-
-/// The paths of files with a component each, where the command has them.
-pub fn parts_of<'m, 'a>(matches: &'m ArgMatches<'a>) -> Option<&'m [&'a str]> {
-    texts_of(matches.subcommand_matches("combine")?, "part-file")
 }
 
 fn purpose_of<'a>(name: &str, responds: bool) -> Result<Purpose, Fault<'a>> {
@@ -246,56 +241,52 @@ fn purpose_of<'a>(name: &str, responds: bool) -> Result<Purpose, Fault<'a>> {
     }
 }
 
-fn dukpt_request<'a>(matches: &ArgMatches<'a>) -> Result<Request<'a>, Fault<'a>> {
+fn dukpt_request<'a>(matches: &ArgMatches<'a>) -> Requested<'a> {
     let serial = place_of(matches, "serial");
     let name = place_of(matches, "purpose");
     let purpose = purpose_of(name, is_set(matches, "response"))?;
-    key_request(Task::Line(Form::Transaction(serial, purpose)), matches)
+    by_key(Calculation::Transaction { serial, purpose }, matches)
 }
 
-fn check_request<'a>(matches: &ArgMatches<'a>) -> Result<Request<'a>, Fault<'a>> {
+fn check_request<'a>(matches: &ArgMatches<'a>) -> Requested<'a> {
     let bytes = count_of(matches, "bytes").unwrap_or(3);
-    key_request(Task::Line(Form::CheckValue(bytes)), matches)
+    by_key(Calculation::CheckValue { bytes }, matches)
 }
 
-fn cvv_request<'a>(matches: &ArgMatches<'a>) -> Result<Request<'a>, Fault<'a>> {
-    let form = Form::Cvv {
+fn cvv_request<'a>(matches: &ArgMatches<'a>) -> Requested<'a> {
+    let calculation = Calculation::Cvv {
         expiry: place_of(matches, "expiry"),
         service: place_of(matches, "service"),
     };
-    with_account(form, key_of(matches)?, matches)
+    with_account(by_key(calculation, matches)?, matches)
 }
 
-// ---- streams
-
-fn streams_task<'a>(encrypts: bool, matches: &ArgMatches<'a>) -> Result<Request<'a>, Fault<'a>> {
-    if names_password(matches) {
-        return password_request(encrypts, matches);
+// The calculation of a command of this name, or of the command of a group.
+fn calculation_of<'a>(name: &str, matches: &ArgMatches<'a>) -> Requested<'a> {
+    let (second, matches) = matches.subcommand().unwrap_or(("", matches));
+    match name {
+        "check-value" => check_request(matches),
+        "parity" => by_key(Calculation::Parity, matches),
+        "weak" => by_key(Calculation::Weak, matches),
+        "dukpt" => dukpt_request(matches),
+        "cvv" => cvv_request(matches),
+        "pvv" => pvv_request(matches),
+        "offset" => offset_request(second, matches),
+        "emv" => emv_request(second, matches),
+        "key-block" => key_block_request(second, matches),
+        _ => pin_request(second, matches),
     }
-    refuse_options(encrypts, matches)?;
-    let request = stream_request(encrypts, matches)?;
-    let task = Task::Stream(request, coding_of(encrypts, matches));
-    Ok(without_account(task, request.key))
 }
 
 /// What the words ask for; a fault where their options don't go together.
-pub fn request_of<'a>(matches: &ArgMatches<'a>) -> Result<Request<'a>, Fault<'a>> {
+pub fn command_of<'m, 'a>(matches: &'m ArgMatches<'a>) -> Result<Command<'m, 'a>, Fault<'a>> {
     match matches.subcommand() {
-        Some(("encrypt", matches)) => streams_task(true, matches),
-        Some(("decrypt", matches)) => streams_task(false, matches),
-        Some(("decrypt-pem", matches)) => key_file_request(matches),
-        Some(("mac", matches)) => mac_request(matches),
-        Some(("check-value", matches)) => check_request(matches),
-        Some(("parity", matches)) => key_request(Task::Line(Form::Parity), matches),
-        Some(("weak", matches)) => key_request(Task::Weak, matches),
+        Some(("encrypt", matches)) => Ok(Command::Stream(stream_request(true, matches)?)),
+        Some(("decrypt", matches)) => Ok(Command::Stream(stream_request(false, matches)?)),
+        Some(("decrypt-pem", matches)) => Ok(Command::PrivateKey(private_key_request(matches)?)),
+        Some(("mac", matches)) => Ok(Command::Mac(mac_request(matches)?)),
         Some(("combine", matches)) => combine_request(matches),
-        Some(("dukpt", matches)) => dukpt_request(matches),
-        Some(("cvv", matches)) => cvv_request(matches),
-        Some(("pvv", matches)) => pvv_request(matches),
-        Some(("offset", matches)) => offset_request(matches),
-        Some(("emv", matches)) => emv_request(matches),
-        Some(("key-block", matches)) => key_block_request(matches),
-        Some((_, matches)) => pin_request(matches),
+        Some((name, matches)) => Ok(Command::Calculate(calculation_of(name, matches)?)),
         None => Err(misuse(Misuse::Arguments, "")),
     }
 }

@@ -2,17 +2,10 @@
 
 ghost use Rattle.std.specs.Prelude.{◌≡◌, ◌≤◌, ◌<◌, length};
 ghost use Rattle.des_payment.specs.Texts.{are_digits as are_digits_of};
-ghost use Rattle.des_commands.specs.CheckDigits.{doubled as doubled_of, weighed as weighed_of, value_of, has_check_digit as has_check_digit_of, is_account as is_account_of};
+ghost use Rattle.des_commands.specs.CheckDigits.{weighed as weighed_of, value_of, has_check_digit as has_check_digit_of, is_account as is_account_of};
 
-// The digits of the double of a digit, added together.
-fn doubled(value: u32) -> u32
-    requires { value < 256 }
-    ensures { result ≡ doubled_of value }
-{
-    2 * value / 10 + 2 * value % 10
-}
-
-// What a digit adds to the sum where `following` digits follow it.
+// What a digit adds to the sum where `following` digits follow it: itself, or the digits of its
+// double.
 fn weighed(following: usize, value: u32) -> u32
     requires { value < 256 }
     ensures value { result ≡ weighed_of following value }
@@ -21,7 +14,7 @@ fn weighed(following: usize, value: u32) -> u32
     if following % 2 == 0 {
         value
     } else {
-        doubled(value)
+        2 * value / 10 + 2 * value % 10
     }
 }
 
@@ -37,7 +30,6 @@ pub fn has_check_digit(digits: &[u8]) -> bool
     sum % 10 == 0
 }
 
-/// Whether each character is a digit.
 pub fn are_digits(text: &[u8]) -> bool
     ensures { result ≡ are_digits_of text.now }
 {

@@ -1,77 +1,118 @@
 //! What is asked of the program.
 
+use crate::mac::Method;
+use crate::source::Source;
+use crate::stream_request::{PrivateKeyRequest, StreamRequest};
 use des_payment::dukpt::Message;
 use des_payment::key_block_header::Version;
 use des_payment::translation::Format;
 
-/// What is read beside the input: texts of digits, of which one that a command does not take is
-/// empty.
+/// The random bytes that a key block takes at most: its padding with the key has 30 bytes.
+pub const RANDOM: usize = 22;
+
+/// What a command line asks for.
 #[derive(Clone, Copy)]
-pub struct Beside<'a> {
-    /// The account number.
-    pub account: &'a [u8],
-    /// The key, where the input is something else.
-    pub key: &'a [u8],
-    /// The key of an outgoing block.
-    pub to_key: &'a [u8],
+pub enum Command<'m, 'a> {
+    /// What is computed from short inputs is written.
+    Calculate(CalculationRequest<'a>),
+    /// The key of components is written, each of them in a file of its own.
+    CombineFiles(&'m [&'a str]),
+    /// A message is authenticated.
+    Mac(MacRequest<'a>),
+    /// Bytes are encrypted or decrypted.
+    Stream(StreamRequest<'a>),
+    /// A private key under a password is decrypted.
+    PrivateKey(PrivateKeyRequest<'a>),
 }
 
-/// A command. What it is done with, a key, components, a PIN, a block or data, is in the input.
+/// A message, and what is asked of its tag.
 #[derive(Clone, Copy)]
-pub enum Command<'a> {
+pub struct MacRequest<'a> {
+    pub method: Method,
+    pub question: Question<'a>,
+    pub key: Source<'a>,
+    pub message: Source<'a>,
+}
+
+/// What is asked of a tag.
+#[derive(Clone, Copy)]
+pub enum Question<'a> {
+    /// This number of its first bytes.
+    Print(u8),
+    /// Whether these are the digits of its first bytes.
+    Verify(&'a str),
+}
+
+/// Where an account number is.
+#[derive(Clone, Copy)]
+pub enum Account<'a> {
+    /// The command takes none.
+    Absent,
+    /// In an argument.
+    Digits(&'a str),
+    /// In a file.
+    In(Source<'a>),
+}
+
+/// A calculation, and where its inputs are.
+#[derive(Clone, Copy)]
+pub struct CalculationRequest<'a> {
+    pub calculation: Calculation<'a>,
+    /// Where the key, the components, the PIN, the block or the data are.
+    pub input: Source<'a>,
+    /// Where the key is, if the input is something else.
+    pub key: Option<Source<'a>>,
+    /// Where the key of an outgoing block is.
+    pub to_key: Option<Source<'a>>,
+    pub account: Account<'a>,
+    /// An account number whose last digit is not its check digit is refused.
+    pub refuses: bool,
+}
+
+/// What was read for a calculation. What it does not take is empty.
+#[derive(Clone, Copy)]
+pub struct Inputs<'a> {
+    /// The input: a key, components, a PIN, a block or data.
+    pub text: &'a [u8],
+    pub account: &'a [u8],
+    /// The digits of the key, where the input is something else.
+    pub key: &'a [u8],
+    /// The digits of the key of an outgoing block.
+    pub to_key: &'a [u8],
+    /// The random bytes of a key block that is made.
+    pub random: &'a [u8; RANDOM],
+}
+
+/// What is computed from short inputs. A key, components, a PIN, a block or data are in the input, as
+/// digits.
+#[derive(Clone, Copy)]
+pub enum Calculation<'a> {
     /// The first `bytes` bytes of a key's check value.
-    Check {
-        bytes: u8,
-    },
+    CheckValue { bytes: u8 },
     /// The key with odd parity.
     Parity,
+    /// Whether the key is weak.
+    Weak,
     /// The key of `count` components.
-    Combine {
-        count: u8,
-    },
-    /// The block of a PIN.
-    Encode(Encoding<'a>),
+    Combine { count: u8 },
+    /// The key of components of `size` bytes. The input is their bytes, and no digits.
+    CombineBytes { size: u8 },
+    /// The block of a PIN. The transaction or fill digits are `fill`, where the format takes them.
+    Encode { format: Format, fill: &'a str },
     /// The PIN of a block.
-    Decode(Decoding<'a>),
+    Decode { format: Format },
     /// A key of the transaction of a key serial number, from the base derivation key.
-    Transaction {
-        serial: &'a str,
-        purpose: Purpose,
-    },
+    Transaction { serial: &'a str, purpose: Purpose },
     /// The card verification value of a card's data under a key pair.
-    Cvv {
-        account: &'a [u8],
-        expiry: &'a str,
-        service: &'a str,
-    },
-    /// A command on a PIN and a key.
-    Pin(PinCommand<'a>, Beside<'a>),
-    /// A command on a card's keys and cryptograms.
-    Card(CardCommand<'a>, Beside<'a>),
-}
-
-/// The format of a PIN block that is made, with what it takes beside the PIN.
-#[derive(Clone, Copy)]
-pub enum Encoding<'a> {
-    Format0 { account: &'a [u8] },
-    Format1 { transaction: &'a str },
-    Format2,
-    Format3 { account: &'a [u8], fill: &'a str },
-}
-
-/// The format of a PIN block that is read, with what it takes beside the block.
-#[derive(Clone, Copy)]
-pub enum Decoding<'a> {
-    Format0 { account: &'a [u8] },
-    Format1,
-    Format2,
-    Format3 { account: &'a [u8] },
+    Cvv { expiry: &'a str, service: &'a str },
+    Pin(PinCalculation<'a>),
+    Card(CardCalculation<'a>),
+    KeyBlock(KeyBlockCalculation<'a>),
 }
 
 /// What a key of a transaction is for.
 #[derive(Clone, Copy)]
 pub enum Purpose {
-    /// The PIN.
     Pin,
     /// The code that authenticates a message.
     Mac(Message),
@@ -91,9 +132,9 @@ pub struct NaturalPins<'a> {
     pub takes_any_table: bool,
 }
 
-/// A command on a PIN and a key. The input is the PIN, but for `Translate` and `Natural`.
+/// A calculation with a PIN and a key. The input is the PIN, but for `Translate` and `Natural`.
 #[derive(Clone, Copy)]
-pub enum PinCommand<'a> {
+pub enum PinCalculation<'a> {
     /// The encrypted block of the same PIN under the outgoing key. The input is the block.
     Translate {
         from: Format,
@@ -114,7 +155,6 @@ pub enum PinCommand<'a> {
         by: NaturalPins<'a>,
         count: u8,
     },
-    /// The offset.
     MakeOffset {
         by: NaturalPins<'a>,
     },
@@ -125,9 +165,9 @@ pub enum PinCommand<'a> {
     },
 }
 
-/// A command on a card's keys and cryptograms. The input is the key, but for `Cryptogram`.
+/// A calculation with a card's keys and cryptograms. The input is the key, but for `Cryptogram`.
 #[derive(Clone, Copy)]
-pub enum CardCommand<'a> {
+pub enum CardCalculation<'a> {
     /// The key of a card, from the issuer's.
     CardKey {
         sequence: &'a str,
@@ -169,9 +209,9 @@ pub struct Wrapping<'a> {
     pub optional: &'a str,
 }
 
-/// A command on key blocks. The input is the block, but for `Wrap`.
+/// A calculation with a key block. The input is the block, but for `Wrap`.
 #[derive(Clone, Copy)]
-pub enum KeyBlockCommand<'a> {
+pub enum KeyBlockCalculation<'a> {
     /// The fields of the header.
     Header,
     /// The fields of the header and the check value of the key; or the key.

@@ -42,30 +42,9 @@ pub enum Followed {
     Descriptor(u64),
     /// A descriptor under another name, or one of another process.
     OtherDescriptor,
-    /// A link to a name that is no text, which can't be followed.
-    NoText,
     /// A path that is no link. It is shared where a link on the way stands in a folder where
     /// everyone may write, as `/tmp`.
     Path { name: String, is_shared: bool },
-}
-
-// ---- standard descriptors
-
-// Holds the lowest closed descriptor, where it is a standard one. Gives whether it was.
-fn hold_next(rt: &HostRuntime) -> io::Result<bool> {
-    // A pipe needs no file. Its reader has the lowest closed descriptor.
-    let (reader, writer) = io::pipe(rt)?;
-    let number = reader.as_raw_fd();
-    drop((reader, writer));
-    if number > 2 {
-        return Ok(false);
-    }
-    let held = OpenOptions::new()
-        .read(number != 0)
-        .write(number == 0)
-        .open(rt, NULL_DEVICE)?;
-    held.into_raw_fd();
-    Ok(true)
 }
 
 /// Holds each of the descriptors 0 to 2 that is closed, so that no file that is opened later is
@@ -73,30 +52,35 @@ fn hold_next(rt: &HostRuntime) -> io::Result<bool> {
 /// from it and writing to it stay faults. The error is that the system has none.
 pub fn hold_closed(rt: &HostRuntime) -> io::Result<()> {
     for _ in 0..3 {
-        if !hold_next(rt)? {
+        // A pipe needs no file. Its reader has the lowest closed descriptor.
+        let (reader, writer) = io::pipe(rt)?;
+        let number = reader.as_raw_fd();
+        drop(reader);
+        drop(writer);
+        if number > 2 {
             return Ok(());
         }
+        let held = OpenOptions::new()
+            .read(number != 0)
+            .write(number == 0)
+            .open(rt, NULL_DEVICE)?;
+        held.into_raw_fd();
     }
     Ok(())
 }
 
 // ---- names
 
-/// The descriptor that a path names, where it names one of this process.
+/// The descriptor that a path names, where it names one of this process: by its number as the system
+/// writes it, or as a standard one.
 pub fn descriptor_of(path: &str) -> Option<u64> {
-    match path {
-        "/dev/stdin" => Some(0),
-        "/dev/stdout" => Some(1),
-        "/dev/stderr" => Some(2),
-        _ => numbered(path),
-    }
-}
-
-// The descriptor of a path that ends with its number, written as the system writes it.
-fn numbered(path: &str) -> Option<u64> {
-    let digits = match path.strip_prefix("/dev/fd/") {
-        Some(digits) => digits,
-        None => path.strip_prefix("/proc/self/fd/")?,
+    let digits = match path {
+        "/dev/stdin" => "0",
+        "/dev/stdout" => "1",
+        "/dev/stderr" => "2",
+        _ => path
+            .strip_prefix("/dev/fd/")
+            .or_else(|| path.strip_prefix("/proc/self/fd/"))?,
     };
     if digits.starts_with("+") || digits.starts_with("0") && digits != "0" {
         return None;
@@ -111,8 +95,8 @@ fn linked(rt: &HostRuntime, link: &str) -> io::Result<String> {
     Ok(folder.join(rt.alloc(), target.as_str())?.into_string())
 }
 
-// The folder of a path.
-fn folder_of(path: &str) -> &str {
+/// The folder of a path.
+pub fn folder_of(path: &str) -> &str {
     match Path::new(path).parent() {
         Some(folder) if !folder.as_os_str().is_empty() => folder.as_str(),
         _ => ".",
@@ -121,27 +105,20 @@ fn folder_of(path: &str) -> &str {
 
 // Whether a path stands in a folder where everyone may write.
 fn is_in_shared(rt: &HostRuntime, path: &str) -> bool {
-    match fs::metadata(rt, folder_of(path)) {
-        Ok(folder) => folder.permissions().mode() & SHARED == SHARED,
-        Err(_) => false,
-    }
+    fs::metadata(rt, folder_of(path)).is_ok_and(|folder| folder.permissions().mode() & SHARED
+        == SHARED)
 }
 
 // Whether a link is one of the system to a descriptor's file: it is in the system's folder of
 // processes, and its name is a number.
 fn is_of_descriptor(rt: &HostRuntime, path: &str, link: &Metadata) -> bool {
-    let is_number = match path.rsplit_once("/") {
-        Some((_, name)) => name.parse::<u64>().is_ok(),
-        None => path.parse::<u64>().is_ok(),
-    };
-    match fs::metadata(rt, DESCRIPTORS) {
-        Ok(folder) => is_number && folder.dev() == link.dev(),
-        Err(_) => false,
-    }
+    let name = path.rsplit_once("/").map_or(path, |(_, name)| name);
+    name.parse::<u64>().is_ok()
+        && fs::metadata(rt, DESCRIPTORS).is_ok_and(|folder| folder.dev() == link.dev())
 }
 
-/// Follows the symbolic links at the end of a path, up to a descriptor. The error is that the links
-/// don't end, or the system's.
+/// Follows the symbolic links at the end of a path, up to a descriptor. The error is `InvalidFilename`
+/// where one leads to a name that is no text, that the links don't end, or the system's.
 pub fn follow(rt: &HostRuntime, path: &str) -> io::Result<Followed> {
     let mut name = String::from_str(rt.alloc(), path)?;
     let mut is_shared = false;
@@ -150,22 +127,15 @@ pub fn follow(rt: &HostRuntime, path: &str) -> io::Result<Followed> {
             return Ok(Followed::Descriptor(number));
         }
         match fs::symlink_metadata(rt, name.as_str()) {
-            Ok(found) if !found.is_symlink() => return Ok(Followed::Path { name, is_shared }),
-            Ok(found) if is_of_descriptor(rt, name.as_str(), &found) => {
-                return Ok(Followed::OtherDescriptor);
+            Ok(link) if link.is_symlink() => {
+                if is_of_descriptor(rt, name.as_str(), &link) {
+                    return Ok(Followed::OtherDescriptor);
+                }
             }
-            Ok(_) => match linked(rt, name.as_str()) {
-                Ok(next) => {
-                    is_shared = is_shared || is_in_shared(rt, name.as_str());
-                    name = next;
-                }
-                Err(error) if error.kind() == ErrorKind::InvalidFilename => {
-                    return Ok(Followed::NoText);
-                }
-                Err(error) => return Err(error),
-            },
-            Err(_) => return Ok(Followed::Path { name, is_shared }),
+            _ => return Ok(Followed::Path { name, is_shared }),
         }
+        is_shared = is_shared || is_in_shared(rt, name.as_str());
+        name = linked(rt, name.as_str())?;
     }
     Err(io::Error::from(ErrorKind::FilesystemLoop))
 }
@@ -174,18 +144,9 @@ pub fn follow(rt: &HostRuntime, path: &str) -> io::Result<Followed> {
 
 // The value of a line of the system's text on a descriptor.
 fn value_of<'a>(text: &'a str, name: &str) -> Option<&'a str> {
-    let value = text.lines().find_map(|line| line.strip_prefix(name))?;
-    Some(value.trim())
-}
-
-// Whether a standard descriptor was closed, and is held. It is known by its access, which is the
-// wrong way round: so is one that the caller opened so.
-fn is_held(number: u64, access: u32) -> bool {
-    match number {
-        0 => access == WRITE_ONLY,
-        1 | 2 => access == READ_ONLY,
-        _ => false,
-    }
+    text.lines()
+        .find_map(|line| line.strip_prefix(name))
+        .map(|value| value.trim())
 }
 
 /// How a descriptor stands. The error is `NotFound` where it is closed, the system's, or
@@ -197,14 +158,17 @@ pub fn standing_of(rt: &HostRuntime, number: u64) -> io::Result<Standing> {
     let flags = value_of(text.as_str(), "flags:").and_then(|digits| u32::from_str_radix(
         digits, 8,
     ).ok());
-    match (place, flags) {
-        (Some(_), Some(flags)) if is_held(number, flags & ACCESS) => {
-            Err(io::Error::from(ErrorKind::NotFound))
-        }
-        (Some(place), Some(flags)) => Ok(Standing {
-            place,
-            writes: flags & ACCESS != READ_ONLY,
-        }),
-        _ => Err(io::Error::from(ErrorKind::InvalidData)),
+    let (Some(place), Some(flags)) = (place, flags) else {
+        return Err(io::Error::from(ErrorKind::InvalidData));
+    };
+    // A standard descriptor was closed, and is held. It is known by its access, which is the wrong
+    // way round: so is one that the caller opened so.
+    let access = flags & ACCESS;
+    if number == 0 && access == WRITE_ONLY || matches!(number, 1 | 2) && access == READ_ONLY {
+        return Err(io::Error::from(ErrorKind::NotFound));
     }
+    Ok(Standing {
+        place,
+        writes: access != READ_ONLY,
+    })
 }

@@ -9,14 +9,10 @@ ghost use Rattle.des_commands.specs.Faults.{FailsOnlyBy};
 use crate::fault::Kind;
 use std::alloc::{AllocError, Global};
 
-/// The longest text that an input has.
-pub const LONGEST_TEXT: usize = 4096;
-
-// Whether a byte is white space.
 pub(crate) fn is_space(byte: u8) -> bool
     ensures { result ≡ is_space_of byte }
 {
-    byte == b' ' || byte == b'\t' || byte == b'\n' || byte == b'\r'
+    matches!(byte, b' ' | b'\t' | b'\n' | b'\r')
 }
 
 /// Takes the white space out of an input. What stays is its text.
@@ -33,10 +29,7 @@ pub fn decode(digits: &[u8], bytes: &mut [u8], fault: Kind) -> Result<(), Kind>
     ensures fault { FailsOnlyBy (text_fault fault digits.now) result }
     ensures bytes { OnOk result (bytes.new ≡ bytes_of_text digits.now) }
 {
-    match hex::decode_to_slice(digits, bytes) {
-        Ok(()) => Ok(()),
-        Err(_) => Err(fault),
-    }
+    hex::decode_to_slice(digits, bytes).map_err(|_| fault)
 }
 
 /// The bytes that hexadecimal digits write, where there are two for each of them.
@@ -78,6 +71,9 @@ pub fn fill_of(text: &str) -> Result<[u8; 10], Kind>
     let bytes = bytes_of::<5>(text.as_bytes(), Kind::FillLength, Kind::FillText)?;
     Ok(halves(&bytes))
 }
+
+/// The lines that are written, or the fault.
+pub type Lines = Result<Vec<u8>, Kind>;
 
 /// The text and a newline.
 pub fn line_of(alloc: Global, text: &[u8]) -> Result<Vec<u8>, AllocError>

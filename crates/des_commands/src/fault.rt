@@ -1,7 +1,8 @@
 //! Why a command fails: the fault's name, and the status that the program ends with.
 
 ghost use Rattle.std.specs.Prelude.{◌≡◌};
-ghost use Rattle.des_commands.specs.Faults.{name_of, status_of, file_name};
+ghost use Rattle.des_commands.specs.Faults.{about_of, name_of, status_of, file_name, IsOfStream};
+ghost use Rattle.des_commands.specs.declared.fault.Kind.TheVariants.{Pin, Card, Translation, Verification, Emv, KeyBlock, WeakKey, Memory};
 
 use des::WeakKeyError;
 use des_io::StreamError;
@@ -82,55 +83,38 @@ pub enum Field {
     Exportability,
 }
 
-/// What is wrong with a file under a password.
+/// What is wrong with a file under a password. `sentences` says it of each.
 #[derive(Clone, Copy, PartialEq, Eq)]
 pub enum FileFault {
-    /// The input begins with `Salted__`, and is decrypted by a key, or with `--no-salt`.
     Salted,
-    /// The input is Base64 of such a file, and `--base64` is not given.
+    /// The input is Base64 of what is `Salted`, and `--base64` is not given.
     SaltedText,
-    /// The input does not begin with `Salted__`.
     NotSalted,
-    /// The input ends within the salt.
     SaltCut,
-    /// A line is no Base64.
     Base64,
-    /// No line begins an encrypted private key.
     Begin,
-    /// No line ends the key as it begins.
     End,
-    /// The key has no header `Proc-Type: 4,ENCRYPTED`.
     NotEncrypted,
-    /// No header `DEK-Info` follows that.
     NoDekInfo,
-    /// The cipher is another than `DES-EDE3-CBC`, or of `DEK-Info` than `DES-CBC` too.
     Cipher,
-    /// The vector of `DEK-Info` does not have 16 hexadecimal digits.
     DekVector,
-    /// No empty line follows `DEK-Info`.
     EmptyLine,
-    /// The bytes are not the DER of an encrypted private key.
     Structure,
-    /// The algorithm is neither PBES2 nor pbeWithMD5AndDES-CBC.
     Algorithm,
-    /// The key is not derived by PBKDF2.
     KeyDerivation,
-    /// There are no iterations, or more than are allowed.
     Iterations,
-    /// The key does not have 24 bytes.
     KeySize,
-    /// PBKDF2 is neither with HMAC-SHA-1 nor with HMAC-SHA-256.
     Prf,
-    /// What is decrypted does not end with its padding.
+    /// A private key, decrypted, does not end with its padding.
     KeyPadding,
     /// What is decrypted is no DER of a private key.
     Password,
-    /// What a password decrypts does not end with its padding.
+    /// What a password decrypts of a stream does not end with its padding.
     Unpadded,
 }
 
-/// What is at fault. Each has a name, under which the documents list it. None has a place for a
-/// secret.
+/// What is at fault. Each has a name, under which the documents list it, and a sentence in
+/// `sentences`. None has a place for a secret.
 #[derive(Clone, Copy)]
 pub enum Kind {
     /// The program takes no such command line.
@@ -139,87 +123,59 @@ pub enum Kind {
     Source(Reason),
     /// The environment has no such variable, or it is no text.
     Variable,
-    /// An input is longer than what it may be.
     InputLength,
-    /// A key does not have the digits of this number of bytes, 8, 16 or 24, or for 0 of any of these.
-    KeyLength(u8),
-    /// A key has a character that is no hexadecimal digit.
+    /// A key does not have the digits of this number of bytes, or of 8, 16 or 24.
+    KeyLength(Option<u8>),
     KeyText,
-    /// The key of an outgoing block does not have the digits of 8, 16 or 24 bytes.
+    /// Of the key of an outgoing block.
     ToKeyLength,
-    /// It has a character that is no hexadecimal digit.
     ToKeyText,
-    /// The weak key test refuses the key.
     WeakKey,
-    /// Fewer than two components.
     Components,
-    /// The initialization vector does not have 16 hexadecimal digits.
     Vector,
-    /// A tag does not have 8 to 16 hexadecimal digits, two for each byte.
     Tag,
-    /// A PIN verification value is not four digits.
+    /// A PIN verification value.
     Value,
-    /// An offset is not 4 to 12 digits.
     Offset,
-    /// Validation data are not 16 hexadecimal digits.
     Validation,
-    /// A transaction counter is not four hexadecimal digits.
+    /// A transaction counter.
     Counter,
-    /// A cryptogram is not 16 hexadecimal digits.
     Cryptogram,
-    /// A response code is not four hexadecimal digits.
-    Code,
-    /// A card status update is not eight hexadecimal digits.
-    Status,
-    /// The issuer's data are not hexadecimal digits, two for each of at most eight bytes.
-    Data,
-    /// The data of a cryptogram are not hexadecimal digits, two for each byte, or there are none.
-    DataText,
-    /// A PIN block does not have 16 digits.
+    ResponseCode,
+    CardStatus,
+    IssuerData,
+    /// The data of a cryptogram.
+    CryptogramData,
+    /// Of a PIN block.
     BlockLength,
-    /// A PIN block has a character that is no hexadecimal digit.
     BlockText,
-    /// A key serial number does not have 20 digits.
+    /// Of a key serial number.
     SerialLength,
-    /// A key serial number has a character that is no hexadecimal digit.
     SerialText,
     /// No transaction has a key serial number with this counter.
     SerialCounter,
-    /// There are not ten transaction or fill digits.
+    /// Of transaction or fill digits.
     FillLength,
-    /// A transaction or fill digit is no hexadecimal digit.
     FillText,
-    /// An account number's last digit is not its check digit.
     CheckDigit,
-    /// A fault of a PIN, an account number or a PIN block.
     Pin(PinError),
-    /// A fault of a card's data.
     Card(CvvError),
-    /// A fault of the translation of a PIN block.
     Translation(TranslationError),
-    /// A fault of the verification of a PIN.
     Verification(VerificationError),
-    /// A fault of a card's keys and cryptograms.
     Emv(EmvError),
     /// A field of a key block's header is not its number of letters and digits.
     Field(Field),
-    /// A fault of a key block.
     KeyBlock(KeyBlockError),
-    /// A fault of a file under a password.
     File(FileFault),
-    /// The password of what is to be encrypted is empty.
     EmptyPassword,
-    /// A request for memory was refused.
     Memory,
     /// The input can't be read.
     Read(Reason),
     /// The output can't be written.
     Write(Reason),
-    /// The input ends within a block.
     Length,
     /// The input has no block where decryption begins, or ends within the vector.
     Start,
-    /// The last block does not end with the padding.
     Padding,
 }
 
@@ -231,14 +187,21 @@ pub struct Fault<'a> {
     pub about: &'a str,
 }
 
-// The statuses of faults.
-const ARGUMENTS_AT_FAULT: u8 = 2;
-
-const MEMORY_REFUSED: u8 = 3;
-
-const NOT_READ_OR_WRITTEN: u8 = 4;
-
-const INPUT_AT_FAULT: u8 = 5;
+impl<'a> Fault<'a> {
+    /// The fault of a kind, and the name that it is about. Refused memory is about nothing.
+    pub fn about(kind: Kind, name: &'a str) -> Fault<'a>
+        ensures kind { result.kind ≡ kind }
+        ensures about { result.about.now ≡ about_of kind name.now }
+    {
+        Fault {
+            kind,
+            about: match kind {
+                Kind::Memory => "",
+                _ => name,
+            },
+        }
+    }
+}
 
 impl Reason {
     /// The reason of an error of the system.
@@ -298,10 +261,8 @@ impl Kind {
             Kind::Source(_) => "Source",
             Kind::Variable => "Variable",
             Kind::InputLength => "InputLength",
-            Kind::KeyLength(_) => "KeyLength",
-            Kind::KeyText => "KeyText",
-            Kind::ToKeyLength => "KeyLength",
-            Kind::ToKeyText => "KeyText",
+            Kind::KeyLength(_) | Kind::ToKeyLength => "KeyLength",
+            Kind::KeyText | Kind::ToKeyText => "KeyText",
             Kind::WeakKey => "WeakKey",
             Kind::Components => "Components",
             Kind::Vector => "Vector",
@@ -311,10 +272,10 @@ impl Kind {
             Kind::Validation => "Validation",
             Kind::Counter => "Counter",
             Kind::Cryptogram => "Cryptogram",
-            Kind::Code => "Code",
-            Kind::Status => "Status",
-            Kind::Data => "Data",
-            Kind::DataText => "DataText",
+            Kind::ResponseCode => "Code",
+            Kind::CardStatus => "Status",
+            Kind::IssuerData => "Data",
+            Kind::CryptogramData => "DataText",
             Kind::BlockLength => "BlockLength",
             Kind::BlockText => "BlockText",
             Kind::SerialLength => "SerialLength",
@@ -341,23 +302,21 @@ impl Kind {
         }
     }
 
-    /// The status that the program ends with.
+    /// The status that the program ends with: 2 where the arguments or the short inputs are at fault,
+    /// and 5 where the stream or the file under a password is.
     pub fn status(self) -> u8
         ensures { result ≡ status_of self }
     {
         match self {
-            Kind::Memory => MEMORY_REFUSED,
-            Kind::Read(_) | Kind::Write(_) => NOT_READ_OR_WRITTEN,
-            Kind::Length | Kind::Start | Kind::Padding | Kind::File(_) => INPUT_AT_FAULT,
-            _ => ARGUMENTS_AT_FAULT,
+            Kind::Memory => 3,
+            Kind::Read(_) | Kind::Write(_) => 4,
+            Kind::Length | Kind::Start | Kind::Padding | Kind::File(_) => 5,
+            _ => 2,
         }
     }
 }
 
 impl From<StreamError> for Kind {
-    ghost use Rattle.std.specs.Prelude.{◌≡◌};
-    ghost use Rattle.des_commands.specs.Faults.{IsOfStream};
-
     ghost from_gives = { λ error kind. IsOfStream error kind };
 
     fn from(error: StreamError) -> Kind {
@@ -372,9 +331,6 @@ impl From<StreamError> for Kind {
 }
 
 impl From<PinError> for Kind {
-    ghost use Rattle.std.specs.Prelude.{◌≡◌};
-    ghost use Rattle.des_commands.specs.declared.fault.Kind.TheVariants.{Pin};
-
     ghost from_gives = { λ error kind. kind ≡ Pin error };
 
     fn from(error: PinError) -> Kind {
@@ -383,9 +339,6 @@ impl From<PinError> for Kind {
 }
 
 impl From<CvvError> for Kind {
-    ghost use Rattle.std.specs.Prelude.{◌≡◌};
-    ghost use Rattle.des_commands.specs.declared.fault.Kind.TheVariants.{Card};
-
     ghost from_gives = { λ error kind. kind ≡ Card error };
 
     fn from(error: CvvError) -> Kind {
@@ -394,9 +347,6 @@ impl From<CvvError> for Kind {
 }
 
 impl From<TranslationError> for Kind {
-    ghost use Rattle.std.specs.Prelude.{◌≡◌};
-    ghost use Rattle.des_commands.specs.declared.fault.Kind.TheVariants.{Translation};
-
     ghost from_gives = { λ error kind. kind ≡ Translation error };
 
     fn from(error: TranslationError) -> Kind {
@@ -405,9 +355,6 @@ impl From<TranslationError> for Kind {
 }
 
 impl From<VerificationError> for Kind {
-    ghost use Rattle.std.specs.Prelude.{◌≡◌};
-    ghost use Rattle.des_commands.specs.declared.fault.Kind.TheVariants.{Verification};
-
     ghost from_gives = { λ error kind. kind ≡ Verification error };
 
     fn from(error: VerificationError) -> Kind {
@@ -416,9 +363,6 @@ impl From<VerificationError> for Kind {
 }
 
 impl From<EmvError> for Kind {
-    ghost use Rattle.std.specs.Prelude.{◌≡◌};
-    ghost use Rattle.des_commands.specs.declared.fault.Kind.TheVariants.{Emv};
-
     ghost from_gives = { λ error kind. kind ≡ Emv error };
 
     fn from(error: EmvError) -> Kind {
@@ -427,9 +371,6 @@ impl From<EmvError> for Kind {
 }
 
 impl From<KeyBlockError> for Kind {
-    ghost use Rattle.std.specs.Prelude.{◌≡◌};
-    ghost use Rattle.des_commands.specs.declared.fault.Kind.TheVariants.{KeyBlock};
-
     ghost from_gives = { λ error kind. kind ≡ KeyBlock error };
 
     fn from(error: KeyBlockError) -> Kind {
@@ -438,9 +379,6 @@ impl From<KeyBlockError> for Kind {
 }
 
 impl From<WeakKeyError> for Kind {
-    ghost use Rattle.std.specs.Prelude.{◌≡◌};
-    ghost use Rattle.des_commands.specs.declared.fault.Kind.TheVariants.{WeakKey};
-
     ghost from_gives = { λ _ kind. kind ≡ WeakKey };
 
     fn from(_refused: WeakKeyError) -> Kind {
@@ -449,9 +387,6 @@ impl From<WeakKeyError> for Kind {
 }
 
 impl From<AllocError> for Kind {
-    ghost use Rattle.std.specs.Prelude.{◌≡◌};
-    ghost use Rattle.des_commands.specs.declared.fault.Kind.TheVariants.{Memory};
-
     ghost from_gives = { λ _ kind. kind ≡ Memory };
 
     fn from(_refused: AllocError) -> Kind {
@@ -460,9 +395,6 @@ impl From<AllocError> for Kind {
 }
 
 impl<T: Drop> From<AllocFailed<T>> for Kind {
-    ghost use Rattle.std.specs.Prelude.{◌≡◌};
-    ghost use Rattle.des_commands.specs.declared.fault.Kind.TheVariants.{Memory};
-
     ghost from_gives = { λ _ kind. kind ≡ Memory };
 
     fn from(_refused: AllocFailed<T>) -> Kind {

@@ -2,7 +2,6 @@
 
 ghost use Rattle.std.specs.Prelude.{◌≡◌, ◌≤◌, ◌⊎◌, IfOk, IfErr};
 ghost use Rattle.std.specs.Io.KnownBytes.{Consumes};
-ghost use Rattle.des_commands.specs.Inputs.{bytes_to_read as bytes_by, name_in_stream as name_by};
 
 use crate::descriptors::{Followed, follow, standing_of};
 use crate::fault::{Kind, Reason};
@@ -38,16 +37,17 @@ pub fn read_fault(error: io::Error) -> Kind
 /// beginning: it is read from where the descriptor stands. Standard input under other names than its
 /// own is refused: it may be read beside this. The fault is `Read` or `Memory`.
 pub fn open(rt: &HostRuntime, path: &str) -> Result<Input, Kind> {
-    match follow(rt, path).map_err(read_fault)? {
-        Followed::Descriptor(0) | Followed::OtherDescriptor => {
-            Err(Kind::Read(Reason::Descriptor))
+    let place = match follow(rt, path) {
+        Ok(Followed::Descriptor(0) | Followed::OtherDescriptor) => {
+            return Err(Kind::Read(Reason::Descriptor));
         }
-        Followed::Descriptor(number) => {
-            let standing = standing_of(rt, number).map_err(read_fault)?;
-            open_at(rt, path, standing.place).map_err(read_fault)
-        }
-        Followed::NoText | Followed::Path { .. } => open_at(rt, path, 0).map_err(read_fault),
-    }
+        Ok(Followed::Descriptor(number)) => standing_of(rt, number).map_err(read_fault)?.place,
+        Ok(Followed::Path { .. }) => 0,
+        // The system follows a link to a name that is no text.
+        Err(error) if error.kind() == ErrorKind::InvalidFilename => 0,
+        Err(error) => return Err(read_fault(error)),
+    };
+    open_at(rt, path, place).map_err(read_fault)
 }
 
 // Opens a file to read from a place on.
@@ -57,18 +57,13 @@ fn open_at(rt: &HostRuntime, path: &str, place: u64) -> io::Result<Input> {
     if metadata.is_dir() {
         return Err(io::Error::from(ErrorKind::IsADirectory));
     }
-    let length = if metadata.is_file() {
-        Some(metadata.len())
-    } else {
-        None
-    };
     if place > 0 {
         file.seek(SeekFrom::Start(place))?;
     }
     Ok(Input {
         file,
         place,
-        length,
+        length: metadata.is_file().then_some(metadata.len()),
     })
 }
 
@@ -80,33 +75,45 @@ impl Input {
         if before == 0 {
             return 0;
         }
-        let bytes = (before - 1).saturating_mul(8);
-        let place = self.place.saturating_add(bytes);
-        match self.file.seek(SeekFrom::Start(place)) {
-            Ok(_) => {
-                self.place = place;
-                1
-            }
-            Err(_) => before,
+        let place = self.place.saturating_add((before - 1).saturating_mul(8));
+        if self.file.seek(SeekFrom::Start(place)).is_err() {
+            return before;
         }
+        self.place = place;
+        1
     }
 
     /// The bytes that are to be read, where the file tells: up to the end, or those of `blocks`
     /// blocks and of those that are passed over.
     pub fn total(&self, skipped: u64, blocks: Option<u64>) -> Option<u64> {
-        let length = self.length?;
-        Some(bytes_to_read(length, self.place, skipped, blocks))
+        self.length.map(|length| bytes_to_read(length, self.place, skipped, blocks))
     }
 }
 
 /// The bytes that are read of a file of a length, from a place on.
-pub fn bytes_to_read(length: u64, place: u64, skipped: u64, blocks: Option<u64>) -> u64
-    ensures { result ≡ bytes_by length place skipped blocks }
-{
+pub fn bytes_to_read(length: u64, place: u64, skipped: u64, blocks: Option<u64>) -> u64 {
     let rest = length.saturating_sub(place);
     match blocks {
         Some(blocks) => rest.min(skipped.saturating_add(blocks).saturating_mul(8)),
         None => rest,
+    }
+}
+
+/// The fault of an input that is a source.
+pub fn of_source(kind: Kind) -> Kind {
+    match kind {
+        Kind::Read(reason) => Kind::Source(reason),
+        kind => kind,
+    }
+}
+
+/// A fault of the reader is one of the source.
+pub fn source_fault(error: StreamError) -> Kind
+    ensures { (reason : Reason) × (result ≡ Kind.Source reason) }
+{
+    match error {
+        StreamError::Read(error) => Kind::Source(Reason::of(&error)),
+        _ => Kind::Source(Reason::Other),
     }
 }
 
@@ -120,8 +127,8 @@ pub fn random_bytes<R: Read, const N: usize>(source: &mut R) -> Result<[u8; N], 
     let mut bytes = [0u8; N];
     match fill(source, &mut bytes) {
         Ok(n) if n == N => Ok(bytes),
-        Err(StreamError::Read(error)) => Err(Kind::Source(Reason::of(&error))),
-        _ => Err(Kind::Source(Reason::Other)),
+        Ok(_) => Err(Kind::Source(Reason::Other)),
+        Err(error) => Err(source_fault(error)),
     }
 }
 
@@ -129,25 +136,6 @@ pub fn random_bytes<R: Read, const N: usize>(source: &mut R) -> Result<[u8; N], 
 pub fn system_random<const N: usize>(rt: &HostRuntime) -> Result<[u8; N], Kind>
     requires { N ≤ 1000 }
 {
-    match File::open(rt, RANDOM_SOURCE) {
-        Ok(file) => {
-            let mut source = file;
-            random_bytes(&mut source)
-        }
-        Err(error) if error.kind() == ErrorKind::OutOfMemory => Err(Kind::Memory),
-        Err(error) => Err(Kind::Source(Reason::of(&error))),
-    }
-}
-
-/// What a fault of a stream is about: the source of random bytes, the output, or else the input. A
-/// refused request for memory is about none.
-pub fn name_in_stream<'a>(kind: Kind, input: &'a str, output: &'a str) -> &'a str
-    ensures { result.now ≡ name_by kind input.now output.now }
-{
-    match kind {
-        Kind::Source(_) => RANDOM_SOURCE,
-        Kind::Write(_) => output,
-        Kind::Memory => "",
-        _ => input,
-    }
+    let mut source = File::open(rt, RANDOM_SOURCE).map_err(|error| of_source(read_fault(error)))?;
+    random_bytes(&mut source)
 }

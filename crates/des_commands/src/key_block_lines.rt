@@ -1,18 +1,18 @@
-//! The lines of the commands on key blocks: the fields of a header, what a block holds, and a block
+//! The lines of calculations with key blocks: the fields of a header, what a block holds, and a block
 //! that is made.
 
 ghost use Rattle.std.specs.Prelude.{◌≡◌, ◌≤◌, ◌⊎◌, ◌++◌, List, ℕ, length, take, None, IsTrue, IfOk, OnOk};
 ghost use Rattle.std.specs.String.{string_bytes};
 ghost use Rattle.des_payment.specs.KeyLengths.{is_key};
-ghost use Rattle.des_commands.specs.Texts.{bytes_of as bytes_of_text, text_line};
+ghost use Rattle.des_commands.specs.Texts.{bytes_of as bytes_of_text};
 ghost use Rattle.des_commands.specs.Faults.{FailsBy, FailsOnlyBy};
 ghost use Rattle.des_commands.specs.KeyBlockLines.{is_printable as is_printable_of, shown_character, shown_text, field_line, header_lines as header_lines_of, optional_line, optional_lines, check_lines};
 ghost use Rattle.des_commands.specs.KeyBlockLines.{IsReadable, TellsHeader, FailsAsHeader, protection_fault, TellsKey, FailsAsUnwrapped};
-ghost use Rattle.des_commands.specs.KeyBlockLines.{are_alphanumeric as are_alphanumeric_of, are_printable as are_printable_of, field_fault, header_text_fault, optional_fault, IsHeaderOf, IsMade, IsWrapped, FailsAsMade, FailsAsWrapped};
+ghost use Rattle.des_commands.specs.KeyBlockLines.{are_alphanumeric as are_alphanumeric_of, are_printable as are_printable_of, field_fault, header_text_fault, optional_fault, IsHeaderOf, IsMadeLine, IsWrapped, FailsAsMade, FailsAsWrapped};
 ghost use Rattle.des_commands.specs.KeyBlockLines.{FailsAsKeyBlock, AnswersKeyBlock};
 
-use crate::command::{KeyBlockCommand, Wrapping};
-use crate::digits::{hex_line, line_of};
+use crate::command::{Inputs, KeyBlockCalculation, RANDOM, Wrapping};
+use crate::digits::{Lines, hex_line, line_of};
 use crate::fault::{Field, Kind};
 use crate::keys::read_key;
 use des_payment::key_block_error::KeyBlockError;
@@ -27,29 +27,21 @@ const MOST: usize = 9999;
 
 const MOST_BLOCKS: usize = 99;
 
-/// The random bytes that a block takes at most: its padding with the key has 30 bytes.
-pub const RANDOM: usize = 22;
-
-/// The lines of a command on key blocks, by the digits of the key that protects them and by the text
-/// of its input: a block, or the digits of the key that is wrapped. A block that is made is padded by
-/// the first of the random bytes.
+/// The lines of a calculation with a key block. The key protects blocks; the input is a block, or the
+/// digits of the key that is wrapped. A block that is made is padded by the first of the random bytes.
 ///
 /// Every fault but `Memory` is found before any memory is asked for.
-pub fn key_block_lines(
-    alloc: Global,
-    command: KeyBlockCommand,
-    protection: &[u8],
-    text: &[u8],
-    random: &[u8; RANDOM],
-) -> Result<Vec<u8>, Kind>
-    ensures fault { FailsAsKeyBlock command.entry protection.now text.now random.now result }
+pub fn key_block_lines(alloc: Global, calculation: KeyBlockCalculation, inputs: Inputs) -> Lines
+    ensures fault { FailsAsKeyBlock calculation.entry inputs.entry result }
     ensures lines { IfOk result (λ lines.
-        AnswersKeyBlock command.entry protection.now text.now random.now lines.items) }
+        AnswersKeyBlock calculation.entry inputs.entry lines.items) }
 {
-    match command {
-        KeyBlockCommand::Header => header_lines(alloc, text),
-        KeyBlockCommand::Unwrap { shows_key } => unwrap_lines(alloc, shows_key, protection, text),
-        KeyBlockCommand::Wrap(wrapping) => wrap_line(alloc, &wrapping, protection, text, random),
+    match calculation {
+        KeyBlockCalculation::Header => header_lines(alloc, inputs.text),
+        KeyBlockCalculation::Unwrap { shows_key } => {
+            unwrap_lines(alloc, shows_key, inputs.key, inputs.text)
+        }
+        KeyBlockCalculation::Wrap(wrapping) => wrap_line(alloc, &wrapping, inputs),
     }
 }
 
@@ -84,7 +76,6 @@ pub fn shown_name(alloc: Global, name: &[u8]) -> Result<String, AllocError>
     Ok(text)
 }
 
-// Adds characters as a line shows them.
 fn add_shown(lines: &mut Vec<u8>, text: &[u8]) -> Result<(), Kind>
     ensures fault { FailsBy None result }
     ensures text { OnOk result (lines.new.items ≡ lines.old.items ++ shown_text text.now) }
@@ -95,7 +86,6 @@ fn add_shown(lines: &mut Vec<u8>, text: &[u8]) -> Result<(), Kind>
     Ok(())
 }
 
-// Adds the line of a field.
 fn add_field(lines: &mut Vec<u8>, name: &str, value: &[u8]) -> Result<(), Kind>
     ensures fault { FailsBy None result }
     ensures line { OnOk result
@@ -108,7 +98,6 @@ fn add_field(lines: &mut Vec<u8>, name: &str, value: &[u8]) -> Result<(), Kind>
     Ok(())
 }
 
-// Adds the lines of the fields of a header.
 fn add_header(lines: &mut Vec<u8>, header: &Header) -> Result<(), Kind>
     ensures fault { FailsBy None result }
     ensures lines { OnOk result
@@ -122,7 +111,6 @@ fn add_header(lines: &mut Vec<u8>, header: &Header) -> Result<(), Kind>
     add_field(lines, "exportability", &[header.exportability.character()])
 }
 
-// Adds the line of an optional block.
 fn add_optional(lines: &mut Vec<u8>, block: OptionalBlock) -> Result<(), Kind>
     ensures fault { FailsBy None result }
     ensures line { OnOk result (lines.new.items ≡ lines.old.items
@@ -152,7 +140,7 @@ fn add_optional_blocks(lines: &mut Vec<u8>, block: &[u8]) -> Result<(), Kind>
 }
 
 // The lines of the header of a block, and of its optional blocks.
-fn header_lines(alloc: Global, block: &[u8]) -> Result<Vec<u8>, Kind>
+fn header_lines(alloc: Global, block: &[u8]) -> Lines
     ensures fault { FailsAsHeader block.now result }
     ensures only { (header : Header) (blocks : List (List ℕ × List ℕ))
         → IsReadable header blocks block.now → FailsBy None result }
@@ -206,12 +194,7 @@ fn add_check_value(
 }
 
 // What a block says of its key, with the key's check value; or the key.
-fn unwrap_lines(
-    alloc: Global,
-    shows_key: bool,
-    protection: &[u8],
-    block: &[u8],
-) -> Result<Vec<u8>, Kind>
+fn unwrap_lines(alloc: Global, shows_key: bool, protection: &[u8], block: &[u8]) -> Lines
     ensures fault { FailsAsUnwrapped protection.now block.now result }
     ensures lines { IfOk result (λ lines.
         TellsKey shows_key protection.now block.now lines.items) }
@@ -229,7 +212,6 @@ fn unwrap_lines(
 
 // ---- blocks that are made
 
-// Whether each character is a letter or a digit.
 fn are_alphanumeric(text: &[u8]) -> bool
     ensures { result ≡ are_alphanumeric_of text.now }
 {
@@ -244,12 +226,10 @@ fn field_of<const N: usize>(text: &str, field: Field) -> Result<[u8; N], Kind>
     ensures text { IfOk result (λ characters. characters ≡ text.now) }
 {
     let characters = text.as_bytes();
-    if characters.len() != N || !are_alphanumeric(characters) {
+    if !are_alphanumeric(characters) {
         return Err(Kind::Field(field));
     }
-    let mut copied = [0; N];
-    copied.copy_from_slice(characters);
-    Ok(copied)
+    <[u8; N]>::try_from(characters).map_err(|_| Kind::Field(field))
 }
 
 // The header that texts give.
@@ -272,7 +252,6 @@ fn header_of(wrapping: &Wrapping) -> Result<Header, Kind>
     })
 }
 
-// Whether each character is a space or a printable one of ASCII.
 fn are_printable(text: &[u8]) -> bool
     ensures { result ≡ are_printable_of text.now }
 {
@@ -292,23 +271,21 @@ fn optional_of(text: &str) -> Result<&[u8], Kind>
     }
 }
 
-// Writes the block of a key to the front of a buffer, by the text of its optional blocks, and gives
-// how many characters it has.
-fn write_block(
+// The line of the block of a key, by the text of its optional blocks.
+fn block_line(
+    alloc: Global,
     protection: &[u8],
     header: &Header,
     optional: &[u8],
     key: &[u8],
     random: &[u8; RANDOM],
-    text: &mut [u8; MOST],
-) -> Result<usize, Kind>
+) -> Lines
     requires least { 8 ≤ length key.now }
     requires most { length key.now ≤ 24 }
     ensures fault { FailsAsMade protection.now header.now.version optional.now key.now random.now
         result }
-    ensures within { IfOk result (λ size. size ≤ MOST) }
-    ensures block { IfOk result (λ size. IsMade protection.now header.now optional.now key.now
-        random.now (take size text.new)) }
+    ensures line { IfOk result (λ line.
+        IsMadeLine protection.now header.now optional.now key.now random.now line.items) }
 {
     let nothing = OptionalBlock {
         name: [0; 2],
@@ -317,54 +294,29 @@ fn write_block(
     let mut blocks = [nothing; MOST_BLOCKS];
     let count = read_optional_blocks(optional, &mut blocks)?;
     let padding = &random[..30 - key.len()];
-    let size = wrap(protection, header, &blocks[..count], key, padding, text)?;
-    Ok(size)
+    let mut text = [0u8; MOST];
+    let size = wrap(
+        protection,
+        header,
+        &blocks[..count],
+        key,
+        padding,
+        &mut text,
+    )?;
+    Ok(line_of(alloc, &text[..size])?)
 }
 
-// Writes the block of the key that digits write to the front of a buffer, and gives how many
-// characters it has.
-fn write_wrapped(
-    wrapping: &Wrapping,
-    protection: &[u8],
-    digits: &[u8],
-    random: &[u8; RANDOM],
-    text: &mut [u8; MOST],
-) -> Result<usize, Kind>
-    ensures fault { FailsAsWrapped wrapping.now protection.now digits.now random.now result }
-    ensures within { IfOk result (λ size. size ≤ MOST) }
-    ensures block { IfOk result (λ size. IsWrapped wrapping.now protection.now digits.now
-        random.now (take size text.new)) }
+// The line of the block of the key that digits write.
+fn wrap_line(alloc: Global, wrapping: &Wrapping, inputs: Inputs) -> Lines
+    ensures fault { FailsAsWrapped wrapping.now inputs.entry result }
+    ensures line { IfOk result (λ line. IsWrapped wrapping.now inputs.entry line.items) }
 {
     let mut buffer = [0u8; 24];
-    let size = read_protection(protection, &mut buffer)?;
+    let size = read_protection(inputs.key, &mut buffer)?;
     let mut key = [0u8; 24];
-    let key_size = read_key(digits, &mut key, Kind::ToKeyLength, Kind::ToKeyText)?;
+    let key_size = read_key(inputs.text, &mut key, Kind::ToKeyLength, Kind::ToKeyText)?;
     let header = header_of(wrapping)?;
     let optional = optional_of(wrapping.optional)?;
-    write_block(
-        &buffer[..size],
-        &header,
-        optional,
-        &key[..key_size],
-        random,
-        text,
-    )
-}
-
-// The line of the block of a key.
-fn wrap_line(
-    alloc: Global,
-    wrapping: &Wrapping,
-    protection: &[u8],
-    digits: &[u8],
-    random: &[u8; RANDOM],
-) -> Result<Vec<u8>, Kind>
-    ensures fault { FailsAsWrapped wrapping.now protection.now digits.now random.now result }
-    ensures line { IfOk result (λ line. (block : List ℕ)
-        × (IsWrapped wrapping.now protection.now digits.now random.now block
-        × (line.items ≡ text_line block))) }
-{
-    let mut text = [0u8; MOST];
-    let size = write_wrapped(wrapping, protection, digits, random, &mut text)?;
-    Ok(line_of(alloc, &text[..size])?)
+    let (protection, key) = (&buffer[..size], &key[..key_size]);
+    block_line(alloc, protection, &header, optional, key, inputs.random)
 }

@@ -1,14 +1,14 @@
 //! Keys: their bytes, and whether they are weak.
 
-ghost use Rattle.std.specs.Prelude.{◌≡◌, ◌↔◌, ◌⊎◌, List, ℕ, length, take, drop, IfOk, IsTrue};
+ghost use Rattle.std.specs.Prelude.{◌≡◌, ◌↔◌, List, ℕ, length, take, drop, IfOk, IfSome, IsTrue};
 ghost use Rattle.des.specs.Parity.{AgreeOutsideParity};
 ghost use Rattle.des.specs.WeakKeys.{IsRefused};
 ghost use Rattle.des_commands.specs.Texts.{bytes_of as bytes_of_text};
 ghost use Rattle.des_commands.specs.Faults.{FailsBy, FailsOnlyBy};
-ghost use Rattle.des_commands.specs.Keys.{key_fault, any_key_fault, is_key_length, IsKeySize, IsDoubleLength, IsVerdict};
+ghost use Rattle.des_commands.specs.Keys.{key_fault, any_key_fault, pair_fault, is_key_length, IsKeySize, IsDoubleLength, IsVerdict};
 ghost use Rattle.des_commands.specs.declared.keys.Verdict.TheVariants.{Good, DoubleLength, Weak};
 
-use crate::digits::decode;
+use crate::digits::{bytes_of, decode};
 use crate::fault::Kind;
 use des::tdes::key_part;
 use des::weak_key::{equal_but_parity, weak_key_test};
@@ -27,21 +27,21 @@ pub enum Verdict {
     Weak,
 }
 
-// Whether `count` digits write a key of `size` bytes, or for 0 one of 8, 16 or 24.
-fn is_key_length(count: usize, size: u8) -> bool
+// Whether `count` digits write a key of `size` bytes, or of 8, 16 or 24 where no size is named.
+fn is_key_length(count: usize, size: Option<u8>) -> bool
     ensures { result ≡ is_key_length count size }
 {
     match size {
-        0 => count == 16 || count == 32 || count == 48,
-        _ => count == 2 * size as usize,
+        None => count == 16 || count == 32 || count == 48,
+        Some(size) => count == 2 * size as usize,
     }
 }
 
-/// The bytes of a key that hexadecimal digits write: of `size` bytes, 8, 16 or 24, or for 0 of one
-/// of these. The fault is `KeyLength` where the number of digits is another, `KeyText` where a
-/// character is none, and else `Memory`.
-pub fn key_of_digits(alloc: Global, digits: &[u8], size: u8) -> Result<Vec<u8>, Kind>
-    requires { (size ≡ 0) ⊎ IsKeySize size }
+/// The bytes of a key that hexadecimal digits write: of `size` bytes, 8, 16 or 24, or of one of these
+/// where no size is named. The fault is `KeyLength` where the number of digits is another, `KeyText`
+/// where a character is none, and else `Memory`.
+pub fn key_of_digits(alloc: Global, digits: &[u8], size: Option<u8>) -> Result<Vec<u8>, Kind>
+    requires { IfSome size IsKeySize }
     ensures fault { FailsBy (key_fault size digits.now) result }
     ensures key { IfOk result (λ key. key.items ≡ bytes_of_text digits.now) }
     ensures size { IfOk result (λ key. IsKeySize (length key.items)) }
@@ -53,6 +53,14 @@ pub fn key_of_digits(alloc: Global, digits: &[u8], size: u8) -> Result<Vec<u8>, 
     let bytes = &mut buffer[..digits.len() / 2];
     decode(digits, bytes, Kind::KeyText)?;
     Ok(Vec::from_slice(alloc, bytes)?)
+}
+
+/// The bytes of a key of two parts that hexadecimal digits write.
+pub fn pair_of(digits: &[u8]) -> Result<[u8; 16], Kind>
+    ensures fault { FailsOnlyBy (pair_fault digits.now) result }
+    ensures key { IfOk result (λ key. key ≡ bytes_of_text digits.now) }
+{
+    bytes_of::<16>(digits, Kind::KeyLength(Some(16)), Kind::KeyText)
 }
 
 /// Reads a key of 8, 16 or 24 bytes that hexadecimal digits write into the first bytes of a buffer,
@@ -67,7 +75,7 @@ pub fn read_key(
     ensures size { IfOk result IsKeySize }
     ensures key { IfOk result (λ size. take size key.new ≡ bytes_of_text digits.now) }
 {
-    if !is_key_length(digits.len(), 0) {
+    if !is_key_length(digits.len(), None) {
         return Err(length_fault);
     }
     let size = digits.len() / 2;

@@ -1,141 +1,183 @@
-//! The line of a command: what it writes, by the text of its input.
+//! The lines of a calculation: what it writes, by what was read for it.
 
-ghost use Rattle.std.specs.Prelude.{◌≡◌, ◌↔◌, ◌≤◌, ◌*◌, ◌%◌, ◌⊎◌, length, replicate, take, IfOk, IsErr};
+ghost use Rattle.std.specs.Prelude.{◌≡◌, ◌↔◌, ◌≤◌, ◌*◌, ◌/◌, ◌%◌, ◌⊎◌, length, replicate, take, IfOk};
 ghost use Rattle.des.specs.WeakKeys.{IsRefused};
 ghost use Rattle.des_payment.specs.Components.{combined};
 ghost use Rattle.des_commands.specs.Texts.{bytes_of as bytes_of_text, digits_fault, hex_line as hex_line_of, text_fault};
 ghost use Rattle.des_commands.specs.Faults.{FailsBy, FailsOnlyBy, FailsOrRefuses};
-ghost use Rattle.des_commands.specs.Keys.{key_fault};
-ghost use Rattle.des_commands.specs.Lines.{check_value_of, key_of_components, encoding_fault, IsEncoded, decoding_fault, IsDecoded};
-ghost use Rattle.des_commands.specs.Lines.{FailsAs, IsLine, key_for, transaction_key_of, counter_fault, transaction_fault, cvv_fault, cvv_line as cvv_line_of};
+ghost use Rattle.des_commands.specs.Keys.{key_fault, IsKeySize};
+ghost use Rattle.des_commands.specs.Lines.{IsWeakLine, key_of_components, key_size_of, key_of_count, few_fault, components_fault, encoding_fault, IsEncoded, decoding_fault, IsDecoded};
+ghost use Rattle.des_commands.specs.Lines.{FailsAs, IsLine, key_for, transaction_key_of, transaction_fault};
 
 use crate::card_lines::card_line;
-use crate::command::{Command, Decoding, Encoding, Purpose};
-use crate::digits::{LONGEST_TEXT, bytes_of, decode, fill_of, hex_line, line_of};
+use crate::command::{Calculation, Inputs, Purpose};
+use crate::digits::{Lines, bytes_of, decode, fill_of, hex_line, line_of};
 use crate::fault::Kind;
-use crate::parity::parity_line;
+use crate::key_block_lines::key_block_lines;
+use crate::keys::{is_weak, key_of_digits, pair_of, read_key};
 use crate::pin_lines::pin_line;
-use des::WeakKeyError;
 use des::cipher::KeyedCipher;
 use des_fast::quiet::{Des, TdesEde2, TdesEde3};
-use des_payment::dukpt::{
-    data_key, data_variant, initial_key, is_usable, mac_key, pin_key, transaction_key,
-};
-use des_payment::pin_blocks::{
-    decode_format_0, decode_format_1, decode_format_2, decode_format_3, encode_format_0,
-    encode_format_1, encode_format_2, encode_format_3,
-};
-use des_payment::{Pin, check_value, combine, cvv};
+use des_payment::translation::Format;
+use des_payment::{Pin, check_value, combine, cvv, dukpt, pin_blocks, set_odd_parity};
 use std::alloc::Global;
 
-/// The line of a command, by the text of its input.
+/// The bytes of the longest input: a key block, white space among them.
+pub const LONGEST_INPUT: usize = 16384;
+
+// What is written of a key that is weak, and of one that is not.
+const WEAK: &str = "weak\n";
+
+pub const NOT_WEAK: &str = "not weak\n";
+
+/// The line of a calculation, or its lines, by what was read for it.
 ///
 /// Every fault but `Memory` is found before any memory is asked for.
-pub fn line_of_command(alloc: Global, command: Command, text: &[u8]) -> Result<Vec<u8>, Kind>
-    requires { length text.now ≤ LONGEST_TEXT }
-    ensures fault { FailsAs command.entry text.now result }
-    ensures line { IfOk result (λ line. IsLine command.entry text.now line.items) }
+pub fn lines_of(alloc: Global, calculation: Calculation, inputs: Inputs) -> Lines
+    requires { length inputs.text.now ≤ LONGEST_INPUT }
+    ensures fault { FailsAs calculation.entry inputs.entry result }
+    ensures line { IfOk result (λ line. IsLine calculation.entry inputs.entry line.items) }
 {
-    match command {
-        Command::Check { bytes } => check_line(alloc, bytes, text),
-        Command::Parity => parity_line(alloc, text),
-        Command::Combine { count } => combine_line(alloc, count, text),
-        Command::Encode(format) => encode_line(alloc, format, text),
-        Command::Decode(format) => decode_line(alloc, format, text),
-        Command::Transaction { serial, purpose } => {
-            transaction_line(alloc, serial, purpose, text)
+    match calculation {
+        Calculation::CheckValue { bytes } => match inputs.text.len() {
+            16 => check_by::<Des, 8>(alloc, bytes, inputs.text),
+            32 => check_by::<TdesEde2, 16>(alloc, bytes, inputs.text),
+            _ => check_by::<TdesEde3, 24>(alloc, bytes, inputs.text),
+        },
+        Calculation::Parity => {
+            let mut key = key_of_digits(alloc, inputs.text, None)?;
+            set_odd_parity(&mut key);
+            Ok(hex_line(alloc, key.as_slice())?)
         }
-        Command::Cvv {
-            account,
-            expiry,
-            service,
-        } => cvv_line(alloc, account, expiry, service, text),
-        Command::Pin(command, beside) => pin_line(alloc, command, beside, text),
-        Command::Card(command, beside) => card_line(alloc, command, beside, text),
+        Calculation::Weak => weak_line(alloc, inputs.text),
+        Calculation::Combine { count } => combine_line(alloc, count, inputs.text),
+        Calculation::CombineBytes { size } => combined_bytes_line(alloc, size, inputs.text),
+        Calculation::Encode { format, fill } => {
+            let pin = Pin::new(inputs.text)?;
+            Ok(hex_line(alloc, &block_of(format, fill, inputs.account, &pin)?)?)
+        }
+        Calculation::Decode { format } => {
+            let block = bytes_of::<8>(inputs.text, Kind::BlockLength, Kind::BlockText)?;
+            Ok(line_of(alloc, pin_of(format, inputs.account, &block)?.text())?)
+        }
+        Calculation::Transaction { serial, purpose } => {
+            transaction_line(alloc, serial, purpose, inputs.text)
+        }
+        Calculation::Cvv { expiry, service } => {
+            let key = pair_of(inputs.text)?;
+            let value = cvv(&key, inputs.account, expiry.as_bytes(), service.as_bytes())?;
+            Ok(line_of(alloc, &value)?)
+        }
+        Calculation::Pin(calculation) => pin_line(alloc, calculation, inputs),
+        Calculation::Card(calculation) => card_line(alloc, calculation, inputs),
+        Calculation::KeyBlock(calculation) => key_block_lines(alloc, calculation, inputs),
     }
 }
 
+// ---- keys
+
 // The line of the first bytes of the check value of the key that the digits write, under the cipher.
-fn check_by<C: KeyedCipher + Drop, const N: usize>(
-    alloc: Global,
-    bytes: u8,
-    digits: &[u8],
-) -> Result<Vec<u8>, Kind>
+fn check_by<C: KeyedCipher + Drop, const N: usize>(alloc: Global, bytes: u8, digits: &[u8]) -> Lines
     requires size { C.KEY_SIZE ≡ N }
     requires small { N ≤ 24 }
-    ensures fault { FailsBy (digits_fault N (Kind.KeyLength 0) Kind.KeyText digits.now) result }
+    ensures fault { FailsBy (digits_fault N (Kind.KeyLength None) Kind.KeyText digits.now) result }
     ensures line { IfOk result (λ line. line.items ≡ hex_line_of
         (take bytes (take 3 (C.encryption (bytes_of_text digits.now) (replicate 8 0))))) }
 {
-    let key = bytes_of::<N>(digits, Kind::KeyLength(0), Kind::KeyText)?;
+    let key = bytes_of::<N>(digits, Kind::KeyLength(None), Kind::KeyText)?;
     let value = check_value::<C>(&key).unwrap();
     let count = std::cmp::min(bytes as usize, 3);
     Ok(hex_line(alloc, &value[..count])?)
 }
 
-// The first bytes of the check value of a key, of one, two or three parts.
-fn check_line(alloc: Global, bytes: u8, digits: &[u8]) -> Result<Vec<u8>, Kind>
-    ensures fault { FailsBy (key_fault 0 digits.now) result }
-    ensures line { IfOk result (λ line.
-        line.items ≡ hex_line_of (check_value_of bytes digits.now)) }
+fn weak_text(key: &[u8]) -> &'static str
+    requires { IsKeySize (length key.now) }
+    ensures { IsWeakLine key.now result.now }
 {
-    match digits.len() {
-        16 => check_by::<Des, 8>(alloc, bytes, digits),
-        32 => check_by::<TdesEde2, 16>(alloc, bytes, digits),
-        _ => check_by::<TdesEde3, 24>(alloc, bytes, digits),
-    }
+    if is_weak(key) { WEAK } else { NOT_WEAK }
 }
 
-// The key of components, two at least.
-fn combine_all<const N: usize>(components: &[[u8; N]]) -> Result<[u8; N], WeakKeyError>
+fn weak_line(alloc: Global, digits: &[u8]) -> Lines
+    ensures fault { FailsBy (key_fault None digits.now) result }
+    ensures line { IfOk result (λ line. IsWeakLine (bytes_of_text digits.now) line.items) }
+{
+    let mut key = [0u8; 24];
+    let size = read_key(digits, &mut key, Kind::KeyLength(None), Kind::KeyText)?;
+    let text = weak_text(&key[..size]);
+    Ok(Vec::from_slice(alloc, text.as_bytes())?)
+}
+
+// ---- components
+
+fn combine_all<const N: usize>(components: &[[u8; N]]) -> Result<[u8; N], Kind>
     requires size { (N ≡ 8) ⊎ (N ≡ 16) ⊎ (N ≡ 24) }
-    requires two { 2 ≤ length components.now }
-    ensures refused { IsErr result ↔ IsRefused (combined components.now) }
+    ensures fault { FailsOrRefuses (few_fault (length components.now))
+        (IsRefused (combined components.now)) result }
     ensures key { IfOk result (λ key. key ≡ combined components.now) }
 {
     match components {
-        [first, second, others @ ..] => combine(first, second, others),
-        _ => Err(WeakKeyError),
+        [first, second, others @ ..] => Ok(combine(first, second, others)?),
+        _ => Err(Kind::Components),
     }
 }
 
-// The key of the components, of N bytes each, that the digits write one after another.
-fn combine_by<const N: usize>(digits: &[u8]) -> Result<[u8; N], Kind>
+// The key of the components, of N bytes each, one after another.
+fn combine_bytes<const N: usize>(bytes: &[u8]) -> Result<[u8; N], Kind>
     requires size { (N ≡ 8) ⊎ (N ≡ 16) ⊎ (N ≡ 24) }
-    requires whole { length digits.now % (2 * N) ≡ 0 }
-    requires two { 4 * N ≤ length digits.now }
-    requires longest { length digits.now ≤ LONGEST_TEXT }
-    ensures fault { FailsOrRefuses (text_fault Kind.KeyText digits.now)
-        (IsRefused (key_of_components N digits.now)) result }
-    ensures key { IfOk result (λ key. key ≡ key_of_components N digits.now) }
+    ensures fault { FailsOrRefuses (few_fault (length bytes.now / N))
+        (IsRefused (key_of_components N bytes.now)) result }
+    ensures key { IfOk result (λ key. key ≡ key_of_components N bytes.now) }
 {
-    let mut buffer = [0u8; LONGEST_TEXT / 2];
-    let bytes = &mut buffer[..digits.len() / 2];
-    decode(digits, bytes, Kind::KeyText)?;
     let (components, _) = bytes.as_chunks::<N>();
-    Ok(combine_all(components)?)
+    combine_all(components)
 }
 
-// The line of the key of the components, of N bytes each.
-fn combined_line<const N: usize>(alloc: Global, digits: &[u8]) -> Result<Vec<u8>, Kind>
+fn combined_line<const N: usize>(alloc: Global, bytes: &[u8]) -> Lines
     requires size { (N ≡ 8) ⊎ (N ≡ 16) ⊎ (N ≡ 24) }
-    requires whole { length digits.now % (2 * N) ≡ 0 }
-    requires two { 4 * N ≤ length digits.now }
-    requires longest { length digits.now ≤ LONGEST_TEXT }
-    ensures fault { FailsOrRefuses (text_fault Kind.KeyText digits.now)
-        (IsRefused (key_of_components N digits.now)) result }
-    ensures line { IfOk result (λ line.
-        line.items ≡ hex_line_of (key_of_components N digits.now)) }
+    ensures fault { FailsOrRefuses (few_fault (length bytes.now / N))
+        (IsRefused (key_of_components N bytes.now)) result }
+    ensures line { IfOk result (λ line. line.items ≡ hex_line_of (key_of_components N bytes.now)) }
 {
-    let key = combine_by::<N>(digits)?;
+    let key = combine_bytes::<N>(bytes)?;
     Ok(hex_line(alloc, &key)?)
 }
 
-// The key of `count` components.
-fn combine_line(alloc: Global, count: u8, digits: &[u8]) -> Result<Vec<u8>, Kind>
-    requires { length digits.now ≤ LONGEST_TEXT }
-    ensures fault { FailsAs (Command.Combine count) digits.now result }
-    ensures line { IfOk result (λ line. IsLine (Command.Combine count) digits.now line.items) }
+// The line of the key of the components, of `size` bytes each, one after another.
+fn combined_bytes_line(alloc: Global, size: u8, bytes: &[u8]) -> Lines
+    ensures fault { FailsOrRefuses (few_fault (length bytes.now / key_size_of size))
+        (IsRefused (key_of_components (key_size_of size) bytes.now)) result }
+    ensures line { IfOk result (λ line.
+        line.items ≡ hex_line_of (key_of_components (key_size_of size) bytes.now)) }
+{
+    match size {
+        8 => combined_line::<8>(alloc, bytes),
+        16 => combined_line::<16>(alloc, bytes),
+        _ => combined_line::<24>(alloc, bytes),
+    }
+}
+
+// The line of the key of the components, of N bytes each, that digits write one after another.
+fn components_line<const N: usize>(alloc: Global, digits: &[u8]) -> Lines
+    requires size { (N ≡ 8) ⊎ (N ≡ 16) ⊎ (N ≡ 24) }
+    requires whole { length digits.now % (2 * N) ≡ 0 }
+    requires two { 4 * N ≤ length digits.now }
+    requires longest { length digits.now ≤ LONGEST_INPUT }
+    ensures fault { FailsOrRefuses (text_fault Kind.KeyText digits.now)
+        (IsRefused (key_of_components N (bytes_of_text digits.now))) result }
+    ensures line { IfOk result (λ line.
+        line.items ≡ hex_line_of (key_of_components N (bytes_of_text digits.now))) }
+{
+    let mut buffer = [0u8; LONGEST_INPUT / 2];
+    let bytes = &mut buffer[..digits.len() / 2];
+    decode(digits, bytes, Kind::KeyText)?;
+    combined_line::<N>(alloc, bytes)
+}
+
+fn combine_line(alloc: Global, count: u8, digits: &[u8]) -> Lines
+    requires { length digits.now ≤ LONGEST_INPUT }
+    ensures fault { FailsOrRefuses (components_fault count digits.now)
+        (IsRefused (key_of_count count digits.now)) result }
+    ensures line { IfOk result (λ line. line.items ≡ hex_line_of (key_of_count count digits.now)) }
 {
     if count < 2 {
         return Err(Kind::Components);
@@ -143,122 +185,67 @@ fn combine_line(alloc: Global, count: u8, digits: &[u8]) -> Result<Vec<u8>, Kind
     let count = count as usize;
     let length = digits.len();
     if length == 16 * count {
-        combined_line::<8>(alloc, digits)
+        components_line::<8>(alloc, digits)
     } else if length == 32 * count {
-        combined_line::<16>(alloc, digits)
+        components_line::<16>(alloc, digits)
     } else if length == 48 * count {
-        combined_line::<24>(alloc, digits)
+        components_line::<24>(alloc, digits)
     } else {
-        Err(Kind::KeyLength(0))
+        Err(Kind::KeyLength(None))
     }
 }
 
-// The block of a PIN.
-fn block_of(format: Encoding, pin: &Pin) -> Result<[u8; 8], Kind>
-    ensures fault { FailsOnlyBy (encoding_fault format.entry) result }
-    ensures block { IfOk result (IsEncoded format.entry pin.now) }
+// ---- PIN blocks
+
+fn block_of(format: Format, fill: &str, account: &[u8], pin: &Pin) -> Result<[u8; 8], Kind>
+    ensures fault { FailsOnlyBy (encoding_fault format fill.now account.now) result }
+    ensures block { IfOk result (IsEncoded format fill.now account.now pin.now) }
 {
     let block = match format {
-        Encoding::Format0 { account } => encode_format_0(pin, account)?,
-        Encoding::Format1 { transaction } => encode_format_1(pin, &fill_of(transaction)?)?,
-        Encoding::Format2 => encode_format_2(pin),
-        Encoding::Format3 { account, fill } => { encode_format_3(pin, account, &fill_of(fill)?)? }
+        Format::Format0 => pin_blocks::encode_format_0(pin, account)?,
+        Format::Format1 => pin_blocks::encode_format_1(pin, &fill_of(fill)?)?,
+        Format::Format2 => pin_blocks::encode_format_2(pin),
+        Format::Format3 => pin_blocks::encode_format_3(pin, account, &fill_of(fill)?)?,
     };
     Ok(block)
 }
 
-fn encode_line(alloc: Global, format: Encoding, text: &[u8]) -> Result<Vec<u8>, Kind>
-    ensures fault { FailsAs (Command.Encode format.entry) text.now result }
-    ensures line { IfOk result (λ line. IsLine (Command.Encode format.entry) text.now line.items) }
-{
-    let pin = Pin::new(text)?;
-    Ok(hex_line(alloc, &block_of(format, &pin)?)?)
-}
-
-// The PIN of a block.
-fn pin_of(format: Decoding, block: &[u8; 8]) -> Result<Pin, Kind>
-    ensures fault { FailsOnlyBy (decoding_fault format.entry block.now) result }
-    ensures pin { IfOk result (λ pin. IsDecoded format.entry pin block.now) }
+fn pin_of(format: Format, account: &[u8], block: &[u8; 8]) -> Result<Pin, Kind>
+    ensures fault { FailsOnlyBy (decoding_fault format account.now block.now) result }
+    ensures pin { IfOk result (λ pin. IsDecoded format account.now pin block.now) }
 {
     let pin = match format {
-        Decoding::Format0 { account } => decode_format_0(block, account)?,
-        Decoding::Format1 => decode_format_1(block)?,
-        Decoding::Format2 => decode_format_2(block)?,
-        Decoding::Format3 { account } => decode_format_3(block, account)?,
+        Format::Format0 => pin_blocks::decode_format_0(block, account)?,
+        Format::Format1 => pin_blocks::decode_format_1(block)?,
+        Format::Format2 => pin_blocks::decode_format_2(block)?,
+        Format::Format3 => pin_blocks::decode_format_3(block, account)?,
     };
     Ok(pin)
 }
 
-fn decode_line(alloc: Global, format: Decoding, digits: &[u8]) -> Result<Vec<u8>, Kind>
-    ensures fault { FailsAs (Command.Decode format.entry) digits.now result }
-    ensures line { IfOk result (λ line.
-        IsLine (Command.Decode format.entry) digits.now line.items) }
-{
-    let block = bytes_of::<8>(digits, Kind::BlockLength, Kind::BlockText)?;
-    Ok(line_of(alloc, pin_of(format, &block)?.text())?)
-}
+// ---- keys of transactions
 
-// The key of a transaction that is for a purpose.
 fn key_of_purpose(purpose: Purpose, transaction: &[u8; 16]) -> [u8; 16]
     ensures { result ≡ key_for purpose transaction.now }
 {
     match purpose {
-        Purpose::Pin => pin_key(transaction),
-        Purpose::Mac(message) => mac_key(transaction, message),
-        Purpose::Data(message) => data_key(transaction, message),
-        Purpose::DataVariant(message) => data_variant(transaction, message),
+        Purpose::Pin => dukpt::pin_key(transaction),
+        Purpose::Mac(message) => dukpt::mac_key(transaction, message),
+        Purpose::Data(message) => dukpt::data_key(transaction, message),
+        Purpose::DataVariant(message) => dukpt::data_variant(transaction, message),
     }
 }
 
-// The fault of a key serial number that no transaction has.
-fn check_counter(serial: &[u8; 10]) -> Result<(), Kind>
-    ensures { FailsOnlyBy (counter_fault serial.now) result }
-{
-    if is_usable(serial) {
-        Ok(())
-    } else {
-        Err(Kind::SerialCounter)
-    }
-}
-
-// The key of the transaction of a key serial number, from the base derivation key.
-fn key_of_transaction(serial: &str, digits: &[u8]) -> Result<[u8; 16], Kind>
-    ensures fault { FailsOnlyBy (transaction_fault serial.now digits.now) result }
-    ensures key { IfOk result (λ key. key ≡ transaction_key_of serial.now digits.now) }
-{
-    let base = bytes_of::<16>(digits, Kind::KeyLength(16), Kind::KeyText)?;
-    let serial = bytes_of::<10>(serial.as_bytes(), Kind::SerialLength, Kind::SerialText)?;
-    check_counter(&serial)?;
-    Ok(transaction_key(&initial_key(&base, &serial), &serial))
-}
-
-fn transaction_line(
-    alloc: Global,
-    serial: &str,
-    purpose: Purpose,
-    digits: &[u8],
-) -> Result<Vec<u8>, Kind>
+fn transaction_line(alloc: Global, serial: &str, purpose: Purpose, digits: &[u8]) -> Lines
     ensures fault { FailsBy (transaction_fault serial.now digits.now) result }
     ensures line { IfOk result (λ line. line.items
         ≡ hex_line_of (key_for purpose (transaction_key_of serial.now digits.now))) }
 {
-    let transaction = key_of_transaction(serial, digits)?;
+    let base = pair_of(digits)?;
+    let serial = bytes_of::<10>(serial.as_bytes(), Kind::SerialLength, Kind::SerialText)?;
+    if !dukpt::is_usable(&serial) {
+        return Err(Kind::SerialCounter);
+    }
+    let transaction = dukpt::transaction_key(&dukpt::initial_key(&base, &serial), &serial);
     Ok(hex_line(alloc, &key_of_purpose(purpose, &transaction))?)
-}
-
-fn cvv_line(
-    alloc: Global,
-    account: &[u8],
-    expiry: &str,
-    service: &str,
-    digits: &[u8],
-) -> Result<Vec<u8>, Kind>
-    ensures fault { FailsBy
-        (cvv_fault account.now expiry.now service.now digits.now) result }
-    ensures line { IfOk result (λ line. line.items
-        ≡ cvv_line_of account.now expiry.now service.now digits.now) }
-{
-    let key = bytes_of::<16>(digits, Kind::KeyLength(16), Kind::KeyText)?;
-    let value = cvv(&key, account, expiry.as_bytes(), service.as_bytes())?;
-    Ok(line_of(alloc, &value)?)
 }

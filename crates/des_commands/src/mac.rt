@@ -1,10 +1,11 @@
 //! Message authentication codes of what a reader gives.
 
-ghost use Rattle.std.specs.Prelude.{◌≡◌, ◌<◌, ℕ, List, length, IfOk, IfErr};
-ghost use Rattle.std.specs.Io.KnownBytes.{Consumes, IsAtEnd};
-ghost use Rattle.des_commands.specs.Macs.{tag_by, FailsToAuthenticate, HasKeySize};
+ghost use Rattle.std.specs.Prelude.{◌≡◌, ◌<◌, length, IfOk, IfErr};
+ghost use Rattle.des_commands.specs.Macs.{tag_over, tag_by, IsTagOfAll, FailsToAuthenticate, IsKeyOver, HasKeySize};
 
+use self::PaddingMethod::{One, Two};
 use crate::fault::{Kind, Reason};
+use des::cipher::KeyedCipher;
 use des_fast::{Des, TdesEde2, TdesEde3};
 use des_io::pieces::fill;
 use des_mac::{CbcMac, Cmac, Mac, Method1, Method2, RetailMac};
@@ -37,14 +38,12 @@ fn tag_of_reader<M: Mac + Drop, R: Read>(
     buffer: &mut [u8],
 ) -> Result<[u8; 8], Kind>
     requires { 0 < length buffer.old }
-    ensures tag { IfOk result (λ tag. (bytes : List ℕ)
-        × Consumes (R.remaining reader.old) (R.remaining reader.new) bytes
-        × IsAtEnd (R.remaining reader.new) × (tag ≡ M.tag_of key.now bytes)) }
+    ensures tag { IfOk result (IsTagOfAll (M.tag_of key.now)
+        (R.remaining reader.old) (R.remaining reader.new)) }
     ensures fault { IfErr result (FailsToAuthenticate (length key.now ≡ M.key_size)) }
 {
-    let mut state = match M::new_from_slice(key) {
-        Ok(state) => state,
-        Err(_) => return Err(Kind::KeyLength(0)),
+    let Ok(mut state) = M::new_from_slice(key) else {
+        return Err(Kind::KeyLength(None));
     };
     for _ in 0..u64::MAX {
         let n = fill(reader, buffer)?;
@@ -56,39 +55,30 @@ fn tag_of_reader<M: Mac + Drop, R: Read>(
     Err(Kind::Read(Reason::Other))
 }
 
-// The tag by CBC-MAC of all that a reader has. The key's size decides the cipher.
-fn tag_of_chain<R: Read>(
-    padding: PaddingMethod,
+// The same by a method over the cipher `C`.
+fn tag_over<C: KeyedCipher + Drop, R: Read>(
+    method: Method,
     key: &[u8],
     reader: &mut R,
     buffer: &mut [u8],
 ) -> Result<[u8; 8], Kind>
     requires { 0 < length buffer.old }
-    ensures tag { IfOk result (λ tag. (bytes : List ℕ)
-        × Consumes (R.remaining reader.old) (R.remaining reader.new) bytes
-        × IsAtEnd (R.remaining reader.new) × (tag ≡ tag_by (Method.CbcMac padding) key.now bytes)) }
-    ensures fault { IfErr result (FailsToAuthenticate (HasKeySize (Method.CbcMac padding) key.now)) }
+    ensures tag { IfOk result (IsTagOfAll (tag_over (C.encryption key.now) method key.now)
+        (R.remaining reader.old) (R.remaining reader.new)) }
+    ensures fault { IfErr result (FailsToAuthenticate (IsKeyOver C.KEY_SIZE method key.now)) }
 {
-    match (padding, key.len()) {
-        (PaddingMethod::One, 8) => tag_of_reader::<CbcMac<Des, Method1>, R>(key, reader, buffer),
-        (PaddingMethod::One, 16) => tag_of_reader::<CbcMac<TdesEde2, Method1>, R>(
-            key, reader, buffer,
-        ),
-        (PaddingMethod::One, _) => tag_of_reader::<CbcMac<TdesEde3, Method1>, R>(
-            key, reader, buffer,
-        ),
-        (PaddingMethod::Two, 8) => tag_of_reader::<CbcMac<Des, Method2>, R>(key, reader, buffer),
-        (PaddingMethod::Two, 16) => tag_of_reader::<CbcMac<TdesEde2, Method2>, R>(
-            key, reader, buffer,
-        ),
-        (PaddingMethod::Two, _) => tag_of_reader::<CbcMac<TdesEde3, Method2>, R>(
-            key, reader, buffer,
-        ),
+    match method {
+        Method::CbcMac(One) => tag_of_reader::<CbcMac<C, Method1>, R>(key, reader, buffer),
+        Method::CbcMac(Two) => tag_of_reader::<CbcMac<C, Method2>, R>(key, reader, buffer),
+        Method::Retail(One) => tag_of_reader::<RetailMac<Des, Method1>, R>(key, reader, buffer),
+        Method::Retail(Two) => tag_of_reader::<RetailMac<Des, Method2>, R>(key, reader, buffer),
+        Method::Cmac => tag_of_reader::<Cmac<C>, R>(key, reader, buffer),
     }
 }
 
-/// The tag of all that a reader has, read a buffer of one byte at least at a time. The fault is
-/// `KeyLength` where the method takes no key of these bytes, or `Read` where the reader failed.
+/// The tag of all that a reader has, read a buffer of one byte at least at a time. The key's size
+/// decides the cipher. The fault is `KeyLength` where the method takes no key of these bytes, or
+/// `Read` where the reader failed.
 pub fn tag_of<R: Read>(
     method: Method,
     key: &[u8],
@@ -96,21 +86,13 @@ pub fn tag_of<R: Read>(
     buffer: &mut [u8],
 ) -> Result<[u8; 8], Kind>
     requires { 0 < length buffer.old }
-    ensures tag { IfOk result (λ tag. (bytes : List ℕ)
-        × Consumes (R.remaining reader.old) (R.remaining reader.new) bytes
-        × IsAtEnd (R.remaining reader.new) × (tag ≡ tag_by method key.now bytes)) }
+    ensures tag { IfOk result (IsTagOfAll (tag_by method key.now)
+        (R.remaining reader.old) (R.remaining reader.new)) }
     ensures fault { IfErr result (FailsToAuthenticate (HasKeySize method key.now)) }
 {
-    match (method, key.len()) {
-        (Method::CbcMac(padding), _) => tag_of_chain(padding, key, reader, buffer),
-        (Method::Retail(PaddingMethod::One), _) => {
-            tag_of_reader::<RetailMac<Des, Method1>, R>(key, reader, buffer)
-        }
-        (Method::Retail(PaddingMethod::Two), _) => {
-            tag_of_reader::<RetailMac<Des, Method2>, R>(key, reader, buffer)
-        }
-        (Method::Cmac, 8) => tag_of_reader::<Cmac<Des>, R>(key, reader, buffer),
-        (Method::Cmac, 16) => tag_of_reader::<Cmac<TdesEde2>, R>(key, reader, buffer),
-        (Method::Cmac, _) => tag_of_reader::<Cmac<TdesEde3>, R>(key, reader, buffer),
+    match key.len() {
+        8 => tag_over::<Des, R>(method, key, reader, buffer),
+        16 => tag_over::<TdesEde2, R>(method, key, reader, buffer),
+        _ => tag_over::<TdesEde3, R>(method, key, reader, buffer),
     }
 }

@@ -2,14 +2,14 @@
 
 ghost use Rattle.std.specs.Prelude.{◌≡◌, ◌<◌, OnOk, IsTrue, ◌↔◌, ◌^◌, length};
 ghost use Rattle.des_commands.specs.Keys.{IsKeySize};
-ghost use Rattle.des_commands.specs.Notices.{name_of, words_of, notice_line, ruling_of as ruling_by, blocks_of as blocks_by, IsAccepted};
+ghost use Rattle.des_commands.specs.Notices.{notice_line, ruling_of as ruling_by, blocks_of as blocks_by, IsAccepted};
 ghost use Rattle.des_commands.specs.Written.{AppendsPrefix};
 ghost use Rattle.std.specs.Io.KnownBytes.{Appends};
 
 use crate::fault::Kind;
 use crate::keys::{Verdict, verdict_of};
 use crate::report::write_line;
-use crate::stream_request::WeakKeys;
+use crate::stream_request::{StreamRequest, WeakKeys};
 use des_io::{Padding, StreamError};
 use std::io::Write;
 
@@ -24,32 +24,8 @@ pub enum Notice {
     Limit,
 }
 
-/// The blocks that NIST SP 800-67 Rev. 2, 3.4, allows under one key of three parts.
-pub const BLOCKS_UNDER_ONE_KEY: u64 = 1048576;
-
-impl Notice {
-    fn name(self) -> &'static str
-        ensures { result.now ≡ name_of self }
-    {
-        match self {
-            Notice::WeakKey => "WeakKey",
-            Notice::DoubleLength => "DoubleLength",
-            Notice::Limit => "Limit",
-        }
-    }
-
-    fn words(self) -> &'static str
-        ensures { result.now ≡ words_of self }
-    {
-        match self {
-            Notice::WeakKey => "the key is weak, and is used",
-            Notice::DoubleLength =>
-                "the first and third parts of the key are one: this is des-ede with the first two",
-            Notice::Limit =>
-                "more than 2^20 blocks (8 MiB) are encrypted under one key (NIST SP 800-67)",
-        }
-    }
-}
+// The blocks that NIST SP 800-67 Rev. 2, 3.4, allows under one key of three parts.
+const BLOCKS_UNDER_ONE_KEY: u64 = 1048576;
 
 /// Writes the line of a notice. `about` is the file or option that it is about, or is empty.
 pub fn tell<E: Write>(notice: Notice, about: &str, err: &mut E) -> Result<(), StreamError>
@@ -58,7 +34,21 @@ pub fn tell<E: Write>(notice: Notice, about: &str, err: &mut E) -> Result<(), St
     ensures whole { OnOk result (Appends (E.contents err.old) (E.contents err.new)
         (notice_line notice about.now)) }
 {
-    write_line(notice.name(), about, notice.words(), err)
+    match notice {
+        Notice::WeakKey => write_line("WeakKey", about, "the key is weak, and is used", err),
+        Notice::DoubleLength => write_line(
+            "DoubleLength",
+            about,
+            "the first and third parts of the key are one: this is des-ede with the first two",
+            err,
+        ),
+        Notice::Limit => write_line(
+            "Limit",
+            about,
+            "more than 2^20 blocks (8 MiB) are encrypted under one key (NIST SP 800-67)",
+            err,
+        ),
+    }
 }
 
 /// What follows from a key's verdict: the fault `WeakKey`, a notice, or nothing. `Refuse` refuses a
@@ -83,36 +73,29 @@ pub fn ruling_of(
 /// Refuses a key of 8, 16 or 24 bytes, or writes the line of the notice that it needs. A line that
 /// can't be written is no fault. `about` is where the key was read, as `--key-env`.
 pub fn accept_key<E: Write>(
-    weak_keys: WeakKeys,
-    encrypts: bool,
+    request: &StreamRequest,
     key: &[u8],
     about: &str,
     err: &mut E,
 ) -> Result<(), Kind>
     requires { IsKeySize (length key.now) }
-    ensures { IsAccepted weak_keys encrypts key.now about.now result
+    ensures { IsAccepted request.now.weak_keys request.now.encrypts key.now about.now result
         (E.contents err.old) (E.contents err.new) }
 {
-    if let Some(notice) = ruling_of(weak_keys, encrypts, verdict_of(key))? {
+    if let Some(notice) = ruling_of(request.weak_keys, request.encrypts, verdict_of(key))? {
         let _ = tell(notice, about, err);
     }
     Ok(())
-}
-
-/// The whole blocks that this number of bytes is with its padding.
-pub fn blocks_of(padding: Padding, bytes: u64) -> u64
-    ensures { result ≡ blocks_by padding bytes }
-{
-    match padding {
-        Padding::Unpadded => bytes / 8,
-        Padding::Zeros => bytes.div_ceil(8),
-        Padding::Pkcs7 | Padding::Iso7816 => bytes / 8 + 1,
-    }
 }
 
 /// Whether this number of bytes is more blocks than `BLOCKS_UNDER_ONE_KEY` with its padding.
 pub fn is_past_limit(padding: Padding, bytes: u64) -> bool
     ensures { IsTrue result ↔ (2 ^ 20 < blocks_by padding bytes) }
 {
-    blocks_of(padding, bytes) > BLOCKS_UNDER_ONE_KEY
+    let blocks = match padding {
+        Padding::Unpadded => bytes / 8,
+        Padding::Zeros => bytes.div_ceil(8),
+        Padding::Pkcs7 | Padding::Iso7816 => bytes / 8 + 1,
+    };
+    blocks > BLOCKS_UNDER_ONE_KEY
 }

@@ -2,17 +2,18 @@
 
 ghost use Rattle.std.specs.Prelude.{◌≡◌, ◌⊎◌};
 
-use crate::descriptors::{Followed, Standing, follow, standing_of};
+use crate::descriptors::{Followed, folder_of, follow, standing_of};
 use crate::fault::{Kind, Reason};
 use crate::inputs::system_random;
 use crate::source::Source;
+use crate::stream_request::Output;
 use std::fs::{self, File, Metadata, OpenOptions, Permissions};
 use std::io::{self, ErrorKind};
 use std::os::unix::fs::{MetadataExt, OpenOptionsExt, PermissionsExt, fchown};
 use std::path::Path;
 
-/// The name of the file that standard output is.
-pub const STANDARD_OUTPUT: &str = "/proc/self/fd/1";
+// The name of the file that standard output is.
+const STANDARD_OUTPUT: &str = "/proc/self/fd/1";
 
 // Who may read, write and run a file, of the bits of its mode: all, the owner, and others.
 const PERMISSION_BITS: u32 = 0o777;
@@ -72,13 +73,22 @@ pub fn write_fault(error: io::Error) -> Kind
     }
 }
 
-/// Opens the output that a path names. The fault is `Write`, `Memory`, or `Source` where the system
-/// gives no random bytes for a name.
-pub fn open(rt: &HostRuntime, path: &str, readers: Readers) -> Result<Target, Kind> {
+/// Opens an output, unless it is the regular file of the secret, which it would replace. The fault is
+/// `Write`, `Memory`, or `Source` where the system gives no random bytes for a name.
+pub fn open(
+    rt: &HostRuntime,
+    output: Output,
+    readers: Readers,
+    secret: Source,
+) -> Result<Target, Kind> {
+    let path = match output {
+        Output::File(path) => path,
+        _ => STANDARD_OUTPUT,
+    };
+    refuse_file(rt, path, secret, Reason::IsSecret)?;
     match follow(rt, path).map_err(write_fault)? {
         Followed::Descriptor(number) => open_descriptor(rt, number),
         Followed::OtherDescriptor => Err(Kind::Write(Reason::Descriptor)),
-        Followed::NoText => Err(Kind::Write(Reason::Name)),
         Followed::Path { name, is_shared } => open_path(rt, path, name, is_shared, readers),
     }
 }
@@ -134,21 +144,16 @@ fn open_old(
         Readers::Owner => OWNER_BITS,
     };
     let mode = found.permissions().mode() & kept;
-    Ok(Target::Replaced(create_private(rt, name, mode, Some(found.gid()))?))
+    create_private(rt, name, mode, Some(found.gid()))
 }
 
-// The permissions of a new file beside a target.
+// The permissions of a new file beside a target: those that the system gives one, by the umask or the
+// folder's own list, unless it is to be its owner's. An empty file is made, looked at, and removed.
 fn mode_of(rt: &HostRuntime, target: &str, readers: Readers) -> Result<u32, Kind> {
-    match readers {
-        Readers::Owner => Ok(MODE_IN_WRITING),
-        Readers::AsBefore => mode_by_system(rt, target),
+    if readers == Readers::Owner {
+        return Ok(MODE_IN_WRITING);
     }
-}
-
-// The permissions that the system gives a file beside a target, by the umask or the folder's own
-// list: an empty file is made, looked at, and removed.
-fn mode_by_system(rt: &HostRuntime, target: &str) -> Result<u32, Kind> {
-    let Beside { path, file } = create_beside(rt, target, MODE_OF_NEW_FILES)?;
+    let (path, file) = create_beside(rt, target, MODE_OF_NEW_FILES)?;
     let found = file.metadata();
     fs::remove_file(rt, path.as_str()).map_err(write_fault)?;
     Ok(found.map_err(write_fault)?.permissions().mode() & PERMISSION_BITS)
@@ -163,10 +168,8 @@ fn open_new(rt: &HostRuntime, name: String, readers: Readers) -> Result<Target, 
         return Err(Kind::Write(Reason::NotFolder));
     }
     let mode = mode_of(rt, name.as_str(), readers)?;
-    Ok(Target::Replaced(create_private(rt, name, mode, None)?))
+    create_private(rt, name, mode, None)
 }
-
-// ---- descriptors
 
 // Standard output itself is written to: other programs may share its place. The system opens the
 // file of another descriptor anew. So a regular file is refused: what the descriptor's owner writes
@@ -175,64 +178,46 @@ fn open_descriptor(rt: &HostRuntime, number: u64) -> Result<Target, Kind> {
     if number == 1 {
         return Ok(Target::StandardOutput);
     }
-    let Standing { writes, .. } = standing_of(rt, number).map_err(write_fault)?;
-    if !writes {
+    if !standing_of(rt, number).map_err(write_fault)?.writes {
         return Err(Kind::Write(Reason::Permission));
     }
-    let file = open_anew(rt, number).map_err(write_fault)?;
-    match file.metadata() {
-        Ok(found) if found.is_file() => Err(Kind::Write(Reason::Reopened)),
-        Ok(_) => Ok(Target::AsItIs(file)),
-        Err(error) => Err(write_fault(error)),
-    }
-}
-
-fn open_anew(rt: &HostRuntime, number: u64) -> io::Result<File> {
     let path = format!(in rt.alloc(); "/dev/fd/{number}")?;
-    OpenOptions::new().write(true).open(rt, path.as_str())
+    let file = OpenOptions::new()
+        .write(true)
+        .open(rt, path.as_str())
+        .map_err(write_fault)?;
+    if file.metadata().map_err(write_fault)?.is_file() {
+        return Err(Kind::Write(Reason::Reopened));
+    }
+    Ok(Target::AsItIs(file))
 }
 
-/// Refuses an input that is the regular file of standard output, as `cat` does: it would grow for as
-/// long as it is read. The fault is `Write`.
-pub fn refuse_input(rt: &HostRuntime, path: &str) -> Result<(), Kind> {
-    match (fs::metadata(rt, path), fs::metadata(rt, STANDARD_OUTPUT)) {
-        (Ok(input), Ok(output)) if is_same_file(&input, &output) => {
-            Err(Kind::Write(Reason::IsInput))
-        }
-        _ => Ok(()),
-    }
-}
+// ---- inputs and secrets
 
 fn are_same(one: &Metadata, other: &Metadata) -> bool {
     one.dev() == other.dev() && one.ino() == other.ino()
 }
 
-fn is_same_file(one: &Metadata, other: &Metadata) -> bool {
-    one.is_file() && are_same(one, other)
-}
-
-/// Refuses an output that is the regular file of a secret, which it would replace. The fault is
-/// `Write` or `Memory`.
-pub fn refuse_secret(rt: &HostRuntime, path: &str, secret: Source) -> Result<(), Kind> {
-    match secret {
-        Source::StandardInput => refuse_file(rt, path, "/proc/self/fd/0"),
-        Source::File(name) => refuse_file(rt, path, name),
-        Source::Descriptor(number) => {
-            let name = format!(in rt.alloc(); "/proc/self/fd/{number}")?;
-            refuse_file(rt, path, name.as_str())
-        }
-        Source::Variable(_) => Ok(()),
-    }
-}
-
-// Refuses an output that is the regular file of the secret of a name.
-fn refuse_file(rt: &HostRuntime, path: &str, name: &str) -> Result<(), Kind> {
-    match (fs::metadata(rt, path), fs::metadata(rt, name)) {
-        (Ok(output), Ok(secret)) if is_same_file(&output, &secret) => {
-            Err(Kind::Write(Reason::IsSecret))
+// Refuses an output that is the regular file of a source, for a reason.
+fn refuse_file(rt: &HostRuntime, path: &str, source: Source, reason: Reason) -> Result<(), Kind> {
+    let name = match source {
+        Source::StandardInput => String::from_str(rt.alloc(), "/proc/self/fd/0")?,
+        Source::File(name) => String::from_str(rt.alloc(), name)?,
+        Source::Descriptor(number) => format!(in rt.alloc(); "/proc/self/fd/{number}")?,
+        Source::Variable(_) => return Ok(()),
+    };
+    match (fs::metadata(rt, path), fs::metadata(rt, name.as_str())) {
+        (Ok(output), Ok(other)) if output.is_file() && are_same(&output, &other) => {
+            Err(Kind::Write(reason))
         }
         _ => Ok(()),
     }
+}
+
+/// Refuses an input that is the regular file of standard output, as `cat` does: it would grow for as
+/// long as it is read. The fault is `Write` or `Memory`.
+pub fn refuse_input(rt: &HostRuntime, input: Source) -> Result<(), Kind> {
+    refuse_file(rt, STANDARD_OUTPUT, input, Reason::IsInput)
 }
 
 // ---- files beside
@@ -246,39 +231,23 @@ fn random_path(rt: &HostRuntime, target: &str) -> Result<String, Kind> {
     Ok(path.into_string())
 }
 
-// A new file beside a target.
-#[derive(Drop)]
-struct Beside {
-    path: String,
-    file: File,
-}
-
-// A new file of a mode, of which the umask or the folder's own list takes what it takes. A file that
-// stands already, or a link, is never opened.
-fn create(rt: &HostRuntime, path: &str, mode: u32) -> io::Result<File> {
-    OpenOptions::new()
-        .write(true)
-        .create_new(true)
-        .mode(mode)
-        .open(rt, path)
-}
-
-// The fault of a file that can't be made.
-fn create_fault(error: io::Error) -> Kind {
-    match error.kind() {
-        ErrorKind::PermissionDenied => Kind::Write(Reason::Folder),
-        _ => write_fault(error),
-    }
-}
-
-// A new file beside a target. Another name is tried where one is taken.
-fn create_beside(rt: &HostRuntime, target: &str, mode: u32) -> Result<Beside, Kind> {
+// A new file beside a target, and its path, of a mode of which the umask or the folder's own list takes what it
+// takes. A file that stands already, or a link, is never opened: another name is tried.
+fn create_beside(rt: &HostRuntime, target: &str, mode: u32) -> Result<(String, File), Kind> {
     for _ in 0..NAMES_AT_MOST {
         let path = random_path(rt, target)?;
-        match create(rt, path.as_str(), mode) {
-            Ok(file) => return Ok(Beside { path, file }),
-            Err(error) if error.kind() == ErrorKind::AlreadyExists => {}
-            Err(error) => return Err(create_fault(error)),
+        let created = OpenOptions::new()
+            .write(true)
+            .create_new(true)
+            .mode(mode)
+            .open(rt, path.as_str());
+        match created {
+            Ok(file) => return Ok((path, file)),
+            Err(error) => match error.kind() {
+                ErrorKind::AlreadyExists => {}
+                ErrorKind::PermissionDenied => return Err(Kind::Write(Reason::Folder)),
+                _ => return Err(write_fault(error)),
+            },
         }
     }
     Err(Kind::Write(Reason::Exists))
@@ -290,15 +259,15 @@ fn create_private(
     target: String,
     mode: u32,
     group: Option<u32>,
-) -> Result<PrivateFile, Kind> {
-    let Beside { path, file } = create_beside(rt, target.as_str(), MODE_IN_WRITING)?;
-    Ok(PrivateFile {
+) -> Result<Target, Kind> {
+    let (beside, file) = create_beside(rt, target.as_str(), MODE_IN_WRITING)?;
+    Ok(Target::Replaced(PrivateFile {
         target,
-        beside: path,
+        beside,
         mode,
         group,
         file,
-    })
+    }))
 }
 
 // The fault of a file that can't take the target's name.
@@ -313,10 +282,7 @@ impl PrivateFile {
     /// Ends the file. Where all went well it is flushed to the disk and takes the target's name.
     /// Where anything failed it is removed, and the target stays as it was.
     pub fn end(self, rt: &HostRuntime, outcome: Result<(), Kind>) -> Result<(), Kind> {
-        let outcome = match outcome {
-            Ok(()) => self.replace_target(rt).map_err(replace_fault),
-            Err(kind) => Err(kind),
-        };
+        let outcome = outcome.and_then(|()| self.replace_target(rt).map_err(replace_fault));
         if outcome.is_err() {
             // Where it can't be removed, at least only its owner may read it.
             let _ = self
@@ -348,15 +314,9 @@ impl PrivateFile {
         let mode = self.mode_in_group();
         let _ = self.file.set_permissions(Permissions::from_mode(mode));
         fs::rename(rt, self.beside.as_str(), self.target.as_str())?;
-        let _ = flush_folder(rt, self.target.as_str());
+        if let Ok(folder) = File::open(rt, folder_of(self.target.as_str())) {
+            let _ = folder.sync_all();
+        }
         Ok(())
-    }
-}
-
-// Flushes the folder of a path to the disk, and with it which file stands under the name.
-fn flush_folder(rt: &HostRuntime, path: &str) -> io::Result<()> {
-    match Path::new(path).parent() {
-        Some(folder) if !folder.as_os_str().is_empty() => File::open(rt, folder)?.sync_all(),
-        _ => File::open(rt, ".")?.sync_all(),
     }
 }

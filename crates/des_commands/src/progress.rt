@@ -1,87 +1,49 @@
-//! How far a stream is: rates, shares, the time left, and the lines that show them.
+//! How far a stream is, as lines on standard error show it.
 
-ghost use Rattle.std.specs.Prelude.{◌≡◌, ◌≤◌, ◌∷◌, ◌++◌, [], drop, replicate, IfOk};
-ghost use Rattle.std.specs.String.{string_bytes};
-ghost use Rattle.des_commands.specs.Progress.{beginning, rate_of as rate_by, share_of as share_by, seconds_left as seconds_by, line_of as line_by, last_line as last_by};
-
+use crate::report::send;
 use std::alloc::{AllocError, Global};
+use std::io::IsTerminal;
+use std::time::{Duration, Instant};
 
-/// How many bytes were read when a clock showed these milliseconds since the first.
+// How many bytes were read at a time.
 #[derive(Clone, Copy)]
-pub struct Mark {
-    pub milliseconds: u64,
-    pub bytes: u64,
+struct Mark {
+    at: Instant,
+    bytes: u64,
 }
 
-/// The last eight marks, the oldest first.
-pub type Window = [Mark; 8];
+// Lines come at least this far apart.
+const MILLISECONDS_BETWEEN: u64 = 500;
 
-/// What a line shows.
+/// When a stream began, and what was read of it at the last lines.
 #[derive(Clone, Copy)]
-pub struct View {
-    /// The bytes that were read.
-    pub bytes: u64,
-    /// Bytes a second.
-    pub rate: u64,
-    /// The bytes that there are, where that is known.
-    pub total: Option<u64>,
+pub struct Progress {
+    first: Mark,
+    // Those of the last eight lines, the oldest first.
+    marks: [Mark; 8],
+    // The bytes that there are to read, where that is known.
+    total: Option<u64>,
+    // Lines are written on the way, and not only the last one.
+    goes_on: bool,
 }
 
-/// A window whose marks stand at the beginning.
-pub fn first_window() -> Window
-    ensures { result ≡ replicate 8 beginning }
-{
-    [Mark {
-        milliseconds: 0,
-        bytes: 0,
-    }; 8]
-}
-
-/// The window with another mark, without the oldest.
-pub fn with_mark(window: Window, mark: Mark) -> Window
-    ensures { result ≡ drop 1 window ++ mark ∷ [] }
-{
-    let [_, second, third, fourth, fifth, sixth, seventh, eighth] = window;
-    [second, third, fourth, fifth, sixth, seventh, eighth, mark]
-}
-
-/// Bytes a second between two marks: from less than a millisecond as if it were one.
-pub fn rate_of(from: Mark, to: Mark) -> u64
-    ensures { result ≡ rate_by from to }
-{
+// Bytes a second between two marks: from less than a millisecond as if it were one.
+fn rate_of(from: Mark, to: Mark) -> u64 {
     let bytes = to.bytes.saturating_sub(from.bytes) as u128;
-    let milliseconds = to.milliseconds.saturating_sub(from.milliseconds).max(1) as u128;
+    let milliseconds = to.at.duration_since(from.at).as_millis().max(1);
     (bytes * 1000 / milliseconds).min(u64::MAX as u128) as u64
 }
 
-/// How many hundredths of the whole were read: at most 100, also where a file grew meanwhile.
-pub fn share_of(bytes: u64, total: u64) -> u64
-    ensures share { result ≡ share_by bytes total }
-    ensures most { result ≤ 100 }
-{
-    (bytes as u128 * 100 / total.max(1) as u128).min(100) as u64
-}
-
-/// The seconds until the rest is read, rounded up; the rate is taken as one byte a second at least.
-pub fn seconds_left(bytes: u64, total: u64, rate: u64) -> u64
-    ensures { result ≡ seconds_by bytes total rate }
-{
-    total.saturating_sub(bytes).div_ceil(rate.max(1))
-}
-
-/// The line of a stream that goes on: bytes, the rate in millions of bytes a second, and where the
-/// length is known the share and the time left.
-pub fn line_of(alloc: Global, view: View) -> Result<String, AllocError>
-    ensures { IfOk result (λ text. string_bytes text ≡ line_by view) }
-{
-    let View { bytes, rate, total } = view;
+// The line of a stream that goes on: bytes, the rate in millions of bytes a second, and where the
+// length is known the share, at most 100 also where a file grew meanwhile, and the time left.
+fn line_of(alloc: Global, bytes: u64, rate: u64, total: Option<u64>) -> Result<String, AllocError> {
     let whole = rate / 1000000;
     let tenths = rate / 100000 % 10;
     match total {
         None => format!(in alloc; "cukvashe: {bytes} bytes, {whole}.{tenths} MB/s\n"),
         Some(total) => {
-            let share = share_of(bytes, total);
-            let left = seconds_left(bytes, total, rate);
+            let share = (bytes as u128 * 100 / total.max(1) as u128).min(100);
+            let left = total.saturating_sub(bytes).div_ceil(rate.max(1));
             format!(in alloc;
                 "cukvashe: {bytes} bytes, {whole}.{tenths} MB/s, {share} %, {left} s left\n"
             )
@@ -89,24 +51,64 @@ pub fn line_of(alloc: Global, view: View) -> Result<String, AllocError>
     }
 }
 
-/// The line of a stream that ended: all bytes, the seconds that it took, and the mean rate.
-pub fn last_line(alloc: Global, end: Mark) -> Result<String, AllocError>
-    ensures { IfOk result (λ text. string_bytes text ≡ last_by end) }
-{
-    let Mark {
-        milliseconds,
-        bytes,
-    } = end;
-    let rate = rate_of(
-        Mark {
-            milliseconds: 0,
-            bytes: 0,
-        },
-        end,
-    );
+// The line of a stream that ended: all bytes, the seconds that it took, and the mean rate.
+fn last_line(alloc: Global, first: Mark, last: Mark) -> Result<String, AllocError> {
+    let bytes = last.bytes;
+    let milliseconds = last.at.duration_since(first.at).as_millis();
     let seconds = milliseconds / 1000;
     let tenth = milliseconds / 100 % 10;
+    let rate = rate_of(first, last);
     let whole = rate / 1000000;
     let tenths = rate / 100000 % 10;
     format!(in alloc; "cukvashe: {bytes} bytes in {seconds}.{tenth} s, {whole}.{tenths} MB/s\n")
+}
+
+// Writes a line, where there was memory for it.
+fn show(rt: &HostRuntime, line: Result<String, AllocError>) {
+    if let Ok(line) = line {
+        let _ = send(&mut rt.stderr(), line.as_bytes());
+    }
+}
+
+impl Progress {
+    /// A stream that begins, unless the clock can't be read. Where standard error is no terminal,
+    /// the last line alone is written.
+    pub fn begin(rt: &HostRuntime, total: Option<u64>) -> Option<Progress> {
+        let at = Instant::now(rt).ok()?;
+        let first = Mark { at, bytes: 0 };
+        Some(Progress {
+            first,
+            marks: [first; 8],
+            total,
+            goes_on: rt.stderr().is_terminal(),
+        })
+    }
+
+    /// Writes a line where the last one is long ago. A clock that can't be read shows nothing.
+    pub fn go_on(self, rt: &HostRuntime, bytes: u64) -> Progress {
+        let Ok(at) = Instant::now(rt) else {
+            return self;
+        };
+        let [oldest, second, third, fourth, fifth, sixth, seventh, last] = self.marks;
+        let since = at.duration_since(last.at);
+        if !self.goes_on || since < Duration::from_millis(MILLISECONDS_BETWEEN) {
+            return self;
+        }
+        let mark = Mark { at, bytes };
+        show(
+            rt,
+            line_of(rt.alloc(), bytes, rate_of(oldest, mark), self.total),
+        );
+        Progress {
+            marks: [second, third, fourth, fifth, sixth, seventh, last, mark],
+            ..self
+        }
+    }
+
+    /// Writes the last line.
+    pub fn end(self, rt: &HostRuntime, bytes: u64) {
+        if let Ok(at) = Instant::now(rt) {
+            show(rt, last_line(rt.alloc(), self.first, Mark { at, bytes }));
+        }
+    }
 }

@@ -13,22 +13,6 @@ use des_io::StreamError;
 use des_io::pieces::write_whole;
 use std::io::Write;
 
-// The status of a result that was written.
-const WRITTEN: u8 = 0;
-
-// Writes texts one after another.
-fn write_texts<W: Write>(out: &mut W, texts: &[&str]) -> Result<(), StreamError>
-    ensures part { AppendsPrefix (W.contents out.old) (W.contents out.new)
-        (flat_map (λ text. text.now) texts.now) }
-    ensures whole { OnOk result (Appends (W.contents out.old) (W.contents out.new)
-        (flat_map (λ text. text.now) texts.now)) }
-{
-    for text in texts {
-        write_whole(out, text.as_bytes())?;
-    }
-    Ok(())
-}
-
 /// Writes the bytes and flushes. Where that fails, a prefix of them is written, and the fault is
 /// `Write`.
 pub fn send<W: Write>(out: &mut W, bytes: &[u8]) -> Result<(), Kind>
@@ -61,19 +45,6 @@ fn has_control(text: &[u8]) -> bool
     text.iter().any(|byte| byte.is_ascii_control())
 }
 
-// Writes a text with its control characters shown, byte by byte.
-fn write_each<E: Write>(err: &mut E, text: &[u8]) -> Result<(), StreamError>
-    ensures part { AppendsPrefix (E.contents err.old) (E.contents err.new)
-        (map shown_byte_of text.now) }
-    ensures whole { OnOk result (Appends (E.contents err.old) (E.contents err.new)
-        (map shown_byte_of text.now)) }
-{
-    for byte in text {
-        write_whole(err, &[shown_byte(*byte)])?;
-    }
-    Ok(())
-}
-
 // Writes a text with its control characters shown; without any, at once.
 fn write_shown<E: Write>(err: &mut E, text: &[u8]) -> Result<(), StreamError>
     ensures part { AppendsPrefix (E.contents err.old) (E.contents err.new)
@@ -81,11 +52,26 @@ fn write_shown<E: Write>(err: &mut E, text: &[u8]) -> Result<(), StreamError>
     ensures whole { OnOk result (Appends (E.contents err.old) (E.contents err.new)
         (map shown_byte_of text.now)) }
 {
-    if has_control(text) {
-        write_each(err, text)
-    } else {
-        write_whole(err, text)
+    if !has_control(text) {
+        return write_whole(err, text);
     }
+    for byte in text {
+        write_whole(err, &[shown_byte(*byte)])?;
+    }
+    Ok(())
+}
+
+// Writes texts one after another.
+fn write_texts<W: Write>(out: &mut W, texts: &[&str]) -> Result<(), StreamError>
+    ensures part { AppendsPrefix (W.contents out.old) (W.contents out.new)
+        (flat_map (λ text. text.now) texts.now) }
+    ensures whole { OnOk result (Appends (W.contents out.old) (W.contents out.new)
+        (flat_map (λ text. text.now) texts.now)) }
+{
+    for text in texts {
+        write_whole(out, text.as_bytes())?;
+    }
+    Ok(())
 }
 
 /// Writes a line of a fault or a notice: its name, what it is about, where that is not empty, and
@@ -139,14 +125,8 @@ pub fn show<S: Sentences, W: Write, E: Write>(
 {
     match outcome {
         Ok(text) => match send(out, text.as_slice()) {
-            Ok(()) => WRITTEN,
-            Err(kind) => {
-                let fault = Fault {
-                    kind,
-                    about: "standard output",
-                };
-                tell::<S, E>(fault, err)
-            }
+            Ok(()) => 0,
+            Err(kind) => tell::<S, E>(Fault::about(kind, "standard output"), err),
         },
         Err(fault) => tell::<S, E>(*fault, err),
     }

@@ -1,6 +1,9 @@
 //! What is said of each fault, after its name and what it is about. No clause promises a wording: runs
 //! of the program compare each that a command line reaches.
 
+ghost use Rattle.std.specs.Prelude.{ℕ, List, ⊤};
+ghost use Rattle.des_commands.specs.declared.fault.Kind.{Kind};
+
 use crate::fault::{Field, FileFault, Kind, Misuse, Reason};
 use des_payment::emv_error::EmvError;
 use des_payment::key_block_error::KeyBlockError;
@@ -10,9 +13,6 @@ use des_payment::{CvvError, PinError, TranslationError, VerificationError};
 /// proved for any. So a line is made of the fault, its sentence and what it is about, and of nothing
 /// else that the caller knows, as a key or a PIN.
 pub trait Sentences {
-    ghost use Rattle.std.specs.Prelude.{ℕ, List};
-    ghost use Rattle.des_commands.specs.declared.fault.Kind.{Kind};
-
     ghost says: { Kind → List ℕ → Type 0 };
 
     /// The sentence of a fault.
@@ -24,129 +24,16 @@ pub trait Sentences {
 pub struct English;
 
 impl Sentences for English {
-    ghost use Rattle.std.specs.Prelude.{⊤};
-
     ghost says = { λ _ _. ⊤ };
 
     fn sentence(kind: Kind) -> &'static str {
-        kind.words()
-    }
-}
-
-impl Reason {
-    fn words(self) -> &'static str {
-        match self {
-            Reason::NotFound => "there is no such file",
-            Reason::Permission => "permission denied",
-            Reason::IsFolder => "it is a folder",
-            Reason::NotFolder => "a part of the path is no folder",
-            Reason::Loop => "its symbolic links go in a circle",
-            Reason::Name => "the file system takes no such name",
-            Reason::Exists => "the name is taken",
-            Reason::Full => "no space is left",
-            Reason::TooLarge => "the file would be too large",
-            Reason::ReadOnly => "the file system is read-only",
-            Reason::Closed => "nobody reads it any more",
-            Reason::IsInput => "it is the input too",
-            Reason::IsSecret => "it is the file of the key or the password",
-            Reason::Reopened => "it leads to a regular file: give the file's path",
-            Reason::Descriptor =>
-                "it is a descriptor under another name, or of another process: give - or /dev/fd/N",
-            Reason::Folder =>
-                "no file can be made in its folder: to write a file that is there, give --out -, and redirect that",
-            Reason::Busy =>
-                "it is mounted or in use, so that nothing can replace it: give --out -, and redirect that",
-            Reason::Other => "the system refused it",
-        }
-    }
-}
-
-impl Misuse {
-    fn words(self) -> &'static str {
-        match self {
-            Misuse::KeySource => "give one of --key-file, --key-fd and --key-env",
-            Misuse::ToKeySource => "give one of --to-key-file, --to-key-fd and --to-key-env",
-            Misuse::StandardInputTwice => "only one of the files can be standard input",
-            Misuse::VectorNeeded => "CBC needs --iv",
-            Misuse::VectorOfEcb => "ECB takes no --iv",
-            Misuse::RandomToDecrypt => "random is for encryption; first-block reads what it wrote",
-            Misuse::FirstBlockToEncrypt =>
-                "first-block is for decryption; random writes what it reads",
-            Misuse::PartToEncrypt => "--from and --blocks are for decryption",
-            Misuse::Terminal => "no bytes are written to a terminal, unless --out - asks for it",
-            Misuse::PaddingOfCmac => "CMAC takes no --padding",
-            Misuse::PaddingNeeded => "CBC-MAC and retail MAC need --padding",
-            Misuse::Account => "give one of --account and --account-file",
-            Misuse::AccountOfFormat => "formats 1 and 2 have no account number",
-            Misuse::Arguments => "the command doesn't take these words (see --help)",
-            Misuse::Components =>
-                "give --part-file twice or more, or --count and one source of all",
-            Misuse::Fill => "formats 0 and 2 take no --fill",
-            Misuse::FillNeeded => "formats 1 and 3 need --fill, ten digits",
-            Misuse::LengthOfVerify =>
-                "--verify takes no --length: it compares as many bytes as its tag has",
-            Misuse::ResponseOfPin => "--response is for mac, data and data-variant",
-            Misuse::Session => "give one of --counter and --cryptogram",
-            Misuse::ProtectionKeySource =>
-                "give one of --protection-key-file, --protection-key-fd and --protection-key-env",
-            Misuse::PasswordSource =>
-                "give one of --password-file, --password-fd and --password-env, and no key",
-            Misuse::KeyOrPasswordSource =>
-                "give one of --key-file, --key-fd, --key-env, --password-file, --password-fd and --password-env",
-            Misuse::PasswordNeeded => "--derive, --any-count and --no-salt are for a password",
-            Misuse::VectorOfPassword => "a password gives the vector too: leave out --iv",
-            Misuse::Derivation =>
-                "md5, sha1, sha256, pbkdf2-sha1:COUNT or pbkdf2-sha256:COUNT is needed",
-            Misuse::DerivationNeeded =>
-                "decryption needs --derive md5, sha1, sha256, pbkdf2-sha1:COUNT or pbkdf2-sha256:COUNT",
-            Misuse::DerivationToEncrypt => "encryption takes pbkdf2-sha256:COUNT alone",
-            Misuse::Count => "more than 10000000 iterations need --any-count",
-            Misuse::NoText => "an argument is no text",
-        }
-    }
-}
-
-impl FileFault {
-    fn words(self) -> &'static str {
-        match self {
-            FileFault::Salted =>
-                "the input begins with Salted__: it is under a password, with a salt (see --password-file and --no-salt)",
-            FileFault::SaltedText =>
-                "the input begins as Base64 of Salted__: it is under a password, with a salt (see --password-file and --base64)",
-            FileFault::NotSalted =>
-                "the input does not begin with Salted__ (see --no-salt and --base64)",
-            FileFault::SaltCut => "the input ends within the salt",
-            FileFault::Base64 => "it is no Base64",
-            FileFault::Begin => "no line begins an encrypted private key",
-            FileFault::End => "no line ends the key as it begins",
-            FileFault::NotEncrypted => "the key is not encrypted",
-            FileFault::NoDekInfo => "no DEK-Info follows Proc-Type",
-            FileFault::Cipher => "the cipher is neither DES-EDE3-CBC nor, of DEK-Info, DES-CBC",
-            FileFault::DekVector => "the vector of DEK-Info does not have 16 hexadecimal digits",
-            FileFault::EmptyLine => "no empty line follows DEK-Info",
-            FileFault::Structure => "it is not the DER of an encrypted private key",
-            FileFault::Algorithm => "the algorithm is neither PBES2 nor pbeWithMD5AndDES-CBC",
-            FileFault::KeyDerivation => "the key is not derived by PBKDF2",
-            FileFault::Iterations =>
-                "there are no iterations, or more than 10000000 (see --any-count)",
-            FileFault::KeySize => "the key of the cipher does not have 24 bytes",
-            FileFault::Prf => "PBKDF2 is neither with HMAC-SHA-1 nor with HMAC-SHA-256",
-            FileFault::KeyPadding => "wrong password",
-            FileFault::Unpadded => "wrong password or --derive, or a damaged file",
-            FileFault::Password => "wrong password",
-        }
-    }
-}
-
-impl Kind {
-    fn words(self) -> &'static str {
-        match self {
-            Kind::Usage(misuse) => misuse.words(),
-            Kind::Source(reason) | Kind::Read(reason) | Kind::Write(reason) => reason.words(),
+        match kind {
+            Kind::Usage(misuse) => misuse_words(misuse),
+            Kind::Source(reason) | Kind::Read(reason) | Kind::Write(reason) => reason_words(reason),
             Kind::Variable => "the environment has no such variable of text",
             Kind::InputLength => "the input is too long",
             Kind::KeyLength(size) => key_words(size),
-            Kind::ToKeyLength => key_words(0),
+            Kind::ToKeyLength => key_words(None),
             Kind::KeyText | Kind::ToKeyText => {
                 "the key has a character that is no hexadecimal digit"
             }
@@ -158,10 +45,10 @@ impl Kind {
             Kind::Tag => "8, 10, 12, 14 or 16 hexadecimal digits are needed",
             Kind::Value => "4 digits are needed",
             Kind::Offset => "4 to 12 digits are needed",
-            Kind::Counter | Kind::Code => "4 hexadecimal digits are needed",
-            Kind::Status => "8 hexadecimal digits are needed",
-            Kind::Data => "at most 16 hexadecimal digits are needed, two for each byte",
-            Kind::DataText => "hexadecimal digits are needed, two for each byte",
+            Kind::Counter | Kind::ResponseCode => "4 hexadecimal digits are needed",
+            Kind::CardStatus => "8 hexadecimal digits are needed",
+            Kind::IssuerData => "at most 16 hexadecimal digits are needed, two for each byte",
+            Kind::CryptogramData => "hexadecimal digits are needed, two for each byte",
             Kind::BlockLength => "a block of 16 hexadecimal digits is needed",
             Kind::BlockText => "the block has a character that is no hexadecimal digit",
             Kind::SerialLength => "a key serial number has 20 hexadecimal digits",
@@ -177,9 +64,10 @@ impl Kind {
             Kind::Translation(error) => translation_words(error),
             Kind::Verification(error) => verification_words(error),
             Kind::Emv(error) => emv_words(error),
-            Kind::Field(field) => field_words(field),
+            Kind::Field(Field::Usage | Field::KeyVersion) => "two letters or digits are needed",
+            Kind::Field(_) => "a letter or digit is needed",
             Kind::KeyBlock(error) => key_block_words(error),
-            Kind::File(fault) => fault.words(),
+            Kind::File(fault) => file_words(fault),
             Kind::EmptyPassword => "the password is empty",
             Kind::Memory => "a request for memory was refused",
             Kind::Length => "the input ends within a block of 8 bytes",
@@ -189,13 +77,110 @@ impl Kind {
     }
 }
 
-// What is said of a wrong number of digits: a key of `size` bytes is needed, or for 0 one of 8, 16
-// or 24.
-fn key_words(size: u8) -> &'static str {
+// What is said of what can't be read or written.
+fn reason_words(reason: Reason) -> &'static str {
+    match reason {
+        Reason::NotFound => "there is no such file",
+        Reason::Permission => "permission denied",
+        Reason::IsFolder => "it is a folder",
+        Reason::NotFolder => "a part of the path is no folder",
+        Reason::Loop => "its symbolic links go in a circle",
+        Reason::Name => "the file system takes no such name",
+        Reason::Exists => "the name is taken",
+        Reason::Full => "no space is left",
+        Reason::TooLarge => "the file would be too large",
+        Reason::ReadOnly => "the file system is read-only",
+        Reason::Closed => "nobody reads it any more",
+        Reason::IsInput => "it is the input too",
+        Reason::IsSecret => "it is the file of the key or the password",
+        Reason::Reopened => "it leads to a regular file: give the file's path",
+        Reason::Descriptor =>
+            "it is a descriptor under another name, or of another process: give - or /dev/fd/N",
+        Reason::Folder =>
+            "no file can be made in its folder: to write a file that is there, give --out -, and redirect that",
+        Reason::Busy =>
+            "it is mounted or in use, so that nothing can replace it: give --out -, and redirect that",
+        Reason::Other => "the system refused it",
+    }
+}
+
+// What is said of a command line.
+fn misuse_words(misuse: Misuse) -> &'static str {
+    match misuse {
+        Misuse::KeySource => "give one of --key-file, --key-fd and --key-env",
+        Misuse::ToKeySource => "give one of --to-key-file, --to-key-fd and --to-key-env",
+        Misuse::StandardInputTwice => "only one of the files can be standard input",
+        Misuse::VectorNeeded => "CBC needs --iv",
+        Misuse::VectorOfEcb => "ECB takes no --iv",
+        Misuse::RandomToDecrypt => "random is for encryption; first-block reads what it wrote",
+        Misuse::FirstBlockToEncrypt => "first-block is for decryption; random writes what it reads",
+        Misuse::PartToEncrypt => "--from and --blocks are for decryption",
+        Misuse::Terminal => "no bytes are written to a terminal, unless --out - asks for it",
+        Misuse::PaddingOfCmac => "CMAC takes no --padding",
+        Misuse::PaddingNeeded => "CBC-MAC and retail MAC need --padding",
+        Misuse::Account => "give one of --account and --account-file",
+        Misuse::AccountOfFormat => "formats 1 and 2 have no account number",
+        Misuse::Arguments => "the command doesn't take these words (see --help)",
+        Misuse::Components => "give --part-file twice or more, or --count and one source of all",
+        Misuse::Fill => "formats 0 and 2 take no --fill",
+        Misuse::FillNeeded => "formats 1 and 3 need --fill, ten digits",
+        Misuse::LengthOfVerify =>
+            "--verify takes no --length: it compares as many bytes as its tag has",
+        Misuse::ResponseOfPin => "--response is for mac, data and data-variant",
+        Misuse::Session => "give one of --counter and --cryptogram",
+        Misuse::ProtectionKeySource =>
+            "give one of --protection-key-file, --protection-key-fd and --protection-key-env",
+        Misuse::PasswordSource =>
+            "give one of --password-file, --password-fd and --password-env, and no key",
+        Misuse::KeyOrPasswordSource =>
+            "give one of --key-file, --key-fd, --key-env, --password-file, --password-fd and --password-env",
+        Misuse::PasswordNeeded => "--derive, --any-count and --no-salt are for a password",
+        Misuse::VectorOfPassword => "a password gives the vector too: leave out --iv",
+        Misuse::Derivation =>
+            "md5, sha1, sha256, pbkdf2-sha1:COUNT or pbkdf2-sha256:COUNT is needed",
+        Misuse::DerivationNeeded =>
+            "decryption needs --derive md5, sha1, sha256, pbkdf2-sha1:COUNT or pbkdf2-sha256:COUNT",
+        Misuse::DerivationToEncrypt => "encryption takes pbkdf2-sha256:COUNT alone",
+        Misuse::Count => "more than 10000000 iterations need --any-count",
+        Misuse::NoText => "an argument is no text",
+    }
+}
+
+// What is said of a file under a password.
+fn file_words(fault: FileFault) -> &'static str {
+    match fault {
+        FileFault::Salted =>
+            "the input begins with Salted__: it is under a password, with a salt (see --password-file and --no-salt)",
+        FileFault::SaltedText =>
+            "the input begins as Base64 of Salted__: it is under a password, with a salt (see --password-file and --base64)",
+        FileFault::NotSalted =>
+            "the input does not begin with Salted__ (see --no-salt and --base64)",
+        FileFault::SaltCut => "the input ends within the salt",
+        FileFault::Base64 => "it is no Base64",
+        FileFault::Begin => "no line begins an encrypted private key",
+        FileFault::End => "no line ends the key as it begins",
+        FileFault::NotEncrypted => "the key is not encrypted",
+        FileFault::NoDekInfo => "no DEK-Info follows Proc-Type",
+        FileFault::Cipher => "the cipher is neither DES-EDE3-CBC nor, of DEK-Info, DES-CBC",
+        FileFault::DekVector => "the vector of DEK-Info does not have 16 hexadecimal digits",
+        FileFault::EmptyLine => "no empty line follows DEK-Info",
+        FileFault::Structure => "it is not the DER of an encrypted private key",
+        FileFault::Algorithm => "the algorithm is neither PBES2 nor pbeWithMD5AndDES-CBC",
+        FileFault::KeyDerivation => "the key is not derived by PBKDF2",
+        FileFault::Iterations => "there are no iterations, or more than 10000000 (see --any-count)",
+        FileFault::KeySize => "the key of the cipher does not have 24 bytes",
+        FileFault::Prf => "PBKDF2 is neither with HMAC-SHA-1 nor with HMAC-SHA-256",
+        FileFault::Unpadded => "wrong password or --derive, or a damaged file",
+        FileFault::KeyPadding | FileFault::Password => "wrong password",
+    }
+}
+
+// What is said of a wrong number of digits: a key of `size` bytes is needed, or one of 8, 16 or 24.
+fn key_words(size: Option<u8>) -> &'static str {
     match size {
-        8 => "a key of 16 hexadecimal digits is needed",
-        16 => "a key of 32 hexadecimal digits is needed",
-        24 => "a key of 48 hexadecimal digits is needed",
+        Some(8) => "a key of 16 hexadecimal digits is needed",
+        Some(16) => "a key of 32 hexadecimal digits is needed",
+        Some(24) => "a key of 48 hexadecimal digits is needed",
         _ => "a key of 16, 32 or 48 hexadecimal digits is needed",
     }
 }
@@ -228,7 +213,7 @@ fn card_words(error: CvvError) -> &'static str {
 // words.
 fn translation_words(error: TranslationError) -> &'static str {
     match error {
-        TranslationError::KeyLength => key_words(0),
+        TranslationError::KeyLength => key_words(None),
         TranslationError::Formats => "there is no such translation",
         TranslationError::AccountLength => "an account number of 8 to 19 digits is needed",
         TranslationError::AccountDigit => "the account number has a character that is no digit",
@@ -243,7 +228,7 @@ fn verification_words(error: VerificationError) -> &'static str {
         VerificationError::AccountLength => "an account number of 12 to 19 digits is needed",
         VerificationError::AccountDigit => "the account number has a character that is no digit",
         VerificationError::KeyIndex => "an index from 1 to 6 is needed",
-        VerificationError::KeyLength => key_words(0),
+        VerificationError::KeyLength => key_words(None),
         VerificationError::PinLength => "a PIN has 4 to 12 digits",
         VerificationError::TableLength => "a decimalization table has 16 digits",
         VerificationError::TableDigit =>
@@ -262,14 +247,6 @@ fn emv_words(error: EmvError) -> &'static str {
         EmvError::SequenceLength => "a sequence number has 2 digits",
         EmvError::SequenceDigit => "the sequence number has a character that is no digit",
         EmvError::DataLength => "at most 16 hexadecimal digits are needed, two for each byte",
-    }
-}
-
-// What is said of a field of a key block's header.
-fn field_words(field: Field) -> &'static str {
-    match field {
-        Field::Usage | Field::KeyVersion => "two letters or digits are needed",
-        Field::Algorithm | Field::Mode | Field::Exportability => "a letter or digit is needed",
     }
 }
 

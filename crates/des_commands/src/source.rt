@@ -1,14 +1,12 @@
 //! Secrets and other short inputs: where their texts are, and how they are read.
 
 ghost use Rattle.std.specs.Prelude.{◌≡◌, ◌≤◌, ◌<◌, length, IfOk, IfErr};
-ghost use Rattle.std.specs.Char.{is_ascii_digit, is_ascii_hexdigit};
 ghost use Rattle.std.specs.Io.KnownBytes.{Consumes, IsAtEnd};
-ghost use Rattle.des_commands.specs.Sources.{IsAllOf, FailsToGive, shown_path, name_of_source, may_be_secret as may_be_secret_of, is_between as is_between_of, count_of, count_beside, are_mostly};
+ghost use Rattle.des_commands.specs.Sources.{IsAllOf, FailsToGive, shown_path, name_of_source, may_be_secret as may_be_secret_of, is_between as is_between_of, is_digit as is_digit_of, digits_in, others_in, are_mostly as are_mostly_of};
 
 use crate::digits::{is_space, strip};
 use crate::fault::{Kind, Reason};
-use crate::inputs;
-use des_io::StreamError;
+use crate::inputs::{self, of_source, source_fault};
 use des_io::pieces::fill;
 use std::alloc::Global;
 use std::env::{self, VarError};
@@ -34,65 +32,43 @@ pub const LONGEST_TEXT: usize = 4096;
 fn is_between(byte: u8) -> bool
     ensures { result ≡ is_between_of byte }
 {
-    is_space(byte)
-        || matches!(
-            byte,
-            b':' | b'-'
-                | b'_'
-                | b'.'
-                | b','
-                | b';'
-                | b'/'
-                | b'\\'
-                | b'='
-                | b'\''
-                | b'"'
-                | b'x'
-                | b'X'
-        )
+    is_space(byte) || b":-_.,;/\\='\"xX".contains(&byte)
 }
 
-fn count_decimal(path: &[u8]) -> usize
-    ensures { result ≡ count_of is_ascii_digit path.now }
+// Whether a character is a digit: a hexadecimal one, or else a decimal one.
+fn is_digit(is_hexadecimal: bool, byte: u8) -> bool
+    ensures { result ≡ is_digit_of is_hexadecimal byte }
 {
-    path.iter().filter(|byte| byte.is_ascii_digit()).count()
+    if is_hexadecimal {
+        byte.is_ascii_hexdigit()
+    } else {
+        byte.is_ascii_digit()
+    }
 }
 
-// How many characters there are that are neither decimal digits nor between digits.
-fn count_beside_decimal(path: &[u8]) -> usize
-    ensures { result ≡ count_beside is_ascii_digit path.now }
+fn count_digits(is_hexadecimal: bool, path: &[u8]) -> usize
+    ensures { result ≡ digits_in is_hexadecimal path.now }
 {
     path.iter()
-        .filter(|byte| !byte.is_ascii_digit() && !is_between(**byte))
+        .filter(|byte| is_digit(is_hexadecimal, **byte))
         .count()
 }
 
-fn are_decimal(path: &[u8]) -> bool
-    ensures { result ≡ are_mostly is_ascii_digit 4 path.now }
-{
-    let digits = count_decimal(path);
-    digits >= 4 && count_beside_decimal(path) <= digits / 4
-}
-
-fn count_hexadecimal(path: &[u8]) -> usize
-    ensures { result ≡ count_of is_ascii_hexdigit path.now }
-{
-    path.iter().filter(|byte| byte.is_ascii_hexdigit()).count()
-}
-
-fn count_beside_hexadecimal(path: &[u8]) -> usize
-    ensures { result ≡ count_beside is_ascii_hexdigit path.now }
+// How many characters there are that are neither digits nor between digits.
+fn count_others(is_hexadecimal: bool, path: &[u8]) -> usize
+    ensures { result ≡ others_in is_hexadecimal path.now }
 {
     path.iter()
-        .filter(|byte| !byte.is_ascii_hexdigit() && !is_between(**byte))
+        .filter(|byte| !is_digit(is_hexadecimal, **byte) && !is_between(**byte))
         .count()
 }
 
-fn are_hexadecimal(path: &[u8]) -> bool
-    ensures { result ≡ are_mostly is_ascii_hexdigit 15 path.now }
+// Whether a path has these digits at least, and for four of them one other character at most.
+fn are_mostly(is_hexadecimal: bool, least: usize, path: &[u8]) -> bool
+    ensures { result ≡ are_mostly_of is_hexadecimal least path.now }
 {
-    let digits = count_hexadecimal(path);
-    digits >= 15 && count_beside_hexadecimal(path) <= digits / 4
+    let digits = count_digits(is_hexadecimal, path);
+    digits >= least && count_others(is_hexadecimal, path) <= digits / 4
 }
 
 // Whether a path may be a secret that was typed in the place of a file's name: a PIN or an account
@@ -100,7 +76,7 @@ fn are_hexadecimal(path: &[u8]) -> bool
 fn may_be_secret(path: &str) -> bool
     ensures { result ≡ may_be_secret_of path.now }
 {
-    are_decimal(path.as_bytes()) || are_hexadecimal(path.as_bytes())
+    are_mostly(false, 4, path.as_bytes()) || are_mostly(true, 15, path.as_bytes())
 }
 
 // A path as a fault shows it.
@@ -127,16 +103,6 @@ impl<'a> Source<'a> {
             Source::Descriptor(_) => "--key-fd",
             Source::Variable(_) => "--key-env",
         }
-    }
-}
-
-// A fault of the reader is one of the source.
-fn source_fault(error: StreamError) -> Kind
-    ensures { (reason : Reason) × (result ≡ Kind.Source reason) }
-{
-    match error {
-        StreamError::Read(error) => Kind::Source(Reason::of(&error)),
-        _ => Kind::Source(Reason::Other),
     }
 }
 
@@ -170,39 +136,12 @@ fn bytes_of_file(rt: &HostRuntime, path: &str, longest: usize) -> Result<Vec<u8>
     bytes_of_reader(rt.alloc(), &mut input.file, longest)
 }
 
-// The fault of an input that is a source.
-fn of_source(kind: Kind) -> Kind {
-    match kind {
-        Kind::Read(reason) => Kind::Source(reason),
-        kind => kind,
-    }
-}
-
-// A descriptor is opened by its name, and read from where it stands.
-fn bytes_of_descriptor(rt: &HostRuntime, number: u64, longest: usize) -> Result<Vec<u8>, Kind>
-    requires { longest < 100000 }
-    ensures { IfOk result (λ bytes. length bytes.items ≤ longest) }
-{
-    let path = format!(in rt.alloc(); "/dev/fd/{number}")?;
-    bytes_of_file(rt, path.as_str(), longest)
-}
-
-// The bytes of a value.
-fn bytes_of_value(alloc: Global, value: &[u8], longest: usize) -> Result<Vec<u8>, Kind>
-    ensures bytes { IfOk result (λ bytes. bytes.items ≡ value.now) }
-    ensures bound { IfOk result (λ bytes. length bytes.items ≤ longest) }
-{
-    if value.len() > longest {
-        return Err(Kind::InputLength);
-    }
-    Ok(Vec::from_slice(alloc, value)?)
-}
-
 fn bytes_of_variable(rt: &HostRuntime, name: &str, longest: usize) -> Result<Vec<u8>, Kind>
     ensures { IfOk result (λ bytes. length bytes.items ≤ longest) }
 {
     match env::var(rt, name) {
-        Ok(value) => bytes_of_value(rt.alloc(), value.as_bytes(), longest),
+        Ok(value) if value.len() > longest => Err(Kind::InputLength),
+        Ok(value) => Ok(value.into_bytes()),
         Err(VarError::OutOfMemory) => Err(Kind::Memory),
         Err(_) => Err(Kind::Variable),
     }
@@ -217,7 +156,11 @@ pub fn bytes_of(rt: &HostRuntime, source: Source, longest: usize) -> Result<Vec<
     match source {
         Source::StandardInput => bytes_of_reader(rt.alloc(), &mut rt.stdin(), longest),
         Source::File(path) => bytes_of_file(rt, path, longest),
-        Source::Descriptor(number) => bytes_of_descriptor(rt, number, longest),
+        // It is opened by its name, and read from where it stands.
+        Source::Descriptor(number) => {
+            let path = format!(in rt.alloc(); "/dev/fd/{number}")?;
+            bytes_of_file(rt, path.as_str(), longest)
+        }
         Source::Variable(name) => bytes_of_variable(rt, name, longest),
     }
 }

@@ -2,10 +2,12 @@
 
 ghost use Rattle.std.specs.Prelude.{◌≡◌};
 ghost use Rattle.des_commands.specs.Keys.{IsKeySize};
-ghost use Rattle.des_commands.specs.Jobs.{key_size_of, blocks_before as blocks_before_of};
+ghost use Rattle.des_commands.specs.StreamRequests.{blocks_before as blocks_before_of, source_of, mode_of as mode_by, heading_of as heading_by, IsJobOf};
+ghost use Rattle.des_commands.specs.Jobs.{key_size_of};
 
 use crate::source::Source;
-use des_io::Padding;
+use crate::streams::{Job, Work};
+use des_io::{Mode, Padding};
 use des_passwords::Derivation;
 
 /// The ciphers.
@@ -33,17 +35,24 @@ impl Cipher {
     }
 }
 
+/// The mode.
+#[derive(Clone, Copy)]
+pub enum StreamMode {
+    Ecb,
+    Cbc(Vector),
+}
+
 /// The initialization vector.
 #[derive(Clone, Copy)]
 pub enum Vector {
-    /// ECB has none.
-    Absent,
     /// These eight bytes.
     Bytes([u8; 8]),
     /// To encrypt: eight random bytes, which are written first.
     Random,
     /// To decrypt: the first eight bytes of the input.
     FirstBlock,
+    /// What the password gives beside the key.
+    OfPassword,
 }
 
 /// A part of the ciphertext.
@@ -77,36 +86,6 @@ pub enum Output<'a> {
     File(&'a str),
 }
 
-/// What a command line asks of a stream.
-#[derive(Clone, Copy)]
-pub struct StreamRequest<'a> {
-    pub encrypts: bool,
-    pub cipher: Cipher,
-    pub vector: Vector,
-    pub padding: Padding,
-    pub part: Option<Part>,
-    pub weak_keys: WeakKeys,
-    pub key: Source<'a>,
-    pub input: Source<'a>,
-    pub output: Output<'a>,
-    pub shows_progress: bool,
-}
-
-/// The blocks of the input that stand before those that are decrypted: the vector, where it is the
-/// first block, and those before the part. They are counted up to 2^64 - 1: no input has more.
-pub fn blocks_before(request: &StreamRequest) -> u64
-    ensures { result ≡ blocks_before_of request.now.vector request.now.part }
-{
-    let from = match request.part {
-        Some(part) => part.from,
-        None => 0,
-    };
-    match request.vector {
-        Vector::FirstBlock => from.saturating_add(1),
-        _ => from,
-    }
-}
-
 /// How the bytes of an input are written.
 #[derive(Clone, Copy)]
 pub enum Coding {
@@ -124,6 +103,106 @@ pub struct Password {
     pub is_salted: bool,
 }
 
+/// What gives the key, and where it is.
+#[derive(Clone, Copy)]
+pub enum Secret<'a> {
+    /// The key itself.
+    Key(Source<'a>),
+    /// A password.
+    Password(Source<'a>, Password),
+}
+
+impl<'a> Secret<'a> {
+    /// Where it is.
+    pub fn source(self) -> Source<'a>
+        ensures { result ≡ source_of self.entry }
+    {
+        match self {
+            Secret::Key(source) | Secret::Password(source, _) => source,
+        }
+    }
+}
+
+/// What a command line asks of a stream.
+#[derive(Clone, Copy)]
+pub struct StreamRequest<'a> {
+    pub encrypts: bool,
+    pub cipher: Cipher,
+    pub mode: StreamMode,
+    pub padding: Padding,
+    pub part: Option<Part>,
+    pub weak_keys: WeakKeys,
+    pub secret: Secret<'a>,
+    pub coding: Coding,
+    pub input: Source<'a>,
+    pub output: Output<'a>,
+    pub shows_progress: bool,
+}
+
+/// The blocks of the input that stand before those that are decrypted: the vector, where it is the
+/// first block, and those before the part. They are counted up to 2^64 - 1: no input has more.
+pub fn blocks_before(request: &StreamRequest) -> u64
+    ensures { result ≡ blocks_before_of request.now.mode request.now.part }
+{
+    let from = request.part.map_or(0, |part| part.from);
+    match request.mode {
+        StreamMode::Cbc(Vector::FirstBlock) => from.saturating_add(1),
+        _ => from,
+    }
+}
+
+// The mode of the first block that is read. A vector that is the first block is passed over as a
+// block, chained from zeros; one that is random, or of a password, is `vector`.
+fn mode_of(mode: StreamMode, vector: [u8; 8]) -> Mode
+    ensures { result ≡ mode_by mode vector }
+{
+    match mode {
+        StreamMode::Ecb => Mode::Ecb,
+        StreamMode::Cbc(Vector::Bytes(iv)) => Mode::Cbc(iv),
+        StreamMode::Cbc(Vector::FirstBlock) => Mode::Cbc([0; 8]),
+        StreamMode::Cbc(Vector::Random | Vector::OfPassword) => Mode::Cbc(vector),
+    }
+}
+
+/// What is done for a request by a key: with a vector that is random, or of a password, where one is
+/// asked for; with a heading before what is encrypted; and after the blocks of what is decrypted that
+/// are read and passed over.
+pub fn job_of<'a>(
+    request: &StreamRequest,
+    key: &'a [u8],
+    vector: [u8; 8],
+    heading: &'a [u8],
+    skipped: u64,
+) -> Job<'a>
+    ensures { IsJobOf request.now key.now vector heading.now skipped result }
+{
+    let work = if request.encrypts {
+        Work::Encrypt { heading }
+    } else {
+        Work::Decrypt {
+            skipped,
+            part: request.part,
+        }
+    };
+    Job {
+        cipher: request.cipher,
+        key,
+        mode: mode_of(request.mode, vector),
+        padding: request.padding,
+        work,
+    }
+}
+
+/// What is written before the ciphertext by a key: a random vector, where one is asked for.
+pub fn heading_of<'a>(mode: StreamMode, random: &'a [u8; 8]) -> &'a [u8]
+    ensures { result.now ≡ heading_by mode random.now }
+{
+    match mode {
+        StreamMode::Cbc(Vector::Random) => random.as_slice(),
+        _ => &[],
+    }
+}
+
 /// The form of a private key that is written.
 #[derive(Clone, Copy)]
 pub enum KeyForm {
@@ -135,7 +214,7 @@ pub enum KeyForm {
 
 /// What a command line asks of a private key under a password.
 #[derive(Clone, Copy)]
-pub struct KeyFileRequest<'a> {
+pub struct PrivateKeyRequest<'a> {
     pub password: Source<'a>,
     pub input: Source<'a>,
     pub output: Output<'a>,

@@ -1,23 +1,65 @@
 //! The run of `encrypt` and `decrypt`: the key or the password, random bytes, the input, and the
 //! output.
 
-ghost use Rattle.std.specs.Prelude.{length};
-ghost use Rattle.des_commands.specs.Keys.{IsKeySize};
-
 use crate::fault::{Fault, FileFault, Kind, Misuse};
-use crate::inputs::{self, Input, bytes_to_read, name_in_stream, read_fault, system_random};
+use crate::inputs::{self, RANDOM_SOURCE, bytes_to_read, read_fault, system_random};
 use crate::notices::accept_key;
-use crate::output::{self, Readers, STANDARD_OUTPUT, Target};
-use crate::password_streams::{PREFIX, PasswordJob, check_password, first_line, run_by_password};
+use crate::output::{self, Readers, Target};
+use crate::password_streams::{PREFIX, PasswordJob, check_password, run_by_password};
+use crate::reading::{key_in, password_in, password_name};
 use crate::report::{send, tell};
 use crate::sentences::English;
-use crate::source::{LONGEST_TEXT, Source, bytes_of, shown};
-use crate::stream_request::{Coding, Output, Part, Password, StreamRequest, Vector, blocks_before};
-use crate::streams::{self, Job};
-use crate::watched::{Watch, Watched};
+use crate::source::{Source, shown};
+use crate::stream_request::{
+    Coding, Output, Secret, StreamMode, StreamRequest, Vector, blocks_before, heading_of, job_of,
+};
+use crate::streams;
+use crate::watched::Watched;
 use des_io::pieces::fill;
 use des_passwords::{Base64Error, decode_base64};
 use std::io::{IsTerminal, Read, Write};
+
+// A request, with what was read for it.
+#[derive(Clone, Copy)]
+struct Task<'a> {
+    request: &'a StreamRequest<'a>,
+    // The key, or the password.
+    secret: &'a [u8],
+    // The random vector by a key, or the salt of what is encrypted by a password.
+    random: [u8; 8],
+    // The blocks of the input that are read and passed over.
+    skipped: u64,
+}
+
+impl<'a> Task<'a> {
+    fn run<R: Read, W: Write>(
+        self,
+        rt: &HostRuntime,
+        reader: &mut R,
+        writer: &mut W,
+    ) -> Result<(), Kind> {
+        let request = self.request;
+        match request.secret {
+            Secret::Key(_) => {
+                let heading = heading_of(request.mode, &self.random);
+                let job = job_of(request, self.secret, self.random, heading, self.skipped);
+                streams::run(rt.alloc(), &job, reader, writer)
+            }
+            Secret::Password(source, by) => {
+                let job = PasswordJob {
+                    request,
+                    by,
+                    password: self.secret,
+                    salt: self.random,
+                    name: password_name(source),
+                };
+                run_by_password(rt.alloc(), &job, reader, writer, &mut rt.stderr())
+            }
+        }
+    }
+}
+
+// ---- the output
 
 /// What a fault of the output is about.
 pub fn output_name<'a>(output: Output<'a>) -> &'a str {
@@ -27,117 +69,49 @@ pub fn output_name<'a>(output: Output<'a>) -> &'a str {
     }
 }
 
-// Eight random bytes where the vector is to be random. Other streams take none.
-fn random_of(rt: &HostRuntime, vector: Vector) -> Result<[u8; 8], Kind> {
-    match vector {
-        Vector::Random => system_random(rt),
-        _ => Ok([0; 8]),
-    }
-}
-
-// What is told of a stream.
-fn watch_of(request: &StreamRequest, total: Option<u64>) -> Watch {
-    Watch {
-        limit: if request.encrypts {
-            Some(request.padding)
-        } else {
-            None
-        },
-        shows_progress: request.shows_progress,
-        total,
-    }
-}
-
-// What is done with what is read.
-#[derive(Clone, Copy)]
-enum Work<'a> {
-    // By a key.
-    Key(&'a Job<'a>),
-    // By a password.
-    Password(&'a PasswordJob<'a>),
-}
-
-impl<'a> Work<'a> {
-    fn request(self) -> &'a StreamRequest<'a> {
-        match self {
-            Work::Key(job) => job.request,
-            Work::Password(job) => job.request,
+/// The fault of a stream whose bytes would go to a terminal that is not asked for: `Terminal`. The
+/// system's `isatty` says what a terminal is.
+pub fn refuse_terminal<'a>(rt: &HostRuntime, output: Output) -> Result<(), Fault<'a>> {
+    match output {
+        Output::Unnamed if rt.stdout().is_terminal() => {
+            Err(Fault::about(Kind::Usage(Misuse::Terminal), ""))
         }
-    }
-
-    // Whether the input begins with a salt, which is read.
-    fn takes_salt(self) -> bool {
-        match self {
-            Work::Key(_) => false,
-            Work::Password(job) => job.by.is_salted,
-        }
-    }
-
-    fn run<R: Read, W: Write>(
-        self,
-        rt: &HostRuntime,
-        reader: &mut R,
-        writer: &mut W,
-    ) -> Result<(), Kind> {
-        match self {
-            Work::Key(job) => streams::run(rt.alloc(), job, reader, writer),
-            Work::Password(job) => {
-                run_by_password(rt.alloc(), job, reader, writer, &mut rt.stderr())
-            }
-        }
+        _ => Ok(()),
     }
 }
 
-// Writes to standard output.
-fn run_to_standard_output<R: Read>(
-    rt: &HostRuntime,
-    work: Work,
-    reader: &mut R,
-) -> Result<(), Kind> {
-    let input = match work.request().input {
-        Source::File(path) => path,
-        _ => "/proc/self/fd/0",
-    };
-    output::refuse_input(rt, input)?;
-    output::refuse_secret(rt, STANDARD_OUTPUT, work.request().key)?;
-    work.run(rt, reader, &mut rt.stdout())
-}
-
-// Writes to a file, or what else has the path.
-fn run_to_path<R: Read>(
-    rt: &HostRuntime,
-    work: Work,
-    reader: &mut R,
-    path: &str,
-) -> Result<(), Kind> {
-    output::refuse_secret(rt, path, work.request().key)?;
-    match output::open(rt, path, Readers::AsBefore)? {
-        Target::StandardOutput => run_to_standard_output(rt, work, reader),
-        Target::AsItIs(file) => {
-            let mut file = file;
-            work.run(rt, reader, &mut file)
+// Writes where the request says.
+fn run_to_output<R: Read>(rt: &HostRuntime, task: Task, reader: &mut R) -> Result<(), Kind> {
+    let request = task.request;
+    match output::open(
+        rt,
+        request.output,
+        Readers::AsBefore,
+        request.secret.source(),
+    )? {
+        Target::StandardOutput => {
+            output::refuse_input(rt, request.input)?;
+            task.run(rt, reader, &mut rt.stdout())
         }
-        Target::Replaced(file) => {
-            let mut file = file;
-            let outcome = work.run(rt, reader, &mut file.file);
+        Target::AsItIs(mut file) => task.run(rt, reader, &mut file),
+        Target::Replaced(mut file) => {
+            let outcome = task.run(rt, reader, &mut file.file);
             file.end(rt, outcome)
         }
     }
 }
 
+// ---- the input
+
 // Reads from a reader, and writes where the request says.
 fn run_reader<R: Read + Drop>(
     rt: &HostRuntime,
-    work: Work,
+    task: Task,
     reader: R,
     total: Option<u64>,
 ) -> Result<(), Kind> {
-    let request = work.request();
-    let mut reader = Watched::new(rt, reader, watch_of(request, total));
-    let outcome = match request.output {
-        Output::File(path) => run_to_path(rt, work, &mut reader, path),
-        _ => run_to_standard_output(rt, work, &mut reader),
-    };
+    let mut reader = Watched::new(rt, reader, task.request, total);
+    let outcome = run_to_output(rt, task, &mut reader);
     reader.end();
     outcome
 }
@@ -145,329 +119,160 @@ fn run_reader<R: Read + Drop>(
 // What a text of Base64 begins with, whose bytes begin with `Salted__`.
 const PREFIX_IN_BASE64: [u8; 8] = *b"U2FsdGVk";
 
-// Decrypts. A salt that the words do not announce is refused, also in Base64.
-fn run_decrypted<R: Read + Drop>(
+// Reads from a reader that stands at the beginning of the input. Where it is decrypted, a salt that
+// the words do not announce is refused, also in Base64.
+fn run_from_start<R: Read + Drop>(
     rt: &HostRuntime,
-    work: Work,
+    task: Task,
     reader: R,
     total: Option<u64>,
 ) -> Result<(), Kind> {
+    if task.request.encrypts {
+        return run_reader(rt, task, reader, total);
+    }
     let mut reader = reader;
     let mut first = [0; 8];
     let count = fill(&mut reader, &mut first)?;
-    if first == PREFIX && !work.takes_salt() {
+    let takes_salt = matches!(task.request.secret, Secret::Password(_, by) if by.is_salted);
+    if first == PREFIX && !takes_salt {
         return Err(Kind::File(FileFault::Salted));
     }
     if first == PREFIX_IN_BASE64 {
         return Err(Kind::File(FileFault::SaltedText));
     }
-    run_reader(rt, work, (&first[..count]).chain(reader), total)
+    run_reader(rt, task, (&first[..count]).chain(reader), total)
 }
 
-// Reads from a reader that stands at the beginning of the input.
-fn run_from_start<R: Read + Drop>(
-    rt: &HostRuntime,
-    work: Work,
-    reader: R,
-    total: Option<u64>,
-) -> Result<(), Kind> {
-    if work.request().encrypts {
-        run_reader(rt, work, reader, total)
-    } else {
-        run_decrypted(rt, work, reader, total)
-    }
-}
-
-// Reads from a file by a key. Where it was sought to a part, its beginning is not looked at.
-fn run_by_key<R: Read + Drop>(
-    rt: &HostRuntime,
-    job: &Job,
-    reader: R,
-    total: Option<u64>,
-) -> Result<(), Kind> {
-    if job.skipped == blocks_before(job.request) {
-        run_from_start(rt, Work::Key(job), reader, total)
-    } else {
-        run_reader(rt, Work::Key(job), reader, total)
-    }
-}
-
-// The number of a part's blocks, where it has an end.
-fn count_of(part: Option<Part>) -> Option<u64> {
-    part.and_then(|part| part.count)
-}
-
-// Reads a file.
-fn run_file(
-    rt: &HostRuntime,
-    request: &StreamRequest,
-    key: &[u8],
-    random: [u8; 8],
-    path: &str,
-) -> Result<(), Kind> {
+// Reads a file. By a key it is sought to a part, and then its beginning is not looked at.
+fn run_file(rt: &HostRuntime, task: Task, path: &str) -> Result<(), Kind> {
     let mut input = inputs::open(rt, path)?;
-    let skipped = input.seek_to_last(blocks_before(request));
-    let total = input.total(skipped, count_of(request.part));
-    let job = Job {
-        request,
-        key,
-        random,
-        skipped,
+    let skipped = match task.request.secret {
+        Secret::Key(_) => input.seek_to_last(task.skipped),
+        Secret::Password(_, _) => task.skipped,
     };
-    run_by_key(rt, &job, input.file, total)
-}
-
-// Reads the input, and gives 0 or the status of a fault that was told.
-fn run_input(
-    rt: &HostRuntime,
-    request: &StreamRequest,
-    coding: Coding,
-    key: &[u8],
-) -> Result<u8, Kind> {
-    let random = random_of(rt, request.vector)?;
-    let job = Job {
-        request,
-        key,
-        random,
-        skipped: blocks_before(request),
-    };
-    match (coding, request.input) {
-        (Coding::Base64, _) => return run_base64(rt, Work::Key(&job)),
-        (Coding::Bytes, Source::File(path)) => run_file(rt, request, key, random, path)?,
-        (Coding::Bytes, _) => run_from_start(rt, Work::Key(&job), rt.stdin(), None)?,
+    let count = task.request.part.and_then(|part| part.count);
+    let total = input.total(skipped, count);
+    if skipped == task.skipped {
+        run_from_start(rt, task, input.file, total)
+    } else {
+        run_reader(rt, Task { skipped, ..task }, input.file, total)
     }
-    Ok(0)
-}
-
-/// Encrypts or decrypts by a key of the cipher's size, and writes where the request says. The weak
-/// key test comes first: where it refuses the key, nothing is read or written. Gives 0, or the
-/// status of a fault that was told.
-pub fn run_stream<'a>(
-    rt: &HostRuntime,
-    request: &StreamRequest<'a>,
-    coding: Coding,
-    key: &[u8],
-) -> Result<u8, Fault<'a>>
-    requires { IsKeySize (length key.now) }
-{
-    let key_name = request.key.name();
-    accept_key(
-        request.weak_keys,
-        request.encrypts,
-        key,
-        key_name,
-        &mut rt.stderr(),
-    )
-    .map_err(|kind| Fault {
-        kind,
-        about: key_name,
-    })?;
-    run_input(rt, request, coding, key).map_err(|kind| Fault {
-        kind,
-        about: name_in_stream(kind, request.input.name(), output_name(request.output)),
-    })
 }
 
 // ---- Base64
 
-// All that a reader has.
-fn all_of<R: Read>(rt: &HostRuntime, reader: &mut R) -> Result<Vec<u8>, Kind> {
-    let mut bytes = Vec::new(rt.alloc());
-    reader.read_to_end(&mut bytes).map_err(read_fault)?;
-    Ok(bytes)
-}
-
 // The text of an input.
 fn text_of_input(rt: &HostRuntime, source: Source) -> Result<Vec<u8>, Kind> {
+    let mut text = Vec::new(rt.alloc());
     match source {
         Source::File(path) => {
-            let mut input: Input = inputs::open(rt, path)?;
-            all_of(rt, &mut input.file)
+            let mut input = inputs::open(rt, path)?;
+            input.file.read_to_end(&mut text).map_err(read_fault)?;
         }
-        _ => all_of(rt, &mut rt.stdin()),
+        _ => {
+            rt.stdin().read_to_end(&mut text).map_err(read_fault)?;
+        }
     }
+    Ok(text)
 }
 
-/// Tells a fault of a line of an input, and gives its status.
-pub fn tell_line(rt: &HostRuntime, kind: Kind, input: &str, line: usize) -> Result<u8, Kind> {
-    let about = format!(in rt.alloc(); "{input}: line {line}")?;
-    let fault = Fault {
-        kind,
-        about: about.as_str(),
-    };
+/// Tells a fault of a file, and of what stands in it, and gives its status.
+pub fn tell_in(rt: &HostRuntime, fault: FileFault, input: &str, detail: &str) -> Result<u8, Kind> {
+    let about = format!(in rt.alloc(); "{input}: {detail}")?;
+    let fault = Fault::about(Kind::File(fault), about.as_str());
     Ok(tell::<English, _>(fault, &mut rt.stderr()))
 }
 
-// How many of the bytes of an input are read.
-fn total_of(request: &StreamRequest, length: u64) -> u64 {
-    bytes_to_read(length, 0, blocks_before(request), count_of(request.part))
-}
-
 // Reads Base64, and does the work with its bytes.
-fn run_base64(rt: &HostRuntime, work: Work) -> Result<u8, Kind> {
-    let source = work.request().input;
+fn run_base64(rt: &HostRuntime, task: Task) -> Result<u8, Kind> {
+    let source = task.request.input;
     let text = text_of_input(rt, source)?;
     match decode_base64(rt.alloc(), text.as_slice()) {
         Ok(bytes) => {
-            let total = total_of(work.request(), bytes.len() as u64);
-            run_from_start(rt, work, bytes.as_slice(), Some(total))?;
+            let count = task.request.part.and_then(|part| part.count);
+            let total = bytes_to_read(bytes.len() as u64, 0, task.skipped, count);
+            run_from_start(rt, task, bytes.as_slice(), Some(total))?;
             Ok(0)
         }
         Err(Base64Error::Line(line)) => {
-            tell_line(rt, Kind::File(FileFault::Base64), source.name(), line)
+            let line = format!(in rt.alloc(); "line {line}")?;
+            tell_in(rt, FileFault::Base64, source.name(), line.as_str())
         }
         Err(Base64Error::OutOfMemory) => Err(Kind::Memory),
     }
 }
 
-// ---- passwords
+// ---- the whole
 
-/// What a fault of a password is about: its option, or standard input. The name of a file is not
-/// told, since somebody may have typed the password there.
-pub fn password_name<'a>(source: Source<'a>) -> &'a str {
-    match source {
-        Source::File(_) => "--password-file",
-        Source::Descriptor(_) => "--password-fd",
-        Source::Variable(_) => "--password-env",
-        _ => source.name(),
-    }
-}
-
-/// The password in a source: the first line of a file, or the value of a variable.
-pub fn password_in<'a>(rt: &HostRuntime, source: Source<'a>) -> Result<Vec<u8>, Fault<'a>> {
-    let mut text = bytes_of(rt, source, LONGEST_TEXT).map_err(|kind| Fault {
-        kind,
-        about: match kind {
-            Kind::Memory => "",
-            _ => password_name(source),
-        },
-    })?;
-    if let Source::Variable(_) = source {
-        return Ok(text);
-    }
-    let size = first_line(text.as_slice()).len();
-    text.truncate(size);
-    Ok(text)
-}
-
-// Reads the input, and does the work of a password.
-fn run_password_input(rt: &HostRuntime, job: &PasswordJob) -> Result<(), Kind> {
-    let work = Work::Password(job);
-    match job.request.input {
-        Source::File(path) => {
-            let input = inputs::open(rt, path)?;
-            let total = input.total(blocks_before(job.request), count_of(job.request.part));
-            run_from_start(rt, work, input.file, total)
+// The key, unless the weak key test refuses it, or the password, unless it is empty.
+fn secret_in<'a>(rt: &HostRuntime, request: &StreamRequest<'a>) -> Result<Vec<u8>, Fault<'a>> {
+    match request.secret {
+        Secret::Key(source) => {
+            let key = key_in(rt, source, Some(request.cipher.key_size()))?;
+            accept_key(request, key.as_slice(), source.name(), &mut rt.stderr()).map_err(
+                |kind| Fault::about(kind, source.name()),
+            )?;
+            Ok(key)
         }
-        _ => run_from_start(rt, work, rt.stdin(), None),
+        Secret::Password(source, _) => {
+            let password = password_in(rt, source)?;
+            check_password(request.encrypts, password.as_slice()).map_err(|kind| Fault::about(
+                kind,
+                password_name(source),
+            ))?;
+            Ok(password)
+        }
     }
 }
 
-// The salt of what is encrypted.
-fn salt_for(rt: &HostRuntime, encrypts: bool) -> Result<[u8; 8], Kind> {
-    if encrypts {
-        system_random(rt)
-    } else {
-        Ok([0; 8])
+// Eight random bytes, where a vector or a salt is to be random.
+fn random_for(rt: &HostRuntime, request: &StreamRequest) -> Result<[u8; 8], Kind> {
+    match (request.secret, request.mode) {
+        (Secret::Password(_, _), _) if request.encrypts => system_random(rt),
+        (_, StreamMode::Cbc(Vector::Random)) => system_random(rt),
+        _ => Ok([0; 8]),
     }
 }
 
-// Does what a request asks for by a password.
-fn run_with(
-    rt: &HostRuntime,
-    request: &StreamRequest,
-    coding: Coding,
-    by: Password,
-    password: &[u8],
-) -> Result<u8, Kind> {
-    check_password(request.encrypts, password)?;
-    let job = PasswordJob {
+// A fault of a stream, with what it is about. A padding that is another is mostly told of a wrong
+// password.
+fn fault_of<'a>(kind: Kind, request: &StreamRequest<'a>) -> Fault<'a> {
+    match (kind, request.secret) {
+        (Kind::WeakKey, Secret::Password(source, _)) => Fault::about(kind, password_name(source)),
+        (Kind::Padding, Secret::Password(_, _)) => {
+            Fault::about(Kind::File(FileFault::Unpadded), request.input.name())
+        }
+        (Kind::Source(_), _) => Fault::about(kind, RANDOM_SOURCE),
+        (Kind::Write(_), _) => Fault::about(kind, output_name(request.output)),
+        _ => Fault::about(kind, request.input.name()),
+    }
+}
+
+// Encrypts or decrypts by a secret that is taken. Gives 0, or the status of a fault that was told.
+fn run_taken(rt: &HostRuntime, request: &StreamRequest, secret: &[u8]) -> Result<u8, Kind> {
+    let task = Task {
         request,
-        by,
-        password,
-        random: salt_for(rt, request.encrypts)?,
-        name: password_name(request.key),
+        secret,
+        random: random_for(rt, request)?,
+        skipped: blocks_before(request),
     };
-    match coding {
-        Coding::Base64 => run_base64(rt, Work::Password(&job)),
-        Coding::Bytes => {
-            run_password_input(rt, &job)?;
-            Ok(0)
-        }
+    match (request.coding, request.input) {
+        (Coding::Base64, _) => return run_base64(rt, task),
+        (Coding::Bytes, Source::File(path)) => run_file(rt, task, path)?,
+        (Coding::Bytes, _) => run_from_start(rt, task, rt.stdin(), None)?,
     }
+    Ok(0)
 }
 
-// A padding that is another is mostly told of a wrong password, which has no key and no vector.
-fn kind_by_password(kind: Kind) -> Kind {
-    match kind {
-        Kind::Padding => Kind::File(FileFault::Unpadded),
-        kind => kind,
+/// Encrypts or decrypts, and writes where the request says. Nothing is read or written of a stream
+/// whose key or password is refused. Gives 0, or the status of a fault that was told.
+pub fn stream_status<'a>(rt: &HostRuntime, request: &StreamRequest<'a>) -> Result<u8, Fault<'a>> {
+    refuse_terminal(rt, request.output)?;
+    let secret = secret_in(rt, request)?;
+    let status = run_taken(rt, request, secret.as_slice()).map_err(|kind| fault_of(kind, request))?;
+    if status == 0 {
+        // What was written to standard output is flushed.
+        send(&mut rt.stdout(), b"").map_err(|kind| Fault::about(kind, "standard output"))?;
     }
-}
-
-// What a fault of a stream under a password is about.
-fn name_by_password<'a>(kind: Kind, request: &StreamRequest<'a>) -> &'a str {
-    match kind {
-        Kind::WeakKey | Kind::EmptyPassword => password_name(request.key),
-        _ => name_in_stream(kind, request.input.name(), output_name(request.output)),
-    }
-}
-
-/// Encrypts or decrypts by a password, of which the request names the source, and writes where the
-/// request says. Gives 0, or the status of a fault that was told.
-pub fn run_password<'a>(
-    rt: &HostRuntime,
-    request: &StreamRequest<'a>,
-    coding: Coding,
-    by: Password,
-) -> Result<u8, Fault<'a>> {
-    let password = password_in(rt, request.key)?;
-    run_with(rt, request, coding, by, password.as_slice()).map_err(|kind| Fault {
-        kind: kind_by_password(kind),
-        about: name_by_password(kind, request),
-    })
-}
-
-/// Writes a secret to an output. A file is replaced when all of it is written, and is then its
-/// owner's alone. The file of the password is not written.
-pub fn write_secret(
-    rt: &HostRuntime,
-    output: Output,
-    password: Source,
-    bytes: &[u8],
-) -> Result<(), Kind> {
-    match output {
-        Output::File(path) => {
-            output::refuse_secret(rt, path, password)?;
-            write_secret_to_path(rt, path, bytes)
-        }
-        _ => {
-            output::refuse_secret(rt, STANDARD_OUTPUT, password)?;
-            send(&mut rt.stdout(), bytes)
-        }
-    }
-}
-
-fn write_secret_to_path(rt: &HostRuntime, path: &str, bytes: &[u8]) -> Result<(), Kind> {
-    match output::open(rt, path, Readers::Owner)? {
-        Target::StandardOutput => send(&mut rt.stdout(), bytes),
-        Target::AsItIs(file) => {
-            let mut file = file;
-            send(&mut file, bytes)
-        }
-        Target::Replaced(file) => {
-            let mut file = file;
-            let outcome = send(&mut file.file, bytes);
-            file.end(rt, outcome)
-        }
-    }
-}
-
-/// The fault of a stream whose bytes would go to a terminal that is not asked for: `Terminal`. The
-/// system's `isatty` says what a terminal is.
-pub fn refuse_terminal(rt: &HostRuntime, output: Output) -> Result<(), Kind> {
-    match output {
-        Output::Unnamed if rt.stdout().is_terminal() => Err(Kind::Usage(Misuse::Terminal)),
-        _ => Ok(()),
-    }
+    Ok(status)
 }

@@ -19,19 +19,8 @@ pub fn memory_fault<'a>() -> Fault<'a> {
 }
 
 // Help and the version go to standard output.
-fn show_help(rt: &HostRuntime, error: &clap::Error) -> Result<u8, AllocError> {
-    let text = format!(in rt.alloc(); "{error}")?;
-    Ok(show::<English, _, _>(&Ok(text.into_bytes()), &mut rt.stdout(), &mut rt.stderr()))
-}
-
-// Whether a message of this kind has no word of the command line but options' names.
-fn has_no_typed_word(kind: ErrorKind) -> bool {
-    matches!(
-        kind,
-        ErrorKind::ArgumentConflict
-            | ErrorKind::MissingRequiredArgument
-            | ErrorKind::MissingSubcommand
-    )
+fn show_help(rt: &HostRuntime, help: String) -> u8 {
+    show::<English, _, _>(&Ok(help.into_bytes()), &mut rt.stdout(), &mut rt.stderr())
 }
 
 // The usage of the command that the words name: the end of the message on an option that there is
@@ -54,67 +43,60 @@ fn usage_of(rt: &HostRuntime, words: &[&str]) -> Result<String, AllocError> {
     }
 }
 
-// The option or argument that a message on a value ends with. What was typed stands before it.
-fn argument_in(message: &str) -> &str {
-    match message.rsplit_once(" for '") {
-        Some((_, rest)) => match rest.split_once("'") {
-            Some((name, _)) => name,
-            None => "",
-        },
-        None => "",
-    }
-}
-
-// The words that an argument takes, where a message on another word names them.
-fn words_in(message: &str) -> Option<&str> {
-    let (_, rest) = message.rsplit_once("\n  [possible values: ")?;
-    let (words, _) = rest.split_once("]")?;
-    Some(words)
+// What stands in a message after the last of one text, up to another.
+fn between<'a>(message: &'a str, start: &str, end: &str) -> Option<&'a str> {
+    let (_, rest) = message.rsplit_once(start)?;
+    let (text, _) = rest.split_once(end)?;
+    Some(text)
 }
 
 // The message without what was typed.
-fn tell_hidden(rt: &HostRuntime, error: &clap::Error, words: &[&str]) -> Result<u8, AllocError> {
+fn tell_hidden(
+    rt: &HostRuntime,
+    kind: ErrorKind,
+    message: &str,
+    words: &[&str],
+) -> Result<u8, AllocError> {
     let usage = usage_of(rt, words)?;
-    let text = format!(in rt.alloc(); "{error}")?;
-    let about = match error.kind() {
-        ErrorKind::InvalidValue | ErrorKind::ValueValidation => argument_in(text.as_str()),
-        _ => "",
+    let about = match kind {
+        // What was typed stands before the option or the argument.
+        ErrorKind::InvalidValue | ErrorKind::ValueValidation => between(message, " for '", "'"),
+        _ => None,
     };
     let fault = Fault {
         kind: Kind::Usage(Misuse::Arguments),
-        about,
+        about: about.unwrap_or(""),
     };
     let status = tell::<English, _>(fault, &mut rt.stderr());
-    if let (ErrorKind::InvalidValue, Some(words)) = (error.kind(), words_in(text.as_str())) {
+    // The words that the argument takes, where it takes some words alone.
+    let words = between(message, "\n  [possible values: ", "]");
+    if let (ErrorKind::InvalidValue, Some(words)) = (kind, words) {
         let _ = eprint!(rt; "  [possible values: {words}]\n");
     }
     let _ = eprint!(rt; "\n{usage}");
     Ok(status)
 }
 
-// The whole message.
-fn tell_message(rt: &HostRuntime, error: &clap::Error) -> Result<u8, AllocError> {
-    let text = format!(in rt.alloc(); "{error}")?;
-    let message = text.as_str();
-    let message = message.strip_prefix("error: ").unwrap_or(message);
-    let _ = eprint!(rt; "cukvashe: Usage: {message}");
-    Ok(USAGE)
-}
-
-// The help of a command that is given no words.
-fn tell_help(rt: &HostRuntime, error: &clap::Error) -> Result<u8, AllocError> {
-    let text = format!(in rt.alloc(); "{error}")?;
-    let _ = eprint!(rt; "{text}");
-    Ok(USAGE)
+// The whole message, or the help of a command that is given no words.
+fn tell_text(rt: &HostRuntime, start: &str, text: &str) -> u8 {
+    let _ = eprint!(rt; "{start}{text}");
+    USAGE
 }
 
 fn show_by_kind(rt: &HostRuntime, error: &clap::Error, words: &[&str]) -> Result<u8, AllocError> {
+    let text = format!(in rt.alloc(); "{error}")?;
     match error.kind() {
-        ErrorKind::DisplayHelp | ErrorKind::DisplayVersion => show_help(rt, error),
-        ErrorKind::DisplayHelpOnMissingArgumentOrSubcommand => tell_help(rt, error),
+        ErrorKind::DisplayHelp | ErrorKind::DisplayVersion => Ok(show_help(rt, text)),
+        ErrorKind::DisplayHelpOnMissingArgumentOrSubcommand => Ok(tell_text(rt, "", text.as_str())),
         ErrorKind::OutOfMemory => Err(AllocError),
-        kind if has_no_typed_word(kind) => tell_message(rt, error),
-        _ => tell_hidden(rt, error, words),
+        // These have no word of the command line but options' names.
+        ErrorKind::ArgumentConflict
+        | ErrorKind::MissingRequiredArgument
+        | ErrorKind::MissingSubcommand => {
+            let message = text.as_str().strip_prefix("error: ");
+            Ok(tell_text(rt, "cukvashe: Usage: ", message.unwrap_or(text.as_str())))
+        }
+        kind => tell_hidden(rt, kind, text.as_str(), words),
     }
 }
 

@@ -1,17 +1,11 @@
-//! The words of a command line, parsed by what the commands take.
+//! The words of a command line, parsed by the table of commands.
 
-use super::forms::{
-    ACCOUNT_LINES, Form, Group, KEY_FORMS, KEY_LINES, Line, STATUSES, Shared, TO_KEY_LINES, Takes,
-};
-use super::key_block_forms::{KEY_BLOCK_FORMS, PROTECTION_KEY_LINES};
-use super::password_forms::{DERIVATION_LINES, KEY_FILE_FORMS, PASSWORD_LINES, READING_LINES};
-use super::payment_forms::{EMV_FORMS, GROUPS, OFFSET_FORMS, PIN_FORMS, PVV_FORMS};
-use super::stream_forms::STREAM_FORMS;
+use super::table::{Argument, CommandRow, Group, STATUSES, Takes, groups, list_of};
 use clap::{Arg, ArgAction, ArgMatches, Command, Error, value_parser};
 use std::alloc::{AllocError, Global};
 
-// Each call of `clap` stands in a function of its own here, without a contract: a proof of its
-// caller then has nothing to carry of the many fields that the call leaves as they are.
+// What several arguments need stands in a function of its own, without a contract: a proof of its
+// caller then has nothing to carry of the many fields that `clap` leaves as they are.
 fn place<'a>(arg: Arg<'a>, value: &'a str) -> Arg<'a> {
     arg.required(true).value_name(value)
 }
@@ -28,41 +22,25 @@ fn number<'a>(arg: Arg<'a>) -> Arg<'a> {
     arg.value_parser(value_parser!(u64))
 }
 
-fn count<'a>(arg: Arg<'a>) -> Arg<'a> {
-    arg.value_parser(value_parser!(u8))
-}
-
 fn needed<'a>(arg: Arg<'a>) -> Arg<'a> {
     arg.required(true)
 }
 
-fn many<'a>(arg: Arg<'a>) -> Arg<'a> {
-    arg.action(ArgAction::Append)
-}
-
-fn flag<'a>(arg: Arg<'a>, name: &'a str) -> Arg<'a> {
-    arg.long(name).action(ArgAction::SetTrue)
-}
-
-fn hidden<'a>(arg: Arg<'a>) -> Arg<'a> {
-    arg.hide(true)
-}
-
-fn argument<'a>(alloc: Global, line: Line<'a>) -> Arg<'a> {
-    let Line(name, takes, help) = line;
+fn arg_of<'a>(alloc: Global, argument: Argument<'a>) -> Arg<'a> {
+    let Argument(name, takes, help) = argument;
     let arg = Arg::new(alloc, name).help(help);
     match takes {
         Takes::Place(value, words) => one_of(place(arg, value), words),
         Takes::PlaceOfText(value) => place(arg, value),
         Takes::Word(value, words) => one_of(option(arg, name, value), words),
         Takes::Number(value) => number(option(arg, name, value)),
-        Takes::Count(value) => count(option(arg, name, value)),
+        Takes::Count(value) => option(arg, name, value).value_parser(value_parser!(u8)),
         Takes::Text(value) => option(arg, name, value),
         Takes::Needed(value) => needed(option(arg, name, value)),
         Takes::NeededWord(value, words) => needed(one_of(option(arg, name, value), words)),
-        Takes::Texts(value) => many(option(arg, name, value)),
-        Takes::Hidden => hidden(number(option(arg, name, name))),
-        Takes::Nothing => flag(arg, name),
+        Takes::Texts(value) => option(arg, name, value).action(ArgAction::Append),
+        Takes::Hidden => number(option(arg, name, name)).hide(true),
+        Takes::Nothing => arg.long(name).action(ArgAction::SetTrue),
     }
 }
 
@@ -70,14 +48,14 @@ fn with_argument<'a>(command: Command<'a>, arg: Arg<'a>) -> Result<Command<'a>, 
     command.arg(arg)
 }
 
-fn with_lines<'a>(
+fn with_arguments<'a>(
     alloc: Global,
     command: Command<'a>,
-    lines: &'a [Line<'a>],
+    arguments: &'a [Argument<'a>],
 ) -> Result<Command<'a>, AllocError> {
     let mut command = command;
-    for line in lines {
-        command = with_argument(command, argument(alloc, *line))?;
+    for argument in arguments {
+        command = with_argument(command, arg_of(alloc, *argument))?;
     }
     Ok(command)
 }
@@ -86,61 +64,20 @@ fn named<'a>(alloc: Global, name: &'a str, about: &'a str, after: &'a str) -> Co
     Command::new(alloc, name).about(about).after_help(after)
 }
 
-fn with_key<'a>(alloc: Global, command: Command<'a>) -> Result<Command<'a>, AllocError> {
-    with_lines(alloc, command, KEY_LINES.as_slice())
-}
-
-fn with_account<'a>(alloc: Global, command: Command<'a>) -> Result<Command<'a>, AllocError> {
-    with_lines(alloc, command, ACCOUNT_LINES.as_slice())
-}
-
-fn with_both<'a>(alloc: Global, command: Command<'a>) -> Result<Command<'a>, AllocError> {
-    let command = with_account(alloc, command)?;
-    with_key(alloc, command)
-}
-
-fn with_key_or_password<'a>(
+// The command of a row; without its arguments where no word names it, since they are then neither
+// parsed nor shown.
+fn command_of<'a>(
     alloc: Global,
-    command: Command<'a>,
+    row: &'a CommandRow<'a>,
+    words: &[&str],
 ) -> Result<Command<'a>, AllocError> {
-    let command = with_key(alloc, command)?;
-    let command = with_lines(alloc, command, PASSWORD_LINES.as_slice())?;
-    with_lines(alloc, command, DERIVATION_LINES.as_slice())
-}
-
-// The command with the arguments that it shares with others.
-fn with_shared<'a>(
-    alloc: Global,
-    command: Command<'a>,
-    shared: Shared,
-) -> Result<Command<'a>, AllocError> {
-    match shared {
-        Shared::Key => with_key(alloc, command),
-        Shared::Account => with_account(alloc, command),
-        Shared::KeyAndAccount => with_both(alloc, command),
-        Shared::TwoKeysAndAccount => {
-            let command = with_both(alloc, command)?;
-            with_lines(alloc, command, TO_KEY_LINES.as_slice())
+    let mut command = named(alloc, row.name, row.about, row.example);
+    if words.contains(&row.name) {
+        for arguments in row.arguments {
+            command = with_arguments(alloc, command, list_of(*arguments))?;
         }
-        Shared::ProtectionKey => with_lines(alloc, command, PROTECTION_KEY_LINES.as_slice()),
-        Shared::KeyAndProtectionKey => {
-            let command = with_key(alloc, command)?;
-            with_lines(alloc, command, PROTECTION_KEY_LINES.as_slice())
-        }
-        Shared::Password => with_lines(alloc, command, PASSWORD_LINES.as_slice()),
-        Shared::KeyOrPassword => with_key_or_password(alloc, command),
-        Shared::KeyOrPasswordOfFile => {
-            let command = with_key_or_password(alloc, command)?;
-            with_lines(alloc, command, READING_LINES.as_slice())
-        }
-        Shared::Nothing => Ok(command),
     }
-}
-
-fn command_of<'a>(alloc: Global, form: &'a Form<'a>) -> Result<Command<'a>, AllocError> {
-    let command = named(alloc, form.name, form.about, form.example);
-    let command = with_lines(alloc, command, form.lines)?;
-    with_shared(alloc, command, form.shared)
+    Ok(command)
 }
 
 fn with_command<'a>(
@@ -156,35 +93,32 @@ fn parent<'a>(command: Command<'a>) -> Command<'a> {
         .arg_required_else_help(true)
 }
 
-// The command with the commands of these forms.
-fn with_forms<'a>(
+// The command with the commands of a group: below one of its name, where it has one.
+fn with_group<'a>(
     alloc: Global,
     command: Command<'a>,
-    forms: &'a [Form<'a>],
+    group: &'a Group<'a>,
+    words: &[&str],
+) -> Result<Command<'a>, AllocError> {
+    if group.name == "" {
+        return with_commands(alloc, command, group.commands, words);
+    }
+    let after = "Each command's own help has an example.";
+    let above = parent(named(alloc, group.name, group.about, after));
+    with_command(command, with_commands(alloc, above, group.commands, words)?)
+}
+
+fn with_commands<'a>(
+    alloc: Global,
+    command: Command<'a>,
+    rows: &'a [CommandRow<'a>],
+    words: &[&str],
 ) -> Result<Command<'a>, AllocError> {
     let mut command = command;
-    for form in forms {
-        command = with_command(command, command_of(alloc, form)?)?;
+    for row in rows {
+        command = with_command(command, command_of(alloc, row, words)?)?;
     }
     Ok(command)
-}
-
-// The commands of the command of a name; none of another.
-fn forms_in<'a>(name: &str) -> &'a [Form<'a>] {
-    match name {
-        "pin" => PIN_FORMS.as_slice(),
-        "pvv" => PVV_FORMS.as_slice(),
-        "offset" => OFFSET_FORMS.as_slice(),
-        "emv" => EMV_FORMS.as_slice(),
-        "key-block" => KEY_BLOCK_FORMS.as_slice(),
-        _ => &[],
-    }
-}
-
-fn group_of<'a>(alloc: Global, group: &'a Group<'a>) -> Result<Command<'a>, AllocError> {
-    let after = "Each command's own help has an example.";
-    let command = parent(named(alloc, group.name, group.about, after));
-    with_forms(alloc, command, forms_in(group.name))
 }
 
 fn program<'a>(alloc: Global) -> Command<'a> {
@@ -193,20 +127,17 @@ fn program<'a>(alloc: Global) -> Command<'a> {
     parent(named(alloc, "cukvashe", about, STATUSES)).version("0.1.0")
 }
 
-// The program's command.
-fn command<'a>(alloc: Global) -> Result<Command<'a>, AllocError> {
-    let command = with_forms(alloc, program(alloc), STREAM_FORMS.as_slice())?;
-    let command = with_forms(alloc, command, KEY_FILE_FORMS.as_slice())?;
-    let mut command = with_forms(alloc, command, KEY_FORMS.as_slice())?;
-    for group in GROUPS.as_slice() {
-        command = with_command(command, group_of(alloc, group)?)?;
+fn command<'a>(alloc: Global, words: &[&str]) -> Result<Command<'a>, AllocError> {
+    let mut command = program(alloc);
+    for group in groups() {
+        command = with_group(alloc, command, group, words)?;
     }
     Ok(command)
 }
 
 /// Parses the words of a command line, the program's name first.
 pub fn parse<'a>(alloc: Global, words: &'a [&'a str]) -> Result<ArgMatches<'a>, Error> {
-    command(alloc)?.try_get_matches_from(words)
+    command(alloc, words)?.try_get_matches_from(words)
 }
 
 /// The words that name the command, as they are known here: none that was typed.
@@ -218,28 +149,22 @@ pub fn names_of(words: &[&str]) -> (&'static str, &'static str) {
     }
 }
 
-// The names of a command, and of the command of its own, that two words are; nothing of others.
+// The names of a group or a command, and of the command in the group, that two words are; nothing
+// of others.
 fn names_by(word: &str, second: &str) -> (&'static str, &'static str) {
-    for group in GROUPS.as_slice() {
-        if group.name == word {
-            return (group.name, name_in(forms_in(group.name), second));
+    for group in groups() {
+        let known = name_in(group, if group.name == "" { word } else { second });
+        match group.name {
+            "" if known != "" => return (known, ""),
+            name if name != "" && name == word => return (name, known),
+            _ => {}
         }
     }
-    for forms in [STREAM_FORMS.as_slice(), KEY_FILE_FORMS.as_slice()] {
-        match name_in(forms, word) {
-            "" => {}
-            name => return (name, ""),
-        }
-    }
-    (name_in(KEY_FORMS.as_slice(), word), "")
+    ("", "")
 }
 
-// The name of a command of these that a word is; nothing of another word.
-fn name_in(forms: &'static [Form<'static>], word: &str) -> &'static str {
-    for form in forms {
-        if form.name == word {
-            return form.name;
-        }
-    }
-    ""
+// The name of a command of a group that a word is; nothing of another word.
+fn name_in(group: &Group<'static>, word: &str) -> &'static str {
+    let row = group.commands.iter().find(|row| row.name == word);
+    row.map_or("", |row| row.name)
 }

@@ -1,41 +1,21 @@
 //! What the words of `key-block` ask for.
 
-use super::streams::input_of;
-use super::typed::{number_of, place_of, text_of};
-use super::{key_of, misuse, one_of, read_once, without_account};
-use crate::command::{KeyBlockCommand, Wrapping};
-use crate::fault::{Fault, Misuse};
-use crate::request::{Request, Task};
-use crate::source::Source;
+use super::typed::{place_of, text_of};
+use super::{Requested, by_input, by_key, input_at, one_of, with_key};
+use crate::command::{Calculation, CalculationRequest, KeyBlockCalculation, Wrapping};
+use crate::fault::Misuse;
 use clap::ArgMatches;
 use des_payment::key_block_header::Version;
 
-// Where a block is.
-fn block_of<'a>(matches: &ArgMatches<'a>) -> Source<'a> {
-    input_of(text_of(matches, "block-file"))
-}
-
-// Where the key that protects blocks is: one place.
-fn protection_key_of<'a>(matches: &ArgMatches<'a>) -> Result<Source<'a>, Fault<'a>> {
-    one_of(
-        text_of(matches, "protection-key-file"),
-        number_of(matches, "protection-key-fd"),
-        text_of(matches, "protection-key-env"),
-        Misuse::ProtectionKeySource,
-    )
-}
-
 // The request with the key that protects blocks.
-fn with_protection_key<'a>(
-    request: Request<'a>,
-    matches: &ArgMatches<'a>,
-) -> Result<Request<'a>, Fault<'a>> {
-    let protection = protection_key_of(matches)?;
-    read_once(protection, request.input)?;
-    Ok(Request {
-        key: Some(protection),
-        ..request
-    })
+fn protected<'a>(request: CalculationRequest<'a>, matches: &ArgMatches<'a>) -> Requested<'a> {
+    let names = [
+        "protection-key-file",
+        "protection-key-fd",
+        "protection-key-env",
+    ];
+    let key = one_of(matches, names, Misuse::ProtectionKeySource)?;
+    with_key(request, key)
 }
 
 // The version of a word that the grammar takes.
@@ -60,27 +40,24 @@ fn wrapping_of<'a>(matches: &ArgMatches<'a>) -> Wrapping<'a> {
     }
 }
 
-fn unwrap_request<'a>(matches: &ArgMatches<'a>) -> Result<Request<'a>, Fault<'a>> {
-    let shows_key = text_of(matches, "show") == Some("key");
-    let task = Task::KeyBlock(KeyBlockCommand::Unwrap { shows_key });
-    with_protection_key(without_account(task, block_of(matches)), matches)
-}
-
-fn wrap_request<'a>(matches: &ArgMatches<'a>) -> Result<Request<'a>, Fault<'a>> {
-    let task = Task::KeyBlock(KeyBlockCommand::Wrap(wrapping_of(matches)));
-    let input = key_of(matches)?;
-    with_protection_key(without_account(task, input), matches)
-}
-
-/// What the words of `key-block` ask for.
-pub fn key_block_request<'a>(matches: &ArgMatches<'a>) -> Result<Request<'a>, Fault<'a>> {
-    match matches.subcommand() {
-        Some(("header", matches)) => {
-            let task = Task::KeyBlock(KeyBlockCommand::Header);
-            Ok(without_account(task, block_of(matches)))
+/// What the words of the command of `key-block` of this name ask for.
+pub fn key_block_request<'a>(name: &str, matches: &ArgMatches<'a>) -> Requested<'a> {
+    let block = input_at(matches, "block-file");
+    match name {
+        "header" => {
+            let calculation = Calculation::KeyBlock(KeyBlockCalculation::Header);
+            Ok(by_input(calculation, block))
         }
-        Some(("unwrap", matches)) => unwrap_request(matches),
-        Some((_, matches)) => wrap_request(matches),
-        None => Err(misuse(Misuse::Arguments, "")),
+        "unwrap" => {
+            let shows_key = text_of(matches, "show") == Some("key");
+            let calculation = Calculation::KeyBlock(KeyBlockCalculation::Unwrap { shows_key });
+            protected(by_input(calculation, block), matches)
+        }
+        _ => {
+            let calculation = Calculation::KeyBlock(KeyBlockCalculation::Wrap(wrapping_of(
+                matches,
+            )));
+            protected(by_key(calculation, matches)?, matches)
+        }
     }
 }

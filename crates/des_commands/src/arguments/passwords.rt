@@ -5,13 +5,12 @@ ghost use Rattle.des_passwords.specs.declared.derivation.Derivation.{Derivation 
 ghost use Rattle.des_commands.specs.PasswordArguments.{IsCount, IsCountedText, IsDerivationText, count_of as count_by, is_to_encrypt as is_to_encrypt_of, derivation_fault};
 ghost use Rattle.des_commands.specs.Faults.{FailsOnlyBy};
 
-use super::streams::{cipher_of, coding_of, input_of, output_of, request_of_words, words_of};
-use super::typed::{is_given, is_set, number_of, place_of, text_of};
-use super::{misuse, one_of, read_once, without_account};
+use super::streams::output_of;
+use super::typed::{is_given, is_set, text_of};
+use super::{KEY, input_at, misuse, names_one, one_of, read_once, refuse};
 use crate::fault::{Fault, Kind, Misuse};
-use crate::request::{Request, Task};
 use crate::source::Source;
-use crate::stream_request::{KeyFileRequest, KeyForm, Password};
+use crate::stream_request::{KeyForm, Password, PrivateKeyRequest, Secret};
 use clap::ArgMatches;
 use des_passwords::Derivation;
 
@@ -21,33 +20,12 @@ const MOST_ITERATIONS: u32 = 10000000;
 // What encryption takes: `--derive` names another count.
 const ITERATIONS: u32 = 600000;
 
-/// Whether a source of a password is named.
-pub fn names_password(matches: &ArgMatches) -> bool {
-    is_given(matches, "password-file")
-        || is_given(matches, "password-fd")
-        || is_given(matches, "password-env")
-}
+// The options that name where a password is.
+const PASSWORD: [&str; 3] = ["password-file", "password-fd", "password-env"];
 
 // Where the password is: one place.
 fn password_of<'a>(matches: &ArgMatches<'a>) -> Result<Source<'a>, Fault<'a>> {
-    one_of(
-        text_of(matches, "password-file"),
-        number_of(matches, "password-fd"),
-        text_of(matches, "password-env"),
-        Misuse::PasswordSource,
-    )
-}
-
-// Without a password there is no option that is for one.
-pub(super) fn refuse_options<'a>(encrypts: bool, matches: &ArgMatches) -> Result<(), Fault<'a>> {
-    let is_one = is_given(matches, "derive")
-        || is_set(matches, "any-count")
-        || !encrypts && is_set(matches, "no-salt");
-    if is_one {
-        Err(misuse(Misuse::PasswordNeeded, ""))
-    } else {
-        Ok(())
-    }
+    one_of(matches, PASSWORD, Misuse::PasswordSource)
 }
 
 // ---- how a password gives a key
@@ -130,56 +108,39 @@ fn check_derivation(
 // The derivation that `--derive` names: to encrypt, there is one without it.
 fn asked_derivation<'a>(encrypts: bool, matches: &ArgMatches<'a>) -> Result<Derivation, Fault<'a>> {
     let derivation = match text_of(matches, "derive") {
-        Some(text) => match derivation_of(text) {
-            Some(derivation) => derivation,
-            None => return Err(misuse(Misuse::Derivation, "--derive")),
-        },
+        Some(text) => derivation_of(text).ok_or(misuse(Misuse::Derivation, "--derive"))?,
         None if encrypts => Derivation::Pbkdf2Sha256(ITERATIONS),
         None => return Err(misuse(Misuse::DerivationNeeded, "")),
     };
-    match check_derivation(derivation, encrypts, is_set(matches, "any-count")) {
-        Ok(()) => Ok(derivation),
-        Err(kind) => Err(Fault {
-            kind,
-            about: "--derive",
-        }),
-    }
+    let about = "--derive";
+    check_derivation(derivation, encrypts, is_set(matches, "any-count")).map_err(|kind| Fault {
+        kind,
+        about,
+    })?;
+    Ok(derivation)
 }
 
 // ---- streams
 
-// The text of a vector that a chain is given until the password gives one.
-fn vector_before(cipher: &str) -> Option<&'static str> {
-    match cipher_of(cipher) {
-        Some((_, true)) => Some("0000000000000000"),
-        _ => None,
-    }
-}
-
-// What the words of `encrypt` or `decrypt` ask for, where they name a password.
-pub(super) fn password_request<'a>(
+/// What gives the key of `encrypt` or `decrypt`: a key, or a password with its derivation.
+pub(super) fn secret_of<'a>(
     encrypts: bool,
     matches: &ArgMatches<'a>,
-) -> Result<Request<'a>, Fault<'a>> {
-    if is_given(matches, "key-file")
-        || is_given(matches, "key-fd")
-        || is_given(matches, "key-env")
-    {
-        return Err(misuse(Misuse::PasswordSource, ""));
+) -> Result<Secret<'a>, Fault<'a>> {
+    if !names_one(matches, PASSWORD) {
+        let is_for_password = is_given(matches, "derive")
+            || is_set(matches, "any-count")
+            || is_set(matches, "no-salt");
+        refuse(is_for_password, Misuse::PasswordNeeded)?;
+        return Ok(Secret::Key(one_of(matches, KEY, Misuse::KeyOrPasswordSource)?));
     }
-    if is_given(matches, "iv") {
-        return Err(misuse(Misuse::VectorOfPassword, ""));
-    }
+    refuse(names_one(matches, KEY), Misuse::PasswordSource)?;
     let source = password_of(matches)?;
-    let derivation = asked_derivation(encrypts, matches)?;
-    let vector = vector_before(place_of(matches, "cipher"));
-    let request = request_of_words(&words_of(encrypts, source, vector, matches))?;
     let password = Password {
-        derivation,
-        is_salted: encrypts || !is_set(matches, "no-salt"),
+        derivation: asked_derivation(encrypts, matches)?,
+        is_salted: !is_set(matches, "no-salt"),
     };
-    let task = Task::Password(request, coding_of(encrypts, matches), password);
-    Ok(without_account(task, source))
+    Ok(Secret::Password(source, password))
 }
 
 // ---- private keys
@@ -193,12 +154,14 @@ fn form_of(word: Option<&str>) -> KeyForm {
 }
 
 /// What the words of `decrypt-pem` ask for.
-pub fn key_file_request<'a>(matches: &ArgMatches<'a>) -> Result<Request<'a>, Fault<'a>> {
-    let source = password_of(matches)?;
-    let input = input_of(text_of(matches, "in"));
-    read_once(source, input)?;
-    let request = KeyFileRequest {
-        password: source,
+pub fn private_key_request<'a>(
+    matches: &ArgMatches<'a>,
+) -> Result<PrivateKeyRequest<'a>, Fault<'a>> {
+    let password = password_of(matches)?;
+    let input = input_at(matches, "in");
+    read_once(password, input)?;
+    Ok(PrivateKeyRequest {
+        password,
         input,
         output: output_of(text_of(matches, "out")),
         form: form_of(text_of(matches, "form")),
@@ -207,6 +170,5 @@ pub fn key_file_request<'a>(matches: &ArgMatches<'a>) -> Result<Request<'a>, Fau
         } else {
             MOST_ITERATIONS
         },
-    };
-    Ok(without_account(Task::KeyFile(request), source))
+    })
 }

@@ -1,35 +1,24 @@
 //! What the words of `pin`, `pvv`, `offset` and `emv` ask for.
 
-use super::streams::input_of;
-use super::typed::{count_of, is_given, is_set, number_of, place_of, text_of};
-use super::{key_of, key_request, misuse, one_of, read_once, with_account, without_account};
-use crate::command::{CardCommand, NaturalPins, PinCommand};
+use super::typed::{count_of, is_given, is_set, place_of, text_of};
+use super::{
+    Requested, by_input, by_key, input_at, key_of, misuse, one_of, with_account, with_key,
+};
+use crate::command::{
+    Calculation, CalculationRequest, CardCalculation, NaturalPins, PinCalculation,
+};
 use crate::fault::{Fault, Misuse};
-use crate::request::{Account, Form, Request, Task};
-use crate::source::Source;
 use clap::ArgMatches;
 use des_payment::translation::Format;
 
-// The format of a word that the grammar takes.
-fn format_of(word: &str) -> Format {
-    match word {
+// The format of a place, whose words the grammar takes.
+fn format_of(matches: &ArgMatches, name: &str) -> Format {
+    match place_of(matches, name) {
         "0" => Format::Format0,
         "1" => Format::Format1,
         "2" => Format::Format2,
         _ => Format::Format3,
     }
-}
-
-// Standard input is the place of one of these at most.
-fn each_once<'a>(sources: &[Source]) -> Result<(), Fault<'a>> {
-    let mut read = Source::File("");
-    for source in sources {
-        read_once(read, *source)?;
-        if let Source::StandardInput = *source {
-            read = *source;
-        }
-    }
-    Ok(())
 }
 
 // ---- PIN blocks
@@ -57,131 +46,74 @@ fn fill_of<'a>(format: Format, matches: &ArgMatches<'a>) -> Result<&'a str, Faul
     }
 }
 
-fn block_request<'a>(
+// The request of a block in a format.
+fn with_account_of<'a>(
     format: Format,
-    form: Form<'a>,
-    input: Source<'a>,
+    request: CalculationRequest<'a>,
     matches: &ArgMatches<'a>,
-) -> Result<Request<'a>, Fault<'a>> {
+) -> Requested<'a> {
     match format {
         Format::Format1 | Format::Format2 => {
             refuse_account(matches)?;
-            Ok(without_account(Task::Line(form), input))
+            Ok(request)
         }
-        _ => with_account(form, input, matches),
+        _ => with_account(request, matches),
     }
 }
 
-fn encode_request<'a>(matches: &ArgMatches<'a>) -> Result<Request<'a>, Fault<'a>> {
-    let format = format_of(place_of(matches, "format"));
+fn encode_request<'a>(matches: &ArgMatches<'a>) -> Requested<'a> {
+    let format = format_of(matches, "format");
     let fill = fill_of(format, matches)?;
-    let input = input_of(text_of(matches, "pin-file"));
-    block_request(format, Form::Encode(format, fill), input, matches)
+    let pin = input_at(matches, "pin-file");
+    let request = by_input(Calculation::Encode { format, fill }, pin);
+    with_account_of(format, request, matches)
 }
 
-fn decode_request<'a>(matches: &ArgMatches<'a>) -> Result<Request<'a>, Fault<'a>> {
-    let format = format_of(place_of(matches, "format"));
-    let input = input_of(text_of(matches, "block-file"));
-    block_request(format, Form::Decode(format), input, matches)
+fn decode_request<'a>(matches: &ArgMatches<'a>) -> Requested<'a> {
+    let format = format_of(matches, "format");
+    let block = input_at(matches, "block-file");
+    let request = by_input(Calculation::Decode { format }, block);
+    with_account_of(format, request, matches)
 }
 
-// ---- a key beside the input
-
-// Where the key of an outgoing block is: one place.
-fn to_key_of<'a>(matches: &ArgMatches<'a>) -> Result<Source<'a>, Fault<'a>> {
-    one_of(
-        text_of(matches, "to-key-file"),
-        number_of(matches, "to-key-fd"),
-        text_of(matches, "to-key-env"),
-        Misuse::ToKeySource,
-    )
-}
-
-// Where an account number is read from; no file where it is an argument.
-fn account_source<'a>(account: Account<'a>) -> Source<'a> {
-    match account {
-        Account::In(source) => source,
-        _ => Source::File(""),
-    }
-}
-
-// The request with a key beside its input, and with another one where there is that.
-pub(super) fn with_keys<'a>(
-    request: Request<'a>,
-    to_key: Option<Source<'a>>,
-    matches: &ArgMatches<'a>,
-) -> Result<Request<'a>, Fault<'a>> {
-    let key = key_of(matches)?;
-    let other = match to_key {
-        Some(source) => source,
-        None => Source::File(""),
-    };
-    each_once(&[account_source(request.account), key, other, request.input])?;
-    Ok(Request {
-        task: request.task,
-        input: request.input,
-        key: Some(key),
-        to_key,
-        account: request.account,
-        refuses: request.refuses,
-    })
-}
-
-fn translate_request<'a>(matches: &ArgMatches<'a>) -> Result<Request<'a>, Fault<'a>> {
-    let from = format_of(place_of(matches, "from"));
-    let to = format_of(place_of(matches, "to"));
+fn translate_request<'a>(matches: &ArgMatches<'a>) -> Requested<'a> {
+    let from = format_of(matches, "from");
+    let to = format_of(matches, "to");
     let fill = fill_of(to, matches)?;
-    let input = input_of(text_of(matches, "block-file"));
-    let form = Form::Pin(PinCommand::Translate { from, to, fill });
-    let request = with_account(form, input, matches)?;
-    let to_key = to_key_of(matches)?;
-    with_keys(request, Some(to_key), matches)
+    let calculation = Calculation::Pin(PinCalculation::Translate { from, to, fill });
+    let block = input_at(matches, "block-file");
+    let request = with_account(by_input(calculation, block), matches)?;
+    let names = ["to-key-file", "to-key-fd", "to-key-env"];
+    let to_key = Some(one_of(matches, names, Misuse::ToKeySource)?);
+    with_key(CalculationRequest { to_key, ..request }, key_of(matches)?)
 }
 
-/// What the words of `pin` ask for.
-pub fn pin_request<'a>(matches: &ArgMatches<'a>) -> Result<Request<'a>, Fault<'a>> {
-    match matches.subcommand() {
-        Some(("encode", matches)) => encode_request(matches),
-        Some(("decode", matches)) => decode_request(matches),
-        Some((_, matches)) => translate_request(matches),
-        None => Err(misuse(Misuse::Arguments, "")),
+/// What the words of the command of `pin` of this name ask for.
+pub fn pin_request<'a>(name: &str, matches: &ArgMatches<'a>) -> Requested<'a> {
+    match name {
+        "encode" => encode_request(matches),
+        "decode" => decode_request(matches),
+        _ => translate_request(matches),
     }
 }
 
 // ---- PIN verification
 
-// The input is the PIN.
-fn pin_of<'a>(matches: &ArgMatches<'a>) -> Source<'a> {
-    input_of(text_of(matches, "pin-file"))
+// The request of a calculation whose input is the PIN.
+fn by_pin<'a>(calculation: PinCalculation<'a>, matches: &ArgMatches<'a>) -> CalculationRequest<'a> {
+    by_input(Calculation::Pin(calculation), input_at(matches, "pin-file"))
 }
 
-fn pvv_command<'a>(
-    command: PinCommand<'a>,
-    matches: &ArgMatches<'a>,
-) -> Result<Request<'a>, Fault<'a>> {
-    let request = with_account(Form::Pin(command), pin_of(matches), matches)?;
-    with_keys(request, None, matches)
-}
-
-// The index of the key pair, which the grammar takes from 1 to 6.
-fn index_of(matches: &ArgMatches) -> u8 {
-    count_of(matches, "index").unwrap_or(0)
-}
-
-/// What the words of `pvv` ask for.
-pub fn pvv_request<'a>(matches: &ArgMatches<'a>) -> Result<Request<'a>, Fault<'a>> {
-    match matches.subcommand() {
-        Some(("make", matches)) => {
-            let index = index_of(matches);
-            pvv_command(PinCommand::MakePvv { index }, matches)
-        }
-        Some((_, matches)) => {
-            let index = index_of(matches);
-            let value = place_of(matches, "value");
-            pvv_command(PinCommand::VerifyPvv { index, value }, matches)
-        }
-        None => Err(misuse(Misuse::Arguments, "")),
-    }
+/// What the words of `pvv` ask for: with a value, whether the PIN has it.
+pub fn pvv_request<'a>(matches: &ArgMatches<'a>) -> Requested<'a> {
+    // The grammar takes an index from 1 to 6.
+    let index = count_of(matches, "index").unwrap_or(0);
+    let calculation = match text_of(matches, "value") {
+        Some(value) => PinCalculation::VerifyPvv { index, value },
+        None => PinCalculation::MakePvv { index },
+    };
+    let request = with_account(by_pin(calculation, matches), matches)?;
+    with_key(request, key_of(matches)?)
 }
 
 fn natural_pins_of<'a>(matches: &ArgMatches<'a>) -> NaturalPins<'a> {
@@ -192,89 +124,66 @@ fn natural_pins_of<'a>(matches: &ArgMatches<'a>) -> NaturalPins<'a> {
     }
 }
 
-fn offset_command<'a>(
-    command: PinCommand<'a>,
-    matches: &ArgMatches<'a>,
-) -> Result<Request<'a>, Fault<'a>> {
-    let request = without_account(Task::Line(Form::Pin(command)), pin_of(matches));
-    with_keys(request, None, matches)
-}
-
-fn natural_request<'a>(matches: &ArgMatches<'a>) -> Result<Request<'a>, Fault<'a>> {
+/// What the words of the command of `offset` of this name ask for.
+pub fn offset_request<'a>(name: &str, matches: &ArgMatches<'a>) -> Requested<'a> {
     let by = natural_pins_of(matches);
-    let count = count_of(matches, "length").unwrap_or(4);
-    let form = Form::Pin(PinCommand::Natural { by, count });
-    key_request(Task::Line(form), matches)
-}
-
-/// What the words of `offset` ask for.
-pub fn offset_request<'a>(matches: &ArgMatches<'a>) -> Result<Request<'a>, Fault<'a>> {
-    match matches.subcommand() {
-        Some(("make", matches)) => {
-            let by = natural_pins_of(matches);
-            offset_command(PinCommand::MakeOffset { by }, matches)
-        }
-        Some(("verify", matches)) => {
-            let by = natural_pins_of(matches);
-            let offset = place_of(matches, "offset");
-            offset_command(PinCommand::VerifyOffset { by, offset }, matches)
-        }
-        Some((_, matches)) => natural_request(matches),
-        None => Err(misuse(Misuse::Arguments, "")),
+    if name == "natural" {
+        let count = count_of(matches, "length").unwrap_or(4);
+        return by_key(
+            Calculation::Pin(PinCalculation::Natural { by, count }),
+            matches,
+        );
     }
+    let calculation = match text_of(matches, "offset") {
+        Some(offset) => PinCalculation::VerifyOffset { by, offset },
+        None => PinCalculation::MakeOffset { by },
+    };
+    with_key(by_pin(calculation, matches), key_of(matches)?)
 }
 
 // ---- cards
 
-fn card_key_request<'a>(matches: &ArgMatches<'a>) -> Result<Request<'a>, Fault<'a>> {
-    let sequence = text_of(matches, "sequence").unwrap_or("00");
-    let form = Form::Card(CardCommand::CardKey { sequence });
-    with_account(form, key_of(matches)?, matches)
-}
-
 // The key of a session, by the counter or by the cryptogram.
-fn session_of<'a>(matches: &ArgMatches<'a>) -> Result<CardCommand<'a>, Fault<'a>> {
+fn session_of<'a>(matches: &ArgMatches<'a>) -> Result<CardCalculation<'a>, Fault<'a>> {
     match (text_of(matches, "counter"), text_of(matches, "cryptogram")) {
-        (Some(counter), None) => Ok(CardCommand::ApplicationKey { counter }),
-        (None, Some(cryptogram)) => Ok(CardCommand::SessionKey { cryptogram }),
+        (Some(counter), None) => Ok(CardCalculation::ApplicationKey { counter }),
+        (None, Some(cryptogram)) => Ok(CardCalculation::SessionKey { cryptogram }),
         _ => Err(misuse(Misuse::Session, "")),
     }
 }
 
-fn cryptogram_request<'a>(matches: &ArgMatches<'a>) -> Result<Request<'a>, Fault<'a>> {
-    let input = input_of(text_of(matches, "data-file"));
-    let request = without_account(Task::Line(Form::Card(CardCommand::Cryptogram)), input);
-    with_keys(request, None, matches)
-}
-
-// A command on a card whose input is the key.
-fn card_request<'a>(
-    command: CardCommand<'a>,
-    matches: &ArgMatches<'a>,
-) -> Result<Request<'a>, Fault<'a>> {
-    key_request(Task::Line(Form::Card(command)), matches)
-}
-
-fn response_2_of<'a>(matches: &ArgMatches<'a>) -> CardCommand<'a> {
-    CardCommand::Response2 {
-        cryptogram: place_of(matches, "cryptogram"),
-        status: place_of(matches, "status"),
-        issued: place_of(matches, "data"),
+// The issuer's response, by method 1 where there is its code.
+fn response_of<'a>(matches: &ArgMatches<'a>) -> CardCalculation<'a> {
+    let cryptogram = place_of(matches, "cryptogram");
+    match text_of(matches, "code") {
+        Some(code) => CardCalculation::Response1 { cryptogram, code },
+        None => CardCalculation::Response2 {
+            cryptogram,
+            status: place_of(matches, "status"),
+            issued: place_of(matches, "data"),
+        },
     }
 }
 
-/// What the words of `emv` ask for.
-pub fn emv_request<'a>(matches: &ArgMatches<'a>) -> Result<Request<'a>, Fault<'a>> {
-    match matches.subcommand() {
-        Some(("card-key", matches)) => card_key_request(matches),
-        Some(("session-key", matches)) => card_request(session_of(matches)?, matches),
-        Some(("cryptogram", matches)) => cryptogram_request(matches),
-        Some(("response-1", matches)) => {
-            let cryptogram = place_of(matches, "cryptogram");
-            let code = place_of(matches, "code");
-            card_request(CardCommand::Response1 { cryptogram, code }, matches)
+// A calculation with a card whose input is the key.
+fn card_request<'a>(calculation: CardCalculation<'a>, matches: &ArgMatches<'a>) -> Requested<'a> {
+    by_key(Calculation::Card(calculation), matches)
+}
+
+/// What the words of the command of `emv` of this name ask for.
+pub fn emv_request<'a>(name: &str, matches: &ArgMatches<'a>) -> Requested<'a> {
+    match name {
+        "card-key" => {
+            let sequence = text_of(matches, "sequence").unwrap_or("00");
+            let request = card_request(CardCalculation::CardKey { sequence }, matches)?;
+            with_account(request, matches)
         }
-        Some((_, matches)) => card_request(response_2_of(matches), matches),
-        None => Err(misuse(Misuse::Arguments, "")),
+        "session-key" => card_request(session_of(matches)?, matches),
+        "cryptogram" => {
+            let calculation = Calculation::Card(CardCalculation::Cryptogram);
+            let request = by_input(calculation, input_at(matches, "data-file"));
+            with_key(request, key_of(matches)?)
+        }
+        _ => card_request(response_of(matches), matches),
     }
 }

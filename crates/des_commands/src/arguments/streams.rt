@@ -1,22 +1,24 @@
 //! What the words of `encrypt` and `decrypt` ask for.
 
-ghost use Rattle.std.specs.Prelude.{◌≡◌, ◌≢◌, Bool, codes, IfSome, IfNone, IfOk, IfErr, None};
+ghost use Rattle.std.specs.Prelude.{◌≡◌, ◌≢◌, Bool, codes, IfSome, IfNone, IfOk, IfErr};
 ghost use Rattle.des_io.specs.declared.padding.Padding.{Padding as PaddingOf};
 ghost use Rattle.des_commands.specs.declared.stream_request.Cipher.{Cipher as CipherOf};
 ghost use Rattle.des_commands.specs.declared.stream_request.WeakKeys.{WeakKeys as WeakKeysOf};
 ghost use Rattle.des_commands.specs.declared.fault.Kind.TheVariants.{Usage};
 ghost use Rattle.des_commands.specs.declared.fault.Misuse.TheVariants.{Arguments};
-ghost use Rattle.des_commands.specs.Jobs.{misuse_of};
 ghost use Rattle.des_commands.specs.StreamArguments.{cipher_name, padding_word, weak_keys_word, default_weak_keys, text_or, part_for};
-ghost use Rattle.des_commands.specs.StreamArguments.{IsChainVector, FailsAsChainVector, IsVector, FailsAsVector, IsInput, IsOutput};
+ghost use Rattle.des_commands.specs.StreamArguments.{IsVector, FailsAsVector, IsMode, FailsAsMode, IsInput, IsOutput};
 ghost use Rattle.des_commands.specs.StreamArguments.{IsRequest, FailsAsRequest};
 
+use super::passwords::secret_of;
 use super::typed::{is_set, number_of, place_of, text_of};
-use super::{about, file_of, key_or, misuse, read_once};
+use super::{file_of, misuse, read_once};
 use crate::digits::bytes_of;
 use crate::fault::{Fault, Kind, Misuse};
 use crate::source::Source;
-use crate::stream_request::{Cipher, Coding, Output, Part, StreamRequest, Vector, WeakKeys};
+use crate::stream_request::{
+    Cipher, Coding, Output, Part, Secret, StreamMode, StreamRequest, Vector, WeakKeys,
+};
 use clap::ArgMatches;
 use des_io::Padding;
 
@@ -30,7 +32,8 @@ pub struct StreamWords<'a> {
     pub weak_keys: Option<&'a str>,
     pub from: Option<u64>,
     pub count: Option<u64>,
-    pub key: Source<'a>,
+    pub secret: Secret<'a>,
+    pub coding: Coding,
     pub input: Option<&'a str>,
     pub output: Option<&'a str>,
     pub shows_progress: bool,
@@ -87,10 +90,11 @@ pub fn weak_keys_of(word: Option<&str>, encrypts: bool) -> Option<WeakKeys>
     }
 }
 
-// CBC's vector.
-fn chain_vector_of(text: &str, encrypts: bool) -> Result<Vector, Kind>
-    ensures vector { IfOk result (IsChainVector text.now encrypts) }
-    ensures fault { IfErr result (FailsAsChainVector text.now encrypts) }
+// CBC's vector, in the direction that its word is for. The fault is `Vector` where the text is neither
+// a word nor 16 hexadecimal digits.
+fn vector_of(text: &str, encrypts: bool) -> Result<Vector, Kind>
+    ensures vector { IfOk result (IsVector text.now encrypts) }
+    ensures fault { IfErr result (FailsAsVector text.now encrypts) }
 {
     match (text, encrypts) {
         ("random", true) => Ok(Vector::Random),
@@ -104,18 +108,20 @@ fn chain_vector_of(text: &str, encrypts: bool) -> Result<Vector, Kind>
     }
 }
 
-/// The vector that `--iv` gives: CBC has one, ECB none. The fault is `Usage` where a mode has
-/// another need, or a word is for the other direction, and `Vector` where the text is neither a
-/// word nor 16 hexadecimal digits.
-pub fn vector_of(text: Option<&str>, is_chained: bool, encrypts: bool) -> Result<Vector, Kind>
-    ensures vector { IfOk result (IsVector text.entry is_chained encrypts) }
-    ensures fault { IfErr result (FailsAsVector text.entry is_chained encrypts) }
+// The mode. By a key, CBC has the vector of `--iv`; by a password, that gives one too.
+fn mode_of(words: &StreamWords, is_chained: bool) -> Result<StreamMode, Kind>
+    ensures mode { IfOk result (IsMode words.now.iv words.now.secret is_chained words.now.encrypts) }
+    ensures fault { IfErr result (FailsAsMode words.now.iv words.now.secret is_chained words.now.encrypts) }
 {
-    match (text, is_chained) {
-        (None, false) => Ok(Vector::Absent),
-        (None, true) => Err(Kind::Usage(Misuse::VectorNeeded)),
-        (Some(text), true) => chain_vector_of(text, encrypts),
-        (Some(_), false) => Err(Kind::Usage(Misuse::VectorOfEcb)),
+    match (words.secret, words.iv, is_chained) {
+        (Secret::Password(_, _), Some(_), _) => Err(Kind::Usage(Misuse::VectorOfPassword)),
+        (Secret::Password(_, _), None, true) => Ok(StreamMode::Cbc(Vector::OfPassword)),
+        (Secret::Key(_), Some(text), true) => {
+            Ok(StreamMode::Cbc(vector_of(text, words.encrypts)?))
+        }
+        (Secret::Key(_), Some(_), false) => Err(Kind::Usage(Misuse::VectorOfEcb)),
+        (Secret::Key(_), None, true) => Err(Kind::Usage(Misuse::VectorNeeded)),
+        (_, None, false) => Ok(StreamMode::Ecb),
     }
 }
 
@@ -153,88 +159,47 @@ pub fn output_of<'a>(path: Option<&'a str>) -> Output<'a>
     }
 }
 
-// The fault of a word that `clap` lets through and no option takes.
-fn other_word<'a>(about: &'a str) -> Fault<'a>
-    ensures { result.kind ≡ Usage Arguments }
-{
-    misuse(Misuse::Arguments, about)
-}
-
-// The fault of a vector. Only `Vector` is about `--iv`: the words of the others name the option.
-fn vector_fault<'a>(kind: Kind) -> Fault<'a>
+// A fault of the words. Only `Vector` is about `--iv`: the sentences of the others name the option.
+fn fault_of<'a>(kind: Kind) -> Fault<'a>
     ensures { result.kind ≡ kind }
 {
     match kind {
-        Kind::Vector => about(kind, "--iv"),
-        _ => about(kind, ""),
+        Kind::Vector => Fault {
+            kind,
+            about: "--iv",
+        },
+        _ => Fault { kind, about: "" },
     }
 }
 
 /// What the words ask for. The fault is `Usage` where they don't go together, and `Vector`.
 pub fn request_of_words<'a>(words: &StreamWords<'a>) -> Result<StreamRequest<'a>, Fault<'a>>
     ensures asked { IfOk result (IsRequest words.now) }
-    ensures sound { IfOk result (λ request.
-        misuse_of request.encrypts request.vector request.part ≡ None) }
     ensures fault { IfErr result (λ fault. FailsAsRequest words.now fault.kind) }
 {
-    let Some((cipher, is_chained)) = cipher_of(words.cipher) else {
-        return Err(other_word("CIPHER"));
-    };
-    let Some(padding) = padding_of(words.padding) else {
-        return Err(other_word("--padding"));
-    };
-    let Some(weak_keys) = weak_keys_of(words.weak_keys, words.encrypts) else {
-        return Err(other_word("--weak-keys"));
-    };
-    let part = part_of(words.from, words.count, words.encrypts).map_err(|kind| about(kind, ""))?;
-    let vector = vector_of(words.iv, is_chained, words.encrypts).map_err(|kind| vector_fault(
-        kind,
+    let (cipher, is_chained) = cipher_of(words.cipher).ok_or(misuse(Misuse::Arguments, "CIPHER"))?;
+    let padding = padding_of(words.padding).ok_or(misuse(Misuse::Arguments, "--padding"))?;
+    let weak_keys = weak_keys_of(words.weak_keys, words.encrypts).ok_or(misuse(
+        Misuse::Arguments,
+        "--weak-keys",
     ))?;
+    let part = part_of(words.from, words.count, words.encrypts).map_err(|kind| fault_of(kind))?;
+    let mode = mode_of(words, is_chained).map_err(|kind| fault_of(kind))?;
     let input = input_of(words.input);
-    read_once(words.key, input)?;
+    read_once(words.secret.source(), input)?;
     Ok(StreamRequest {
         encrypts: words.encrypts,
         cipher,
-        vector,
+        mode,
         padding,
         part,
         weak_keys,
-        key: words.key,
+        secret: words.secret,
+        coding: words.coding,
         input,
         output: output_of(words.output),
         shows_progress: words.shows_progress,
     })
-}
-
-// The words of `encrypt` or `decrypt`, with the place of the key or password, and with the vector.
-pub(super) fn words_of<'a>(
-    encrypts: bool,
-    key: Source<'a>,
-    iv: Option<&'a str>,
-    matches: &ArgMatches<'a>,
-) -> StreamWords<'a> {
-    StreamWords {
-        encrypts,
-        cipher: place_of(matches, "cipher"),
-        iv,
-        padding: text_of(matches, "padding"),
-        weak_keys: text_of(matches, "weak-keys"),
-        from: number_of(matches, "from"),
-        count: number_of(matches, "blocks"),
-        key,
-        input: text_of(matches, "in"),
-        output: text_of(matches, "out"),
-        shows_progress: is_set(matches, "progress"),
-    }
-}
-
-// How the input is written: `--base64` is an option of `decrypt`.
-pub(super) fn coding_of(encrypts: bool, matches: &ArgMatches) -> Coding {
-    if !encrypts && is_set(matches, "base64") {
-        Coding::Base64
-    } else {
-        Coding::Bytes
-    }
 }
 
 /// What the words of `encrypt` or `decrypt` ask for; a fault where they don't go together.
@@ -242,6 +207,22 @@ pub fn stream_request<'a>(
     encrypts: bool,
     matches: &ArgMatches<'a>,
 ) -> Result<StreamRequest<'a>, Fault<'a>> {
-    let key = key_or(Misuse::KeyOrPasswordSource, matches)?;
-    request_of_words(&words_of(encrypts, key, text_of(matches, "iv"), matches))
+    let coding = match is_set(matches, "base64") {
+        true => Coding::Base64,
+        false => Coding::Bytes,
+    };
+    request_of_words(&StreamWords {
+        encrypts,
+        cipher: place_of(matches, "cipher"),
+        iv: text_of(matches, "iv"),
+        padding: text_of(matches, "padding"),
+        weak_keys: text_of(matches, "weak-keys"),
+        from: number_of(matches, "from"),
+        count: number_of(matches, "blocks"),
+        secret: secret_of(encrypts, matches)?,
+        coding,
+        input: text_of(matches, "in"),
+        output: text_of(matches, "out"),
+        shows_progress: is_set(matches, "progress"),
+    })
 }

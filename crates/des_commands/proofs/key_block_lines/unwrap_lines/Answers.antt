@@ -1,21 +1,13 @@
-use Rattle.std.proofs.Common.{ℕ, List, ◌++◌, Err, inl, inr, sym, ap, ◌∙◌, subst}
+use Rattle.std.proofs.Common.{ℕ, List, ◌++◌, Err, inl, sym, ap, ◌∙◌, subst}
 use Rattle.std.specs.Prelude.{IsTrue}
 use Rattle.std.proofs.lemmas.Result.{err_from_is_err_and}
 use Rattle.des_payment.specs.KeyBlockReading.{HasFault}
 use Rattle.des_payment.specs.KeyLengths.{is_key}
 use Rattle.des_commands.specs.KeyBlockLines.{protection_fault, check_lines}
 use Rattle.des_commands.specs.Texts.{hex_line}
-use Rattle.des_commands.proofs.Faults.{some_from, none_from}
+use Rattle.des_commands.proofs.Faults.{none_from}
 use Rattle.des_commands.proofs.UnwrapFaults.{held-readable, held-key, unwrap-refuses-memory, unwrap-passes}
 use Rattle.des_commands.proofs.key_block_lines.unwrap_lines.Goals as goal
-
--- the key that protects blocks is at fault
-pub returns-in_err-size-clause-fault : goal.returns-in_err-size-clause-fault
-returns-in_err-size-clause-fault c =
-    let p = err_from_is_err_and c.from_residual.result c.from_residual.ensures.1 in
-    let found = some_from (protection_fault c.args.protection.now) c.read_protection.result c.in_err-size.field-0.0
-    c.read_protection.ensures.fault c.in_err-size.was in
-    inl (c.in_err-size.field-0.0, (found, p.1 ∙ ap Err p.2))
 
 -- the block
 pub returns-in_err-header-clause-fault : goal.returns-in_err-header-clause-fault
@@ -25,7 +17,7 @@ returns-in_err-header-clause-fault c =
     c.read_protection.ensures.fault c.in_ok-size.was in
     let fault = subst (λ (key : List ℕ). HasFault key c.args.block.now c.in_err-header.field-0.0)
     c.in_ok-size.ensures.key c.in_err-header.ensures.fault in
-    inr (inl (c.in_err-header.field-0.0, (none, (fault, p.1 ∙ ap Err p.2))))
+    rw none (inl (c.in_err-header.field-0.0, (fault, p.1 ∙ ap Err p.2)))
 
 -- memory is refused for the line of the key
 pub returns-in_err-hex_line-clause-fault : goal.returns-in_err-hex_line-clause-fault

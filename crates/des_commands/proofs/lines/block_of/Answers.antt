@@ -13,7 +13,7 @@ pub returns-in_err-fill_of-in-Format3-clause-fault :
 returns-in_err-fill_of-in-Format3-clause-fault c =
     let p = err_from_is_err_and c.from_residual-in_err-fill_of-in-Format3.result
     c.from_residual-in_err-fill_of-in-Format3.ensures.1 in
-    let found = some_from (digits_fault 5 FillLength FillText c.in-Format3.fill.now) c.fill_of-in-Format3.result
+    let found = some_from (digits_fault 5 FillLength FillText c.args.fill.now) c.fill_of-in-Format3.result
     c.in_err-fill_of-in-Format3.field-0.0 c.fill_of-in-Format3.ensures.fault c.in_err-fill_of-in-Format3.was in
     rw (p.1, p.2, c.in-Format3.is) (fails_before (List ℕ) _ _ _ found)
 
@@ -22,7 +22,7 @@ pub returns-in_err-fill_of-in-Format1-clause-fault :
 returns-in_err-fill_of-in-Format1-clause-fault c =
     let p = err_from_is_err_and c.from_residual-in_err-fill_of-in-Format1.result
     c.from_residual-in_err-fill_of-in-Format1.ensures.1 in
-    let found = some_from (digits_fault 5 FillLength FillText c.in-Format1.transaction.now) c.fill_of.result
+    let found = some_from (digits_fault 5 FillLength FillText c.args.fill.now) c.fill_of.result
     c.in_err-fill_of-in-Format1.field-0.0 c.fill_of.ensures.fault c.in_err-fill_of-in-Format1.was in
     rw (p.1, p.2, c.in-Format1.is) (fails_before (List ℕ) _ _ _ found)
 
@@ -31,7 +31,7 @@ pub returns-in_err-block-in-Format3-clause-fault : goal.returns-in_err-block-in-
 returns-in_err-block-in-Format3-clause-fault c =
     let p = err_from_is_err_and c.from_residual-in_err-block-in-Format3.result
     c.from_residual-in_err-block-in-Format3.ensures.1 in
-    let fill = c.in-Format3.fill.now in
+    let fill = c.args.fill.now in
     let passed = none_from (digits_fault 5 FillLength FillText fill) c.fill_of-in-Format3.result
     c.in_ok-fill_of-in-Format3.field-0 c.fill_of-in-Format3.ensures.fault c.in_ok-fill_of-in-Format3.was in
     let digits : c.in_ok-fill_of-in-Format3.field-0 ≡ fill_of fill = c.in_ok-fill_of-in-Format3.ensures.digits in

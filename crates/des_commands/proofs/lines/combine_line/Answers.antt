@@ -9,16 +9,16 @@ pub returns-then-length-count-clause-fault : goal.returns-then-length-count-clau
 returns-then-length-count-clause-fault c =
     let fault : components_fault c.args.count c.args.digits.now ≡ text_fault KeyText c.args.digits.now = search rules in
     let size : component_size c.args.count c.args.digits.now ≡ 8 = search rules in
-    rw (fault, size) c.combined_line.ensures.fault
+    rw (fault, size) c.components_line.ensures.fault
 
 pub returns-then-length-count-2-clause-fault : goal.returns-then-length-count-2-clause-fault
 returns-then-length-count-2-clause-fault c =
     let fault : components_fault c.args.count c.args.digits.now ≡ text_fault KeyText c.args.digits.now = search rules in
     let size : component_size c.args.count c.args.digits.now ≡ 16 = search rules in
-    rw (fault, size) c.combined_line-then-length-count-2.ensures.fault
+    rw (fault, size) c.components_line-then-length-count-2.ensures.fault
 
 pub returns-then-length-count-3-clause-fault : goal.returns-then-length-count-3-clause-fault
 returns-then-length-count-3-clause-fault c =
     let fault : components_fault c.args.count c.args.digits.now ≡ text_fault KeyText c.args.digits.now = search rules in
     let size : component_size c.args.count c.args.digits.now ≡ 24 = search rules in
-    rw (fault, size) c.combined_line-then-length-count-3.ensures.fault
+    rw (fault, size) c.components_line-then-length-count-3.ensures.fault

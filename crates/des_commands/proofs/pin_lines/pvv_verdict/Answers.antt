@@ -3,8 +3,8 @@ use Rattle.std.specs.Result.{result_err}
 use Rattle.des_payment.specs.PinBlocks.{pin_fault}
 use Rattle.des_payment.specs.PinVerification.{pvv_fault}
 use Rattle.des_payment.specs.Texts.{number_fault}
-use Rattle.des_commands.specs.declared.fault.Kind.TheVariants.{KeyLength, KeyText, Value}
-use Rattle.des_commands.specs.Texts.{digits_fault}
+use Rattle.des_commands.specs.declared.fault.Kind.TheVariants.{Value}
+use Rattle.des_commands.specs.Keys.{pair_fault}
 use Rattle.des_commands.proofs.Faults.{none_from}
 use Rattle.des_commands.proofs.Verdicts.{verdict-fails}
 use Rattle.des_commands.proofs.pin_lines.pvv_verdict.Goals as goal
@@ -12,13 +12,12 @@ use Rattle.des_commands.proofs.pin_lines.pvv_verdict.Goals as goal
 -- key, PIN and value are read; what is left is the fault of the verification
 pub returns-clause-fault : goal.returns-clause-fault
 returns-clause-fault c =
-    let key = none_from (digits_fault 16 (KeyLength 16) KeyText c.args.beside.key.now) c.bytes_of.result c.in_ok-key.key
-    c.bytes_of.ensures.fault c.in_ok-key.was in
-    let pin : pin_fault c.args.text.now ≡ None = sym c.new.ensures.fault ∙ ap result_err c.in_ok-pin.was in
+    let key = none_from (pair_fault c.args.inputs.key.now) c.pair_of.result c.in_ok-key.key c.pair_of.ensures.fault c.in_ok-key.was in
+    let pin : pin_fault c.args.inputs.text.now ≡ None = sym c.new.ensures.fault ∙ ap result_err c.in_ok-pin.was in
     let value = none_from (number_fault 4 4 Value Value c.args.value.now) c.value_of.result c.in_ok-value.value
     c.value_of.ensures.fault c.in_ok-value.was in
     let verification = c.verify_pvv-outcome.ensures in
     rw (key, pin, value)
-    (verdict-fails _ (pvv_fault c.args.beside.account.now c.args.index) c.verify_pvv-outcome.result c.verdict.result
+    (verdict-fails _ (pvv_fault c.args.inputs.account.now c.args.index) c.verify_pvv-outcome.result c.verdict.result
     (record { first = verification.fault; right = verification.right; wrong = verification.wrong })
     c.verdict.ensures)

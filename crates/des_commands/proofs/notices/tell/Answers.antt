@@ -1,0 +1,7 @@
+use Rattle.des_commands.proofs.notices.tell.Goals as goal
+
+pub returns-in-Limit-clause-part : goal.returns-in-Limit-clause-part
+returns-in-Limit-clause-part g c = rw c.in-Limit.is c.write_line-in-Limit.ensures.part
+
+pub returns-in-Limit-clause-whole : goal.returns-in-Limit-clause-whole
+returns-in-Limit-clause-whole g c = rw c.in-Limit.is c.write_line-in-Limit.ensures.whole

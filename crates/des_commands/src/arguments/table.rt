@@ -1,0 +1,319 @@
+//! The table of commands: the arguments that each takes, and what the help says of it.
+
+mod shared;
+
+use Takes::{Count, Hidden, Needed, Nothing, Number, Place, PlaceOfText, Text, Texts, Word};
+use shared::arguments;
+pub use shared::{Argument, Arguments, Takes, list_of};
+
+/// A group of commands: its name, what the help says of it, and its commands. Those of a group with
+/// no name stand in none.
+#[derive(Clone, Copy)]
+pub struct Group<'a> {
+    pub name: &'a str,
+    pub about: &'a str,
+    pub commands: &'a [CommandRow<'a>],
+}
+
+/// A command: its name, what the help says of it, its arguments, and what the help ends with.
+#[derive(Clone, Copy)]
+pub struct CommandRow<'a> {
+    pub name: &'a str,
+    pub about: &'a str,
+    pub arguments: &'a [Arguments<'a>],
+    pub example: &'a str,
+}
+
+// Arguments of one command, in braces, or those of a name, which several take.
+macro_rules! list {
+    ({ $($own:tt)* }) => { Arguments::Own(arguments! { $($own)* }) };
+    ($shared:ident) => { Arguments::$shared };
+}
+
+macro_rules! group {
+    ($name:literal: $about:literal; $($command:literal: $says:literal; [$($list:tt),*] $example:literal;)*) => {
+        Group {
+            name: $name,
+            about: $about,
+            commands: &[$(CommandRow {
+                name: $command,
+                about: $says,
+                arguments: &[$(list!($list)),*],
+                example: $example,
+            }),*],
+        }
+    };
+}
+
+/// What the program's own help ends with.
+pub const STATUSES: &str = "\
+Statuses: 0 done, 1 the answer is no, 2 arguments, keys and inputs, 3 memory, 4 reading and writing,
+5 the data. Keys, PINs, blocks and components are never arguments.";
+
+const WEAK_KEYS: &[&str] = &["refuse", "warn", "accept"];
+
+const PADDINGS: &[&str] = &["pkcs7", "iso7816", "zeros", "none"];
+
+static STREAMS: Group<'static> = group! {
+    "": "";
+
+    "encrypt": "Encrypt a file or a pipe";
+    [Cipher, {
+        "iv": Text("VECTOR") =>
+            "Needed by CBC: random, for eight random bytes that are written first, or 16 hexadecimal digits";
+        "padding": Word("PADDING", PADDINGS) =>
+            "How the last block is filled; none: the input is whole blocks [default: pkcs7]";
+        "weak-keys": Word("CHOICE", WEAK_KEYS) => "What to do with a weak key [default: refuse]";
+        "from": Hidden => "";
+        "blocks": Hidden => "";
+    }, Files, Progress, Key, Password, Derive, AnyCount] "\
+Limits: encrypt no more than 2^20 blocks (8 MiB) under one key (NIST SP 800-67 Rev. 2), and only
+what an old system needs: NIST disallows encryption with triple DES after 2023 (SP 800-131A Rev. 2).
+Nothing is authenticated.
+
+Example:
+  printf 'a message' | KEY=0123456789abcdeffedcba9876543210 cukvashe encrypt des-ede-cbc \\
+    --iv random --key-env KEY | xxd -p";
+
+    "decrypt": "Decrypt a file or a pipe, or a part of one";
+    [Cipher, {
+        "iv": Text("VECTOR") =>
+            "Needed by CBC: first-block, if the input begins with the vector, or 16 hexadecimal digits";
+        "padding": Word("PADDING", PADDINGS) =>
+            "What is taken off at the end; zeros and none: nothing [default: pkcs7]";
+        "weak-keys": Word("CHOICE", WEAK_KEYS) => "What to do with a weak key [default: warn]";
+        "from": Number("BLOCK") => "Decrypt from this block of 8 bytes on, the first being 0";
+        "blocks": Number("COUNT") => "Decrypt at most this number of blocks";
+    }, Files, Progress, Key, Password, Derive, AnyCount, {
+        "no-salt": Nothing => "The input has no salt, and does not begin with Salted__";
+        "base64": Nothing => "The input is Base64 in lines, all of which is held in memory";
+    }] "\
+Limits: a changed input decrypts to something, mostly with no fault, since nothing is authenticated.
+
+Example:
+  printf 1234567890abcdeff99822c1263dfada7f0373c3f4b6ba03 | xxd -r -p |
+    KEY=0123456789abcdeffedcba9876543210 cukvashe decrypt des-ede-cbc --iv first-block \\
+    --key-env KEY --out -";
+
+    "decrypt-pem": "Decrypt a private key under a password, in PEM or DER";
+    [{
+        "form": Word("FORM", &["pem", "der"]) =>
+            "The form of what is written [default: that of the input]";
+    }, AnyCount, Files, Password] "\
+Limits: a wrong password is found by the key's padding and form.
+
+Example:
+  openssl genrsa -des3 -traditional -passout pass:secret 2048 2>openssl.said |
+    PASSWORD=secret cukvashe decrypt-pem --password-env PASSWORD --out - | head -n 1";
+};
+
+static KEYS: Group<'static> = group! {
+    "": "";
+
+    "mac": "Print or verify the message authentication code of a file or a pipe";
+    [{
+        "method": Place("METHOD", &["cbc-mac", "retail", "cmac"]) =>
+            "CBC-MAC or retail MAC (ISO/IEC 9797-1, algorithms 1 and 3), or CMAC (NIST SP 800-38B)";
+        "padding": Word("METHOD", &["1", "2"]) =>
+            "Needed by cbc-mac and retail: 2, unless all messages have one length";
+        "in": Text("FILE") => "Read the message from a file [default: standard input]";
+        "length": Word("BYTES", &["4", "5", "6", "7", "8"]) =>
+            "Print this number of the tag's first bytes [default: 8]";
+        "verify": Text("TAG") =>
+            "Print nothing, and end with 0 where these are the tag's first 4 to 8 bytes, else with 1";
+    }, Key] "Example:
+  printf 'a message' | KEY=0123456789abcdeffedcba9876543210 cukvashe mac cmac --key-env KEY";
+
+    "check-value": "Print the check value of a key, six digits or four";
+    [{
+        "bytes": Word("BYTES", &["2", "3"]) => "Print this number of its first bytes [default: 3]";
+    }, Key] "Example:
+  KEY=0123456789abcdeffedcba9876543210 cukvashe check-value --key-env KEY";
+
+    "parity": "Print a key with odd parity, each byte with an odd number of ones";
+    [Key] "Example:
+  KEY=0022446688aaccee cukvashe parity --key-env KEY";
+
+    "weak": "Print whether a key is weak, and end with 1 where it is not";
+    [Key] "Example:
+  KEY=0101010101010101 cukvashe weak --key-env KEY";
+
+    "combine": "Print the key of components: their xor, with odd parity";
+    [{
+        "part-file": Texts("FILE") =>
+            "Read a component from a file, or - for standard input; twice or more";
+        "count": Count("N") => "Take this number of components, one after another, from one source";
+    }, Key] "Example:
+  PARTS='0123456789abcdef 1111111111111111' cukvashe combine --count 2 --key-env PARTS";
+
+    "dukpt": "Print a key of a transaction, from the base derivation key (ANSI X9.24-1)";
+    [{
+        "serial": PlaceOfText("SERIAL") => "The key serial number, 20 hexadecimal digits";
+        "purpose": Place("PURPOSE", &["pin", "mac", "data", "data-variant"]) =>
+            "What the key is for; data-variant: data, without the last one-way step";
+        "response": Nothing => "The response's key, not the request's; not of pin";
+    }, Key] "Example:
+  KEY=0123456789abcdeffedcba9876543210 cukvashe dukpt ffff9876543210e00001 pin --key-env KEY";
+
+    "cvv": "Print the card verification value of a card's data under a key pair";
+    [{
+        "expiry": Needed("DIGITS") => "The expiry date, 4 digits in the issuer's order (YYMM or MMYY)";
+        "service": Needed("DIGITS") => "The service code, 3 digits";
+    }, Account, Key] "Example:
+  KEY=0123456789abcdeffedcba9876543210 cukvashe cvv --account 4111111111111111 \\
+    --expiry 8701 --service 101 --key-env KEY";
+};
+
+static PIN: Group<'static> = group! {
+    "pin": "Print the block of a PIN, the PIN of a block, or a block under another key";
+
+    "encode": "Print the block of a PIN";
+    [Format, PinFile, {
+        "fill": Text("DIGITS") => "Needed by formats 1 and 3: ten hexadecimal digits, for 3 from a to f";
+    }, Account] "Example:
+  printf 1234 | cukvashe pin encode 0 --account 4012345678909";
+
+    "decode": "Print the PIN of a block";
+    [Format, {
+        "block-file": Text("FILE") =>
+            "Read the block's 16 hexadecimal digits from a file [default: standard input]";
+    }, Account] "Example:
+  printf 041274edcba9876f | cukvashe pin decode 0 --account 4012345678909";
+
+    "translate": "Print an encrypted block of the same PIN, under another key or in another format";
+    [{
+        "from": Place("FROM", &["0", "1", "3"]) => "The format of the block (ISO 9564-1)";
+        "to": Place("TO", &["0", "3"]) => "The format of the block that is printed";
+        "block-file": Text("FILE") =>
+            "Read the encrypted block's 16 digits from a file [default: standard input]";
+        "fill": Text("DIGITS") => "Needed to format 3: ten random hexadecimal digits from a to f";
+    }, Account, Key, ToKey] "Example:
+  printf c03d21cdbcb0c58b | KEY=0123456789abcdeffedcba9876543210 \\
+    TO_KEY=89e88cf7931444f334bd7547fc3f380c cukvashe pin translate 0 0 \\
+    --account 4012345678909 --key-env KEY --to-key-env TO_KEY";
+};
+
+static PVV: Group<'static> = group! {
+    "pvv": "Print the PIN verification value of a PIN, or whether it is right";
+
+    "make": "Print the PIN verification value of a PIN under a key pair, four digits";
+    [Index, PinFile, Account, Key] "Example:
+  printf 1234 | KEY=0123456789abcdeffedcba9876543210 cukvashe pvv make \\
+    --account 4111111111111111 --index 1 --key-env KEY";
+
+    "verify": "Print right or wrong by a PIN's verification value, and end with 1 for wrong";
+    [Index, { "value": Needed("DIGITS") => "The PIN verification value, 4 digits"; }, PinFile, Account, Key] "Example:
+  printf 1234 | KEY=0123456789abcdeffedcba9876543210 cukvashe pvv verify \\
+    --account 4111111111111111 --index 1 --value 9464 --key-env KEY";
+};
+
+static OFFSET: Group<'static> = group! {
+    "offset": "Print the offset of a PIN, or whether it is right (IBM 3624)";
+
+    "make": "Print the offset of a PIN";
+    [Validation, PinFile, Key] "Example:
+  printf 9519 | KEY=0123456789abcdeffedcba9876543210 cukvashe offset make \\
+    --validation 4123456789012345 --table 0123456789012345 --key-env KEY";
+
+    "verify": "Print right or wrong by a PIN's offset, and end with 1 for wrong";
+    [{
+        "offset": Needed("DIGITS") => "The offset, as many digits as the PIN has";
+    }, Validation, PinFile, Key] "Example:
+  printf 9519 | KEY=0123456789abcdeffedcba9876543210 cukvashe offset verify --offset 9999 \\
+    --validation 4123456789012345 --table 0123456789012345 --key-env KEY";
+
+    "natural": "Print the natural PIN, which has an offset of zeros";
+    [Validation, {
+        "length": Word("DIGITS", &["4", "5", "6", "7", "8", "9", "10", "11", "12"]) =>
+            "Print this number of digits [default: 4]";
+    }, Key] "Example:
+  KEY=0123456789abcdeffedcba9876543210 cukvashe offset natural \\
+    --validation 4123456789012345 --table 0123456789012345 --key-env KEY";
+};
+
+static EMV: Group<'static> = group! {
+    "emv": "Print keys and cryptograms of a card (EMV 4.3, Book 2)";
+
+    "card-key": "Print the key of a card, from the issuer's master key";
+    [{
+        "sequence": Text("DIGITS") =>
+            "The card's sequence number, 2 digits [default: 00, of a card without one]";
+    }, Account, Key] "Example:
+  KEY=0123456789abcdeffedcba9876543210 cukvashe emv card-key --account 4111111111111111 \\
+    --sequence 01 --key-env KEY";
+
+    "session-key": "Print the key of a session, from the card's key";
+    [{
+        "counter": Text("DIGITS") =>
+            "The application transaction counter, 4 hexadecimal digits; for cryptograms";
+        "cryptogram": Text("DIGITS") =>
+            "The application cryptogram, 16 hexadecimal digits; for messages to the card";
+    }, Key] "Example:
+  KEY=67f8292358083e5ea7ab7fda58d53b6b cukvashe emv session-key --counter 001c --key-env KEY";
+
+    "cryptogram": "Print the application cryptogram of data, under the session's key";
+    [{
+        "data-file": Text("FILE") =>
+            "Read the data's hexadecimal digits from a file [default: standard input]";
+    }, Key] "Example:
+  printf 000000005000 | KEY=38324e73f063efdd5ca88c322476a45b cukvashe emv cryptogram --key-env KEY";
+
+    "response-1": "Print the issuer's response by method 1, under the session's key";
+    [Cryptogram, {
+        "code": Needed("DIGITS") => "The response code, 4 hexadecimal digits: 3030 for the characters 00";
+    }, Key] "Example:
+  KEY=38324e73f063efdd5ca88c322476a45b cukvashe emv response-1 --cryptogram ac06a6df7a7d00e8 \\
+    --code 3030 --key-env KEY";
+
+    "response-2": "Print the issuer's response by method 2, under the session's key";
+    [Cryptogram, {
+        "status": Needed("DIGITS") => "The card status update, 8 hexadecimal digits";
+        "data": Text("DIGITS") => "The issuer's data, at most 16 hexadecimal digits [default: none]";
+    }, Key] "Example:
+  KEY=38324e73f063efdd5ca88c322476a45b cukvashe emv response-2 --cryptogram ac06a6df7a7d00e8 \\
+    --status 00820000 --key-env KEY";
+};
+
+static KEY_BLOCK: Group<'static> = group! {
+    "key-block": "Print a key block, what it says of its key, or the key (ANSI X9.143, TR-31)";
+
+    "header": "Print the fields of a block's header and its optional blocks, none authenticated";
+    [BlockFile] "Example:
+  printf B0080P0TE00E000094B420079CC80BA3461F86FE26EFC4A3B8E4FA4C5F5341176EED7B727B8A248E |
+    cukvashe key-block header";
+
+    "unwrap": "Print what a block says of its key and the key's check value, or the key";
+    [BlockFile, {
+        "show": Word("WHAT", &["fields", "key"]) =>
+            "Print the fields and the check value, or the key's digits alone [default: fields]";
+    }, ProtectionKey] "Example:
+  printf B0080P0TE00E000094B420079CC80BA3461F86FE26EFC4A3B8E4FA4C5F5341176EED7B727B8A248E |
+    PROTECTION=dd7515f2bfc17f85ce48f3ca25cb21f6 cukvashe key-block unwrap \\
+      --protection-key-env PROTECTION";
+
+    "wrap": "Print the block of a key, under a key that protects key blocks";
+    [{
+        "version": Word("VERSION", &["B", "C"]) =>
+            "The version of the block: derived keys, or variants of the key [default: B]";
+        "usage": Needed("USAGE") =>
+            "What the key is for, two characters: P0 for PIN blocks, B0 for a base derivation key";
+        "algorithm": Text("ALGORITHM") =>
+            "The algorithm of the key: T for triple DES, D for DES [default: by the key's length]";
+        "mode": Needed("MODE") =>
+            "What may be done with the key: E to encrypt, D to decrypt, B both, X to derive keys";
+        "key-version": Text("TEXT") =>
+            "The number of the key's version, two characters [default: 00, of a key without one]";
+        "exportability": Text("RULE") =>
+            "Who may have the key: E under any trusted key, N nobody else, S other forms too [default: N]";
+        "optional": Text("BLOCKS") =>
+            "Optional blocks, one after another, as they stand in a block [default: none]";
+    }, Key, ProtectionKey] "Example:
+  KEY=0123456789abcdeffedcba9876543210 PROTECTION=89e88cf7931444f334bd7547fc3f380c \\
+    cukvashe key-block wrap --usage P0 --mode E --key-env KEY --protection-key-env PROTECTION";
+};
+
+/// The groups, in the help's order. Each is a static of its own, since the time of a proof grows by the
+/// square of what a static holds.
+pub fn groups() -> [&'static Group<'static>; 7] {
+    [&STREAMS, &KEYS, &PIN, &PVV, &OFFSET, &EMV, &KEY_BLOCK]
+}

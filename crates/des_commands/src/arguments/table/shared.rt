@@ -1,0 +1,174 @@
+//! What an argument is, and the arguments that several commands take.
+
+use Takes::{Needed, NeededWord, Nothing, Number, Place, Text, Word};
+
+/// What an argument takes. The first text is what the help calls its value.
+#[derive(Clone, Copy)]
+pub enum Takes<'a> {
+    /// One of some words, in its place.
+    Place(&'a str, &'a [&'a str]),
+    /// A text, in its place.
+    PlaceOfText(&'a str),
+    /// One of some words.
+    Word(&'a str, &'a [&'a str]),
+    /// A number.
+    Number(&'a str),
+    /// A number from 0 to 255.
+    Count(&'a str),
+    /// A text.
+    Text(&'a str),
+    /// A text. The option is required.
+    Needed(&'a str),
+    /// One of some words. The option is required.
+    NeededWord(&'a str, &'a [&'a str]),
+    /// Texts, one at each use.
+    Texts(&'a str),
+    /// A number that the help does not show.
+    Hidden,
+    /// Nothing.
+    Nothing,
+}
+
+/// An argument: its name, what it takes, and what the help says of it.
+#[derive(Clone, Copy)]
+pub struct Argument<'a>(pub &'a str, pub Takes<'a>, pub &'a str);
+
+/// Arguments: what one command takes, or what several take, by the name of a constant below.
+#[derive(Clone, Copy)]
+pub enum Arguments<'a> {
+    /// Those of one command.
+    Own(&'a [Argument<'a>]),
+    Key,
+    ToKey,
+    ProtectionKey,
+    Password,
+    Derive,
+    AnyCount,
+    Cipher,
+    Files,
+    Progress,
+    Account,
+    Format,
+    PinFile,
+    Index,
+    Validation,
+    Cryptogram,
+    BlockFile,
+}
+
+macro_rules! arguments {
+    ($($name:literal: $takes:expr => $help:expr;)*) => { &[$(Argument($name, $takes, $help)),*] };
+}
+
+pub(crate) use arguments;
+
+const KEY: &[Argument<'static>] = arguments! {
+    "key-file": Text("FILE") =>
+        "Read the key's hexadecimal digits from a file, or - for standard input; one of these is needed";
+    "key-fd": Number("N") => "Read them from an open descriptor, from its current position";
+    "key-env": Text("NAME") => "Take them from an environment variable";
+};
+
+const TO_KEY: &[Argument<'static>] = arguments! {
+    "to-key-file": Text("FILE") =>
+        "Read the outgoing key's digits from a file, or - for standard input; one of these is needed";
+    "to-key-fd": Number("N") => "Read them from an open descriptor, from its current position";
+    "to-key-env": Text("NAME") => "Take them from an environment variable";
+};
+
+const PROTECTION_KEY: &[Argument<'static>] = arguments! {
+    "protection-key-file": Text("FILE") =>
+        "Read the digits of the key that protects the block from a file, or -; one of these is needed";
+    "protection-key-fd": Number("N") => "Read them from an open descriptor, from its current position";
+    "protection-key-env": Text("NAME") => "Take them from an environment variable";
+};
+
+const PASSWORD: &[Argument<'static>] = arguments! {
+    "password-file": Text("FILE") => "Read the password, the first line of a file, or - for standard input";
+    "password-fd": Number("N") => "Read it from an open descriptor, from its current position";
+    "password-env": Text("NAME") => "Take it from an environment variable";
+};
+
+const DERIVE: &[Argument<'static>] = arguments! {
+    "derive": Text("METHOD") =>
+        "md5, sha1, sha256, pbkdf2-sha1:COUNT or pbkdf2-sha256:COUNT; to encrypt, the last alone \
+         [default: to encrypt pbkdf2-sha256:600000, to decrypt none]";
+};
+
+const ANY_COUNT: &[Argument<'static>] = arguments! {
+    "any-count": Nothing => "Take more than 10000000 iterations";
+};
+
+const CIPHER: &[Argument<'static>] = arguments! {
+    "cipher": Place("CIPHER", &["des-ecb", "des-cbc", "des-ede-ecb", "des-ede-cbc", "des-ede3-ecb", "des-ede3-cbc"]) =>
+        "The cipher and its mode: DES, or triple DES by a key of two (ede) or three (ede3) parts";
+};
+
+const FILES: &[Argument<'static>] = arguments! {
+    "in": Text("FILE") => "Read a file, or - for standard input [default: standard input]";
+    "out": Text("FILE") =>
+        "Write to a file, which is replaced only when all is done; - is standard output, even a \
+         terminal [default: standard output]";
+};
+
+const PROGRESS: &[Argument<'static>] = arguments! {
+    "progress": Nothing => "Show progress on standard error";
+};
+
+const ACCOUNT: &[Argument<'static>] = arguments! {
+    "account": Text("DIGITS") =>
+        "The account number, 8 to 19 digits, the last its check digit; of pvv 12, of cvv 13 at least";
+    "account-file": Text("FILE") => "Read the account number from a file, or - for standard input";
+    "check-digit": Word("CHOICE", &["warn", "refuse"]) =>
+        "What to do where the last digit is not the check digit [default: warn]";
+};
+
+const FORMAT: &[Argument<'static>] = arguments! {
+    "format": Place("FORMAT", &["0", "1", "2", "3"]) => "The format (ISO 9564-1)";
+};
+
+const PIN_FILE: &[Argument<'static>] = arguments! {
+    "pin-file": Text("FILE") => "Read the PIN from a file [default: standard input]";
+};
+
+const INDEX: &[Argument<'static>] = arguments! {
+    "index": NeededWord("INDEX", &["1", "2", "3", "4", "5", "6"]) => "The index of the key pair";
+};
+
+const VALIDATION: &[Argument<'static>] = arguments! {
+    "validation": Needed("DIGITS") =>
+        "The validation data, 16 hexadecimal digits, as the issuer chooses them";
+    "table": Needed("DIGITS") => "The decimalization table, 16 digits, those that stand for 0 to f";
+    "any-table": Nothing => "Take a table with fewer than eight different digits";
+};
+
+const CRYPTOGRAM: &[Argument<'static>] = arguments! {
+    "cryptogram": Needed("DIGITS") => "The application cryptogram, 16 hexadecimal digits";
+};
+
+const BLOCK_FILE: &[Argument<'static>] = arguments! {
+    "block-file": Text("FILE") => "Read the key block from a file [default: standard input]";
+};
+
+/// The arguments, in the help's order.
+pub fn list_of<'a>(arguments: Arguments<'a>) -> &'a [Argument<'a>] {
+    match arguments {
+        Arguments::Own(list) => list,
+        Arguments::Key => KEY,
+        Arguments::ToKey => TO_KEY,
+        Arguments::ProtectionKey => PROTECTION_KEY,
+        Arguments::Password => PASSWORD,
+        Arguments::Derive => DERIVE,
+        Arguments::AnyCount => ANY_COUNT,
+        Arguments::Cipher => CIPHER,
+        Arguments::Files => FILES,
+        Arguments::Progress => PROGRESS,
+        Arguments::Account => ACCOUNT,
+        Arguments::Format => FORMAT,
+        Arguments::PinFile => PIN_FILE,
+        Arguments::Index => INDEX,
+        Arguments::Validation => VALIDATION,
+        Arguments::Cryptogram => CRYPTOGRAM,
+        Arguments::BlockFile => BLOCK_FILE,
+    }
+}

@@ -1,0 +1,179 @@
+//! What the faults of a calculation are about: an option, a place in the command line, or the name of
+//! what is read. None of these is a secret.
+
+ghost use Rattle.std.specs.Prelude.{◌≡◌};
+ghost use Rattle.des_commands.specs.Names.{named as named_by, input_name as input_name_of, account_name as account_name_of, key_name as key_name_of, to_key_name as to_key_name_of};
+ghost use Rattle.des_commands.specs.Names.{about_of as about_by, about_of_verification as about_by_verification, about_of_card as about_by_card, about_of_key_block as about_by_key_block, makes_block as makes_block_of, option_of as option_by, fill_name as fill_name_of};
+
+use crate::command::{Account, Calculation, CalculationRequest, KeyBlockCalculation};
+use crate::fault::{Field, Kind};
+use crate::source::Source;
+use des_payment::emv_error::EmvError;
+use des_payment::key_block_error::KeyBlockError;
+use des_payment::{CvvError, PinError, TranslationError, VerificationError};
+
+// ---- what is read
+
+// What a fault of a key is about: a file, or the option that names its source.
+fn named<'a>(source: Source<'a>, descriptor: &'static str, variable: &'static str) -> &'a str
+    ensures { result.now ≡ named_by source.entry descriptor.now variable.now }
+{
+    match source {
+        Source::Descriptor(_) => descriptor,
+        Source::Variable(_) => variable,
+        _ => source.name(),
+    }
+}
+
+/// What a fault of the input is about.
+pub fn input_name<'a>(request: &CalculationRequest<'a>) -> &'a str
+    ensures { result.now ≡ input_name_of request.now }
+{
+    match request.calculation {
+        Calculation::CombineBytes { .. } => "--part-file",
+        _ => request.input.name(),
+    }
+}
+
+/// What a fault of the account number is about.
+pub fn account_name<'a>(account: Account<'a>) -> &'a str
+    ensures { result.now ≡ account_name_of account.entry }
+{
+    match account {
+        Account::In(source) => source.name(),
+        _ => "--account",
+    }
+}
+
+/// What a fault of the key is about, also where the key is the input.
+pub fn key_name<'a>(request: &CalculationRequest<'a>) -> &'a str
+    ensures { result.now ≡ key_name_of request.now }
+{
+    match (request.calculation, request.key) {
+        (_, None) => input_name(request),
+        (Calculation::KeyBlock(_), Some(source)) => {
+            named(source, "--protection-key-fd", "--protection-key-env")
+        }
+        (_, Some(source)) => source.name(),
+    }
+}
+
+/// What a fault of the key of an outgoing block is about, or of the key that is wrapped, which is the
+/// input.
+pub fn to_key_name<'a>(request: &CalculationRequest<'a>) -> &'a str
+    ensures { result.now ≡ to_key_name_of request.now }
+{
+    match request.to_key {
+        Some(source) => named(source, "--to-key-fd", "--to-key-env"),
+        None => input_name(request),
+    }
+}
+
+// ---- faults
+
+// What a fault of a verification is about.
+fn about_of_verification<'a>(error: VerificationError, request: &CalculationRequest<'a>) -> &'a str
+    ensures { result.now ≡ about_by_verification error request.now }
+{
+    match error {
+        VerificationError::AccountLength | VerificationError::AccountDigit => {
+            account_name(request.account)
+        }
+        VerificationError::KeyIndex => "--index",
+        VerificationError::KeyLength => key_name(request),
+        VerificationError::PinLength => "--length",
+        VerificationError::TableLength
+        | VerificationError::TableDigit
+        | VerificationError::TableVariety => "--table",
+        VerificationError::WrongPin => input_name(request),
+    }
+}
+
+// What a fault of a card's keys and cryptograms is about.
+fn about_of_card<'a>(error: EmvError, request: &CalculationRequest<'a>) -> &'a str
+    ensures { result.now ≡ about_by_card error request.now }
+{
+    match error {
+        EmvError::AccountLength | EmvError::AccountDigit => account_name(request.account),
+        EmvError::SequenceLength | EmvError::SequenceDigit => "--sequence",
+        EmvError::DataLength => "--data",
+    }
+}
+
+// What a fault of a key block is about: the key that protects it; of one that is made, the key that it
+// holds or an option, and of one that is read the block.
+fn about_of_key_block<'a>(error: KeyBlockError, request: &CalculationRequest<'a>) -> &'a str
+    ensures { result.now ≡ about_by_key_block error (makes_block_of request.now.calculation) request.now }
+{
+    let is_made = matches!(
+        request.calculation,
+        Calculation::KeyBlock(KeyBlockCalculation::Wrap(_))
+    );
+    match (error, is_made) {
+        (KeyBlockError::ProtectionKeyLength, _) => key_name(request),
+        (KeyBlockError::Version, true) => "--version",
+        (KeyBlockError::KeyLength, true) => input_name(request),
+        (_, true) => "--optional",
+        (_, false) => input_name(request),
+    }
+}
+
+fn option_of(field: Field) -> &'static str
+    ensures { result.now ≡ option_by field }
+{
+    match field {
+        Field::Usage => "--usage",
+        Field::Algorithm => "--algorithm",
+        Field::Mode => "--mode",
+        Field::KeyVersion => "--key-version",
+        Field::Exportability => "--exportability",
+    }
+}
+
+// What a fault of a fill digit is about: the block that has it, or the option that gives it.
+fn fill_name<'a>(request: &CalculationRequest<'a>) -> &'a str
+    ensures { result.now ≡ fill_name_of request.now }
+{
+    match request.calculation {
+        Calculation::Decode { .. } => input_name(request),
+        _ => "--fill",
+    }
+}
+
+/// What a fault of a calculation is about.
+pub fn about_of<'a>(kind: Kind, request: &CalculationRequest<'a>) -> &'a str
+    ensures { result.now ≡ about_by kind request.now }
+{
+    match kind {
+        Kind::Components => "--count",
+        Kind::SerialLength | Kind::SerialText | Kind::SerialCounter => "SERIAL",
+        Kind::FillLength | Kind::FillText => "--fill",
+        Kind::CheckDigit
+        | Kind::Pin(PinError::AccountLength | PinError::AccountDigit)
+        | Kind::Card(CvvError::AccountLength | CvvError::AccountDigit)
+        | Kind::Translation(TranslationError::AccountLength | TranslationError::AccountDigit) => {
+            account_name(request.account)
+        }
+        Kind::Pin(PinError::Fill) | Kind::Translation(TranslationError::Fill) => {
+            fill_name(request)
+        }
+        Kind::Card(CvvError::ExpiryLength | CvvError::ExpiryDigit) => "--expiry",
+        Kind::Card(CvvError::ServiceLength | CvvError::ServiceDigit) => "--service",
+        Kind::Verification(error) => about_of_verification(error, request),
+        Kind::Emv(error) => about_of_card(error, request),
+        Kind::KeyLength(_) | Kind::KeyText => key_name(request),
+        Kind::ToKeyLength | Kind::ToKeyText => to_key_name(request),
+        Kind::Value => "--value",
+        Kind::Offset => "--offset",
+        Kind::Validation => "--validation",
+        Kind::Counter => "--counter",
+        Kind::Cryptogram => "--cryptogram",
+        Kind::ResponseCode => "--code",
+        Kind::CardStatus => "--status",
+        Kind::IssuerData => "--data",
+        Kind::Field(field) => option_of(field),
+        Kind::KeyBlock(error) => about_of_key_block(error, request),
+        Kind::Memory => "",
+        _ => input_name(request),
+    }
+}
