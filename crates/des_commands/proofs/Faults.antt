@@ -33,16 +33,9 @@ first_of o p e found = rw found refl
 pub passed : (o p : Option Kind) → o ≡ None → option_or o p ≡ p
 passed o p none = rw none refl
 
--- a call that gave the fault which is found, and one that gave a value where none is
-pub fails_by : (A : Type 0) (o : Option Kind) (r : Result A Kind) (e : Kind) → o ≡ Some e → r ≡ Err e
-    → FailsOnlyBy o r
-fails_by A o r e found was = rw found was
-
+-- a call that gave the fault which is found
 pub fails_as : (A : Type 0) (o : Option Kind) (r : Result A Kind) (e : Kind) → o ≡ Some e → r ≡ Err e → FailsBy o r
 fails_as A o r e found was = rw found was
-
-pub passes_by : (A : Type 0) (o : Option Kind) (x : A) → o ≡ None → FailsOnlyBy {A = A} o (Ok x)
-passes_by A o x none = rw none refl
 
 -- a test before it was passed
 pub fails_after : (A : Type 0) (test : Bool) (f : Kind) (o : Option Kind) (e : Kind) → test ≡ true → o ≡ Some e

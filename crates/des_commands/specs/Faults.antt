@@ -6,7 +6,7 @@ use Rattle.std.specs.List.{concat}
 use Rattle.des_io.specs.declared.error.StreamError.{StreamError}
 use Rattle.des_io.specs.declared.error.StreamError.TheVariants.{Read as ReadError, Write as WriteError, Length as LengthError, Start as StartError, Padding as PaddingError}
 use Rattle.des_payment.specs.PinBlocks.{name_of as name_of_pin_error}
-use Rattle.des_payment.specs.CardVerification.{name_of as name_of_card_error}
+use Rattle.des_payment.specs.CardVerification.{name_of as name_of_cvv_error}
 use Rattle.des_payment.specs.Translation.{name_of as name_of_translation_error}
 use Rattle.des_payment.specs.PinVerification.{name_of as name_of_verification_error}
 use Rattle.des_payment.specs.CardCryptograms.{name_of as name_of_emv_error}
@@ -15,7 +15,7 @@ use Rattle.des_commands.specs.declared.fault.Reason.{Reason}
 use Rattle.des_commands.specs.declared.fault.FileFault.{FileFault}
 use Rattle.des_commands.specs.declared.fault.FileFault.TheVariants.{Salted, SaltedText, NotSalted, SaltCut, Base64, Begin, End, NotEncrypted, NoDekInfo, Cipher as OtherCipher, DekVector, EmptyLine, Structure, Algorithm as OtherAlgorithm, KeyDerivation, Iterations, KeySize, Prf, KeyPadding, Password as OtherPassword, Unpadded}
 use Rattle.des_commands.specs.declared.fault.Kind.{Kind}
-use Rattle.des_commands.specs.declared.fault.Kind.TheVariants.{Usage, Source, Variable, InputLength, KeyLength, KeyText, ToKeyLength, ToKeyText, WeakKey, Components, Vector, Tag, Value, Offset, Validation, Counter, Cryptogram, ResponseCode, CardStatus, IssuerData, CryptogramData, BlockLength, BlockText, SerialLength, SerialText, SerialCounter, FillLength, FillText, CheckDigit, Pin, Card, Translation, Verification, Emv, Field as FieldFault, KeyBlock, File, EmptyPassword, Memory, Read, Write, Length, Start, Padding}
+use Rattle.des_commands.specs.declared.fault.Kind.TheVariants.{Usage, Source, Variable, InputLength, KeyLength, KeyText, ToKeyLength, ToKeyText, WeakKey, Components, Vector, Tag, Value, Offset, Validation, Counter, Cryptogram, ResponseCode, CardStatus, IssuerData, CryptogramData, BlockLength, BlockText, SerialLength, SerialText, SerialCounter, FillLength, FillText, CheckDigit, Pin, Cvv, Translation, Verification, Emv, Field as FieldFault, KeyBlock, File, EmptyPassword, Memory, Read, Write, Length, Start, Padding}
 
 -- the name of a fault of a file under a password
 abbrev pub file_name : FileFault → List ℕ
@@ -73,7 +73,7 @@ name_of FillLength = codes "FillLength"
 name_of FillText = codes "FillText"
 name_of CheckDigit = codes "CheckDigit"
 name_of (Pin error) = name_of_pin_error error
-name_of (Card error) = name_of_card_error error
+name_of (Cvv error) = name_of_cvv_error error
 name_of (Translation error) = name_of_translation_error error
 name_of (Verification error) = name_of_verification_error error
 name_of (Emv error) = name_of_emv_error error

@@ -1,5 +1,4 @@
--- What a stream is to be: which cipher a name means, what is made of an input or of a part of one, and what a request
--- makes of it.
+-- What a stream is to be: which cipher a name means, and what is made of an input or of a part of one.
 use Rattle.std.specs.Prelude.{◌≡◌, ℕ, List, Option, Some, None, ⊤}
 use Rattle.std.specs.Io.KnownBytes.{Appends, IsAtEnd}
 use Rattle.des.specs.Blocks.{IsBlock}

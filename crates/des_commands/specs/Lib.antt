@@ -2,7 +2,7 @@ pub mod Texts
 pub mod Faults
 pub mod Written
 pub mod PinLines
-pub mod CardLines
+pub mod EmvLines
 pub mod Lines
 pub mod Macs
 pub mod Sources

@@ -5,43 +5,35 @@ use Rattle.std.specs.Simd.{first_chunks}
 use Rattle.std.specs.declared.vec.Vec.{Vec}
 use Rattle.std.specs.declared.alloc.Global.{Global}
 use Rattle.des.specs.Cbc.{xor_blocks}
-use Rattle.des.specs.Des.{encryption}
 use Rattle.des.specs.Relations.{IsTheOne}
-use Rattle.des.specs.TripleCiphers.{ede2_encryption, ede3_encryption}
 use Rattle.des.specs.WeakKeys.{IsRefused}
 use Rattle.des_payment.specs.CardVerification.{verification_value, card_fault}
 use Rattle.des_payment.specs.Components.{combined, odd}
 use Rattle.des_payment.specs.Digits.{digits_of}
+use Rattle.des_payment.specs.KeyLengths.{encryption_by}
 use Rattle.des_payment.specs.Dukpt.{counter_of, initial_key, transaction_key, pin_key, mac_key, data_key, data_variant}
 use Rattle.des_payment.specs.PinBlocks.{IsFormat0, IsFormat1, IsFormat2, IsFormat3, account_field, pin_fault, account_fault, fill_fault, field_fault}
 use Rattle.des_payment.specs.declared.translation.Format.{Format}
 use Rattle.des_payment.specs.declared.translation.Format.TheVariants.{Format0, Format1, Format2, Format3}
 use Rattle.des_commands.specs.declared.command.Calculation.{Calculation}
-use Rattle.des_commands.specs.declared.command.Calculation.TheVariants.{CheckValue, Parity, Weak, Combine, CombineBytes, Encode, Decode, Transaction, Cvv, Pin as PinByKey, Card as CardByKey, KeyBlock}
+use Rattle.des_commands.specs.declared.command.Calculation.TheVariants.{CheckValue, Parity, Weak, Combine, CombineBytes, Encode, Decode, Transaction, Cvv, Pin as PinByKey, Emv as EmvByKey, KeyBlock}
 use Rattle.des_commands.specs.declared.command.Inputs.{Inputs}
 use Rattle.des_commands.specs.declared.command.Purpose.{Purpose}
 use Rattle.des_commands.specs.declared.command.Purpose.TheVariants.{Pin, Mac, Data, DataVariant}
 use Rattle.des_commands.specs.declared.fault.Kind.{Kind}
-use Rattle.des_commands.specs.declared.fault.Kind.TheVariants.{KeyLength, KeyText, Components, BlockLength, BlockText, SerialLength, SerialText, SerialCounter, FillLength, FillText, Pin as PinFault, Card}
+use Rattle.des_commands.specs.declared.fault.Kind.TheVariants.{KeyLength, KeyText, Components, BlockLength, BlockText, SerialLength, SerialText, SerialCounter, FillLength, FillText, Pin as PinFault, Cvv as CvvFault}
 use Rattle.des_commands.specs.Faults.{FailsBy, FailsOrRefuses}
 use Rattle.des_commands.specs.Keys.{key_fault, pair_fault}
 use Rattle.des_commands.specs.PinLines.{IsPinLine, pin_line_fault}
-use Rattle.des_commands.specs.CardLines.{IsCardLine, FailsAsCard}
+use Rattle.des_commands.specs.EmvLines.{IsEmvLine, FailsAsEmv}
 use Rattle.des_commands.specs.KeyBlockLines.{AnswersKeyBlock, FailsAsKeyBlock}
 use Rattle.des_commands.specs.Texts.{bytes_of, text_fault, digits_fault, fill_of, hex_line, text_line}
 
 -- ---- keys
 
--- what a key of 8, 16 or 24 bytes makes of a block, by how many digits write it
-abbrev pub encryption_by_size : List ℕ → List ℕ → List ℕ
-encryption_by_size digits =
-    if length digits == 16 then encryption (bytes_of digits)
-    else if length digits == 32 then ede2_encryption (bytes_of digits)
-    else ede3_encryption (bytes_of digits)
-
--- its first bytes, of three
+-- the first bytes, of three, of what a key of 8, 16 or 24 bytes makes of zeros
 abbrev pub check_value_of : ℕ → List ℕ → List ℕ
-check_value_of count digits = take count (take 3 (encryption_by_size digits (replicate 8 0)))
+check_value_of count digits = take count (take 3 (encryption_by (bytes_of digits) (replicate 8 0)))
 
 -- the line of a key of which each byte is given odd parity
 abbrev pub parity_line : List ℕ → List ℕ
@@ -148,7 +140,7 @@ cvv_of expiry service inputs = verification_value (bytes_of inputs.text.now) inp
 
 abbrev pub cvv_fault : List ℕ → List ℕ → Inputs → Option Kind
 cvv_fault expiry service inputs =
-    option_or (pair_fault inputs.text.now) (option_map Card (card_fault inputs.account.now expiry service))
+    option_or (pair_fault inputs.text.now) (option_map CvvFault (card_fault inputs.account.now expiry service))
 
 -- ---- calculations
 
@@ -167,7 +159,7 @@ IsLine (Transaction serial purpose) inputs line =
     line ≡ hex_line (key_for purpose (transaction_key_of serial.now inputs.text.now))
 IsLine (Cvv expiry service) inputs line = line ≡ text_line (cvv_of expiry.now service.now inputs)
 IsLine (PinByKey calculation) inputs line = IsPinLine calculation inputs line
-IsLine (CardByKey calculation) inputs line = IsCardLine calculation inputs line
+IsLine (EmvByKey calculation) inputs line = IsEmvLine calculation inputs line
 IsLine (KeyBlock calculation) inputs line = AnswersKeyBlock calculation inputs line
 
 -- how a calculation fails: by its first fault, where it has one
@@ -189,5 +181,5 @@ FailsAs (Decode format) inputs result =
 FailsAs (Transaction serial purpose) inputs result = FailsBy (transaction_fault serial.now inputs.text.now) result
 FailsAs (Cvv expiry service) inputs result = FailsBy (cvv_fault expiry.now service.now inputs) result
 FailsAs (PinByKey calculation) inputs result = FailsBy (pin_line_fault calculation inputs) result
-FailsAs (CardByKey calculation) inputs result = FailsAsCard calculation inputs result
+FailsAs (EmvByKey calculation) inputs result = FailsAsEmv calculation inputs result
 FailsAs (KeyBlock calculation) inputs result = FailsAsKeyBlock calculation inputs result

@@ -1,12 +1,12 @@
 -- The tag of a message under a key, by the method and the key's size.
-use Rattle.std.specs.Prelude.{◌≡◌, ◌⊎◌, ℕ, ◌==◌, if◌then◌else◌, List, length, Option, None}
+use Rattle.std.specs.Prelude.{◌≡◌, ◌⊎◌, ℕ, List, length, Option, None}
 use Rattle.std.specs.Io.KnownBytes.{Consumes, IsAtEnd}
 use Rattle.des.specs.Des.{encryption, decryption}
-use Rattle.des.specs.TripleCiphers.{ede2_encryption, ede3_encryption}
 use Rattle.des_mac.specs.Padding.{padded, zeros_after, one_bit_after}
 use Rattle.des_mac.specs.CbcMac.{cbc_mac}
 use Rattle.des_mac.specs.RetailMac.{retail_mac_of}
 use Rattle.des_mac.specs.Cmac.{cmac}
+use Rattle.des_payment.specs.KeyLengths.{encryption_by}
 use Rattle.des_commands.specs.declared.fault.Reason.{Reason}
 use Rattle.des_commands.specs.declared.fault.Kind.{Kind}
 use Rattle.des_commands.specs.declared.fault.Kind.TheVariants.{KeyLength, Read}
@@ -14,13 +14,6 @@ use Rattle.des_commands.specs.declared.mac.PaddingMethod.{PaddingMethod}
 use Rattle.des_commands.specs.declared.mac.PaddingMethod.TheVariants.{One, Two}
 use Rattle.des_commands.specs.declared.mac.Method.{Method}
 use Rattle.des_commands.specs.declared.mac.Method.TheVariants.{CbcMac, Retail, Cmac}
-
--- DES under a key of 8 bytes, and triple DES under one of 16 or 24
-abbrev pub encryption_by : List ℕ → List ℕ → List ℕ
-encryption_by key =
-    if length key == 8 then encryption key
-    else if length key == 16 then ede2_encryption key
-    else ede3_encryption key
 
 -- a message with its padding
 abbrev pub padded_by : PaddingMethod → List ℕ → List ℕ

@@ -1,7 +1,7 @@
 -- What a fault of a calculation is about: an option, a place in the command line, or the name of what is read.
 use Rattle.std.specs.Prelude.{ℕ, Bool, true, false, List, [], codes, Some, None}
 use Rattle.des_payment.specs.declared.pin_error.PinError.TheVariants.{AccountLength, AccountDigit, Fill}
-use Rattle.des_payment.specs.declared.cvv_error.CvvError.TheVariants.{AccountLength as CardAccountLength, AccountDigit as CardAccountDigit, ExpiryLength, ExpiryDigit, ServiceLength, ServiceDigit}
+use Rattle.des_payment.specs.declared.cvv_error.CvvError.TheVariants.{AccountLength as CvvAccountLength, AccountDigit as CvvAccountDigit, ExpiryLength, ExpiryDigit, ServiceLength, ServiceDigit}
 use Rattle.des_payment.specs.declared.translation_error.TranslationError.TheVariants.{AccountLength as TranslatedAccountLength, AccountDigit as TranslatedAccountDigit, Fill as TranslatedFill}
 use Rattle.des_payment.specs.declared.verification_error.VerificationError.{VerificationError}
 use Rattle.des_payment.specs.declared.verification_error.VerificationError.TheVariants.{AccountLength as PairAccountLength, AccountDigit as PairAccountDigit, KeyIndex, KeyLength as PinKeyLength, PinLength, TableLength, TableDigit, TableVariety, WrongPin}
@@ -18,7 +18,7 @@ use Rattle.des_commands.specs.declared.command.KeyBlockCalculation.TheVariants.{
 use Rattle.des_commands.specs.declared.fault.Field.{Field}
 use Rattle.des_commands.specs.declared.fault.Field.TheVariants.{Usage, Algorithm, Mode, KeyVersion, Exportability}
 use Rattle.des_commands.specs.declared.fault.Kind.{Kind}
-use Rattle.des_commands.specs.declared.fault.Kind.TheVariants.{KeyLength, KeyText, ToKeyLength, ToKeyText, Value, Offset, Validation, Counter, Cryptogram, ResponseCode, CardStatus, IssuerData, CheckDigit, Components, SerialLength, SerialText, SerialCounter, FillLength, FillText, Pin, Card, Translation, Verification, Emv, Field as FieldFault, KeyBlock as KeyBlockFault, Memory}
+use Rattle.des_commands.specs.declared.fault.Kind.TheVariants.{KeyLength, KeyText, ToKeyLength, ToKeyText, Value, Offset, Validation, Counter, Cryptogram, ResponseCode, CardStatus, IssuerData, CheckDigit, Components, SerialLength, SerialText, SerialCounter, FillLength, FillText, Pin, Cvv, Translation, Verification, Emv, Field as FieldFault, KeyBlock as KeyBlockFault, Memory}
 use Rattle.des_commands.specs.declared.source.Source.{Source}
 use Rattle.des_commands.specs.declared.source.Source.TheVariants.{Descriptor, Variable}
 use Rattle.des_commands.specs.Sources.{name_of_source}
@@ -75,12 +75,12 @@ about_of_verification TableVariety request = codes "--table"
 about_of_verification WrongPin request = input_name request
 
 -- of a card's keys and cryptograms
-abbrev pub about_of_card : EmvError → CalculationRequest → List ℕ
-about_of_card EmvAccountLength request = account_name request.account
-about_of_card EmvAccountDigit request = account_name request.account
-about_of_card SequenceLength request = codes "--sequence"
-about_of_card SequenceDigit request = codes "--sequence"
-about_of_card DataLength request = codes "--data"
+abbrev pub about_of_emv : EmvError → CalculationRequest → List ℕ
+about_of_emv EmvAccountLength request = account_name request.account
+about_of_emv EmvAccountDigit request = account_name request.account
+about_of_emv SequenceLength request = codes "--sequence"
+about_of_emv SequenceDigit request = codes "--sequence"
+about_of_emv DataLength request = codes "--data"
 
 -- a key block is made
 abbrev pub makes_block : Calculation → Bool
@@ -123,17 +123,17 @@ about_of CheckDigit request = account_name request.account
 about_of (Pin AccountLength) request = account_name request.account
 about_of (Pin AccountDigit) request = account_name request.account
 about_of (Pin Fill) request = fill_name request
-about_of (Card CardAccountLength) request = account_name request.account
-about_of (Card CardAccountDigit) request = account_name request.account
-about_of (Card ExpiryLength) request = codes "--expiry"
-about_of (Card ExpiryDigit) request = codes "--expiry"
-about_of (Card ServiceLength) request = codes "--service"
-about_of (Card ServiceDigit) request = codes "--service"
+about_of (Cvv CvvAccountLength) request = account_name request.account
+about_of (Cvv CvvAccountDigit) request = account_name request.account
+about_of (Cvv ExpiryLength) request = codes "--expiry"
+about_of (Cvv ExpiryDigit) request = codes "--expiry"
+about_of (Cvv ServiceLength) request = codes "--service"
+about_of (Cvv ServiceDigit) request = codes "--service"
 about_of (Translation TranslatedAccountLength) request = account_name request.account
 about_of (Translation TranslatedAccountDigit) request = account_name request.account
 about_of (Translation TranslatedFill) request = fill_name request
 about_of (Verification error) request = about_of_verification error request
-about_of (Emv error) request = about_of_card error request
+about_of (Emv error) request = about_of_emv error request
 about_of (KeyLength size) request = key_name request
 about_of KeyText request = key_name request
 about_of ToKeyLength request = to_key_name request

@@ -14,9 +14,10 @@ use Rattle.des_commands.specs.declared.password_streams.PasswordJob.{PasswordJob
 use Rattle.des_commands.specs.declared.keys.Verdict.{Verdict}
 use Rattle.des_commands.specs.declared.notices.Notice.{Notice}
 use Rattle.des_commands.specs.Keys.{IsVerdict}
-use Rattle.des_commands.specs.Notices.{ruling_of}
+use Rattle.des_commands.specs.Notices.{ruling_of, notice_line}
+use Rattle.des_commands.specs.Written.{AppendsPrefix}
 use Rattle.des_commands.specs.Jobs.{key_size_of, IsDone}
-use Rattle.des_commands.specs.StreamRequests.{blocks_before, IsJobOf}
+use Rattle.des_commands.specs.StreamRequests.{IsJobOf}
 use Rattle.des_commands.specs.JobFaults.{IsUntouched, HasStopped}
 
 -- a text up to its first line end
@@ -69,14 +70,18 @@ pub record IsStreamOf (job : PasswordJob) (salt : Option (List ℕ)) (stream : J
   pub size : length key ≡ key_size_of job.request.now.cipher
   pub given : key ++ vector
       ≡ derived job.by.derivation job.password.now (salt_bytes salt) (key_size_of job.request.now.cipher + 8)
-  pub by_key : IsJobOf job.request.now key vector (codes "Salted__" ++ job.salt)
-      (blocks_before job.request.now.mode job.request.now.part) stream
+  pub by_key : IsJobOf job.request.now key vector (codes "Salted__" ++ job.salt) job.skipped stream
 
 -- what the weak key test and `--weak-keys` say of the key
 abbrev pub IsRuled : PasswordJob → List ℕ → Result (Option Notice) Kind → Type 0
 IsRuled job key ruling =
     (verdict : Verdict) × IsVerdict verdict key
     × (ruling ≡ ruling_of job.request.now.weak_keys job.request.now.encrypts verdict)
+
+-- nothing is told, or a prefix of a notice about the password's name
+abbrev pub TellsOfKey : PasswordJob → Option (List ℕ) → Option (List ℕ) → Type 0
+TellsOfKey job old new =
+    (new ≡ old) ⊎ ((notice : Notice) × AppendsPrefix old new (notice_line notice job.name.now))
 
 -- the salt was read, where the input has one, the key was taken, and what is asked for was done by it
 pub record IsDoneByPassword (job : PasswordJob) (passage : Passage) : Type 0 where

@@ -23,29 +23,26 @@ IsFaultOf request kind fault = (fault.kind ≡ kind) × (fault.about.now ≡ abo
 -- the account number is refused, or else the calculation fails by its first fault, where it has one
 abbrev pub FailsAsAsked : CalculationRequest → Inputs → Result (Vec ℕ Global) Kind → Type 0
 FailsAsAsked request inputs result =
-    (IsTrue (request.refuses && lacks_check_digit inputs.account.now) → result ≡ Err CheckDigit)
-    × (request.refuses && lacks_check_digit inputs.account.now ≡ false → FailsAs request.calculation inputs result)
-
--- what is given is the calculation's line
-abbrev pub IsLineOf : CalculationRequest → Inputs → Result (Vec ℕ Global) Kind → Type 0
-IsLineOf request inputs result = IfOk result (λ line. IsLine request.calculation inputs line.items)
+    (IsTrue (request.refuses_wrong_check_digit && lacks_check_digit inputs.account.now) → result ≡ Err CheckDigit)
+    × (request.refuses_wrong_check_digit && lacks_check_digit inputs.account.now ≡ false
+    → FailsAs request.calculation inputs result)
 
 -- a result with what its fault is about
-abbrev pub IsTold : CalculationRequest → Result (Vec ℕ Global) Kind → Result (Vec ℕ Global) Fault → Type 0
-IsTold request (Ok line) outcome = outcome ≡ Ok line
-IsTold request (Err kind) outcome = (fault : Fault) × (IsFaultOf request kind fault × (outcome ≡ Err fault))
+abbrev pub IsAbout : CalculationRequest → Result (Vec ℕ Global) Kind → Result (Vec ℕ Global) Fault → Type 0
+IsAbout request (Ok line) outcome = outcome ≡ Ok line
+IsAbout request (Err kind) outcome = (fault : Fault) × (IsFaultOf request kind fault × (outcome ≡ Err fault))
 
 -- the line, or the fault
 pub record IsOutcome (request : CalculationRequest) (inputs : Inputs) (outcome : Result (Vec ℕ Global) Fault)
     : Type 0 where
   pub result : Result (Vec ℕ Global) Kind
   pub fault : FailsAsAsked request inputs result
-  pub line : IsLineOf request inputs result
-  pub told : IsTold request result outcome
+  pub line : IfOk result (λ line. IsLine request.calculation inputs line.items)
+  pub about : IsAbout request result outcome
 
 -- the last digit of the account number is not its check digit, and is not refused
 abbrev pub needs_notice : CalculationRequest → List ℕ → Bool
-needs_notice request account = not request.refuses && lacks_check_digit account
+needs_notice request account = not request.refuses_wrong_check_digit && lacks_check_digit account
 
 -- the error writer then took the line that tells of it, or a prefix of that; else it stays as it is
 abbrev pub IsNoticed : {E : Type 0} → Saying → (E → Option (List ℕ)) → CalculationRequest → List ℕ → E → E → Type 0

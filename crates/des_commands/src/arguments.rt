@@ -125,15 +125,18 @@ fn is_standard_input(source: Option<Source>) -> bool {
 
 // ---- calculations
 
-// The request of a calculation by its input alone.
-fn by_input<'a>(calculation: Calculation<'a>, input: Source<'a>) -> CalculationRequest<'a> {
+/// The request of a calculation by its input alone.
+pub(crate) fn by_input<'a>(
+    calculation: Calculation<'a>,
+    input: Source<'a>,
+) -> CalculationRequest<'a> {
     CalculationRequest {
         calculation,
         input,
         key: None,
         to_key: None,
         account: Account::Absent,
-        refuses: false,
+        refuses_wrong_check_digit: false,
     }
 }
 
@@ -158,7 +161,7 @@ fn read_each_once<'a>(request: CalculationRequest<'a>) -> Requested<'a> {
 fn with_account<'a>(request: CalculationRequest<'a>, matches: &ArgMatches<'a>) -> Requested<'a> {
     read_each_once(CalculationRequest {
         account: account_of(matches)?,
-        refuses: text_of(matches, "check-digit") == Some("refuse"),
+        refuses_wrong_check_digit: text_of(matches, "check-digit") == Some("refuse"),
         ..request
     })
 }
@@ -274,7 +277,8 @@ fn calculation_of<'a>(name: &str, matches: &ArgMatches<'a>) -> Requested<'a> {
         "offset" => offset_request(second, matches),
         "emv" => emv_request(second, matches),
         "key-block" => key_block_request(second, matches),
-        _ => pin_request(second, matches),
+        "pin" => pin_request(second, matches),
+        _ => Err(misuse(Misuse::Arguments, "")),
     }
 }
 

@@ -1,10 +1,10 @@
 //! The run of a calculation: its line or its fault, what is written of it, and the status that the
 //! program ends with.
 
-ghost use Rattle.std.specs.Prelude.{◌≡◌, ◌↔◌, ◌≤◌, length, IsTrue};
+ghost use Rattle.std.specs.Prelude.{◌≡◌, ◌↔◌, ◌≤◌, length, IsTrue, IfOk};
 ghost use Rattle.des_commands.specs.CheckDigits.{lacks_check_digit as lacks_check_digit_of};
 ghost use Rattle.des_commands.specs.Lines.{IsLine};
-ghost use Rattle.des_commands.specs.Runs.{IsLineOf, FailsAsAsked, IsOutcome, IsNoticed, IsNo, IsRun};
+ghost use Rattle.des_commands.specs.Runs.{FailsAsAsked, IsOutcome, IsNoticed, IsNo, IsRun};
 
 use crate::answer::status_of;
 use crate::check_digit::{has_check_digit, is_account};
@@ -30,9 +30,9 @@ fn lacks_check_digit(account: &[u8]) -> bool
 fn line_by(alloc: Global, request: &CalculationRequest, inputs: Inputs) -> Lines
     requires { length inputs.text.now ≤ LONGEST_INPUT }
     ensures fault { FailsAsAsked request.now inputs.entry result }
-    ensures line { IsLineOf request.now inputs.entry result }
+    ensures line { IfOk result (λ line. IsLine request.now.calculation inputs.entry line.items) }
 {
-    if request.refuses && lacks_check_digit(inputs.account) {
+    if request.refuses_wrong_check_digit && lacks_check_digit(inputs.account) {
         return Err(Kind::CheckDigit);
     }
     lines_of(alloc, request.calculation, inputs)
@@ -65,7 +65,7 @@ fn tell_check_digit<S: Sentences, E: Write>(
 )
     ensures { IsNoticed S.says E.contents request.now account.now err.old err.new }
 {
-    if !request.refuses && lacks_check_digit(account) {
+    if !request.refuses_wrong_check_digit && lacks_check_digit(account) {
         let _ = tell::<S, E>(
             Fault {
                 kind: Kind::CheckDigit,

@@ -2,7 +2,7 @@
 
 ghost use Rattle.std.specs.Prelude.{◌≤◌, length, IfOk};
 
-use crate::arguments::file_of;
+use crate::arguments::{by_input, file_of};
 use crate::calculations;
 use crate::command::{
     Account, Calculation, CalculationRequest, Inputs, KeyBlockCalculation, RANDOM, Wrapping,
@@ -15,7 +15,8 @@ use crate::reading::{key_in, text_in};
 use crate::sentences::English;
 use crate::source::{LONGEST_TEXT, Source, bytes_of, text_of};
 
-// The most components that are in files.
+// The most components that are in files: as many as `--count` takes of one source. Their digits are no
+// longer than the text of one.
 const MOST_PARTS: usize = 255;
 
 // The digits of a key, where there is one beside the input.
@@ -34,9 +35,7 @@ fn key_text_in<'a>(
 fn account_in<'a>(rt: &HostRuntime, account: Account<'a>) -> Result<Vec<u8>, Fault<'a>> {
     match account {
         Account::Absent => Ok(Vec::new(rt.alloc())),
-        Account::Digits(digits) => Vec::from_slice(rt.alloc(), digits.as_bytes()).map_err(
-            |_| Fault::about(Kind::Memory, ""),
-        ),
+        Account::Digits(digits) => Ok(Vec::from_slice(rt.alloc(), digits.as_bytes())?),
         Account::In(source) => text_in(rt, source),
     }
 }
@@ -126,9 +125,7 @@ fn add_parts<'a>(
     let mut size = None;
     for path in paths {
         let part = key_in(rt, file_of(path), size)?;
-        bytes
-            .extend_from_slice(part.as_slice())
-            .map_err(|_| Fault::about(Kind::Memory, ""))?;
+        bytes.extend_from_slice(part.as_slice())?;
         size = Some(part.len() as u8);
     }
     Ok(size)
@@ -141,14 +138,8 @@ pub fn parts_status<'a>(rt: &HostRuntime, paths: &[&'a str]) -> Result<u8, Fault
     if paths.len() > MOST_PARTS || bytes.len() > LONGEST_TEXT / 2 {
         return Err(Fault::about(Kind::InputLength, "--part-file"));
     }
-    let request = CalculationRequest {
-        calculation: Calculation::CombineBytes { size },
-        input: Source::StandardInput,
-        key: None,
-        to_key: None,
-        account: Account::Absent,
-        refuses: false,
-    };
+    // Its faults are about `--part-file`, wherever the input is said to be.
+    let request = by_input(Calculation::CombineBytes { size }, Source::StandardInput);
     let inputs = Inputs {
         text: bytes.as_slice(),
         account: &[],

@@ -2,7 +2,7 @@
 
 use crate::mac::Method;
 use crate::source::Source;
-use crate::stream_request::{PrivateKeyRequest, StreamRequest};
+use crate::stream_request::{Output, StreamRequest};
 use des_payment::dukpt::Message;
 use des_payment::key_block_header::Version;
 use des_payment::translation::Format;
@@ -23,6 +23,26 @@ pub enum Command<'m, 'a> {
     Stream(StreamRequest<'a>),
     /// A private key under a password is decrypted.
     PrivateKey(PrivateKeyRequest<'a>),
+}
+
+/// The form of a private key that is written.
+#[derive(Clone, Copy)]
+pub enum KeyForm {
+    /// That of the input.
+    AsRead,
+    Pem,
+    Der,
+}
+
+/// What a command line asks of a private key under a password.
+#[derive(Clone, Copy)]
+pub struct PrivateKeyRequest<'a> {
+    pub password: Source<'a>,
+    pub input: Source<'a>,
+    pub output: Output<'a>,
+    pub form: KeyForm,
+    /// More iterations are a fault.
+    pub most_iterations: u32,
 }
 
 /// A message, and what is asked of its tag.
@@ -66,7 +86,7 @@ pub struct CalculationRequest<'a> {
     pub to_key: Option<Source<'a>>,
     pub account: Account<'a>,
     /// An account number whose last digit is not its check digit is refused.
-    pub refuses: bool,
+    pub refuses_wrong_check_digit: bool,
 }
 
 /// What was read for a calculation. What it does not take is empty.
@@ -106,7 +126,7 @@ pub enum Calculation<'a> {
     /// The card verification value of a card's data under a key pair.
     Cvv { expiry: &'a str, service: &'a str },
     Pin(PinCalculation<'a>),
-    Card(CardCalculation<'a>),
+    Emv(EmvCalculation<'a>),
     KeyBlock(KeyBlockCalculation<'a>),
 }
 
@@ -167,7 +187,7 @@ pub enum PinCalculation<'a> {
 
 /// A calculation with a card's keys and cryptograms. The input is the key, but for `Cryptogram`.
 #[derive(Clone, Copy)]
-pub enum CardCalculation<'a> {
+pub enum EmvCalculation<'a> {
     /// The key of a card, from the issuer's.
     CardKey {
         sequence: &'a str,

@@ -2,7 +2,7 @@
 
 ghost use Rattle.std.specs.Prelude.{◌≡◌};
 ghost use Rattle.des_commands.specs.Faults.{about_of, name_of, status_of, file_name, IsOfStream};
-ghost use Rattle.des_commands.specs.declared.fault.Kind.TheVariants.{Pin, Card, Translation, Verification, Emv, KeyBlock, WeakKey, Memory};
+ghost use Rattle.des_commands.specs.declared.fault.Kind.TheVariants.{Pin, Cvv, Translation, Verification, Emv, KeyBlock, WeakKey, Memory};
 
 use des::WeakKeyError;
 use des_io::StreamError;
@@ -159,7 +159,7 @@ pub enum Kind {
     FillText,
     CheckDigit,
     Pin(PinError),
-    Card(CvvError),
+    Cvv(CvvError),
     Translation(TranslationError),
     Verification(VerificationError),
     Emv(EmvError),
@@ -285,7 +285,7 @@ impl Kind {
             Kind::FillText => "FillText",
             Kind::CheckDigit => "CheckDigit",
             Kind::Pin(error) => pin_error::name(error),
-            Kind::Card(error) => cvv_error::name(error),
+            Kind::Cvv(error) => cvv_error::name(error),
             Kind::Translation(error) => translation_error::name(error),
             Kind::Verification(error) => verification_error::name(error),
             Kind::Emv(error) => emv_error::name(error),
@@ -339,10 +339,10 @@ impl From<PinError> for Kind {
 }
 
 impl From<CvvError> for Kind {
-    ghost from_gives = { λ error kind. kind ≡ Card error };
+    ghost from_gives = { λ error kind. kind ≡ Cvv error };
 
     fn from(error: CvvError) -> Kind {
-        Kind::Card(error)
+        Kind::Cvv(error)
     }
 }
 
@@ -391,6 +391,14 @@ impl From<AllocError> for Kind {
 
     fn from(_refused: AllocError) -> Kind {
         Kind::Memory
+    }
+}
+
+impl<'a> From<AllocError> for Fault<'a> {
+    ghost from_gives = { λ _ fault. fault.kind ≡ Memory };
+
+    fn from(_refused: AllocError) -> Fault<'a> {
+        Fault::about(Kind::Memory, "")
     }
 }
 

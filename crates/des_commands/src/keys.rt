@@ -1,7 +1,6 @@
 //! Keys: their bytes, and whether they are weak.
 
-ghost use Rattle.std.specs.Prelude.{◌≡◌, ◌↔◌, List, ℕ, length, take, drop, IfOk, IfSome, IsTrue};
-ghost use Rattle.des.specs.Parity.{AgreeOutsideParity};
+ghost use Rattle.std.specs.Prelude.{◌≡◌, ◌↔◌, length, take, IfOk, IfSome, IsTrue};
 ghost use Rattle.des.specs.WeakKeys.{IsRefused};
 ghost use Rattle.des_commands.specs.Texts.{bytes_of as bytes_of_text};
 ghost use Rattle.des_commands.specs.Faults.{FailsBy, FailsOnlyBy};

@@ -1,25 +1,23 @@
 //! The lines of a calculation: what it writes, by what was read for it.
 
-ghost use Rattle.std.specs.Prelude.{◌≡◌, ◌↔◌, ◌≤◌, ◌*◌, ◌/◌, ◌%◌, ◌⊎◌, length, replicate, take, IfOk};
+ghost use Rattle.std.specs.Prelude.{◌≡◌, ◌≤◌, ◌*◌, ◌/◌, ◌%◌, ◌⊎◌, length, IfOk};
 ghost use Rattle.des.specs.WeakKeys.{IsRefused};
 ghost use Rattle.des_payment.specs.Components.{combined};
-ghost use Rattle.des_commands.specs.Texts.{bytes_of as bytes_of_text, digits_fault, hex_line as hex_line_of, text_fault};
+ghost use Rattle.des_commands.specs.Texts.{bytes_of as bytes_of_text, hex_line as hex_line_of, text_fault};
 ghost use Rattle.des_commands.specs.Faults.{FailsBy, FailsOnlyBy, FailsOrRefuses};
 ghost use Rattle.des_commands.specs.Keys.{key_fault, IsKeySize};
-ghost use Rattle.des_commands.specs.Lines.{IsWeakLine, key_of_components, key_size_of, key_of_count, few_fault, components_fault, encoding_fault, IsEncoded, decoding_fault, IsDecoded};
+ghost use Rattle.des_commands.specs.Lines.{check_value_of, IsWeakLine, key_of_components, key_size_of, key_of_count, few_fault, components_fault, encoding_fault, IsEncoded, decoding_fault, IsDecoded};
 ghost use Rattle.des_commands.specs.Lines.{FailsAs, IsLine, key_for, transaction_key_of, transaction_fault};
 
-use crate::card_lines::card_line;
 use crate::command::{Calculation, Inputs, Purpose};
 use crate::digits::{Lines, bytes_of, decode, fill_of, hex_line, line_of};
+use crate::emv_lines::emv_line;
 use crate::fault::Kind;
 use crate::key_block_lines::key_block_lines;
 use crate::keys::{is_weak, key_of_digits, pair_of, read_key};
 use crate::pin_lines::pin_line;
-use des::cipher::KeyedCipher;
-use des_fast::quiet::{Des, TdesEde2, TdesEde3};
 use des_payment::translation::Format;
-use des_payment::{Pin, check_value, combine, cvv, dukpt, pin_blocks, set_odd_parity};
+use des_payment::{Pin, combine, cvv, dukpt, key_check_value, pin_blocks, set_odd_parity};
 use std::alloc::Global;
 
 /// The bytes of the longest input: a key block, white space among them.
@@ -39,11 +37,7 @@ pub fn lines_of(alloc: Global, calculation: Calculation, inputs: Inputs) -> Line
     ensures line { IfOk result (λ line. IsLine calculation.entry inputs.entry line.items) }
 {
     match calculation {
-        Calculation::CheckValue { bytes } => match inputs.text.len() {
-            16 => check_by::<Des, 8>(alloc, bytes, inputs.text),
-            32 => check_by::<TdesEde2, 16>(alloc, bytes, inputs.text),
-            _ => check_by::<TdesEde3, 24>(alloc, bytes, inputs.text),
-        },
+        Calculation::CheckValue { bytes } => check_line(alloc, bytes, inputs.text),
         Calculation::Parity => {
             let mut key = key_of_digits(alloc, inputs.text, None)?;
             set_odd_parity(&mut key);
@@ -69,23 +63,21 @@ pub fn lines_of(alloc: Global, calculation: Calculation, inputs: Inputs) -> Line
             Ok(line_of(alloc, &value)?)
         }
         Calculation::Pin(calculation) => pin_line(alloc, calculation, inputs),
-        Calculation::Card(calculation) => card_line(alloc, calculation, inputs),
+        Calculation::Emv(calculation) => emv_line(alloc, calculation, inputs),
         Calculation::KeyBlock(calculation) => key_block_lines(alloc, calculation, inputs),
     }
 }
 
 // ---- keys
 
-// The line of the first bytes of the check value of the key that the digits write, under the cipher.
-fn check_by<C: KeyedCipher + Drop, const N: usize>(alloc: Global, bytes: u8, digits: &[u8]) -> Lines
-    requires size { C.KEY_SIZE ≡ N }
-    requires small { N ≤ 24 }
-    ensures fault { FailsBy (digits_fault N (Kind.KeyLength None) Kind.KeyText digits.now) result }
-    ensures line { IfOk result (λ line. line.items ≡ hex_line_of
-        (take bytes (take 3 (C.encryption (bytes_of_text digits.now) (replicate 8 0))))) }
+// The line of the first bytes of the check value of the key that the digits write.
+fn check_line(alloc: Global, bytes: u8, digits: &[u8]) -> Lines
+    ensures fault { FailsBy (key_fault None digits.now) result }
+    ensures line { IfOk result (λ line. line.items ≡ hex_line_of (check_value_of bytes digits.now)) }
 {
-    let key = bytes_of::<N>(digits, Kind::KeyLength(None), Kind::KeyText)?;
-    let value = check_value::<C>(&key).unwrap();
+    let mut key = [0u8; 24];
+    let size = read_key(digits, &mut key, Kind::KeyLength(None), Kind::KeyText)?;
+    let value = key_check_value(&key[..size]).unwrap();
     let count = std::cmp::min(bytes as usize, 3);
     Ok(hex_line(alloc, &value[..count])?)
 }

@@ -50,11 +50,8 @@ pub fn mac_status<'a>(rt: &HostRuntime, request: &MacRequest<'a>) -> Result<u8, 
     match request.question {
         Question::Print(count) => {
             let tag = tag_for(rt, request)?;
-            let line = tag_line(rt.alloc(), &tag, count).map_err(|_| Fault::about(
-                Kind::Memory,
-                "",
-            ));
-            Ok(show::<English, _, _>(&line, &mut rt.stdout(), &mut rt.stderr()))
+            let line = tag_line(rt.alloc(), &tag, count)?;
+            Ok(show::<English, _, _>(&Ok(line), &mut rt.stdout(), &mut rt.stderr()))
         }
         Question::Verify(digits) => {
             let given = tag_of_digits(rt.alloc(), digits.as_bytes()).map_err(|kind| Fault::about(

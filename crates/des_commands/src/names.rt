@@ -3,7 +3,7 @@
 
 ghost use Rattle.std.specs.Prelude.{◌≡◌};
 ghost use Rattle.des_commands.specs.Names.{named as named_by, input_name as input_name_of, account_name as account_name_of, key_name as key_name_of, to_key_name as to_key_name_of};
-ghost use Rattle.des_commands.specs.Names.{about_of as about_by, about_of_verification as about_by_verification, about_of_card as about_by_card, about_of_key_block as about_by_key_block, makes_block as makes_block_of, option_of as option_by, fill_name as fill_name_of};
+ghost use Rattle.des_commands.specs.Names.{about_of as about_by, about_of_verification as about_by_verification, about_of_emv as about_by_emv, about_of_key_block as about_by_key_block, makes_block as makes_block_of, option_of as option_by, fill_name as fill_name_of};
 
 use crate::command::{Account, Calculation, CalculationRequest, KeyBlockCalculation};
 use crate::fault::{Field, Kind};
@@ -90,8 +90,8 @@ fn about_of_verification<'a>(error: VerificationError, request: &CalculationRequ
 }
 
 // What a fault of a card's keys and cryptograms is about.
-fn about_of_card<'a>(error: EmvError, request: &CalculationRequest<'a>) -> &'a str
-    ensures { result.now ≡ about_by_card error request.now }
+fn about_of_emv<'a>(error: EmvError, request: &CalculationRequest<'a>) -> &'a str
+    ensures { result.now ≡ about_by_emv error request.now }
 {
     match error {
         EmvError::AccountLength | EmvError::AccountDigit => account_name(request.account),
@@ -150,17 +150,17 @@ pub fn about_of<'a>(kind: Kind, request: &CalculationRequest<'a>) -> &'a str
         Kind::FillLength | Kind::FillText => "--fill",
         Kind::CheckDigit
         | Kind::Pin(PinError::AccountLength | PinError::AccountDigit)
-        | Kind::Card(CvvError::AccountLength | CvvError::AccountDigit)
+        | Kind::Cvv(CvvError::AccountLength | CvvError::AccountDigit)
         | Kind::Translation(TranslationError::AccountLength | TranslationError::AccountDigit) => {
             account_name(request.account)
         }
         Kind::Pin(PinError::Fill) | Kind::Translation(TranslationError::Fill) => {
             fill_name(request)
         }
-        Kind::Card(CvvError::ExpiryLength | CvvError::ExpiryDigit) => "--expiry",
-        Kind::Card(CvvError::ServiceLength | CvvError::ServiceDigit) => "--service",
+        Kind::Cvv(CvvError::ExpiryLength | CvvError::ExpiryDigit) => "--expiry",
+        Kind::Cvv(CvvError::ServiceLength | CvvError::ServiceDigit) => "--service",
         Kind::Verification(error) => about_of_verification(error, request),
-        Kind::Emv(error) => about_of_card(error, request),
+        Kind::Emv(error) => about_of_emv(error, request),
         Kind::KeyLength(_) | Kind::KeyText => key_name(request),
         Kind::ToKeyLength | Kind::ToKeyText => to_key_name(request),
         Kind::Value => "--value",

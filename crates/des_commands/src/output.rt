@@ -3,12 +3,12 @@
 ghost use Rattle.std.specs.Prelude.{◌≡◌, ◌⊎◌};
 
 use crate::descriptors::{Followed, folder_of, follow, standing_of};
-use crate::fault::{Kind, Reason};
+use crate::fault::{Fault, Kind, Misuse, Reason};
 use crate::inputs::system_random;
-use crate::source::Source;
+use crate::source::{Source, shown};
 use crate::stream_request::Output;
 use std::fs::{self, File, Metadata, OpenOptions, Permissions};
-use std::io::{self, ErrorKind};
+use std::io::{self, ErrorKind, IsTerminal};
 use std::os::unix::fs::{MetadataExt, OpenOptionsExt, PermissionsExt, fchown};
 use std::path::Path;
 
@@ -70,6 +70,25 @@ pub fn write_fault(error: io::Error) -> Kind
     match error.kind() {
         ErrorKind::OutOfMemory => Kind::Memory,
         _ => Kind::Write(Reason::of(&error)),
+    }
+}
+
+/// What a fault of the output is about.
+pub fn output_name<'a>(output: Output<'a>) -> &'a str {
+    match output {
+        Output::File(path) => shown(path),
+        _ => "standard output",
+    }
+}
+
+/// The fault of a stream whose bytes would go to a terminal that is not asked for: `Terminal`. The
+/// system's `isatty` says what a terminal is.
+pub fn refuse_terminal<'a>(rt: &HostRuntime, output: Output) -> Result<(), Fault<'a>> {
+    match output {
+        Output::Unnamed if rt.stdout().is_terminal() => {
+            Err(Fault::about(Kind::Usage(Misuse::Terminal), ""))
+        }
+        _ => Ok(()),
     }
 }
 
@@ -231,8 +250,8 @@ fn random_path(rt: &HostRuntime, target: &str) -> Result<String, Kind> {
     Ok(path.into_string())
 }
 
-// A new file beside a target, and its path, of a mode of which the umask or the folder's own list takes what it
-// takes. A file that stands already, or a link, is never opened: another name is tried.
+// A new file beside a target, and its path. The umask or the folder's own list takes bits of the mode
+// away. A file that stands already, or a link, is never opened: another name is tried.
 fn create_beside(rt: &HostRuntime, target: &str, mode: u32) -> Result<(String, File), Kind> {
     for _ in 0..NAMES_AT_MOST {
         let path = random_path(rt, target)?;

@@ -8,12 +8,12 @@ ghost use Rattle.des_commands.specs.Keys.{IsKeySize};
 ghost use Rattle.des_commands.specs.Jobs.{key_size_of};
 ghost use Rattle.des_commands.specs.PasswordStreams.{first_line as first_line_of, password_fault, salt_bytes};
 ghost use Rattle.des_commands.specs.PasswordStreams.{IsToHaveSalt, ReadsSalt, FailsToReadSalt};
-ghost use Rattle.des_commands.specs.PasswordStreams.{IsDoneByPassword, StopsByPassword};
+ghost use Rattle.des_commands.specs.PasswordStreams.{IsDoneByPassword, StopsByPassword, TellsOfKey};
 ghost use Rattle.des_commands.specs.Faults.{FailsOnlyBy};
 
 use crate::fault::{FileFault, Kind, Misuse};
 use crate::notices::accept_key;
-use crate::stream_request::{Cipher, Password, StreamRequest, blocks_before, job_of};
+use crate::stream_request::{Cipher, Password, StreamRequest, job_of};
 use crate::streams;
 use des_io::pieces::fill;
 use des_passwords::{SaltedError, read_salted};
@@ -31,6 +31,8 @@ pub struct PasswordJob<'a> {
     pub password: &'a [u8],
     /// The salt of what is encrypted.
     pub salt: [u8; 8],
+    /// The blocks of what is decrypted that are read and passed over.
+    pub skipped: u64,
     /// What faults of the password are about.
     pub name: &'a str,
 }
@@ -123,6 +125,7 @@ fn run_by_key<const N: usize, R: Read, W: Write, E: Write>(
         (R.remaining reader.new) (W.contents writer.old) (W.contents writer.new))) }
     ensures fault { IfErr result (λ kind. StopsByPassword kind job.now (passage_of (R.remaining reader.old)
         (R.remaining reader.new) (W.contents writer.old) (W.contents writer.new))) }
+    ensures told { TellsOfKey job.now (E.contents err.old) (E.contents err.new) }
 {
     let request = job.request;
     let salt = salt_of(job, reader)?;
@@ -132,16 +135,15 @@ fn run_by_key<const N: usize, R: Read, W: Write, E: Write>(
     };
     let heading = [PREFIX, job.salt];
     let heading = heading.as_flattened();
-    let skipped = blocks_before(request);
-    let stream = job_of(request, &secret.key, secret.vector, heading, skipped);
+    let stream = job_of(request, &secret.key, secret.vector, heading, job.skipped);
     accept_key(request, stream.key, job.name, err)?;
     streams::run(alloc, &stream, reader, writer)
 }
 
 /// Encrypts or decrypts what the reader gives by the key and the vector of a password and a salt,
 /// and writes it. To encrypt, `Salted__` and the salt are written first; to decrypt, they are read
-/// first, where the file has them. The weak key test comes before anything is written. The writer is
-/// not flushed.
+/// first, where the file has them. The weak key test comes before anything is written; what it tells
+/// goes to `err`, where no password stands. The writer is not flushed.
 ///
 /// The fault is `NotSalted`, `SaltCut` or `Read` where no salt is read, `Usage` where there is no
 /// iteration, or `WeakKey`: nothing is then written. Else it is one of `streams::run`, and a prefix
@@ -157,6 +159,7 @@ pub fn run_by_password<R: Read, W: Write, E: Write>(
         (R.remaining reader.new) (W.contents writer.old) (W.contents writer.new))) }
     ensures fault { IfErr result (λ kind. StopsByPassword kind job.now (passage_of (R.remaining reader.old)
         (R.remaining reader.new) (W.contents writer.old) (W.contents writer.new))) }
+    ensures told { TellsOfKey job.now (E.contents err.old) (E.contents err.new) }
 {
     match job.request.cipher {
         Cipher::Des => run_by_key::<8, R, W, E>(alloc, job, reader, writer, err),

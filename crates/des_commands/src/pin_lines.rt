@@ -5,7 +5,7 @@ ghost use Rattle.std.specs.Prelude.{◌≡◌, IfOk};
 ghost use Rattle.des_payment.specs.Texts.{values, number_fault};
 ghost use Rattle.des_commands.specs.Texts.{bytes_of as bytes_of_text, text_line};
 ghost use Rattle.des_commands.specs.Faults.{FailsBy, FailsOnlyBy};
-ghost use Rattle.des_commands.specs.PinLines.{fill_for as fill_by, fill_text_fault, IsTranslated, translated_fault, table_text_fault};
+ghost use Rattle.des_commands.specs.PinLines.{fill_for as fill_by, fill_text_fault, translated_fault, table_text_fault};
 ghost use Rattle.des_commands.specs.PinLines.{pvv_of, pvv_fault, HasPvv, pvv_verdict_fault, natural_pin_by, natural_fault};
 ghost use Rattle.des_commands.specs.PinLines.{offset_by, offset_fault, HasOffset, offset_verdict_fault, IsVerdictLine, TellsOutcome};
 ghost use Rattle.des_commands.specs.PinLines.{pin_line_fault, IsPinLine, validation_fault};

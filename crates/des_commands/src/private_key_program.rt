@@ -1,14 +1,14 @@
 //! The run of `decrypt-pem`: the password, the private key, and what is written.
 
+use crate::command::{KeyForm, PrivateKeyRequest};
 use crate::fault::{Fault, FileFault, Kind};
 use crate::key_block_lines::shown_name;
-use crate::output::{self, Readers, Target};
+use crate::output::{self, Readers, Target, output_name, refuse_terminal};
 use crate::private_keys::{decrypted_key, is_der, object_identifier, pem_text};
 use crate::reading::password_in;
 use crate::report::send;
 use crate::source::bytes_of;
-use crate::stream_request::{KeyForm, PrivateKeyRequest};
-use crate::streams_program::{output_name, refuse_terminal, tell_in};
+use crate::streams_program::tell_in;
 use des_passwords::{
     KeyAndVector, KeyFileError, Label, PemError, read_encrypted_key_of_many, read_pem,
 };

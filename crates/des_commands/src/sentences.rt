@@ -60,7 +60,7 @@ impl Sentences for English {
             Kind::FillText => "a character is no hexadecimal digit",
             Kind::CheckDigit => "the account number's last digit is not its check digit",
             Kind::Pin(error) => pin_words(error),
-            Kind::Card(error) => card_words(error),
+            Kind::Cvv(error) => cvv_words(error),
             Kind::Translation(error) => translation_words(error),
             Kind::Verification(error) => verification_words(error),
             Kind::Emv(error) => emv_words(error),
@@ -198,7 +198,7 @@ fn pin_words(error: PinError) -> &'static str {
 }
 
 // What is said of a card's data.
-fn card_words(error: CvvError) -> &'static str {
+fn cvv_words(error: CvvError) -> &'static str {
     match error {
         CvvError::AccountLength => "an account number of 13 to 19 digits is needed",
         CvvError::AccountDigit => "the account number has a character that is no digit",

@@ -1,7 +1,6 @@
 //! Secrets and other short inputs: where their texts are, and how they are read.
 
 ghost use Rattle.std.specs.Prelude.{◌≡◌, ◌≤◌, ◌<◌, length, IfOk, IfErr};
-ghost use Rattle.std.specs.Io.KnownBytes.{Consumes, IsAtEnd};
 ghost use Rattle.des_commands.specs.Sources.{IsAllOf, FailsToGive, shown_path, name_of_source, may_be_secret as may_be_secret_of, is_between as is_between_of, is_digit as is_digit_of, digits_in, others_in, are_mostly as are_mostly_of};
 
 use crate::digits::{is_space, strip};

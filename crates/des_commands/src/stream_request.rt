@@ -202,23 +202,3 @@ pub fn heading_of<'a>(mode: StreamMode, random: &'a [u8; 8]) -> &'a [u8]
         _ => &[],
     }
 }
-
-/// The form of a private key that is written.
-#[derive(Clone, Copy)]
-pub enum KeyForm {
-    /// That of the input.
-    AsRead,
-    Pem,
-    Der,
-}
-
-/// What a command line asks of a private key under a password.
-#[derive(Clone, Copy)]
-pub struct PrivateKeyRequest<'a> {
-    pub password: Source<'a>,
-    pub input: Source<'a>,
-    pub output: Output<'a>,
-    pub form: KeyForm,
-    /// More iterations are a fault.
-    pub most_iterations: u32,
-}

@@ -1,23 +1,23 @@
 //! The run of `encrypt` and `decrypt`: the key or the password, random bytes, the input, and the
 //! output.
 
-use crate::fault::{Fault, FileFault, Kind, Misuse};
+use crate::fault::{Fault, FileFault, Kind};
 use crate::inputs::{self, RANDOM_SOURCE, bytes_to_read, read_fault, system_random};
 use crate::notices::accept_key;
-use crate::output::{self, Readers, Target};
+use crate::output::{self, Readers, Target, output_name, refuse_terminal};
 use crate::password_streams::{PREFIX, PasswordJob, check_password, run_by_password};
 use crate::reading::{key_in, password_in, password_name};
 use crate::report::{send, tell};
 use crate::sentences::English;
-use crate::source::{Source, shown};
+use crate::source::Source;
 use crate::stream_request::{
-    Coding, Output, Secret, StreamMode, StreamRequest, Vector, blocks_before, heading_of, job_of,
+    Coding, Secret, StreamMode, StreamRequest, Vector, blocks_before, heading_of, job_of,
 };
 use crate::streams;
 use crate::watched::Watched;
 use des_io::pieces::fill;
 use des_passwords::{Base64Error, decode_base64};
-use std::io::{IsTerminal, Read, Write};
+use std::io::{Read, Write};
 
 // A request, with what was read for it.
 #[derive(Clone, Copy)]
@@ -51,6 +51,7 @@ impl<'a> Task<'a> {
                     by,
                     password: self.secret,
                     salt: self.random,
+                    skipped: self.skipped,
                     name: password_name(source),
                 };
                 run_by_password(rt.alloc(), &job, reader, writer, &mut rt.stderr())
@@ -60,25 +61,6 @@ impl<'a> Task<'a> {
 }
 
 // ---- the output
-
-/// What a fault of the output is about.
-pub fn output_name<'a>(output: Output<'a>) -> &'a str {
-    match output {
-        Output::File(path) => shown(path),
-        _ => "standard output",
-    }
-}
-
-/// The fault of a stream whose bytes would go to a terminal that is not asked for: `Terminal`. The
-/// system's `isatty` says what a terminal is.
-pub fn refuse_terminal<'a>(rt: &HostRuntime, output: Output) -> Result<(), Fault<'a>> {
-    match output {
-        Output::Unnamed if rt.stdout().is_terminal() => {
-            Err(Fault::about(Kind::Usage(Misuse::Terminal), ""))
-        }
-        _ => Ok(()),
-    }
-}
 
 // Writes where the request says.
 fn run_to_output<R: Read>(rt: &HostRuntime, task: Task, reader: &mut R) -> Result<(), Kind> {

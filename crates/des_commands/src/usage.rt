@@ -10,14 +10,6 @@ use std::alloc::AllocError;
 
 const USAGE: u8 = 2;
 
-/// Memory was refused.
-pub fn memory_fault<'a>() -> Fault<'a> {
-    Fault {
-        kind: Kind::Memory,
-        about: "",
-    }
-}
-
 // Help and the version go to standard output.
 fn show_help(rt: &HostRuntime, help: String) -> u8 {
     show::<English, _, _>(&Ok(help.into_bytes()), &mut rt.stdout(), &mut rt.stderr())
@@ -69,9 +61,9 @@ fn tell_hidden(
     };
     let status = tell::<English, _>(fault, &mut rt.stderr());
     // The words that the argument takes, where it takes some words alone.
-    let words = between(message, "\n  [possible values: ", "]");
-    if let (ErrorKind::InvalidValue, Some(words)) = (kind, words) {
-        let _ = eprint!(rt; "  [possible values: {words}]\n");
+    let taken = between(message, "\n  [possible values: ", "]");
+    if let (ErrorKind::InvalidValue, Some(taken)) = (kind, taken) {
+        let _ = eprint!(rt; "  [possible values: {taken}]\n");
     }
     let _ = eprint!(rt; "\n{usage}");
     Ok(status)
@@ -104,6 +96,6 @@ fn show_by_kind(rt: &HostRuntime, error: &clap::Error, words: &[&str]) -> Result
 pub fn show_usage(rt: &HostRuntime, error: &clap::Error, words: &[&str]) -> u8 {
     match show_by_kind(rt, error, words) {
         Ok(status) => status,
-        Err(_) => tell::<English, _>(memory_fault(), &mut rt.stderr()),
+        Err(error) => tell::<English, _>(Fault::from(error), &mut rt.stderr()),
     }
 }

@@ -1,6 +1,5 @@
 //! A reader that counts the bytes of another, and tells of them on standard error.
 
-ghost use Rattle.std.specs.Prelude.{◌≡◌};
 ghost use Rattle.des_commands.specs.Notices.{TellsLimit};
 
 use crate::notices::{Notice, is_past_limit, tell};

@@ -1,7 +1,7 @@
 //! What the words of `key-block` ask for.
 
 use super::typed::{place_of, text_of};
-use super::{Requested, by_input, by_key, input_at, one_of, with_key};
+use super::{Requested, by_input, by_key, input_at, misuse, one_of, with_key};
 use crate::command::{Calculation, CalculationRequest, KeyBlockCalculation, Wrapping};
 use crate::fault::Misuse;
 use clap::ArgMatches;
@@ -53,11 +53,12 @@ pub fn key_block_request<'a>(name: &str, matches: &ArgMatches<'a>) -> Requested<
             let calculation = Calculation::KeyBlock(KeyBlockCalculation::Unwrap { shows_key });
             protected(by_input(calculation, block), matches)
         }
-        _ => {
+        "wrap" => {
             let calculation = Calculation::KeyBlock(KeyBlockCalculation::Wrap(wrapping_of(
                 matches,
             )));
             protected(by_key(calculation, matches)?, matches)
         }
+        _ => Err(misuse(Misuse::Arguments, "")),
     }
 }

@@ -8,9 +8,10 @@ ghost use Rattle.des_commands.specs.Faults.{FailsOnlyBy};
 use super::streams::output_of;
 use super::typed::{is_given, is_set, text_of};
 use super::{KEY, input_at, misuse, names_one, one_of, read_once, refuse};
+use crate::command::{KeyForm, PrivateKeyRequest};
 use crate::fault::{Fault, Kind, Misuse};
 use crate::source::Source;
-use crate::stream_request::{KeyForm, Password, PrivateKeyRequest, Secret};
+use crate::stream_request::{Password, Secret};
 use clap::ArgMatches;
 use des_passwords::Derivation;
 

@@ -5,7 +5,7 @@ use super::{
     Requested, by_input, by_key, input_at, key_of, misuse, one_of, with_account, with_key,
 };
 use crate::command::{
-    Calculation, CalculationRequest, CardCalculation, NaturalPins, PinCalculation,
+    Calculation, CalculationRequest, EmvCalculation, NaturalPins, PinCalculation,
 };
 use crate::fault::{Fault, Misuse};
 use clap::ArgMatches;
@@ -93,7 +93,8 @@ pub fn pin_request<'a>(name: &str, matches: &ArgMatches<'a>) -> Requested<'a> {
     match name {
         "encode" => encode_request(matches),
         "decode" => decode_request(matches),
-        _ => translate_request(matches),
+        "translate" => translate_request(matches),
+        _ => Err(misuse(Misuse::Arguments, "")),
     }
 }
 
@@ -144,20 +145,20 @@ pub fn offset_request<'a>(name: &str, matches: &ArgMatches<'a>) -> Requested<'a>
 // ---- cards
 
 // The key of a session, by the counter or by the cryptogram.
-fn session_of<'a>(matches: &ArgMatches<'a>) -> Result<CardCalculation<'a>, Fault<'a>> {
+fn session_of<'a>(matches: &ArgMatches<'a>) -> Result<EmvCalculation<'a>, Fault<'a>> {
     match (text_of(matches, "counter"), text_of(matches, "cryptogram")) {
-        (Some(counter), None) => Ok(CardCalculation::ApplicationKey { counter }),
-        (None, Some(cryptogram)) => Ok(CardCalculation::SessionKey { cryptogram }),
+        (Some(counter), None) => Ok(EmvCalculation::ApplicationKey { counter }),
+        (None, Some(cryptogram)) => Ok(EmvCalculation::SessionKey { cryptogram }),
         _ => Err(misuse(Misuse::Session, "")),
     }
 }
 
 // The issuer's response, by method 1 where there is its code.
-fn response_of<'a>(matches: &ArgMatches<'a>) -> CardCalculation<'a> {
+fn response_of<'a>(matches: &ArgMatches<'a>) -> EmvCalculation<'a> {
     let cryptogram = place_of(matches, "cryptogram");
     match text_of(matches, "code") {
-        Some(code) => CardCalculation::Response1 { cryptogram, code },
-        None => CardCalculation::Response2 {
+        Some(code) => EmvCalculation::Response1 { cryptogram, code },
+        None => EmvCalculation::Response2 {
             cryptogram,
             status: place_of(matches, "status"),
             issued: place_of(matches, "data"),
@@ -166,8 +167,8 @@ fn response_of<'a>(matches: &ArgMatches<'a>) -> CardCalculation<'a> {
 }
 
 // A calculation with a card whose input is the key.
-fn card_request<'a>(calculation: CardCalculation<'a>, matches: &ArgMatches<'a>) -> Requested<'a> {
-    by_key(Calculation::Card(calculation), matches)
+fn by_card_key<'a>(calculation: EmvCalculation<'a>, matches: &ArgMatches<'a>) -> Requested<'a> {
+    by_key(Calculation::Emv(calculation), matches)
 }
 
 /// What the words of the command of `emv` of this name ask for.
@@ -175,15 +176,16 @@ pub fn emv_request<'a>(name: &str, matches: &ArgMatches<'a>) -> Requested<'a> {
     match name {
         "card-key" => {
             let sequence = text_of(matches, "sequence").unwrap_or("00");
-            let request = card_request(CardCalculation::CardKey { sequence }, matches)?;
+            let request = by_card_key(EmvCalculation::CardKey { sequence }, matches)?;
             with_account(request, matches)
         }
-        "session-key" => card_request(session_of(matches)?, matches),
+        "session-key" => by_card_key(session_of(matches)?, matches),
         "cryptogram" => {
-            let calculation = Calculation::Card(CardCalculation::Cryptogram);
+            let calculation = Calculation::Emv(EmvCalculation::Cryptogram);
             let request = by_input(calculation, input_at(matches, "data-file"));
             with_key(request, key_of(matches)?)
         }
-        _ => card_request(response_of(matches), matches),
+        "response-1" | "response-2" => by_card_key(response_of(matches), matches),
+        _ => Err(misuse(Misuse::Arguments, "")),
     }
 }

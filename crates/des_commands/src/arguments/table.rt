@@ -54,6 +54,8 @@ const WEAK_KEYS: &[&str] = &["refuse", "warn", "accept"];
 
 const PADDINGS: &[&str] = &["pkcs7", "iso7816", "zeros", "none"];
 
+// `encrypt` takes `from` and `blocks` too, and does not show them: who types them is told that only
+// decryption takes a part.
 static STREAMS: Group<'static> = group! {
     "": "";
 

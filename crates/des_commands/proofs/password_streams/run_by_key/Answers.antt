@@ -7,23 +7,22 @@ use Rattle.des_commands.specs.declared.password_streams.PasswordJob.{PasswordJob
 use Rattle.des_commands.specs.declared.streams.Job.{Job}
 use Rattle.des_commands.specs.Jobs.{key_size_of}
 use Rattle.des_commands.specs.Notices.{IsRuledBy}
-use Rattle.des_commands.specs.PasswordStreams.{salt_bytes, IsStreamOf}
-use Rattle.des_commands.specs.StreamRequests.{blocks_before, IsJobOf}
+use Rattle.des_commands.specs.PasswordStreams.{salt_bytes, IsStreamOf, TellsOfKey}
+use Rattle.des_commands.specs.StreamRequests.{IsJobOf}
 use Rattle.des_commands.proofs.password_streams.run_by_key.Goals as goal
 
-stream-of : (job : PasswordJob) (salt : Option (List ℕ)) (stream : Job) (size skipped : ℕ)
+stream-of : (job : PasswordJob) (salt : Option (List ℕ)) (stream : Job) (size : ℕ)
     (key vector bytes heading : List ℕ)
     → size ≡ key_size_of job.request.now.cipher → bytes ≡ salt_bytes salt → length key ≡ size
     → key ++ vector ≡ derived job.by.derivation job.password.now bytes (size + 8)
     → heading ≡ codes "Salted__" ++ job.salt
-    → skipped ≡ blocks_before job.request.now.mode job.request.now.part
-    → IsJobOf job.request.now key vector heading skipped stream → IsStreamOf job salt stream
-stream-of job salt stream size skipped key vector bytes heading same told count given headed passed by_key = record {
+    → IsJobOf job.request.now key vector heading job.skipped stream → IsStreamOf job salt stream
+stream-of job salt stream size key vector bytes heading same told count given headed by_key = record {
   key = key;
   vector = vector;
   size = count ∙ same;
   given = rw (told, same) at given;
-  by_key = rw (headed, passed) at by_key;
+  by_key = rw headed at by_key;
 }
 
 -- a call that does not fail has taken the key
@@ -39,6 +38,13 @@ refused (Err other) about kind old new ruled = let same = ruled.0 in cc
 refused (Ok None) about kind old new ruled = let bad = ruled.0 in cc
 refused (Ok (Some notice)) about kind old new ruled = let bad = ruled.0 in cc
 
+-- what the key's test told
+tells : (job : PasswordJob) (ruling : Result (Option Notice) Kind) (result : Result (Unit {0}) Kind)
+    (old new : Option (List ℕ)) → IsRuledBy ruling job.name.now result old new → TellsOfKey job old new
+tells job (Err kind) result old new ruled = inl ruled.1
+tells job (Ok None) result old new ruled = inl ruled.1
+tells job (Ok (Some notice)) result old new ruled = inr (notice, ruled.1)
+
 -- no salt was read
 pub returns-in_err-salt-clause-fault : goal.returns-in_err-salt-clause-fault
 returns-in_err-salt-clause-fault g c =
@@ -52,9 +58,9 @@ returns-in_err-accept_key-clause-fault g c =
     let p = err_from_is_err_and c.from_residual-in_err-accept_key.result c.from_residual-in_err-accept_key.ensures.1 in
     let ruled = c.in_err-accept_key.ensures in
     let of_key = stream-of c.args.job.now c.in_ok-salt.salt c.job_of-stream.result g.row.N
-    c.blocks_before-skipped.result c.in-Ok.secret.key c.in-Ok.secret.vector c.bytes_of.result.now
+    c.in-Ok.secret.key c.in-Ok.secret.vector c.bytes_of.result.now
     c.as_flattened-heading.result.now c.requires.size c.bytes_of.ensures (search rules) c.in-Ok.ensures.ok (search rules)
-    c.blocks_before-skipped.ensures c.job_of-stream.ensures in
+    c.job_of-stream.ensures in
     rw (p.1, p.2)
     (inr (
       c.in_ok-salt.salt,
@@ -63,13 +69,16 @@ returns-in_err-accept_key-clause-fault g c =
       inr (c.job_of-stream.result, of_key, inl ((ruled.0, ruled.1, refused _ _ _ _ _ ruled.2), (refl, refl))),
     ))
 
+pub returns-in_err-accept_key-clause-told : goal.returns-in_err-accept_key-clause-told
+returns-in_err-accept_key-clause-told g c = tells c.args.job.now _ _ _ _ c.in_err-accept_key.ensures.2
+
 pub returns : goal.returns
 returns g c =
     let ruled = c.in_ok-accept_key.ensures in
     let of_key = stream-of c.args.job.now c.in_ok-salt.salt c.job_of-stream.result g.row.N
-    c.blocks_before-skipped.result c.in-Ok.secret.key c.in-Ok.secret.vector c.bytes_of.result.now
+    c.in-Ok.secret.key c.in-Ok.secret.vector c.bytes_of.result.now
     c.as_flattened-heading.result.now c.requires.size c.bytes_of.ensures (search rules) c.in-Ok.ensures.ok (search rules)
-    c.blocks_before-skipped.ensures c.job_of-stream.ensures in
+    c.job_of-stream.ensures in
     record {
       done = IfOk-weaker c.run.result _ _
           (λ done is. record {
@@ -92,4 +101,5 @@ returns g c =
             inr (c.job_of-stream.result, of_key, inr stopped),
           ))
           c.run.ensures.fault;
+      told = tells c.args.job.now _ _ _ _ ruled.2;
     }

@@ -1,6 +1,6 @@
 use Rattle.std.proofs.Common.{ap, ◌∙◌}
 use Rattle.des_commands.specs.Texts.{hex_line}
-use Rattle.des_commands.proofs.card_lines.card_line.Goals as goal
+use Rattle.des_commands.proofs.emv_lines.emv_line.Goals as goal
 
 -- the issuer's key is the one that the digits write
 pub returns-in_ok-hex_line-in-CardKey-clause-line : goal.returns-in_ok-hex_line-in-CardKey-clause-line

@@ -3,9 +3,9 @@
 ghost use Rattle.std.specs.Prelude.{◌≡◌, ◌≤◌, length, take, IfOk};
 ghost use Rattle.des_commands.specs.Texts.{bytes_of as bytes_of_text, hex_line as hex_line_of};
 ghost use Rattle.des_commands.specs.Faults.{FailsBy, FailsOnlyBy};
-ghost use Rattle.des_commands.specs.CardLines.{cryptogram_of, cryptogram_fault, issuer_data_fault, IsCardLine, FailsAsCard};
+ghost use Rattle.des_commands.specs.EmvLines.{cryptogram_of, cryptogram_fault, issuer_data_fault, IsEmvLine, FailsAsEmv};
 
-use crate::command::{CardCalculation, Inputs};
+use crate::command::{EmvCalculation, Inputs};
 use crate::digits::{Lines, bytes_of, decode, hex_line};
 use crate::fault::Kind;
 use crate::keys::pair_of;
@@ -16,35 +16,35 @@ use std::alloc::Global;
 /// The line of a calculation with a card's keys and cryptograms.
 ///
 /// Every fault but `Memory` is found before any memory is asked for.
-pub fn card_line(alloc: Global, calculation: CardCalculation, inputs: Inputs) -> Lines
+pub fn emv_line(alloc: Global, calculation: EmvCalculation, inputs: Inputs) -> Lines
     requires { length inputs.text.now ≤ LONGEST_INPUT }
-    ensures fault { FailsAsCard calculation.entry inputs.entry result }
-    ensures line { IfOk result (λ line. IsCardLine calculation.entry inputs.entry line.items) }
+    ensures fault { FailsAsEmv calculation.entry inputs.entry result }
+    ensures line { IfOk result (λ line. IsEmvLine calculation.entry inputs.entry line.items) }
 {
     match calculation {
-        CardCalculation::CardKey { sequence } => {
+        EmvCalculation::CardKey { sequence } => {
             let issuer = pair_of(inputs.text)?;
             let key = emv::card_key(&issuer, inputs.account, sequence.as_bytes())?;
             Ok(hex_line(alloc, &key)?)
         }
-        CardCalculation::ApplicationKey { counter } => {
+        EmvCalculation::ApplicationKey { counter } => {
             let card = pair_of(inputs.text)?;
             let counter = bytes_of::<2>(counter.as_bytes(), Kind::Counter, Kind::Counter)?;
             Ok(hex_line(alloc, &emv::application_key(&card, &counter))?)
         }
-        CardCalculation::SessionKey { cryptogram } => {
+        EmvCalculation::SessionKey { cryptogram } => {
             let card = pair_of(inputs.text)?;
             let block = bytes_of::<8>(cryptogram.as_bytes(), Kind::Cryptogram, Kind::Cryptogram)?;
             Ok(hex_line(alloc, &emv::session_key(&card, &block))?)
         }
-        CardCalculation::Cryptogram => cryptogram_line(alloc, inputs),
-        CardCalculation::Response1 { cryptogram, code } => {
+        EmvCalculation::Cryptogram => cryptogram_line(alloc, inputs),
+        EmvCalculation::Response1 { cryptogram, code } => {
             let session = pair_of(inputs.text)?;
             let block = bytes_of::<8>(cryptogram.as_bytes(), Kind::Cryptogram, Kind::Cryptogram)?;
             let code = bytes_of::<2>(code.as_bytes(), Kind::ResponseCode, Kind::ResponseCode)?;
             Ok(hex_line(alloc, &emv::response_1(&session, &block, &code))?)
         }
-        CardCalculation::Response2 {
+        EmvCalculation::Response2 {
             cryptogram,
             status,
             issued,

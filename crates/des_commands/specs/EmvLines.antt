@@ -5,8 +5,8 @@ use Rattle.std.specs.declared.vec.Vec.{Vec}
 use Rattle.std.specs.declared.alloc.Global.{Global}
 use Rattle.des_payment.specs.CardCryptograms.{card_key, card_fault, application_key, session_key, cryptogram, response_1, response_2}
 use Rattle.des_commands.specs.declared.command.Inputs.{Inputs}
-use Rattle.des_commands.specs.declared.command.CardCalculation.{CardCalculation}
-use Rattle.des_commands.specs.declared.command.CardCalculation.TheVariants.{CardKey, ApplicationKey, SessionKey, Cryptogram as MakeCryptogram, Response1, Response2}
+use Rattle.des_commands.specs.declared.command.EmvCalculation.{EmvCalculation}
+use Rattle.des_commands.specs.declared.command.EmvCalculation.TheVariants.{CardKey, ApplicationKey, SessionKey, Cryptogram as MakeCryptogram, Response1, Response2}
 use Rattle.des_commands.specs.declared.fault.Kind.{Kind}
 use Rattle.des_commands.specs.declared.fault.Kind.TheVariants.{Counter, Cryptogram, ResponseCode, CardStatus, IssuerData, CryptogramData, Emv}
 use Rattle.des_commands.specs.Faults.{FailsBy}
@@ -78,24 +78,24 @@ response_2_fault request status issued digits =
 -- ---- calculations
 
 -- the line answers the calculation
-abbrev pub IsCardLine : CardCalculation → Inputs → List ℕ → Type 0
-IsCardLine (CardKey sequence) inputs line = line ≡ hex_line (card_key_of sequence.now inputs)
-IsCardLine (ApplicationKey counter) inputs line = line ≡ hex_line (application_key_of counter.now inputs.text.now)
-IsCardLine (SessionKey block) inputs line = line ≡ hex_line (session_key_of block.now inputs.text.now)
-IsCardLine MakeCryptogram inputs line = line ≡ hex_line (cryptogram_of inputs)
-IsCardLine (Response1 request code) inputs line =
+abbrev pub IsEmvLine : EmvCalculation → Inputs → List ℕ → Type 0
+IsEmvLine (CardKey sequence) inputs line = line ≡ hex_line (card_key_of sequence.now inputs)
+IsEmvLine (ApplicationKey counter) inputs line = line ≡ hex_line (application_key_of counter.now inputs.text.now)
+IsEmvLine (SessionKey block) inputs line = line ≡ hex_line (session_key_of block.now inputs.text.now)
+IsEmvLine MakeCryptogram inputs line = line ≡ hex_line (cryptogram_of inputs)
+IsEmvLine (Response1 request code) inputs line =
     line ≡ hex_line (response_1_of request.now code.now inputs.text.now)
-IsCardLine (Response2 request status issued) inputs line =
+IsEmvLine (Response2 request status issued) inputs line =
     line ≡ hex_line (response_2_of request.now status.now issued.now inputs.text.now)
 
 -- it fails by its first fault
-abbrev pub FailsAsCard : CardCalculation → Inputs → Result (Vec ℕ Global) Kind → Type 0
-FailsAsCard (CardKey sequence) inputs result = FailsBy (card_key_fault sequence.now inputs) result
-FailsAsCard (ApplicationKey counter) inputs result =
+abbrev pub FailsAsEmv : EmvCalculation → Inputs → Result (Vec ℕ Global) Kind → Type 0
+FailsAsEmv (CardKey sequence) inputs result = FailsBy (card_key_fault sequence.now inputs) result
+FailsAsEmv (ApplicationKey counter) inputs result =
     FailsBy (session_fault 2 Counter counter.now inputs.text.now) result
-FailsAsCard (SessionKey block) inputs result = FailsBy (session_fault 8 Cryptogram block.now inputs.text.now) result
-FailsAsCard MakeCryptogram inputs result = FailsBy (cryptogram_fault inputs) result
-FailsAsCard (Response1 request code) inputs result =
+FailsAsEmv (SessionKey block) inputs result = FailsBy (session_fault 8 Cryptogram block.now inputs.text.now) result
+FailsAsEmv MakeCryptogram inputs result = FailsBy (cryptogram_fault inputs) result
+FailsAsEmv (Response1 request code) inputs result =
     FailsBy (response_1_fault request.now code.now inputs.text.now) result
-FailsAsCard (Response2 request status issued) inputs result =
+FailsAsEmv (Response2 request status issued) inputs result =
     FailsBy (response_2_fault request.now status.now issued.now inputs.text.now) result
