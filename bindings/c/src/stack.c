@@ -81,6 +81,10 @@ WIPES_EXPORT(int, pin_translate_to_0, 2272,
               block[8], uint8_t translated[8]),
              incoming_key, incoming_key_length, incoming_format, outgoing_key, outgoing_key_length, account,
              account_length, block, translated)
+WIPES_EXPORT(int, pin_translate_to_1, 1216,
+             (const uint8_t *incoming_key, size_t incoming_key_length, const uint8_t *outgoing_key, size_t
+              outgoing_key_length, const uint8_t block[8], uint8_t translated[8]),
+             incoming_key, incoming_key_length, outgoing_key, outgoing_key_length, block, translated)
 WIPES_EXPORT(int, pin_translate_to_3, 2256,
              (const uint8_t *incoming_key, size_t incoming_key_length, int incoming_format, const uint8_t
               *outgoing_key, size_t outgoing_key_length, const char *account, size_t account_length, const uint8_t
@@ -115,6 +119,10 @@ WIPES_EXPORT(int, emv_card_key, 816,
              (const uint8_t issuer[16], const char *account, size_t account_length, const char *sequence, size_t
               sequence_length, uint8_t key[16]),
              issuer, account, account_length, sequence, sequence_length, key)
+WIPES_EXPORT(int, emv_card_key_b, 1264,
+             (const uint8_t issuer[16], const char *account, size_t account_length, const char *sequence, size_t
+              sequence_length, uint8_t key[16]),
+             issuer, account, account_length, sequence, sequence_length, key)
 WIPES_EXPORT_VOID(emv_application_key, 800, (const uint8_t card[16], const uint8_t counter[2], uint8_t key[16]),
                   card, counter, key)
 WIPES_EXPORT_VOID(emv_session_key, 800, (const uint8_t card[16], const uint8_t block[8], uint8_t key[16]),
@@ -136,7 +144,7 @@ WIPES_EXPORT(int, key_block_unwrap, 9264,
              (const uint8_t *protection, size_t protection_length, const char *block, size_t block_length,
               cukvashe_key_block_fields *header, uint8_t key[24], size_t *key_length),
              protection, protection_length, block, block_length, header, key, key_length)
-WIPES_EXPORT(int, key_block_wrap, 6000,
+WIPES_EXPORT(int, key_block_wrap, 7328,
              (const uint8_t *protection, size_t protection_length, const cukvashe_key_block_fields *header, const char
               *optional, size_t optional_length, const uint8_t *key, size_t key_length, const uint8_t *padding, size_t
               padding_length, char *block, size_t room, size_t *length),

@@ -101,6 +101,45 @@ static void opens_each_spelling(void) {
   for (size_t i = 0; i < sizeof spelled / sizeof *spelled; i++) CHECK(holds(known[3].protection, spelled[i], known[3].key));
 }
 
+/* The third known block in each other context, and the fourth: by OpenSSL, from the key data that it decrypts of the known ones, as in
+   version C: with 45 and 4d in each byte of the protection key, CBC from the first eight characters, and the front of the last block of
+   CBC from zeros over header, optional block and that; and by the package. The next two are in none; the last has other fields. */
+static const struct {
+  int known;
+  char context;
+  const char *block;
+} contexts[] = {
+    {2, '1', "C0096B0TX12S0110KS1800604B120F9292800000BFB9B689CB567E66FC3FEE5AD5F52161FC6545B9D60989017E674D98"},
+    {2, '2', "C0096B0TX12S0120KS1800604B120F9292800000BFB9B689CB567E66FC3FEE5AD5F52161FC6545B9D6098901024F5594"},
+    {3, '1', "B0080P0TE00E00106DFA2F8882DD45AB34AC04BC00A6A0D83D6C4757AC498C6A87197B104026787E"},
+    {3, '2', "B0080P0TE00E00209847BA810EA9906EFB6E290E2F471CE7BF84D490AE1A4DB4B21FD7502A72DBD3"},
+    {2, 0, "C0096B0TX12S0130KS1800604B120F9292800000BFB9B689CB567E66FC3FEE5AD5F52161FC6545B9D60989014C330AE1"},
+    {3, 0, "B0080P0TE00E00307FB90897CA18220946C03B5F75BBA80DD2A55DDCB9E8FBCAD95623A269B5D304"},
+    {2, '0', "C0096B-T.1 S0100KS1800604B120F929280000056C75D0A42701F1C3139462287BBFA82C3254149E89A57036AED36A0"},
+};
+
+static int context_of(const char *block, size_t length, char *context) {
+  memset(context, PAINTED, 1);
+  return cukvashe_key_block_context(block, length, context);
+}
+
+static void reads_contexts(void) {
+  struct opened opened;
+  char context;
+  for (int i = 0; i < KNOWN; i++) CHECK(context_of(TEXT(known[i].block), &context) == CUKVASHE_OK && context == '0');
+  for (size_t i = 0; i < sizeof contexts / sizeof *contexts; i++) {
+    const char *protection = known[contexts[i].known].protection, *block = contexts[i].block;
+    if (contexts[i].context) {
+      CHECK(holds(protection, block, known[contexts[i].known].key));
+      CHECK(context_of(TEXT(block), &context) == CUKVASHE_OK && context == contexts[i].context);
+    } else {
+      CHECK(unwrap(protection, TEXT(block), &opened) == CUKVASHE_ERR_HEADER);
+      CHECK(context_of(TEXT(block), &context) == CUKVASHE_ERR_HEADER && is_kept(&context, 1));
+    }
+  }
+  CHECK(context_of(NULL, 0, &context) == CUKVASHE_ERR_KEY_BLOCK_LENGTH && is_kept(&context, 1));
+}
+
 /* The optional block of a known block at a place. */
 static int optional_is(int block, size_t place, const char *name, const char *content) {
   char read_name[3];
@@ -162,7 +201,9 @@ static void refuses(const char *protection, const char *block, size_t length, in
                     status != CUKVASHE_ERR_KEY_BLOCK_MAC && status != CUKVASHE_ERR_KEY_LENGTH;
   struct opened opened;
   fields header;
+  char context;
   CHECK(unwrap(protection, block, length, &opened) == status && is_kept(&opened, sizeof opened));
+  CHECK(context_of(block, length, &context) == (shows ? status : CUKVASHE_OK) && is_kept(&context, 1) == shows);
   memset(&header, PAINTED, sizeof header);
   CHECK(cukvashe_key_block_header(block, length, &header) == (shows ? status : CUKVASHE_OK));
   CHECK(is_kept(&header, sizeof header) == shows);
@@ -177,8 +218,9 @@ static const struct {
 } changes[] = {
     {1, '1', CUKVASHE_ERR_KEY_BLOCK_LENGTH},  {4, '1', CUKVASHE_ERR_KEY_BLOCK_LENGTH}, {4, ':', CUKVASHE_ERR_KEY_BLOCK_LENGTH},
     {0, 'D', CUKVASHE_ERR_VERSION},           {0, 'b', CUKVASHE_ERR_VERSION},          {0, '@', CUKVASHE_ERR_VERSION},
-    {12, '/', CUKVASHE_ERR_HEADER},           {13, ':', CUKVASHE_ERR_HEADER},          {14, '1', CUKVASHE_ERR_HEADER},
+    {12, '/', CUKVASHE_ERR_HEADER},           {13, ':', CUKVASHE_ERR_HEADER},          {14, '3', CUKVASHE_ERR_HEADER},
     {15, '1', CUKVASHE_ERR_HEADER},           {13, '1', CUKVASHE_ERR_OPTIONAL_BLOCK},  {12, '1', CUKVASHE_ERR_OPTIONAL_BLOCK},
+    {14, '/', CUKVASHE_ERR_HEADER},           {14, '1', CUKVASHE_ERR_KEY_BLOCK_MAC},   {14, '2', CUKVASHE_ERR_KEY_BLOCK_MAC},
     {0, 'A', CUKVASHE_ERR_KEY_DATA_LENGTH},   {0, 'C', CUKVASHE_ERR_KEY_DATA_LENGTH},  {16, 'a', CUKVASHE_ERR_KEY_BLOCK_DIGIT},
     {16, 'G', CUKVASHE_ERR_KEY_BLOCK_DIGIT},  {79, 'G', CUKVASHE_ERR_KEY_BLOCK_DIGIT}, {64, '/', CUKVASHE_ERR_KEY_BLOCK_DIGIT},
     {63, '0', CUKVASHE_ERR_KEY_BLOCK_MAC},    {64, '7', CUKVASHE_ERR_KEY_BLOCK_MAC},   {79, 'F', CUKVASHE_ERR_KEY_BLOCK_MAC},
@@ -376,11 +418,21 @@ static void refuses_headers(void) {
 }
 
 static void refuses_optional_blocks(void) {
-  static const char *const wrong[] = {"K", "KS", "KS0", "KS03", "KS05", "KS04K", "KSxx", "KS0bxyz1234", "KS00", "KS0002000A0", "KS00030010"};
+  static const char *const wrong[] = {"K", "KS", "KS0", "KS03", "KS05", "KS04K", "KSxx", "KS0bxyz1234", "KS00", "KS0002000A0", "KS00030010",
+                                      /* A name that is not letters and digits; a `PB` that does not fill, or is not the last. */
+                                      "K-04", " S04", "\177S04", "KS04K/04", "PB04", "KS04PB05a", "PB04KS04", "KS04PB0Aabcdef",
+                                      "PB04KS04PB08abcd", "PB08abcdKS08abcd"};
+  static const char others[] = {1, '\t', '\n', 0x1f, 0x7f, (char)0x80, (char)0xe9};
+  char content[] = "KS05aKS07a?aPB04";
   static char many[4 * 101 + 1];
   struct parts parts = published;
   for (size_t i = 0; i < sizeof wrong / sizeof *wrong; i++) {
     parts.optional = wrong[i];
+    refuses_parts(&parts, CUKVASHE_ERR_OPTIONAL_BLOCK);
+  }
+  for (size_t i = 0; i < sizeof others; i++) {
+    content[10] = others[i];
+    parts.optional = content;
     refuses_parts(&parts, CUKVASHE_ERR_OPTIONAL_BLOCK);
   }
   for (int i = 0; i < 100; i++) memcpy(many + 4 * i, "KS04", 4);
@@ -444,6 +496,7 @@ static void makes_long_blocks(void) {
 int main(void) {
   opens_known_blocks();
   opens_each_spelling();
+  reads_contexts();
   reads_optional_blocks();
   finds_empty_contents();
   finds_far_contents();

@@ -387,7 +387,7 @@ static const struct {
   const char *account, *expiry, *service;
   int status;
 } cards[] = {
-    {"412345678901", "870", "10", CUKVASHE_ERR_ACCOUNT_LENGTH},
+    {"41234567890", "870", "10", CUKVASHE_ERR_ACCOUNT_LENGTH},
     {"41234567890123456789", "870", "10", CUKVASHE_ERR_ACCOUNT_LENGTH},
     {"412345678901234:", "870", "10", CUKVASHE_ERR_ACCOUNT_DIGIT},
     {"/123456789012345", "870", "101", CUKVASHE_ERR_ACCOUNT_DIGIT},
@@ -402,14 +402,16 @@ static const struct {
     {"4123456789012345", "8701", "/01", CUKVASHE_ERR_SERVICE_DIGIT},
 };
 
-/* OpenSSL makes dedcacbefc1acfc6 of the second card's blocks, in which two digits are below ten: so the third of the value is the
- * first letter, d, less ten. */
+/* OpenSSL makes dedcacbefc1acfc6 of the first card's blocks, in which two digits are below ten: so the third of the value is the
+ * first letter, d, less ten. Of the card with an account number of twelve digits it makes fe463f8ab388e519. */
 static void answers_card_verification_values(void) {
   uint8_t key[16];
   char value[CUKVASHE_CVV_SIZE];
   put(key, base_key);
   CHECK(cukvashe_cvv(key, TEXT("4123456789025343"), TEXT("8701"), TEXT("101"), value) == CUKVASHE_OK);
   CHECK(memcmp(value, "163", 4) == 0);
+  CHECK(cukvashe_cvv(key, TEXT("400000123457"), TEXT("8701"), TEXT("101"), value) == CUKVASHE_OK);
+  CHECK(memcmp(value, "463", 4) == 0);
   CHECK(cukvashe_cvv(key, TEXT("4123456789012345"), TEXT("8701"), TEXT("101"), value) == CUKVASHE_OK);
   CHECK(memcmp(value, "561", 4) == 0);
   for (size_t i = 0; i < sizeof cards / sizeof *cards; i++) {
@@ -430,7 +432,7 @@ static void takes_lengths(void) {
     memset(digits + n, 'x', sizeof digits - n);
     const int of_pin = 4 <= n && n <= 12 ? CUKVASHE_OK : CUKVASHE_ERR_PIN_LENGTH;
     const int of_account = 8 <= n && n <= 19 ? CUKVASHE_OK : CUKVASHE_ERR_ACCOUNT_LENGTH;
-    const int of_card = 13 <= n && n <= 19 ? CUKVASHE_OK : CUKVASHE_ERR_ACCOUNT_LENGTH;
+    const int of_card = 12 <= n && n <= 19 ? CUKVASHE_OK : CUKVASHE_ERR_ACCOUNT_LENGTH;
     CHECK(cukvashe_pin_encode_0(digits, n, TEXT(account), block) == of_pin);
     CHECK(cukvashe_pin_encode_1(digits, n, fill, block) == of_pin);
     CHECK(cukvashe_pin_encode_2(digits, n, block) == of_pin);

@@ -202,10 +202,10 @@ static void takes_tables(void) {
 }
 
 /* Blocks of the PIN 1234: of format 0 under the base key and under another, of format 3 under the other, and of format 1 under the
- * first part of the base key. */
+ * base key and under its first part. */
 static const char other_key[] = "89e88cf7931444f334bd7547fc3f380c", single[] = "0123456789abcdef";
 static const char of_0[] = "c03d21cdbcb0c58b", of_0_other[] = "8856db66d89e9eff", of_3_other[] = "ba041cb9b3034d36";
-static const char of_1_single[] = "824daa361d7dc65a";
+static const char of_1[] = "646855a2370347d8", of_1_single[] = "824daa361d7dc65a";
 static const uint8_t fill[10] = {10, 11, 12, 13, 14, 15, 10, 11, 12, 13};
 
 static const struct {
@@ -253,6 +253,51 @@ static void translates_by_three_parts(void) {
   CHECK(cukvashe_tdes_ede3_decrypt_ecb_to(&context, translated, block, 8) == CUKVASHE_OK && are(block, 8, "041274edcba9876f"));
   memcpy(block, translated, sizeof block);
   CHECK(translate(parts, 0, base_key, 0, account, fill, block, translated) == CUKVASHE_OK && are(translated, 8, of_0));
+}
+
+/* A block of format 1 of PIN 1234 and the digits 0123456789, under keys of one part, two and three. */
+static const char *const ones[][2] = {
+    {single, of_1_single}, {base_key, of_1}, {other_key, "c6410daf0a0ad8f7"}, {parts, "0fc16e52093ce92f"}};
+
+static int translate_1(const char *incoming, const char *outgoing, const uint8_t block[8], uint8_t translated[8]) {
+  uint8_t in[24], out[24];
+  put(in, incoming);
+  put(out, outgoing);
+  return cukvashe_pin_translate_to_1(in, strlen(incoming) / 2, out, strlen(outgoing) / 2, block, translated);
+}
+
+static void translates_to_format_1(void) {
+  uint8_t block[8], translated[8];
+  for (size_t from = 0; from < sizeof ones / sizeof *ones; from++)
+    for (size_t to = 0; to < sizeof ones / sizeof *ones; to++) {
+      put(block, ones[from][1]);
+      CHECK(translate_1(ones[from][0], ones[to][0], block, translated) == CUKVASHE_OK && are(translated, 8, ones[to][1]));
+    }
+}
+
+/* Blocks in clear, of which the first two are right: other formats, PINs of 3 and 13 digits, a digit of the PIN that is none. */
+static void refuses_to_format_1(void) {
+  static const char *const sizes[] = {"", "01", "01234567", "0123456789abcd", "0123456789abcdef01", "0123456789abcdeffedcba98765432"};
+  static const char *const blocks[] = {"1412340123456789", "1c123456789012ff", "041274edcba9876f", "241234ffffffffff",
+                                       "1312340123456789", "1d12340123456789", "14123a0123456789", "1c12345678901aff"};
+  uint8_t key[16], block[8], translated[8];
+  cukvashe_tdes_ede2 context;
+  memset(translated, PAINTED, sizeof translated);
+  put(block, of_1);
+  for (size_t i = 0; i < sizeof sizes / sizeof *sizes; i++) {
+    CHECK(translate_1(sizes[i], base_key, block, translated) == CUKVASHE_ERR_KEY_LENGTH);
+    CHECK(translate_1(base_key, sizes[i], block, translated) == CUKVASHE_ERR_KEY_LENGTH);
+  }
+  CHECK(is_kept(translated, sizeof translated));
+  put(key, base_key);
+  CHECK(cukvashe_tdes_ede2_init(&context, key, sizeof key) == CUKVASHE_OK);
+  for (size_t i = 0; i < sizeof blocks / sizeof *blocks; i++) {
+    put(block, blocks[i]);
+    CHECK(cukvashe_tdes_ede2_encrypt_ecb(&context, block, 8) == CUKVASHE_OK);
+    memset(translated, PAINTED, sizeof translated);
+    CHECK(translate_1(base_key, other_key, block, translated) == (i < 2 ? CUKVASHE_OK : CUKVASHE_ERR_PIN_BLOCK));
+    CHECK(is_kept(translated, sizeof translated) == (i >= 2));
+  }
 }
 
 /* The status of a translation of the first block, and that nothing is written if it is a fault. */
@@ -321,6 +366,8 @@ int main(void) {
   takes_tables();
   translates();
   translates_by_three_parts();
+  translates_to_format_1();
+  refuses_to_format_1();
   refuses_requests();
   has_one_fault_of_the_block();
   printf("pins: PIN verification values, natural PINs and offsets, tables, translation, and each fault of them\n");

@@ -3,8 +3,8 @@
  * `secret_indexes calls` runs the calls that must give no report; each other word runs one that must give one: `short`, a list that
  * goes by tables, and `rest`, a list whose rest does, `chain` and `message`, of quick contexts, which all read them so; `pin`, which
  * branches on whether the characters of the PIN are digits; `translation`, on whether a PIN block is right; `block`, on whether a MAC is;
- * `key`, where it is right, on the length of the key too; `file`, on the padding of what is opened under a password; and `planted`, a
- * lookup here.
+ * `key`, where it is right, on the length of the key too; `file`, on the padding of what is opened under a password; `verification`, on
+ * whether a PIN is right; and `planted`, a lookup here.
  */
 #include "mac_calls.h"
 #include <valgrind/memcheck.h>
@@ -217,8 +217,7 @@ static void transactions_of_a_terminal(void) {
   for (int i = 0; i < 40; i++) CHECK(cukvashe_dukpt_terminal_next_key(&terminal, serial, other) == CUKVASHE_OK);
 }
 
-/* Values that depend on the key, of a card, and of a PIN that is no secret here. Verifications are left out: they make the same values,
-   and at last branch on whether the PIN is right, which they tell. */
+/* Values that depend on the key, of a card, and of a PIN that is no secret here. */
 static void values_of_cards(void) {
   static const char *const account = "4123456789012345";
   cukvashe_decimal_table table;
@@ -240,6 +239,7 @@ static void cryptograms_of_a_card(void) {
   uint8_t card[16], session[16];
   hide(key, sizeof key);
   hide(data, 100);
+  CHECK(cukvashe_emv_card_key_b(key, "6304000000000000001", 19, "01", 2, card) == CUKVASHE_OK);
   CHECK(cukvashe_emv_card_key(key, "4123456789012345", 16, "01", 2, card) == CUKVASHE_OK);
   cukvashe_emv_application_key(card, data, session);
   cukvashe_emv_session_key(card, data, session);
@@ -411,7 +411,7 @@ static void make_pin_block(int format, size_t digits, const char *account, bool 
 }
 
 /* The reports of one translation, of which both keys and the block are hidden. */
-static unsigned reports_of_translation(int format, size_t digits, bool is_right, bool to_0) {
+static unsigned reports_of_translation(int format, size_t digits, bool is_right, int to) {
   static const char account[] = "401234567890";
   static const uint8_t fill[10] = {10, 11, 12, 13, 14, 15, 15, 14, 13, 12};
   uint8_t block[8], outgoing[16], translated[8];
@@ -420,8 +420,12 @@ static unsigned reports_of_translation(int format, size_t digits, bool is_right,
   (void)VALGRIND_MAKE_MEM_UNDEFINED(key, 16);
   (void)VALGRIND_MAKE_MEM_UNDEFINED(block, sizeof block);
   const unsigned before = VALGRIND_COUNT_ERRORS;
-  const int status = to_0 ? cukvashe_pin_translate_to_0(key, 16, format, outgoing, 16, account, 12, block, translated)
-                          : cukvashe_pin_translate_to_3(key, 16, format, outgoing, 16, account, 12, fill, block, translated);
+  int status;
+  switch (to) {
+    case 0: status = cukvashe_pin_translate_to_0(key, 16, format, outgoing, 16, account, 12, block, translated); break;
+    case 1: status = cukvashe_pin_translate_to_1(key, 16, outgoing, 16, block, translated); break;
+    default: status = cukvashe_pin_translate_to_3(key, 16, format, outgoing, 16, account, 12, fill, block, translated); break;
+  }
   const unsigned reports = VALGRIND_COUNT_ERRORS - before;
   CHECK(is_status(status, is_right ? CUKVASHE_OK : CUKVASHE_ERR_PIN_BLOCK));
   (void)VALGRIND_MAKE_MEM_DEFINED(key, 16);
@@ -430,15 +434,68 @@ static unsigned reports_of_translation(int format, size_t digits, bool is_right,
 
 /* Whether a block is right decides a branch, which is reported: as often for a PIN of each length, and for what is none. */
 static void translations(void) {
-  static const int formats[] = {0, 1, 3};
-  for (size_t i = 0; i < 6; i++) {
-    const unsigned reports = reports_of_translation(formats[i / 2], 4, true, i % 2);
+  static const int formats[][2] = {{0, 0}, {0, 3}, {1, 0}, {1, 1}, {1, 3}, {3, 0}, {3, 3}};
+  for (size_t i = 0; i < sizeof formats / sizeof *formats; i++) {
+    const unsigned reports = reports_of_translation(formats[i][0], 4, true, formats[i][1]);
     CHECK(reports > 0);
     for (size_t digits = 4; digits <= 12; digits++)
       for (int is_right = 0; is_right < 2; is_right++)
-        CHECK(reports_of_translation(formats[i / 2], digits, is_right, i % 2) == reports);
+        CHECK(reports_of_translation(formats[i][0], digits, is_right, formats[i][1]) == reports);
   }
   printf("no report of the length of a PIN\n");
+}
+
+/* The reports of one verification of a PIN of four digits by its value, of which the key, the PIN and the value are hidden. The value is
+   wrong in the places whose bits are set. */
+static unsigned reports_of_value(unsigned wrong) {
+  static const char account[] = "4123456789012345";
+  char pin[] = "9246", value[CUKVASHE_PVV_SIZE];
+  random_bytes(key, 16);
+  CHECK(cukvashe_pvv(key, account, 16, 1, pin, 4, value) == CUKVASHE_OK);
+  for (int place = 0; place < 4; place++) value[place] ^= (char)(wrong >> place & 1);
+  (void)VALGRIND_MAKE_MEM_UNDEFINED(key, 16);
+  (void)VALGRIND_MAKE_MEM_UNDEFINED(pin, 4);
+  (void)VALGRIND_MAKE_MEM_UNDEFINED(value, 4);
+  const unsigned before = VALGRIND_COUNT_ERRORS;
+  const int status = cukvashe_pvv_verify(key, account, 16, 1, pin, 4, value, 4);
+  const unsigned reports = VALGRIND_COUNT_ERRORS - before;
+  CHECK(is_status(status, wrong == 0 ? CUKVASHE_OK : CUKVASHE_ERR_WRONG_PIN));
+  return reports;
+}
+
+/* The same by an offset, of as many digits, with hidden validation data; here the PIN is wrong. */
+static unsigned reports_of_offset(size_t size, size_t digits, unsigned wrong) {
+  char pin[] = "924681357024", offset[CUKVASHE_PIN_SIZE];
+  cukvashe_decimal_table table;
+  random_bytes(key, size);
+  random_bytes(data, 8);
+  CHECK(cukvashe_decimal_table_init(&table, "8351296477461538", 16) == CUKVASHE_OK);
+  CHECK(cukvashe_pin_offset(key, size, &table, data, pin, digits, offset) == CUKVASHE_OK);
+  for (size_t place = 0; place < digits; place++) pin[place] ^= (char)(wrong >> place & 1);
+  (void)VALGRIND_MAKE_MEM_UNDEFINED(key, size);
+  (void)VALGRIND_MAKE_MEM_UNDEFINED(data, 8);
+  (void)VALGRIND_MAKE_MEM_UNDEFINED(pin, digits);
+  (void)VALGRIND_MAKE_MEM_UNDEFINED(offset, digits);
+  const unsigned before = VALGRIND_COUNT_ERRORS;
+  const int status = cukvashe_pin_offset_verify(key, size, &table, data, pin, digits, offset, digits);
+  const unsigned reports = VALGRIND_COUNT_ERRORS - before;
+  CHECK(is_status(status, wrong == 0 ? CUKVASHE_OK : CUKVASHE_ERR_WRONG_PIN));
+  return reports;
+}
+
+/* As many reports as of a right PIN, whichever digits are wrong: one alone, or all from there on. */
+static void verifications(void) {
+  const unsigned of_value = reports_of_value(0);
+  for (unsigned wrong = 1; wrong < 16; wrong++) CHECK(reports_of_value(wrong) == of_value);
+  for (size_t size = 8; size <= 24; size += 8)
+    for (size_t digits = 4; digits <= 12; digits++) {
+      const unsigned all = (1u << digits) - 1, of_offset = reports_of_offset(size, digits, 0);
+      for (size_t place = 0; place < digits; place++) {
+        CHECK(reports_of_offset(size, digits, 1u << place) == of_offset);
+        CHECK(reports_of_offset(size, digits, all >> place << place) == of_offset);
+      }
+    }
+  printf("no report of the place of a wrong digit\n");
 }
 
 static void list_of(size_t count) {
@@ -503,6 +560,8 @@ int main(int count, char **words) {
     opened_key();
   } else if (strcmp(words[1], "file") == 0) {
     opened_file();
+  } else if (strcmp(words[1], "verification") == 0) {
+    verifications();
   } else {
     CHECK(strcmp(words[1], "planted") == 0);
     planted();

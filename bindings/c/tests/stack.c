@@ -24,7 +24,7 @@ struct work {
 static uint8_t key[24], keys[24 * LIST], iv[8], blocks[8 * LIST], others[8 * LIST];
 static char pin[CUKVASHE_PIN_SIZE], value[CUKVASHE_PVV_SIZE];
 static const char digits[] = "123456789012"; /* a PIN */
-static uint8_t sent[8]; /* a PIN block that is encrypted under the key, so that it is translated */
+static uint8_t sent[16]; /* PIN blocks of formats 0 and 1 that are encrypted under the key, so that they are translated */
 static cukvashe_dukpt_terminal terminal;
 static union context context;
 static union mac_context mac;
@@ -69,7 +69,7 @@ static void of_mac(const struct work *work) {
   }
 }
 
-enum { OF_KEY = 26 };
+enum { OF_KEY = 27 };
 
 static void of_key(const struct work *work) {
   static const uint8_t serial[10] = {0xff, 0xff, 0x98, 0x76, 0x54, 0x32, 0x10, 0xef, 0xf8};
@@ -99,6 +99,7 @@ static void of_key(const struct work *work) {
     case 22: cukvashe_emv_application_cryptogram(key, blocks, sizeof blocks, others); break;
     case 23: cukvashe_emv_response_1(key, iv, key, others); break;
     case 24: returned = cukvashe_emv_response_2(key, iv, key, blocks, 8, others); break;
+    case 25: returned = cukvashe_emv_card_key_b(key, "6304000000000000001", 19, "00", 2, others); break;
     default: returned = cukvashe_strerror(3)[0] + cukvashe_version()[0]; break;
   }
 }
@@ -156,7 +157,7 @@ static void of_record(const struct work *work) {
   }
 }
 
-enum { OF_TEXT = 20, OF_BLOCK = 4, OF_PASSWORD = 5 };
+enum { OF_TEXT = 21, OF_BLOCK = 5, OF_PASSWORD = 5 };
 
 static void of_text(const struct work *work) {
   static const char *const account = "4012345678909";
@@ -182,7 +183,8 @@ static void of_text(const struct work *work) {
     case 15: returned = cukvashe_pvv_verify(key, account, 13, 1, digits, 12, digits, 4); break;
     case 16: returned = cukvashe_pin_translate_to_0(key, 24, 0, key, 24, account, 13, sent, others); break;
     case 17: returned = cukvashe_pin_translate_to_3(key, 24, 0, key, 24, account, 13, fill, sent, others); break;
-    case 18: returned = cukvashe_pad(blocks, 77, sizeof blocks, CUKVASHE_PKCS7, &length); break;
+    case 18: returned = cukvashe_pin_translate_to_1(key, 24, key, 24, sent + 8, others); break;
+    case 19: returned = cukvashe_pad(blocks, 77, sizeof blocks, CUKVASHE_PKCS7, &length); break;
     default: returned = cukvashe_unpad(blocks, 80, CUKVASHE_PKCS7, &length); break;
   }
 }
@@ -207,6 +209,7 @@ static void of_block(const struct work *work) {
       CHECK(returned == CUKVASHE_OK);
       break;
     case 2: returned = cukvashe_key_block_header(block, size, &read); break;
+    case 3: returned = cukvashe_key_block_context(block, size, name); break;
     default:
       returned = cukvashe_key_block_optional_block(block, size, 0, name, &length, &length);
       CHECK(returned == CUKVASHE_OK);
@@ -368,6 +371,7 @@ int main(void) {
   random_bytes(keys, sizeof keys);
   random_bytes(others, sizeof others);
   CHECK(cukvashe_pin_encode_0("1234", 4, "4012345678909", 13, sent) == CUKVASHE_OK);
+  CHECK(cukvashe_pin_encode_1("1234", 4, (const uint8_t[10]){0}, sent + 8) == CUKVASHE_OK);
   CHECK(ciphers[EDE3].init(&context, key, sizeof key) == CUKVASHE_OK);
   CHECK(cukvashe_tdes_ede3_encrypt_ecb(&context.tdes_ede3, sent, sizeof sent) == CUKVASHE_OK);
   (void)used_by(&nothing); /* the first thread takes more, since names are bound in it */

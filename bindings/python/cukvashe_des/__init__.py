@@ -22,9 +22,9 @@ other programs on the processor could learn; single blocks, CBC encryption and M
 tested on x86-64; on aarch64 nothing is claimed of addresses.
 
 `check_value` and `combine` make check values and keys of components, the calls named `dukpt_` the keys of a transaction, and
-`DukptTerminal` those of a terminal's transactions. The calls named `pin_` make PIN blocks, which are not encrypted,
-`pin_translate_to_0` and `pin_translate_to_3` translate encrypted ones, `cvv` makes card verification values, those named `emv_`
-keys of cards and cryptograms. A PIN is verified by its value or its offset; a call that verifies returns nothing for the right PIN:
+`DukptTerminal` those of a terminal's transactions. The calls named `pin_` make PIN blocks, which are not encrypted, those named
+`pin_translate_` translate encrypted ones, `cvv` makes card verification values, those named `emv_` keys of cards and cryptograms.
+A PIN is verified by its value or its offset; a call that verifies returns nothing for the right PIN:
 
     cukvashe_des.pvv_verify(key, account, 1, pin, value)    # WrongPin, a ValueError, if it is not the one
 
@@ -114,11 +114,19 @@ from ._emv import (
     emv_application_cryptogram,
     emv_application_key,
     emv_card_key,
+    emv_card_key_b,
     emv_response_1,
     emv_response_2,
     emv_session_key,
 )
-from ._key_blocks import KeyBlockHeader, key_block_header, key_block_optional_blocks, unwrap_key_block, wrap_key_block
+from ._key_blocks import (
+    KeyBlockHeader,
+    key_block_context,
+    key_block_header,
+    key_block_optional_blocks,
+    unwrap_key_block,
+    wrap_key_block,
+)
 from ._keys import (
     check_value,
     combine,
@@ -163,6 +171,7 @@ from ._payment import (
     pin_encode_2,
     pin_encode_3,
     pin_translate_to_0,
+    pin_translate_to_1,
     pin_translate_to_3,
 )
 from ._terminal import DukptTerminal
@@ -181,12 +190,13 @@ __all__ = [
     "check_value", "check_values", "combine", "cvv", "decrypt_cbc_records", "decrypt_each", "decrypt_each_into",
     "dukpt_data_key", "dukpt_data_variant", "dukpt_initial_key", "dukpt_is_usable", "dukpt_mac_key", "dukpt_next_serial",
     "dukpt_pin_key", "dukpt_transaction_key", "dukpt_transaction_keys", "emv_application_cryptogram", "emv_application_key",
-    "emv_card_key", "emv_response_1", "emv_response_2", "emv_session_key", "encrypt_cbc_records", "encrypt_each",
-    "encrypt_each_into", "equal_but_parity", "is_weak_key", "key_block_header", "key_block_optional_blocks",
-    "key_check_value", "macs", "macs_each", "natural_pin", "open_salted", "pad", "pbkdf2", "pin_decode_0", "pin_decode_1",
-    "pin_decode_2", "pin_decode_3", "pin_encode_0", "pin_encode_1", "pin_encode_2", "pin_encode_3", "pin_offset",
-    "pin_offset_verify", "pin_translate_to_0", "pin_translate_to_3", "pvv", "pvv_verify", "short_key_check_value", "unpad",
-    "unwrap_key_block", "with_odd_parity", "wrap_key_block", "wrong_tags",
+    "emv_card_key", "emv_card_key_b", "emv_response_1", "emv_response_2", "emv_session_key", "encrypt_cbc_records",
+    "encrypt_each", "encrypt_each_into", "equal_but_parity", "is_weak_key", "key_block_context", "key_block_header",
+    "key_block_optional_blocks", "key_check_value", "macs", "macs_each", "natural_pin", "open_salted", "pad", "pbkdf2",
+    "pin_decode_0", "pin_decode_1", "pin_decode_2", "pin_decode_3", "pin_encode_0", "pin_encode_1", "pin_encode_2",
+    "pin_encode_3", "pin_offset", "pin_offset_verify", "pin_translate_to_0", "pin_translate_to_1", "pin_translate_to_3",
+    "pvv", "pvv_verify", "short_key_check_value", "unpad", "unwrap_key_block", "with_odd_parity", "wrap_key_block",
+    "wrong_tags",
 ]
 
 # Texts of errors and of `help` name the package, and not the file that defines a class.

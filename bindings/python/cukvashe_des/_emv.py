@@ -2,7 +2,7 @@
 
 from __future__ import annotations
 
-from typing import TYPE_CHECKING, Union
+from typing import TYPE_CHECKING, Any, Callable, Union
 
 from ._data import BLOCK_SIZE, bytes_from, bytes_of, data_of, key_of, room, text_of
 from ._faults import BlockLength, DataLength, check
@@ -15,6 +15,7 @@ if TYPE_CHECKING:
     _Text = Union[str, ReadableBuffer]
 
 _card_key = function("emv_card_key", INT, POINTER, POINTER, SIZE, POINTER, SIZE, POINTER)
+_card_key_b = function("emv_card_key_b", INT, POINTER, POINTER, SIZE, POINTER, SIZE, POINTER)
 _session_key = function("emv_session_key", None, POINTER, POINTER, POINTER)
 _application_key = function("emv_application_key", None, POINTER, POINTER, POINTER)
 _cryptogram = function("emv_application_cryptogram", None, POINTER, POINTER, SIZE, POINTER)
@@ -27,13 +28,24 @@ def _cryptogram_of(cryptogram: ReadableBuffer) -> bytes:
     return data_of(cryptogram, BLOCK_SIZE, "an application cryptogram has", BlockLength)
 
 
-def emv_card_key(issuer: ReadableBuffer, account: _Text, sequence: _Text) -> bytes:
-    """The key of a card (option A), with odd parity, from the issuer's key, an account number of 8 to 19 digits and a sequence
-    number of two, as str or bytes of digits: "00" where the card has none."""
+def _made_by(option: Callable[..., Any], issuer: ReadableBuffer, account: _Text, sequence: _Text) -> bytes:
+    """The key of a card by an option."""
     key = room(16)
     with key_of(issuer, 16) as held, text_of(account) as number, text_of(sequence) as place:
-        check(_card_key(held, *number, *place, key))
+        check(option(held, *number, *place, key))
     return bytes_from(key)
+
+
+def emv_card_key(issuer: ReadableBuffer, account: _Text, sequence: _Text) -> bytes:
+    """The key of a card (option A), with odd parity, from the issuer's key, an account number of 8 to 19 digits and a sequence
+    number of two, as str or bytes of digits: "00" where the card has none. Most issuers take option A."""
+    return _made_by(_card_key, issuer, account, sequence)
+
+
+def emv_card_key_b(issuer: ReadableBuffer, account: _Text, sequence: _Text) -> bytes:
+    """The key of a card by option B, from the same. It differs where the account number has more than sixteen digits: take it for
+    these where the card scheme asks for it."""
+    return _made_by(_card_key_b, issuer, account, sequence)
 
 
 def emv_session_key(card: ReadableBuffer, block: ReadableBuffer) -> bytes:

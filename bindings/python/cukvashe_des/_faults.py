@@ -152,14 +152,14 @@ class KeyBlockVersion(ValueError):
 
 
 class KeyBlockField(ValueError):
-    """The number of optional blocks of a key block is not two digits and two zeros, or a field to be written is not as many letters
-    and digits as it has."""
+    """The header of a key block does not end with two digits, a context of 0 to 2 and 0, or a field to be written is not as many
+    letters and digits as it has."""
 
 
 class OptionalBlock(ValueError):
     """The optional blocks of a key block can't be read, or do not end at a multiple of eight characters; or those of a block that is
-    to be made have a name that is not two ASCII characters or a content that is not printable ASCII, are more than 99, or one is a
-    PB."""
+    to be made have a name that is not two letters or digits or a content that is not printable ASCII, are more than 99, or one is a
+    PB that is not the last, or does not end at a multiple of eight characters."""
 
 
 class KeyDataLength(ValueError):

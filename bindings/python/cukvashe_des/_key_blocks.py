@@ -33,6 +33,7 @@ _wrap = function(
     "key_block_wrap", INT, POINTER, SIZE, POINTER, POINTER, SIZE, POINTER, SIZE, POINTER, SIZE, POINTER, SIZE, POINTER
 )
 _header = function("key_block_header", INT, POINTER, SIZE, POINTER)
+_context = function("key_block_context", INT, POINTER, SIZE, POINTER)
 _optional_block = function("key_block_optional_block", INT, POINTER, SIZE, SIZE, POINTER, POINTER, POINTER)
 
 
@@ -88,20 +89,17 @@ def _block_of(block: _Text) -> bytes:
     return bytes_of(block)
 
 
-def _optional_text(pair: Tuple[str, str]) -> str:
-    """An optional block. The library writes it in its shortest form."""
+def _optional_bytes(pair: Tuple[str, str]) -> bytes:
+    """An optional block. The library tests its characters, and writes it in its shortest form."""
     if not isinstance(pair, (tuple, list)) or [type(part) for part in pair] != [str, str]:
         raise TypeError("an optional block is a pair of its name and its content, two texts")
-    name, content = pair
-    if len(name) != 2 or not name.isascii():
-        raise OptionalBlock("the name of an optional block has two characters, both ASCII")
-    if name == "PB":
-        raise OptionalBlock("a block PB is added where one is needed: leave out that of a block that was read")
-    if not content.isascii() or not content.isprintable():
-        raise OptionalBlock("the content of an optional block is printable ASCII alone")
+    # A character that is not ASCII becomes bytes that the library refuses.
+    name, content = (part.encode("utf-8", "surrogatepass") for part in pair)
+    if len(name) != 2:
+        raise OptionalBlock("the name of an optional block has two characters, letters or digits")
     if len(content) > _TOO_MANY:
         raise KeyBlockLength("a key block has at most 9999 characters")
-    return f"{name}0002{len(content) + 10:04X}{content}"
+    return name + f"0002{len(content) + 10:04X}".encode("ascii") + content
 
 
 def _optional_of(optional: _OptionalBlocks) -> bytes:
@@ -109,7 +107,7 @@ def _optional_of(optional: _OptionalBlocks) -> bytes:
     if isinstance(optional, (str, bytes, bytearray, memoryview)):
         raise TypeError("optional blocks are pairs of a name and its content")
     pairs = optional.items() if isinstance(optional, Mapping) else optional
-    return "".join(map(_optional_text, pairs)).encode("ascii")
+    return b"".join(map(_optional_bytes, pairs))
 
 
 def unwrap_key_block(protection: ReadableBuffer, block: _Text) -> Tuple[KeyBlockHeader, bytes]:
@@ -131,9 +129,9 @@ def wrap_key_block(
     padding: Optional[ReadableBuffer] = None,
 ) -> str:
     """The key block of a key of 8, 16 or 24 bytes under a protection key of 16 or 24 bytes, of version B or C. Optional blocks are
-    pairs of a name of two characters and its content, printable ASCII without a length. A block PB is added where they do not end at
-    a multiple of eight characters, and none is taken: OptionalBlock. The padding is random bytes that hide how long the key is, or
-    those that are given: 6, 14 or 22, with the key at most 30."""
+    pairs of a name of two letters or digits and its content, printable ASCII without a length. A block PB is added where they do not
+    end at a multiple of eight characters, and taken only as the last, where with it they do: OptionalBlock. The padding is random
+    bytes that hide how long the key is, or those that are given: 6, 14 or 22, with the key at most 30."""
     fields, more = _fields_of(header), _optional_of(optional)
     block, length = room(len(more) + _MORE), SIZE()
     with secret_of(protection) as held, secret_of(key) as bare:
@@ -147,6 +145,14 @@ def key_block_header(block: _Text) -> KeyBlockHeader:
     text, fields = _block_of(block), room(_FIELDS_SIZE)
     check(_header(text, len(text), fields))
     return _header_from(fields)
+
+
+def key_block_context(block: _Text) -> str:
+    """Where the key of a key block may be, read with no key: "0" in storage and exchange, as wrap_key_block writes it, "1" in storage
+    only, "2" in exchange only. Nothing of it is authenticated: unwrap_key_block does that."""
+    text, context = _block_of(block), room(1)
+    check(_context(text, len(text), context))
+    return bytes(context).decode("ascii")
 
 
 def key_block_optional_blocks(block: _Text) -> List[Tuple[str, str]]:

@@ -26,6 +26,7 @@ _decode_1 = function("pin_decode_1", INT, POINTER, POINTER)
 _decode_2 = function("pin_decode_2", INT, POINTER, POINTER)
 _decode_3 = function("pin_decode_3", INT, POINTER, POINTER, SIZE, POINTER)
 _to_0 = function("pin_translate_to_0", INT, POINTER, SIZE, INT, POINTER, SIZE, POINTER, SIZE, POINTER, POINTER)
+_to_1 = function("pin_translate_to_1", INT, POINTER, SIZE, POINTER, SIZE, POINTER, POINTER)
 _to_3 = function("pin_translate_to_3", INT, POINTER, SIZE, INT, POINTER, SIZE, POINTER, SIZE, POINTER, POINTER, POINTER)
 _cvv = function("cvv", INT, POINTER, POINTER, SIZE, POINTER, SIZE, POINTER, SIZE, POINTER)
 
@@ -114,6 +115,12 @@ def pin_translate_to_0(
             return _encoded(_to_0, held, len(held), number, other, len(other), *of, given)
 
 
+def pin_translate_to_1(block: ReadableBuffer, *, incoming_key: ReadableBuffer, outgoing_key: ReadableBuffer) -> bytes:
+    """The same of a block of format 1 to format 1: its transaction digits stay, and it has no account number."""
+    with key_of(incoming_key, *KEY_SIZES) as held, key_of(outgoing_key, *KEY_SIZES) as other, block_of(block) as given:
+        return _encoded(_to_1, held, len(held), other, len(other), given)
+
+
 def pin_translate_to_3(
     incoming_format: int,
     account: _Text,
@@ -123,7 +130,7 @@ def pin_translate_to_3(
     incoming_key: ReadableBuffer,
     outgoing_key: ReadableBuffer,
 ) -> bytes:
-    """The same to a block of format 3, with ten fill digits as of pin_encode_3."""
+    """As pin_translate_to_0, to a block of format 3, with ten fill digits as of pin_encode_3."""
     number, digits = number_of(incoming_format, 0, 3), _fill_of(fill)
     with key_of(incoming_key, *KEY_SIZES) as held, key_of(outgoing_key, *KEY_SIZES) as other:
         with text_of(account) as of, block_of(block) as given:
@@ -131,7 +138,7 @@ def pin_translate_to_3(
 
 
 def cvv(key: ReadableBuffer, account: _Text, expiry: _Text, service: _Text) -> str:
-    """The card verification value, three digits, under a key pair of 16 bytes, of an account number of 13 to 19 digits,
+    """The card verification value, three digits, under a key pair of 16 bytes, of an account number of 12 to 19 digits,
     an expiry date of four and a service code of three, as str or bytes of digits."""
     value = room(_CVV_SIZE)
     with key_of(key, 16) as held, text_of(account) as number, text_of(expiry) as date, text_of(service) as code:

@@ -25,10 +25,17 @@ INITIAL = bytes.fromhex("6ac292faa1315b4d858ab3a3d7d5933a")
 BEFORE = bytes.fromhex("ffff9876543210e00000")
 
 
+# Keys by option B, by Python's hashlib and OpenSSL's cipher: of a hash with fourteen decimal digits, and of others.
+KEYS_B = [("99012345678901234", "45", "985ec4fd3edf6162e31af1c7d0543416"), ("400000000000000033", "00", "230138e9c154258a675808b649cdc79d"),
+          ("6304000000000000001", "00", "37620232abc87a07c2d5d6586219929d"), ("40000002", "01", "8054df75a2b9a17915ce4cb613752549")]
+
+
 class Cryptograms(unittest.TestCase):
     def test_keys(self):
         for account, sequence in (("99012345678901234", "45"), (b"99012345678901234", bytearray(b"45"))):
             self.assertEqual(cukvashe_des.emv_card_key(PAIR, account, sequence), CARD_KEY)
+        for account, sequence, key in KEYS_B:
+            self.assertEqual(cukvashe_des.emv_card_key_b(PAIR, account, sequence).hex(), key)
         self.assertEqual(cukvashe_des.emv_application_key(CARD_KEY, b"\x00\x1c"), SESSION)
         for third in range(256):
             block = bytes.fromhex("1234") + bytes([third]) + bytes.fromhex("789abcdef0")
@@ -46,12 +53,14 @@ class Cryptograms(unittest.TestCase):
         for account, sequence, fault in (("1" * 7, "", "AccountLength"), ("1" * 20, "", "AccountLength"), ("1234567a", "", "AccountDigit"),
                                          ("1" * 8, "0", "SequenceLength"), ("1" * 8, "000", "SequenceLength"), ("1" * 8, "0:", "SequenceDigit")):
             self.assertRaises(getattr(cukvashe_des, fault), cukvashe_des.emv_card_key, PAIR, account, sequence)
+            self.assertRaises(getattr(cukvashe_des, fault), cukvashe_des.emv_card_key_b, PAIR, account, sequence)
         self.assertRaises(TypeError, cukvashe_des.emv_response_1, SESSION, CRYPTOGRAM, "00")
         self.assertRaises(TypeError, cukvashe_des.emv_application_key, CARD_KEY, 28)
         for length in LENGTHS:
             given = bytes(length)
             if length != 16:
                 self.assertRaises(KeyLength, cukvashe_des.emv_card_key, given, "1" * 8, "00")
+                self.assertRaises(KeyLength, cukvashe_des.emv_card_key_b, given, "1" * 8, "00")
                 self.assertRaises(KeyLength, cukvashe_des.emv_session_key, given, bytes(8))
                 self.assertRaises(KeyLength, cukvashe_des.emv_application_cryptogram, given, DATA)
                 self.assertRaises(KeyLength, cukvashe_des.emv_response_1, given, CRYPTOGRAM, b"00")

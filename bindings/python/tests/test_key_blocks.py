@@ -23,6 +23,7 @@ from cukvashe_des import (
     KeyBlockField,
     KeyBlockHeader,
     KeyBlockVersion,
+    key_block_context,
     key_block_header,
     key_block_optional_blocks,
     unwrap_key_block,
@@ -58,9 +59,18 @@ KNOWN = [
 # A character of BLOCK that is changed, and the first fault.
 CHANGES = [
     (1, "1", "KeyBlockLength"), (4, "1", "KeyBlockLength"), (0, "D", "KeyBlockVersion"), (0, "b", "KeyBlockVersion"),
-    (12, "/", "KeyBlockField"), (14, "1", "KeyBlockField"), (15, "1", "KeyBlockField"), (13, "1", "OptionalBlock"),
+    (12, "/", "KeyBlockField"), (14, "3", "KeyBlockField"), (14, "1", "KeyBlockMac"), (15, "1", "KeyBlockField"), (13, "1", "OptionalBlock"),
     (0, "A", "KeyDataLength"), (0, "C", "KeyDataLength"), (16, "a", "KeyBlockDigit"), (79, "G", "KeyBlockDigit"),
     (63, "0", "KeyBlockMac"), (79, "F", "KeyBlockMac"), (5, "K", "KeyBlockMac"), (11, "S", "KeyBlockMac"),
+]
+
+# Contexts of the third known block, by OpenSSL, and of BLOCK, by the package; a last one of other fields.
+CONTEXTS = [
+    (2, "1", "C0096B0TX12S0110KS1800604B120F9292800000BFB9B689CB567E66FC3FEE5AD5F52161FC6545B9D60989017E674D98"),
+    (2, "2", "C0096B0TX12S0120KS1800604B120F9292800000BFB9B689CB567E66FC3FEE5AD5F52161FC6545B9D6098901024F5594"),
+    (3, "1", "B0080P0TE00E00106DFA2F8882DD45AB34AC04BC00A6A0D83D6C4757AC498C6A87197B104026787E"),
+    (3, "2", "B0080P0TE00E00209847BA810EA9906EFB6E290E2F471CE7BF84D490AE1A4DB4B21FD7502A72DBD3"),
+    (2, "0", "C0096B-T.1 S0100KS1800604B120F929280000056C75D0A42701F1C3139462287BBFA82C3254149E89A57036AED36A0"),
 ]
 
 # Authenticated by the `cryptography` package for Python: the key data say a length of no key.
@@ -90,6 +100,15 @@ class KeyBlocks(unittest.TestCase):
         for (_, block, _, _), expected in zip(KNOWN, blocks):
             self.assertEqual(key_block_optional_blocks(block), expected)
             self.assertEqual(key_block_optional_blocks(block.encode()), expected)
+
+    def test_contexts(self):
+        for _, block, _, _ in KNOWN:
+            self.assertEqual(key_block_context(block), "0")
+        for known, context, block in CONTEXTS:
+            protection, _, _, key = KNOWN[known]
+            self.assertEqual(unwrap_key_block(protection, block)[1], key)
+            self.assertEqual((key_block_context(block), key_block_context(block.encode())), (context, context))
+        self.assertEqual(key_block_header(CONTEXTS[4][2]), KeyBlockHeader("C", "B-", "T", ".", "1 ", "S"))
 
     def test_made(self):
         """Known blocks again, of their padding, and with optional blocks as pairs of each kind."""
@@ -125,11 +144,12 @@ class KeyBlocks(unittest.TestCase):
         """Each known block once more, by what was read of it: header, key and optional blocks are the same, but for version A."""
         for protection, block, _, _ in KNOWN:
             header, key = unwrap_key_block(protection, block)
-            optional = [x for x in key_block_optional_blocks(block) if x[0] != "PB"]
+            read = key_block_optional_blocks(block)
             other = replace(header, version="B") if header.version == "A" else header
-            again = wrap_key_block(protection, other, key, optional=optional)
-            self.assertEqual(unwrap_key_block(protection, again), (other, key))
-            self.assertEqual(key_block_optional_blocks(again), key_block_optional_blocks(block))
+            for optional in (read, [x for x in read if x[0] != "PB"]):
+                again = wrap_key_block(protection, other, key, optional=optional)
+                self.assertEqual(unwrap_key_block(protection, again), (other, key))
+                self.assertEqual(key_block_optional_blocks(again), read)
 
     def test_printable_contents(self):
         """Each character that a content may have."""
@@ -160,6 +180,7 @@ class KeyBlocks(unittest.TestCase):
             self.assertRaises(getattr(cukvashe_des, fault), unwrap_key_block, PROTECTION, wrong)
             self.assertRaises(getattr(cukvashe_des, fault), unwrap_key_block, PROTECTION, wrong.encode())
             if fault not in ("KeyBlockDigit", "KeyBlockMac"):
+                self.assertRaises(getattr(cukvashe_des, fault), key_block_context, wrong)
                 self.assertRaises(getattr(cukvashe_des, fault), key_block_header, wrong)
                 self.assertRaises(getattr(cukvashe_des, fault), key_block_optional_blocks, wrong)
         for wrong in NO_KEYS:
@@ -222,13 +243,14 @@ class KeyBlocks(unittest.TestCase):
                 wrap_key_block(PROTECTION, replace(BLOCK_HEADER, **{name: Said("P0T")}), BLOCK_KEY, padding=padding)
 
     def test_optional_refused(self):
-        for optional in ([("K", "")], [("KSX", "")], [("", "")], [("K\xe9", "")], [("KS", "\uff10")], [("KS", "")] * 100,
-                         [("KS", "")] * 99, [("PB", "")], [("KV", "ABCDEF"), ("PB", "00")], {"PB": "0000", "KS": ""}):
+        for optional in ([("K", "")], [("KSX", "")], [("", "")], [("K\xe9", "")], [("\xe9", "")], [("K-", "")], [(" S", "")], [("K\n", "")],
+                         [("KS", "\uff10")], [("KS", "")] * 100, [("KS", "")] * 99, [("PB", "")], [("KV", "ABCDEF"), ("PB", "000")],
+                         {"PB": "0000", "KS": ""}, [("PB", ""), ("KS", "")], [("PB", "0000"), ("PB", "0000")]):
             with self.assertRaises(cukvashe_des.OptionalBlock):
                 wrap_key_block(PROTECTION, BLOCK_HEADER, BLOCK_KEY, optional=optional)
-        for wrong in ("\n", "\0", "\x1f", "\x7f", "\xe9", "\uff10"):
+        for wrong in ("\n", "\0", "\x1f", "\x7f", "\xe9", "\uff10", "\ud800"):
             for content in (wrong, wrong + "00", "00" + wrong, "0" + wrong + "0"):
-                with self.assertRaisesRegex(cukvashe_des.OptionalBlock, "^the content of an optional block is printable ASCII alone$"):
+                with self.assertRaisesRegex(cukvashe_des.OptionalBlock, "^the optional blocks can't be read or written: a wrong length, name"):
                     wrap_key_block(PROTECTION, BLOCK_HEADER, BLOCK_KEY, optional=[("KV", "ABCDEF"), ("KS", content)])
         for name in ("pb", "Pb", "BP", "PA"):
             block = wrap_key_block(PROTECTION, BLOCK_HEADER, BLOCK_KEY, optional=[(name, "")])

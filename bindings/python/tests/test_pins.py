@@ -5,7 +5,20 @@ import unittest
 import cukvashe_des
 from cukvashe_des import BlockLength, DecimalTable, FillLength, KeyLength, TdesEde2, WrongPin
 
-from .values import ACCOUNT, FILL, LENGTHS, OTHER, PAIR, SENT, TABLE, VALIDATION, to_format_0, to_format_3
+from .values import (
+    ACCOUNT,
+    FILL,
+    LENGTHS,
+    ONE,
+    OTHER,
+    PAIR,
+    SENT,
+    TABLE,
+    VALIDATION,
+    to_format_0,
+    to_format_1,
+    to_format_3,
+)
 
 # A key of three parts, of which the first and the first two are keys too.
 PARTS = PAIR + bytes.fromhex("8899aabbccddeeff")
@@ -108,12 +121,30 @@ class Translation(unittest.TestCase):
             self.assertEqual(to_format_0(key, number, PAIR, ACCOUNT.encode(), bytearray(block)), SENT)
             self.assertEqual(to_format_3(key, number, OTHER, ACCOUNT, FILL, block), third)
 
+    def test_format_1(self):
+        """A block of format 1, of PIN 1234 and the digits 0123456789, under keys of one part, two and three."""
+        of_single, of_other, of_three = (bytes.fromhex(digits) for digits in ("824daa361d7dc65a", "c6410daf0a0ad8f7", "0fc16e52093ce92f"))
+        blocks = ((PAIR[:8], of_single), (PAIR, ONE), (OTHER, of_other), (PARTS, of_three))
+        for incoming, block in blocks:
+            for outgoing, answer in blocks:
+                self.assertEqual(to_format_1(incoming, outgoing, bytearray(block)), answer)
+        cipher = TdesEde2(PAIR)
+        for block in ("041274edcba9876f", "1312340123456789", "1d12340123456789", "141a340123456789"):
+            self.assertRaises(cukvashe_des.PinBlock, to_format_1, PAIR, OTHER, cipher.encrypt_ecb(bytes.fromhex(block)))
+        for length in LENGTHS:
+            if length not in (8, 16, 24):
+                self.assertRaises(KeyLength, to_format_1, bytes(length), OTHER, ONE)
+                self.assertRaises(KeyLength, to_format_1, PAIR, bytes(length), ONE)
+            if length != 8:
+                self.assertRaises(BlockLength, to_format_1, PAIR, OTHER, bytes(length))
+
     def test_keys_by_name(self):
         """Neither key goes by its place, in which it could be taken for the other, and none is left out."""
-        for call, more in ((cukvashe_des.pin_translate_to_0, ()), (cukvashe_des.pin_translate_to_3, (FILL,))):
-            arguments, keys = (0, ACCOUNT, *more, SENT), {"incoming_key": PAIR, "outgoing_key": OTHER}
+        for call, arguments in ((cukvashe_des.pin_translate_to_0, (0, ACCOUNT, SENT)), (cukvashe_des.pin_translate_to_1, (ONE,)),
+                                (cukvashe_des.pin_translate_to_3, (0, ACCOUNT, FILL, SENT))):
+            keys = {"incoming_key": PAIR, "outgoing_key": OTHER}
             self.assertEqual(len(call(*arguments, **keys)), 8)
-            self.assertRaises(TypeError, call, PAIR, 0, OTHER, ACCOUNT, *more, SENT)
+            self.assertRaises(TypeError, call, PAIR, arguments[0], OTHER, *arguments[1:])
             self.assertRaises(TypeError, call, *arguments, PAIR, OTHER)
             for name, key in keys.items():
                 self.assertRaises(TypeError, call, *arguments, **{name: key})

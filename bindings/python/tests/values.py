@@ -30,9 +30,10 @@ DIGITS = bytes([15, 14, 0, 9, 10, 5, 1, 2, 3, 4])
 FILL = bytes([10, 11, 12, 13, 14, 15, 10, 11, 12, 13])
 CARD = ("4123456789012345", "8701", "101")
 
-# Another key; the PIN 1234 of ACCOUNT in format 0, encrypted under PAIR by OpenSSL; validation data, and the plain table.
+# Another key; the PIN 1234 of ACCOUNT in format 0, and in format 1, encrypted under PAIR by OpenSSL; validation data, and the plain table.
 OTHER = bytes.fromhex("89e88cf7931444f334bd7547fc3f380c")
 SENT = bytes.fromhex("c03d21cdbcb0c58b")
+ONE = bytes.fromhex("646855a2370347d8")
 VALIDATION = bytes.fromhex("4123456789012345")
 TABLE = cukvashe_des.DecimalTable("0123456789012345")
 
@@ -116,6 +117,11 @@ def to_format_0(incoming, number, outgoing, account, block):
     return cukvashe_des.pin_translate_to_0(number, account, block, incoming_key=incoming, outgoing_key=outgoing)
 
 
+def to_format_1(incoming, outgoing, block):
+    """The same of the call to format 1."""
+    return cukvashe_des.pin_translate_to_1(block, incoming_key=incoming, outgoing_key=outgoing)
+
+
 def to_format_3(incoming, number, outgoing, account, fill, block):
     """The same of the call to format 3."""
     return cukvashe_des.pin_translate_to_3(number, account, fill, block, incoming_key=incoming, outgoing_key=outgoing)
@@ -154,6 +160,7 @@ FUNCTIONS = [
     (cukvashe_des.pin_decode_2, (bytes.fromhex("241234ffffffffff"),)),
     (cukvashe_des.pin_decode_3, (bytes.fromhex("341274b9f9b9d35d"), b"4012345678909")),
     (to_format_0, (PAIR, 0, OTHER, b"4012345678909", SENT)),
+    (to_format_1, (PAIR, OTHER, ONE)),
     (to_format_3, (PAIR, 0, OTHER, b"4012345678909", FILL, SENT)),
     (cukvashe_des.pvv, (PAIR, b"4123456789012345", 1, b"1234")),
     (cukvashe_des.pvv_verify, (PAIR, b"4123456789012345", 1, b"1234", b"1894")),
@@ -161,6 +168,7 @@ FUNCTIONS = [
     (cukvashe_des.pin_offset, (PAIR, TABLE, VALIDATION, b"9519")),
     (cukvashe_des.pin_offset_verify, (PAIR, TABLE, VALIDATION, b"9519", b"9999")),
     (cukvashe_des.emv_card_key, (PAIR, b"99012345678901234", b"45")),
+    (cukvashe_des.emv_card_key_b, (PAIR, b"99012345678901234", b"45")),
     (cukvashe_des.emv_session_key, (PAIR, IV)),
     (cukvashe_des.emv_application_key, (PAIR, b"\x35\x1c")),
     (cukvashe_des.emv_application_cryptogram, (PAIR, MESSAGE)),
@@ -170,6 +178,7 @@ FUNCTIONS = [
     (cukvashe_des.unwrap_key_block, (PROTECTION, BLOCK)),
     (wrap_with_padding, (PROTECTION, BLOCK_KEY, bytes.fromhex("1c2965473ce2"))),
     (cukvashe_des.key_block_header, (BLOCK,)),
+    (cukvashe_des.key_block_context, (BLOCK,)),
     (cukvashe_des.pbkdf2, ("sha1", MESSAGE, IV, 1, 24)),
     (cukvashe_des.bytes_to_key, ("md5", MESSAGE, IV, 24)),
     (opens, (b"secret", SALTED)),

@@ -527,6 +527,14 @@ extern "C" {
         block: *const [u8; 8],
         translated: *mut [u8; 8],
     ) -> c_int;
+    pub fn cukvashe_pin_translate_to_1(
+        incoming_key: *const u8,
+        incoming_key_length: usize,
+        outgoing_key: *const u8,
+        outgoing_key_length: usize,
+        block: *const [u8; 8],
+        translated: *mut [u8; 8],
+    ) -> c_int;
     pub fn cukvashe_pin_translate_to_3(
         incoming_key: *const u8,
         incoming_key_length: usize,
@@ -608,6 +616,14 @@ extern "C" {
         sequence_length: usize,
         key: *mut [u8; 16],
     ) -> c_int;
+    pub fn cukvashe_emv_card_key_b(
+        issuer: *const [u8; 16],
+        account: *const c_char,
+        account_length: usize,
+        sequence: *const c_char,
+        sequence_length: usize,
+        key: *mut [u8; 16],
+    ) -> c_int;
     pub fn cukvashe_emv_application_key(card: *const [u8; 16], counter: *const [u8; 2], key: *mut [u8; 16]);
     pub fn cukvashe_emv_session_key(card: *const [u8; 16], block: *const [u8; 8], key: *mut [u8; 16]);
     pub fn cukvashe_emv_application_cryptogram(
@@ -655,6 +671,7 @@ extern "C" {
         length: *mut usize,
     ) -> c_int;
     pub fn cukvashe_key_block_header(block: *const c_char, block_length: usize, header: *mut KeyBlockFields) -> c_int;
+    pub fn cukvashe_key_block_context(block: *const c_char, block_length: usize, context: *mut c_char) -> c_int;
     pub fn cukvashe_key_block_optional_block(
         block: *const c_char,
         block_length: usize,

@@ -104,6 +104,7 @@ const MODES = [
 const EXPORTABILITIES = [
   ["E", "whoever has a key that protects key blocks"], ["N", "nobody else"], ["S", "also under keys of other forms"],
 ];
+const CONTEXTS = [["0", "storage and exchange"], ["1", "storage only"], ["2", "exchange only"]];
 const VERSIONS = [["B", "derived keys"], ["C", "variants of the protection key"], ["A", "variants, deprecated"]];
 
 const coded = (options) => options.map(([code, words]) => [code, `${code}: ${words}`]);
@@ -120,6 +121,9 @@ const protection = {
   read: bytes(16, 24),
 };
 
+/** Where the key of a block may be, if not in storage and exchange. */
+const contextAnswers = (context) => (context === "0" ? [] : [remark("Context of the key", named(CONTEXTS, context))]);
+
 /** What a header says, in words, and the optional blocks. */
 const headerAnswers = (block, { version, usage, algorithm, mode, keyVersion, exportability }) => [
   remark("Usage", named(USAGES, usage)),
@@ -128,6 +132,7 @@ const headerAnswers = (block, { version, usage, algorithm, mode, keyVersion, exp
   remark("Exportability", named(EXPORTABILITIES, exportability)),
   remark("Version of the block", named(VERSIONS, version)),
   remark("Version of the key", keyVersion === "00" ? "00: none" : keyVersion),
+  ...contextAnswers(library.keyBlockContext(block)),
   ...library.keyBlockOptionalBlocks(block).map(([name, content]) => value(`Optional block ${name}`, content)),
 ];
 
@@ -320,10 +325,10 @@ export const calculations = [
       {
         name: "to",
         label: "New format",
-        options: [["0", "Format 0 (ISO-0, ANSI X9.8)"], ["3", "Format 3 (ISO-3)"]],
+        options: [["0", "Format 0 (ISO-0, ANSI X9.8)"], ["1", "Format 1 (ISO-1)"], ["3", "Format 3 (ISO-3)"]],
       },
       { name: "outgoing", label: "New PIN key", short: "ZPK", hint: KEY_HINT, read: bytes(...SIZES) },
-      account,
+      { ...account, shown: ({ to }) => to !== "1" },
       {
         name: "fill",
         label: "Digits to fill with",
@@ -351,11 +356,14 @@ export const calculations = [
       },
     },
     compute({ block, from, incoming, to, outgoing, account: number, fill }) {
+      if (to === "1" && from !== "1") throw new FieldFault("to", "Only a block of format 1 becomes one of format 1.");
       const keys = { incomingKey: incoming, outgoingKey: outgoing };
-      const made = to === "0"
-        ? library.pinTranslateTo0(Number(from), number, block, keys)
-        : library.pinTranslateTo3(Number(from), number, fill, block, keys);
-      return [value("Translated block", made)];
+      const translators = {
+        0: () => library.pinTranslateTo0(Number(from), number, block, keys),
+        1: () => library.pinTranslateTo1(block, keys),
+        3: () => library.pinTranslateTo3(Number(from), number, fill, block, keys),
+      };
+      return [value("Translated block", translators[to]())];
     },
   },
   {
@@ -424,6 +432,11 @@ export const calculations = [
         hint: "Two digits; 00 where the card has none.",
         read: decimal,
       },
+      {
+        name: "option",
+        label: "Card’s key by",
+        options: [["a", "Option A, which most issuers take"], ["b", "Option B, for more than 16 digits"]],
+      },
       { name: "counter", label: "Transaction counter", short: "ATC", hint: "4 hexadecimal digits.", read: bytes(2) },
       {
         name: "data",
@@ -444,6 +457,7 @@ export const calculations = [
       issuer: BASE,
       account: "99012345678901234",
       sequence: "45",
+      option: "a",
       counter: "001C",
       data: "00000000500000000000000000000840000000000008401502200063A5B1F2580000001C06010A03A4A000",
       code: "3030",
@@ -455,8 +469,9 @@ export const calculations = [
       "Session key": "38324E73F063EFDD5CA88C322476A45B",
       "Card’s key": "67F8292358083E5EA7AB7FDA58D53B6B",
     },
-    compute({ issuer, account: number, sequence, counter, data, code }) {
-      const card = library.emvCardKey(issuer, number, sequence);
+    compute({ issuer, account: number, sequence, option, counter, data, code }) {
+      const cardKey = option === "b" ? library.emvCardKeyB : library.emvCardKey;
+      const card = cardKey(issuer, number, sequence);
       const session = library.emvApplicationKey(card, counter);
       const cryptogram = library.emvApplicationCryptogram(session, data);
       return [
@@ -608,7 +623,7 @@ export const calculations = [
     faults: {
       KeyBlockLength: { field: "block", words: NOT_LONG },
       KeyBlockVersion: { field: "block", words: "The block begins with none of A, B and C, the versions of triple DES." },
-      KeyBlockField: { field: "block", words: "Characters 13 to 16 of the block are not two decimal digits and two zeros." },
+      KeyBlockField: { field: "block", words: "Characters 13 to 16 of the block are not two decimal digits, 0, 1 or 2, and 0." },
       OptionalBlock: { field: "block", words: "The optional blocks, from character 17 on, are not as many as the header says." },
       KeyDataLength: { field: "block", words: "Behind the header there is another number of digits than a key and its MAC have." },
       KeyBlockDigit: { field: "block", words: "Behind the header stands a character that is none of 0 to 9 and A to F in upper case." },
@@ -679,8 +694,8 @@ export const calculations = [
     faults: {
       OptionalBlock: {
         field: "optional",
-        words: "An optional block has a name of two ASCII characters and a content of printable ones alone; there are 99 at most. Leave out "
-          + "a block PB: one is added where it is needed.",
+        words: "An optional block has a name of two letters or digits and a content of printable ASCII characters alone; there are 99 at "
+          + "most. Leave out a block PB, or let it be the last and end them at a multiple of eight characters.",
       },
       KeyBlockLength: { field: "optional", words: "The optional blocks are too long: a key block has at most 9999 characters." },
       PaddingLength: { field: "padding", words: "With two bytes and the key the padding fills 8, 16, 24 or 32 bytes." },
@@ -761,7 +776,7 @@ const FIELDS_OF_ERRORS = {
 };
 
 /** How many digits an account number has at least, where that is not 8. */
-const LEAST_DIGITS = { pvv: 12, cvv: 13 };
+const LEAST_DIGITS = { pvv: 12, cvv: 12 };
 
 /**
  * The fault that an error of the library is in a calculation, of the texts in its fields. Any other error comes back as

@@ -25,7 +25,7 @@ const button = (attributes, action, ...children) => {
 function controlOf(field, id) {
   if (field.options !== undefined) {
     const options = field.options.map(([value, words]) => make("option", { value }, words));
-    return make("select", { id, name: field.name }, ...options);
+    return make("select", { id, name: field.name, "aria-describedby": `${id}-fault` }, ...options);
   }
   const described = field.hint === undefined ? `${id}-fault` : `${id}-hint ${id}-fault`;
   const attributes = {

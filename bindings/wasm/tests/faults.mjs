@@ -278,7 +278,7 @@ for (const [name, [text, ...pins]] of Object.entries(PINS)) {
 }
 const ACCOUNTS = {
   AccountLength: [
-    "the account number does not have 8 to 19 digits, for a PVV 12 to 19, for a CVV 13 to 19", "", "4".repeat(7), "4".repeat(20),
+    "the account number does not have 8 to 19 digits, for a PVV or a CVV 12 to 19", "", "4".repeat(7), "4".repeat(20),
   ],
   AccountDigit: ["a character of the account number is not a digit", "401234567890:", "4012 3456 78909"],
 };
@@ -309,6 +309,7 @@ throwsFault(() => library.pinDecode3(unhex("341274b9f9b9d359"), ACCOUNT), "Fill"
 const TABLE = new library.DecimalTable("0123456789012345");
 const OTHER = unhex("89e88cf7931444f334bd7547fc3f380c");
 const SENT = unhex("c03d21cdbcb0c58b");
+const ONE = unhex("646855a2370347d8");
 const TABLES = {
   TableLength: ["the decimalization table does not have sixteen digits", "", "0".repeat(15), "0123456701234567" + "8"],
   TableDigit: ["a character of the decimalization table is not a digit", "012345678901234:", "\uff10" + "1".repeat(15)],
@@ -346,8 +347,12 @@ for (const block of ["141274edcba9876f", "031274edcba9876f", "041a74edcba9876f",
   const text = "decrypted, the PIN block is not one of its format and account number";
   throwsFault(() => library.pinTranslateTo0(0, ACCOUNT, sent, KEYS), "PinBlock", text);
 }
+for (const block of ["041274edcba9876f", "1312340123456789", "1d12340123456789", "141a340123456789"]) {
+  throwsFault(() => library.pinTranslateTo1(new library.TdesEde2(PAIR).encryptEcb(unhex(block)), KEYS), "PinBlock");
+}
 for (const [sequence, name, text] of [["0", "SequenceLength", "the sequence number does not have two digits"], ["0:", "SequenceDigit", "a character of the sequence number is not a digit"]]) {
   throwsFault(() => library.emvCardKey(PAIR, ACCOUNT, sequence), name, text);
+  throwsFault(() => library.emvCardKeyB(PAIR, ACCOUNT, sequence), name, text);
 }
 for (const length of LENGTHS) {
   if (![8, 16, 24].includes(length)) {
@@ -356,6 +361,8 @@ for (const length of LENGTHS) {
     throwsFault(() => library.naturalPin(of(length), TABLE, IV, 4), "KeyLength", text);
     throwsFault(() => library.pinTranslateTo0(0, ACCOUNT, SENT, { ...KEYS, incomingKey: of(length) }), "KeyLength", text);
     throwsFault(() => library.pinTranslateTo3(0, ACCOUNT, FILL, SENT, { ...KEYS, outgoingKey: of(length) }), "KeyLength", text);
+    throwsFault(() => library.pinTranslateTo1(ONE, { ...KEYS, incomingKey: of(length) }), "KeyLength", text);
+    throwsFault(() => library.pinTranslateTo1(ONE, { ...KEYS, outgoingKey: of(length) }), "KeyLength", text);
   }
   if (length !== 8) {
     throwsFault(() => library.naturalPin(PAIR, TABLE, of(length), 4), "BlockLength", `validation data have 8 bytes, not ${length}`);
@@ -384,12 +391,15 @@ const PROTECTION = unhex("dd7515f2bfc17f85ce48f3ca25cb21f6");
 const BLOCK = "B0080P0TE00E000094B420079CC80BA3461F86FE26EFC4A3B8E4FA4C5F5341176EED7B727B8A248E";
 const HEADER = library.keyBlockHeader(BLOCK);
 const changed = (place, character) => BLOCK.slice(0, place) + character + BLOCK.slice(place + 1);
-const BLOCK_CALLS = [(block) => library.unwrapKeyBlock(PROTECTION, block), library.keyBlockHeader, library.keyBlockOptionalBlocks];
+const BLOCK_CALLS = [
+  (block) => library.unwrapKeyBlock(PROTECTION, block), library.keyBlockHeader, library.keyBlockContext, library.keyBlockOptionalBlocks,
+];
+const NO_OPTIONAL = "the optional blocks can't be read or written: a wrong length, name, content or PB, an end off a multiple of eight, or more than 99";
 const OF_BLOCKS = {
   KeyBlockLength: ["the key block is not as long as its header says, longer than 9999 characters, or too long for its buffer", "", `${BLOCK}\n`, BLOCK.slice(1), changed(4, "1")],
   KeyBlockVersion: ["the version of the key block is not one that the call takes: A, B or C to read, B or C to make", changed(0, "D"), changed(0, "b")],
-  KeyBlockField: ["the number of optional blocks is not two digits and two zeros, or a field to be written is not letters and digits", changed(12, "x"), changed(15, "1")],
-  OptionalBlock: ["the optional blocks can't be read: a wrong length, an end off a multiple of eight, or more than 99", changed(13, "1")],
+  KeyBlockField: ["the header does not end with two digits, 0, 1 or 2, and 0, or a field to be written is not letters and digits", changed(12, "x"), changed(14, "3"), changed(15, "1")],
+  OptionalBlock: [NO_OPTIONAL, changed(13, "1")],
   KeyDataLength: ["the encrypted key data do not have a length that they can have", changed(0, "A"), changed(0, "C")],
 };
 for (const [name, [text, ...blocks]] of Object.entries(OF_BLOCKS)) {
@@ -404,7 +414,7 @@ for (const block of [changed(16, "a"), changed(79, "G")]) {
   const text = "a character of the encrypted key data or the MAC is not 0 to 9 or A to F";
   throwsFault(() => library.unwrapKeyBlock(PROTECTION, block), "KeyBlockDigit", text);
 }
-for (const block of [changed(5, "K"), changed(63, "0"), changed(79, "F")]) {
+for (const block of [changed(5, "K"), changed(14, "1"), changed(63, "0"), changed(79, "F")]) {
   throwsFault(() => library.unwrapKeyBlock(PROTECTION, block), "KeyBlockMac", "the MAC is not that of the key block");
 }
 // Authenticated by the `cryptography` package for Python: the key data say a length of no key.
@@ -430,28 +440,32 @@ for (const [name, texts] of Object.entries(FIELDS)) {
   for (const text of texts) throwsFault(() => wraps({ [name]: text }), "KeyBlockField");
   for (const wrong of [undefined, null, 0, 5n, unhex("5030")]) throwsType(() => wraps({ [name]: wrong }), name);
 }
-for (const name of ["", "K", "KSX", "K\u00e9", "\u{1f600}"]) {
-  const text = "the name of an optional block has two characters, both ASCII";
+for (const name of ["", "K", "KSX"]) {
+  const text = "the name of an optional block has two characters, letters or digits";
   throwsFault(() => wraps({}, PAIR, { optional: [[name, ""]] }), "OptionalBlock", text);
 }
+for (const name of ["K\u00e9", "\u{1f600}", "K-", " S", "K\n", "\0S"]) {
+  throwsFault(() => wraps({}, PAIR, { optional: [[name, "0123"]] }), "OptionalBlock", NO_OPTIONAL);
+}
 throwsFault(() => wraps({}, PAIR, { optional: Array(100).fill(["KS", ""]) }), "OptionalBlock");
-// A PB, also that of a block that was read, which would be right; names that are alike are taken.
-for (const optional of [[["PB", "00"]], [["PB", ""]], [["KV", "ABCDEF"], ["PB", "00"]], new Map([["PB", "0000"]])]) {
-  const text = "a block PB is added where one is needed: leave out that of a block that was read";
-  throwsFault(() => wraps({}, PAIR, { optional }), "OptionalBlock", text);
+// A PB that does not fill, or is not the last; one that does, and names that are alike, are taken.
+for (const optional of [[["PB", "00"]], [["PB", ""]], [["KV", "ABCDEF"], ["PB", "000"]], [["PB", "0000"], ["KS", "0123"]], [["PB", ""], ["KS", ""]]]) {
+  throwsFault(() => wraps({}, PAIR, { optional }), "OptionalBlock", NO_OPTIONAL);
+}
+for (const optional of [[["KV", "ABCDEF"], ["PB", "00"]], [["PB", "0000"]]]) {
+  assert.deepEqual(library.keyBlockOptionalBlocks(wraps({}, PAIR, { optional })), optional);
 }
 for (const name of ["pb", "Pb", "BP", "P0"]) {
   assert.deepEqual(library.keyBlockOptionalBlocks(wraps({}, PAIR, { optional: [[name, "0123"]] })), [[name, "0123"]]);
 }
 const CODES = Array.from({ length: 256 }, (_, code) => code);
 for (const character of [...CODES.map((code) => String.fromCharCode(code)), "\uff10", "\u{1f600}"]) {
-  const text = "the content of an optional block is printable ASCII alone";
   const optional = [["KS", `01${character}3`]];
   if (character >= " " && character <= "~") {
     assert.deepEqual(library.keyBlockOptionalBlocks(wraps({}, PAIR, { optional })), optional);
   } else {
     for (const content of [`01${character}3`, character, `0123${character}`]) {
-      throwsFault(() => wraps({}, PAIR, { optional: [["KV", ""], ["KS", content]] }), "OptionalBlock", text);
+      throwsFault(() => wraps({}, PAIR, { optional: [["KV", ""], ["KS", content]] }), "OptionalBlock", NO_OPTIONAL);
     }
   }
 }
@@ -527,7 +541,7 @@ OF_OPTIONS.push({
   text: 'a header: the names are "version", "usage", "algorithm", "mode", "keyVersion" and "exportability" alone',
 });
 // The keys of a translation go by name too, and each is there.
-for (const [call, ...words] of [["pinTranslateTo0", 0, ACCOUNT, SENT], ["pinTranslateTo3", 0, ACCOUNT, FILL, SENT]]) {
+for (const [call, ...words] of [["pinTranslateTo0", 0, ACCOUNT, SENT], ["pinTranslateTo1", ONE], ["pinTranslateTo3", 0, ACCOUNT, FILL, SENT]]) {
   OF_OPTIONS.push({
     call: (options) => library[call](...words, options),
     right: KEYS,
@@ -726,6 +740,7 @@ const CALLS = [
   ["pinEncode2", ["1234"], [isText]],
   ["pinDecode2", [unhex("241234ffffffffff")], [BYTES]],
   ["pinTranslateTo0", [0, ACCOUNT, SENT, KEYS], [isFive, isText, BYTES, BYTES]],
+  ["pinTranslateTo1", [ONE, KEYS], [BYTES, BYTES]],
   ["pinTranslateTo3", [0, ACCOUNT, FILL, SENT, KEYS], [isFive, isText, BYTES, BYTES, BYTES]],
   ["pvv", [PAIR, ACCOUNT, 1, "1234"], [BYTES, isText, isFive, isText]],
   ["pvvVerify", [PAIR, "4123456789012345", 1, "1234", "1894"], [BYTES, isText, isFive, isText, isText]],
@@ -734,6 +749,7 @@ const CALLS = [
   ["pinOffset", [PAIR, TABLE, IV, "1234"], [BYTES, BYTES, BYTES, isText]],
   ["pinOffsetVerify", [PAIR, TABLE, unhex("4123456789012345"), "9519", "9999"], [BYTES, BYTES, BYTES, isText, isText]],
   ["emvCardKey", [PAIR, ACCOUNT, "45"], [BYTES, isText, isText]],
+  ["emvCardKeyB", [PAIR, ACCOUNT, "45"], [BYTES, isText, isText]],
   ["emvSessionKey", [PAIR, IV], [BYTES, BYTES]],
   ["emvApplicationKey", [PAIR, of(2)], [BYTES, BYTES]],
   ["emvApplicationCryptogram", [PAIR, MESSAGE], [BYTES, BYTES]],
@@ -742,6 +758,7 @@ const CALLS = [
   ["unwrapKeyBlock", [PROTECTION, BLOCK], [BYTES, isText]],
   ["wrapKeyBlock", [PROTECTION, HEADER, PAIR, {}], [BYTES, BYTES, BYTES, isOptions]],
   ["keyBlockHeader", [BLOCK], [isText]],
+  ["keyBlockContext", [BLOCK], [isText]],
   ["keyBlockOptionalBlocks", [BLOCK], [isText]],
   ["pbkdf2", ["sha1", SECRET, IV, 1, 24], [isText, BYTES, BYTES, isFive, isFive]],
   ["bytesToKey", ["md5", SECRET, IV, 24], [isText, BYTES, BYTES, isFive]],

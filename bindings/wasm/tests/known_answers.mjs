@@ -219,6 +219,8 @@ is(library.pinEncode1("1234", DIGITS), "141234fe09a51234");
 is(library.pinEncode1("123456789012", DIGITS), "1c123456789012fe");
 assert.equal(library.pinDecode1(unhex("1c123456789012fe")), "123456789012");
 assert.equal(library.cvv(PAIR, "4123456789012345", "8701", "101"), "561");
+// OpenSSL's ciphers make fe463f8ab388e519 of an account number of twelve digits.
+assert.equal(library.cvv(PAIR, "400000123457", "8701", "101"), "463");
 
 is(library.pinEncode2("1234"), "241234ffffffffff");
 assert.equal(library.pinDecode2(unhex("241234ffffffffff")), "1234");
@@ -242,6 +244,11 @@ for (const [key, format, block] of [[PAIR, 0, SENT], [OTHER, 3, unhex("ba041cb9b
   is(library.pinTranslateTo0(format, ACCOUNT, block, { incomingKey: key, outgoingKey: OTHER }), "8856db66d89e9eff");
   is(library.pinTranslateTo0(format, Buffer.from(ACCOUNT), block, { incomingKey: key, outgoingKey: PAIR }), hex(SENT));
   is(library.pinTranslateTo3(format, ACCOUNT, FILL, block, { incomingKey: key, outgoingKey: OTHER }), "ba041cb9b3034d36");
+}
+const ONES = [[PAIR.subarray(0, 8), "824daa361d7dc65a"], [PAIR, "646855a2370347d8"], [OTHER, "c6410daf0a0ad8f7"],
+  [unhex("0123456789abcdeffedcba98765432108899aabbccddeeff"), "0fc16e52093ce92f"]];
+for (const [incomingKey, block] of ONES) {
+  for (const [outgoingKey, answer] of ONES) is(library.pinTranslateTo1(unhex(block), { incomingKey, outgoingKey }), answer);
 }
 
 const VALUES = [["4123456789012345", 1, "1234", "1894"], ["400000123456", 6, "99990", "1723"],
@@ -277,6 +284,15 @@ assert.equal(library.pinOffset(PAIR, zeros, VALIDATION, "4711"), "4711");
 
 const CARD_KEY = library.emvCardKey(PAIR, "99012345678901234", "45");
 is(CARD_KEY, "67f8292358083e5ea7ab7fda58d53b6b");
+// By Python's hashlib and OpenSSL's cipher: of a hash with fourteen decimal digits, and of others.
+for (const [account, sequence, key] of [
+  ["99012345678901234", "45", "985ec4fd3edf6162e31af1c7d0543416"],
+  ["400000000000000033", "00", "230138e9c154258a675808b649cdc79d"],
+  ["6304000000000000001", "00", "37620232abc87a07c2d5d6586219929d"],
+  ["40000002", "01", "8054df75a2b9a17915ce4cb613752549"],
+]) {
+  is(library.emvCardKeyB(PAIR, account, sequence), key);
+}
 const SESSION = library.emvApplicationKey(CARD_KEY, unhex("001c"));
 is(SESSION, "38324e73f063efdd5ca88c322476a45b");
 is(library.emvSessionKey(CARD_KEY, unhex("123456789abcdef0")), "cff2da9ebf0a165c4117216e8a84e800");
@@ -322,6 +338,7 @@ for (const [protection, block, key, optional] of KEY_BLOCKS) {
     assert.deepEqual(opened.header, of);
     is(opened.key, key);
     assert.deepEqual(library.keyBlockHeader(form), of);
+    assert.equal(library.keyBlockContext(form), "0");
     assert.deepEqual(library.keyBlockOptionalBlocks(form), optional);
   }
   if (version === "A") continue;
@@ -334,6 +351,16 @@ for (const [protection, block, key, optional] of KEY_BLOCKS) {
     assert.equal(made.length, again.length, "the length of the key is hidden");
     is(library.unwrapKeyBlock(unhex(protection), made).key, key.slice(0, 2 * size));
   }
+}
+for (const [known, context, block] of [
+  [2, "1", "C0096B0TX12S0110KS1800604B120F9292800000BFB9B689CB567E66FC3FEE5AD5F52161FC6545B9D60989017E674D98"],
+  [2, "2", "C0096B0TX12S0120KS1800604B120F9292800000BFB9B689CB567E66FC3FEE5AD5F52161FC6545B9D6098901024F5594"],
+  [3, "1", "B0080P0TE00E00106DFA2F8882DD45AB34AC04BC00A6A0D83D6C4757AC498C6A87197B104026787E"],
+  [3, "2", "B0080P0TE00E00209847BA810EA9906EFB6E290E2F471CE7BF84D490AE1A4DB4B21FD7502A72DBD3"],
+]) {
+  const [protection, , key] = KEY_BLOCKS[known];
+  is(library.unwrapKeyBlock(unhex(protection), block).key, key);
+  assert.equal(library.keyBlockContext(block), context);
 }
 const [pairKey, published, publishedKey] = KEY_BLOCKS[3];
 const [longKey, longBlock, threeParts] = KEY_BLOCKS[4];

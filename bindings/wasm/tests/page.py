@@ -247,10 +247,17 @@ def other_values(browser):
               to="0", outgoing=other, account=CARD)
     is_answer(browser, "translate", {"Translated block": "BA041CB9B3034D36"}, block="824daa361d7dc65a", **{"from": "1"},
               incoming=BASE[:16], to="3", fill="ABCDEFABCD")
+    is_answer(browser, "translate", {"Translated block": "C6410DAF0A0AD8F7"}, to="1")
     choose(browser, "pvv")
     is_answer(browser, "pvv", {"PIN verification value": "1723"}, key=BASE, index="6", account="400000123456", pin="99990")
     choose(browser, "offset")
     is_answer(browser, "offset", {"Offset": "11111"}, key=BASE, validation="4123456789012345", table="0123456789012345", pin="17316")
+
+    # By Python's hashlib and OpenSSL's ciphers.
+    choose(browser, "emv")
+    is_answer(browser, "emv", {"Application cryptogram (ARQC)": "85242B5294A5DD27", "Card’s key": "985EC4FD3EDF6162E31AF1C7D0543416 KCV 88B6F3"},
+              issuer=BASE, account="99012345678901234", sequence="45", option="b", counter="001C", code="3030",
+              data="00000000500000000000000000000840000000000008401502200063A5B1F2580000001C06010A03A4A000")
 
     # ISO/IEC 9797-1, annex B, and NIST's examples of CMAC.
     choose(browser, "mac")
@@ -310,7 +317,14 @@ def key_blocks(browser):
                           ("KS0002000CAB", "AB"), ("KS0004000CAB", "AB"), ("KS0B0a test", "0a test"), ("KS", ""), ("KS04", "")):
         fill(browser, "wrap", optional=text)
         same(answers(browser, "wrap").get("Optional block KS"), content, f"the content of {text} ({faults(browser)})")
+    fill(browser, "wrap", optional="KS 0123\nPB080000")
+    same(answers(browser, "wrap").get("Optional block PB"), "0000", f"a block PB of one's own ({faults(browser)})")
     choose(browser, "unwrap")
+    # The third known block in each other context, by OpenSSL.
+    for block, context in (
+            ("C0096B0TX12S0110KS1800604B120F9292800000BFB9B689CB567E66FC3FEE5AD5F52161FC6545B9D60989017E674D98", "1: storage only"),
+            ("C0096B0TX12S0120KS1800604B120F9292800000BFB9B689CB567E66FC3FEE5AD5F52161FC6545B9D6098901024F5594", "2: exchange only")):
+        is_answer(browser, "unwrap", {"Context of the key": context}, protection="b8ed59e0a279a295e9f5ed7944fd06b9", block=block)
     for block, key in made:
         is_answer(browser, "unwrap", {"Version of the key": "c1", "Mode of use": "N: no restriction"}, protection=PROTECTION, block=block)
         same(answers(browser, "unwrap")["Key"].partition(" KCV ")[0], key, "what is wrapped, read again")
@@ -391,6 +405,8 @@ def each_fault(browser):
     refuses("translate", {"account": "8 to 19 digits, but 7."}, account="4" * 7)
     refuses("translate", {"fill": EMPTY}, to="3", account=CARD)
     refuses("translate", {"fill": "fill digit"}, fill="0123456789")
+    refuses("translate", {"to": "Only a block of format 1"}, to="1")
+    refuses("translate", {"block": "this is no PIN block"}, **{"from": "1"})
     choose(browser, "pvv")
     refuses("pvv", {"key": EMPTY, "account": EMPTY, "pin": EMPTY})
     refuses("pvv", {"pin": "4 to 12 digits, but 3."}, key=BASE, account=CARD, pin="123")
@@ -413,7 +429,7 @@ def each_fault(browser):
     refuses("mac", {"message": "even number"}, key=BASE, form="hex", message="123")
     choose(browser, "cvv")
     refuses("cvv", {"key": EMPTY, "account": EMPTY, "expiry": EMPTY, "service": EMPTY})
-    refuses("cvv", {"account": "13 to 19 digits, but 12."}, key=BASE, account="4" * 12, expiry="8701", service="101")
+    refuses("cvv", {"account": "12 to 19 digits, but 11."}, key=BASE, account="4" * 11, expiry="8701", service="101")
     refuses("cvv", {"account": "is not a digit"}, account="4" * 12 + "x")
     refuses("cvv", {"expiry": "four digits, but 3."}, account="4" * 16, expiry="870")
     refuses("cvv", {"expiry": "is not a digit"}, expiry="87/1")
@@ -430,6 +446,7 @@ def each_fault(browser):
     refuses("unwrap", {"protection": EMPTY, "block": EMPTY})
     refuses("unwrap", {"protection": "32 or 48 hexadecimal digits are needed, and here are 16."}, protection=BASE[:16], block=PUBLISHED)
     for place, character, words in ((1, "1", "another number of characters"), (0, "D", "none of A, B and C"), (12, "x", "Characters 13 to 16"),
+                                    (14, "3", "Characters 13 to 16"), (14, "1", "The MAC is not"),
                                     (13, "1", "optional blocks"), (0, "A", "another number of digits"), (16, "a", "upper case"),
                                     (79, "\uff15", "upper case"), (79, "F", "The MAC is not"), (5, "K", "The MAC is not")):
         refuses("unwrap", {"block": words}, protection=PROTECTION, block=PUBLISHED[:place] + character + PUBLISHED[place + 1:])
@@ -458,8 +475,8 @@ def each_fault(browser):
     for text in ("KS 1800604B120F9292800000", "KS 18 00604B120F9292800000", "KS\t0cABCDEFGH", "KS 04", "KS 0002000CAB", "ID 0Aa test"):
         refuses("wrap", {"optional": "Line 1: the content begins with the length of the block."}, optional=text)
     for text in ("KS \u00e9", "KS a\u007fb", "KS a\u0000b", "KS08a\tbc"):
-        refuses("wrap", {"optional": "a content of printable ones alone"}, optional=text)
-    for text in ("PB 00", "PB0600", "KS 0123\nPB080000"):
+        refuses("wrap", {"optional": "a content of printable ASCII characters alone"}, optional=text)
+    for text in ("PB 00", "PB0600", "KS 0123\nPB0600", "PB080000\nKS 0123"):
         refuses("wrap", {"optional": "Leave out a block PB"}, optional=text)
     refuses("wrap", {"optional": "99 at most"}, optional="KS 0123\n" * 100)
     refuses("wrap", {"optional": "at most 9999 characters"}, optional="KS " + "x" * 9990)

@@ -172,6 +172,7 @@ function translate() {
   const keys = { incomingKey: often(() => incoming, anyKey), outgoingKey: often(() => outgoing, anyKey) };
   const words = [often(() => format, () => random(6)), often(() => number, account)];
   const block = often(() => sent, vector);
+  if (random(3) === 0) return ["pinTranslateTo1", block, keys];
   return random(2) === 0 ? ["pinTranslateTo0", ...words, block, keys] : ["pinTranslateTo3", ...words, fill(10), block, keys];
 }
 
@@ -227,7 +228,7 @@ function keyBlock() {
   const protection = bytes(one([16, 24]));
   const block = rightBlock(protection);
   const given_ = one([block, block, changedText(block)]);
-  if (random(2) === 0) return [one(["keyBlockHeader", "keyBlockOptionalBlocks"]), given_];
+  if (random(2) === 0) return [one(["keyBlockHeader", "keyBlockContext", "keyBlockOptionalBlocks"]), given_];
   return ["unwrapKeyBlock", often(() => protection, () => key(one([16, 24]))), given_];
 }
 
@@ -264,6 +265,7 @@ const KINDS = [
   () => ["naturalPin", anyKey(), table(), vector(), often(() => 4 + random(9), () => random(16))],
   () => ["pinOffset", anyKey(), table(), vector(), pin()],
   () => ["emvCardKey", key(16), account(), text(2, 2)],
+  () => ["emvCardKeyB", key(16), account(), text(2, 2)],
   () => ["emvSessionKey", key(16), vector()],
   () => ["emvApplicationKey", key(16), often(() => bytes(2), () => bytes(random(5)))],
   () => ["emvApplicationCryptogram", key(16), message()],

@@ -84,12 +84,14 @@ const sent = new library.TdesEde3(of(24)).encryptEcb(library.pinEncode0("1234567
 const keys = { incomingKey: of(24), outgoingKey: of(24) };
 library.pinTranslateTo0(0, ACCOUNT, sent, keys);
 library.pinTranslateTo3(0, ACCOUNT, FILL, sent, keys);
+library.pinTranslateTo1(new library.TdesEde3(of(24)).encryptEcb(library.pinEncode1("123456789012", FILL)), keys);
 library.pvvVerify(of(16), ACCOUNT, 6, "1234", library.pvv(of(16), ACCOUNT, 6, "1234"));
 const table = new library.DecimalTable("0123456789012345");
 library.DecimalTable.ofAnyVariety("0".repeat(16));
 library.naturalPin(of(24), table, of(8), 12);
 library.pinOffsetVerify(of(24), table, of(8), "123456789012", library.pinOffset(of(24), table, of(8), "123456789012"));
 const card = library.emvCardKey(of(16), ACCOUNT, "00");
+library.emvCardKeyB(of(16), ACCOUNT, "00");
 library.emvSessionKey(card, of(8));
 library.emvApplicationKey(card, of(2));
 const cryptogram = library.emvApplicationCryptogram(card, of(300));
@@ -100,6 +102,7 @@ for (const optional of [[], Array(98).fill(["KS", ""]), [["CT", "x".repeat(9800)
   const block = library.wrapKeyBlock(of(24), header, of(24), { optional });
   library.unwrapKeyBlock(of(24), block);
   library.keyBlockHeader(block);
+  library.keyBlockContext(block);
   library.keyBlockOptionalBlocks(block);
 }
 library.pbkdf2("sha256", of(100), of(100), 2, 100);

@@ -17,8 +17,7 @@ _cukvashe() {
         'mac:1:'*) words='cbc-mac retail cmac' ;;
         'dukpt:2:'*) words='pin mac data data-variant' ;;
         'pin encode:1:'* | 'pin decode:1:'*) words='0 1 2 3' ;;
-        'pin translate:1:'*) words='0 1 3' ;;
-        'pin translate:2:'*) words='0 3' ;;
+        'pin translate:1:'* | 'pin translate:2:'*) words='0 1 3' ;;
         'encrypt:'*':--iv') words='random' ;;
         'decrypt:'*':--iv') words='first-block' ;;
         'encrypt:'*':--padding' | 'decrypt:'*':--padding') words='pkcs7 iso7816 zeros none' ;;
@@ -30,6 +29,7 @@ _cukvashe() {
         *':--bytes') words='2 3' ;;
         *':--check-digit') words='warn refuse' ;;
         *':--index') words='1 2 3 4 5 6' ;;
+        *':--option') words='a b' ;;
         *':--show') words='fields key' ;;
         *':--version') words='B C' ;;
         *':--any-count' | *':--any-table' | *':--base64' | *':--no-salt' | *':--progress' | *':--response' | *:*:[!-]*)
@@ -61,7 +61,7 @@ _cukvashe() {
             'offset make') words='--validation --table --any-table --pin-file --key-file --key-fd --key-env' ;;
             'offset verify') words='--offset --validation --table --any-table --pin-file --key-file --key-fd --key-env' ;;
             'offset natural') words='--validation --table --any-table --length --key-file --key-fd --key-env' ;;
-            'emv card-key') words='--sequence --account --account-file --check-digit --key-file --key-fd --key-env' ;;
+            'emv card-key') words='--sequence --option --account --account-file --check-digit --key-file --key-fd --key-env' ;;
             'emv session-key') words='--counter --cryptogram --key-file --key-fd --key-env' ;;
             'emv cryptogram') words='--data-file --key-file --key-fd --key-env' ;;
             'emv response-1') words='--cryptogram --code --key-file --key-fd --key-env' ;;

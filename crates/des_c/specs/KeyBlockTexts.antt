@@ -1,15 +1,12 @@
 -- The fields of a key block's header as C has them.
-use Rattle.std.specs.Prelude.{◌≡◌, ℕ, ◌≤◌, ◌==◌, ◌&&◌, ◌||◌, Bool, not, if◌then◌else◌, List, [], ◌∷◌, ◌++◌, length, map}
-use Rattle.std.specs.Prelude.{take, drop, slice_index, Option, Some, None}
-use Rattle.std.specs.Char.{is_ascii_alphanumeric}
+use Rattle.std.specs.Prelude.{◌≡◌, ℕ, ◌≤◌, ◌==◌, ◌||◌, Bool, not, if◌then◌else◌, List, [], ◌∷◌, ◌++◌, length, map}
+use Rattle.std.specs.Prelude.{take, drop, Option, Some, None}
 use Rattle.des_payment.specs.KeyBlockHeaders.{version_text, usage_text, algorithm_text, mode_text, exportability_text}
 use Rattle.des_payment.specs.KeyBlocks.{key_data, front_text, size_of_block, HoldsKey, IsKeyBlock, IsSealed}
 use Rattle.des_payment.specs.OptionalBlocks.{AreOptionalBlocks, filled}
 use Rattle.des_payment.specs.declared.key_block_error.KeyBlockError.{KeyBlockError}
 use Rattle.des_payment.specs.declared.key_block_error.KeyBlockError.TheVariants
 use Rattle.des_payment.specs.declared.key_block_header.Header.{Header}
-use Rattle.des_payment.specs.declared.key_block_header.Version.{Version}
-use Rattle.des_payment.specs.declared.key_block_header.Version.TheVariants.{B, C}
 use Rattle.des_payment.specs.declared.optional_blocks.OptionalBlock.{OptionalBlock}
 use Rattle.des_c.specs.Texts.{with_zeros}
 use Rattle.des_c.specs.declared.payment.key_blocks.HeaderText.{HeaderText}
@@ -35,25 +32,9 @@ IsWrittenTextOf text header =
 abbrev pub is_made : HeaderText → Bool
 is_made text = text.version == 66 || text.version == 67
 
-abbrev pub version_of : HeaderText → Version
-version_of text = if text.version == 66 then B else C
-
--- two characters that are letters or digits
-abbrev pub are_alphanumeric : List ℕ → Bool
-are_alphanumeric text = is_ascii_alphanumeric (slice_index text 0) && is_ascii_alphanumeric (slice_index text 1)
-
--- the fields after the version are letters and digits
-abbrev pub is_written : HeaderText → Bool
-is_written text =
-    are_alphanumeric text.usage && is_ascii_alphanumeric text.algorithm && is_ascii_alphanumeric text.mode
-    && are_alphanumeric text.key_version && is_ascii_alphanumeric text.exportability
-
--- the first fault, if a block can't be made under these fields
-abbrev pub text_fault : HeaderText → Option KeyBlockError
-text_fault text =
-    if not (is_made text) then Some TheVariants.Version
-    else if not (is_written text) then Some TheVariants.Header
-    else None
+-- the fault of the version
+abbrev pub version_fault : HeaderText → Option KeyBlockError
+version_fault text = if not (is_made text) then Some TheVariants.Version else None
 
 -- optional blocks stand one after the other, at most 99
 abbrev pub AreReadable : List ℕ → Type 0

@@ -13,12 +13,11 @@ module _ (wrapping : Wrapping) (inputs : Inputs) (header : Header) (bytes option
     (is_protection : bytes ≡ bytes_of inputs.key.now) (is_key : key ≡ bytes_of inputs.text.now)
     (is_optional : optional ≡ wrapping.optional.now) (fields : IsHeaderOf wrapping header) where
   pub wrap-fails : (result : Result (Vec ℕ Global) Kind) → texts_fault wrapping inputs ≡ None
-      → FailsAsMade bytes header.version optional key inputs.random.now result
+      → FailsAsMade bytes header optional key inputs.random.now result
       → FailsAsWrapped wrapping inputs result
   wrap-fails result none fails =
-      let version = fields.version in
-      let made = rw (is_protection, is_key, is_optional, version) at fails in
-      rw none made
+      let made = rw (is_protection, is_key, is_optional) at fails in
+      rw none (header, (fields, made))
 
   pub wrap-made : (result : Result (Vec ℕ Global) Kind)
       → IfOk result (λ line. IsMadeLine bytes header optional key inputs.random.now line.items)

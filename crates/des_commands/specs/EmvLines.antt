@@ -3,8 +3,10 @@ use Rattle.std.specs.Prelude.{◌≡◌, ℕ, ◌%◌, ◌==◌, ◌||◌, nat_l
 use Rattle.std.specs.Option.{option_map, option_or}
 use Rattle.std.specs.declared.vec.Vec.{Vec}
 use Rattle.std.specs.declared.alloc.Global.{Global}
-use Rattle.des_payment.specs.CardCryptograms.{card_key, card_fault, application_key, session_key, cryptogram, response_1, response_2}
+use Rattle.des_payment.specs.CardCryptograms.{card_key, card_key_b, card_fault, application_key, session_key, cryptogram, response_1, response_2}
 use Rattle.des_commands.specs.declared.command.Inputs.{Inputs}
+use Rattle.des_commands.specs.declared.command.CardKeyOption.{CardKeyOption}
+use Rattle.des_commands.specs.declared.command.CardKeyOption.TheVariants.{A, B}
 use Rattle.des_commands.specs.declared.command.EmvCalculation.{EmvCalculation}
 use Rattle.des_commands.specs.declared.command.EmvCalculation.TheVariants.{CardKey, ApplicationKey, SessionKey, Cryptogram as MakeCryptogram, Response1, Response2}
 use Rattle.des_commands.specs.declared.fault.Kind.{Kind}
@@ -15,9 +17,13 @@ use Rattle.des_commands.specs.Texts.{bytes_of, text_fault, digits_fault, hex_lin
 
 -- ---- keys
 
--- the key of a card
-abbrev pub card_key_of : List ℕ → Inputs → List ℕ
-card_key_of sequence inputs = card_key (bytes_of inputs.text.now) inputs.account.now sequence
+-- the key of a card, by each option
+abbrev pub card_key_by : CardKeyOption → List ℕ → List ℕ → List ℕ → List ℕ
+card_key_by A issuer account sequence = card_key issuer account sequence
+card_key_by B issuer account sequence = card_key_b issuer account sequence
+
+abbrev pub card_key_of : CardKeyOption → List ℕ → Inputs → List ℕ
+card_key_of option sequence inputs = card_key_by option (bytes_of inputs.text.now) inputs.account.now sequence
 
 abbrev pub card_key_fault : List ℕ → Inputs → Option Kind
 card_key_fault sequence inputs =
@@ -79,7 +85,7 @@ response_2_fault request status issued digits =
 
 -- the line answers the calculation
 abbrev pub IsEmvLine : EmvCalculation → Inputs → List ℕ → Type 0
-IsEmvLine (CardKey sequence) inputs line = line ≡ hex_line (card_key_of sequence.now inputs)
+IsEmvLine (CardKey option sequence) inputs line = line ≡ hex_line (card_key_of option sequence.now inputs)
 IsEmvLine (ApplicationKey counter) inputs line = line ≡ hex_line (application_key_of counter.now inputs.text.now)
 IsEmvLine (SessionKey block) inputs line = line ≡ hex_line (session_key_of block.now inputs.text.now)
 IsEmvLine MakeCryptogram inputs line = line ≡ hex_line (cryptogram_of inputs)
@@ -90,7 +96,7 @@ IsEmvLine (Response2 request status issued) inputs line =
 
 -- it fails by its first fault
 abbrev pub FailsAsEmv : EmvCalculation → Inputs → Result (Vec ℕ Global) Kind → Type 0
-FailsAsEmv (CardKey sequence) inputs result = FailsBy (card_key_fault sequence.now inputs) result
+FailsAsEmv (CardKey option sequence) inputs result = FailsBy (card_key_fault sequence.now inputs) result
 FailsAsEmv (ApplicationKey counter) inputs result =
     FailsBy (session_fault 2 Counter counter.now inputs.text.now) result
 FailsAsEmv (SessionKey block) inputs result = FailsBy (session_fault 8 Cryptogram block.now inputs.text.now) result

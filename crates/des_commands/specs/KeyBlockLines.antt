@@ -1,17 +1,17 @@
 -- What answers a calculation with a key block, by what was read for it.
 use Rattle.std.specs.Prelude.{◌≡◌, ◌⊎◌, ℕ, ◌-◌, ◌==◌, ◌&&◌, nat_le, Bool, true, false, if◌then◌else◌, List, [], ◌∷◌, ◌++◌, length, map, take, replicate, codes, Option, Some, None, Result, Err, IsTrue}
-use Rattle.std.specs.Char.{is_ascii_alphanumeric}
-use Rattle.std.specs.List.{list_all, flat_map}
+use Rattle.std.specs.List.{flat_map}
 use Rattle.std.specs.Option.{option_map, option_or}
 use Rattle.std.specs.declared.vec.Vec.{Vec}
 use Rattle.std.specs.declared.alloc.Global.{Global}
-use Rattle.des_payment.specs.KeyBlockHeaders.{version_text, usage_text, algorithm_text, mode_text, exportability_text}
+use Rattle.des_payment.specs.KeyBlockHeaders.{version_text, usage_text, algorithm_text, mode_text, exportability_text, context_text, are_alphanumeric}
 use Rattle.des_payment.specs.KeyBlocks.{HasParts, HoldsKey, IsKeyBlock, wrap_fault}
 use Rattle.des_payment.specs.KeyBlockReading.{HasLayoutFault, HasFault, is_sealed_length}
 use Rattle.des_payment.specs.KeyLengths.{encryption_by}
-use Rattle.des_payment.specs.OptionalBlocks.{AreOptionalBlocks, filled}
+use Rattle.des_payment.specs.OptionalBlocks.{AreOptionalBlocks, filled, is_printable}
 use Rattle.des_payment.specs.declared.key_block_header.Header.{Header}
-use Rattle.des_payment.specs.declared.key_block_header.Version.{Version}
+use Rattle.des_payment.specs.declared.key_block_header.KeyContext.{KeyContext}
+use Rattle.des_payment.specs.declared.key_block_header.KeyContext.TheVariants.{StorageOrExchange}
 use Rattle.des_payment.specs.declared.key_block_header.Algorithm.{Algorithm}
 use Rattle.des_payment.specs.declared.key_block_header.Algorithm.TheVariants.{OtherAlgorithm}
 use Rattle.des_payment.specs.declared.key_block_error.KeyBlockError.{KeyBlockError}
@@ -29,10 +29,6 @@ use Rattle.des_commands.specs.Keys.{any_key_fault}
 use Rattle.des_commands.specs.Texts.{bytes_of, hex_line, text_line}
 
 -- ---- headers
-
--- a character is a space or a printable one of ASCII
-abbrev pub is_printable : ℕ → Bool
-is_printable character = nat_le 32 character && nat_le character 126
 
 -- a character as a line shows it: a question mark in the place of one that is not printable
 abbrev pub shown_character : ℕ → ℕ
@@ -55,6 +51,11 @@ header_lines header =
     ++ (field_line (codes "key-version") header.key_version
     ++ field_line (codes "exportability") (exportability_text header.exportability ∷ [])))))
 
+-- the line of a key's context, where it is not storage and exchange
+abbrev pub context_lines : KeyContext → List ℕ
+context_lines StorageOrExchange = []
+context_lines context = field_line (codes "context") (context_text context ∷ [])
+
 -- the line of an optional block: its name and what it says
 abbrev pub optional_line : List ℕ × List ℕ → List ℕ
 optional_line block =
@@ -69,11 +70,11 @@ IsReadable header blocks block =
     (front : List ℕ) × ((rest : List ℕ) × (HasParts header blocks front rest block
     × IsTrue (is_sealed_length header.version (length rest))))
 
--- the lines tell the header and the optional blocks of a block
+-- the lines tell the header, the context and the optional blocks of a block
 abbrev pub TellsHeader : List ℕ → List ℕ → Type 0
 TellsHeader block lines =
-    (header : Header) × ((blocks : List (List ℕ × List ℕ)) × (IsReadable header blocks block
-    × (lines ≡ header_lines header ++ optional_lines blocks)))
+    (header : Header) × ((blocks : List (List ℕ × List ℕ)) × ((readable : IsReadable header blocks block)
+    × (lines ≡ header_lines header ++ context_lines readable.1.1.0.context ++ optional_lines blocks)))
 
 -- the block has a fault that shows without a key, or else only memory may be refused
 abbrev pub FailsAsHeader : List ℕ → Result (Vec ℕ Global) Kind → Type 0
@@ -112,10 +113,6 @@ FailsAsUnwrapped protection block result =
 
 -- ---- blocks that are made
 
--- each character is a letter or a digit
-abbrev pub are_alphanumeric : List ℕ → Bool
-are_alphanumeric text = list_all is_ascii_alphanumeric text
-
 -- a field has its number of letters and digits
 abbrev pub field_fault : ℕ → Field → List ℕ → Option Kind
 field_fault size field text =
@@ -129,14 +126,6 @@ header_text_fault wrapping =
     (option_or (field_fault 1 Mode wrapping.mode.now)
     (option_or (field_fault 2 KeyVersion wrapping.key_version.now)
     (field_fault 1 Exportability wrapping.exportability.now))))
-
--- each character is a space or a printable one
-abbrev pub are_printable : List ℕ → Bool
-are_printable text = list_all is_printable text
-
--- optional blocks have printable characters alone
-abbrev pub optional_fault : List ℕ → Option Kind
-optional_fault text = if are_printable text then None else Some (KeyBlock OptionalBlock)
 
 -- the header has these fields
 pub record IsHeaderOf (wrapping : Wrapping) (header : Header) : Type 0 where
@@ -166,12 +155,11 @@ pub record IsWrapped (wrapping : Wrapping) (inputs : Inputs) (line : List ℕ) :
   pub made : IsMadeLine (bytes_of inputs.key.now) header wrapping.optional.now (bytes_of inputs.text.now)
       inputs.random.now line
 
--- the first fault of the digits of both keys, of the fields and of the characters of optional blocks
+-- the first fault of the digits of both keys and of the fields
 abbrev pub texts_fault : Wrapping → Inputs → Option Kind
 texts_fault wrapping inputs =
     option_or (protection_fault inputs.key.now)
-    (option_or (any_key_fault ToKeyLength ToKeyText inputs.text.now)
-    (option_or (header_text_fault wrapping) (optional_fault wrapping.optional.now)))
+    (option_or (any_key_fault ToKeyLength ToKeyText inputs.text.now) (header_text_fault wrapping))
 
 -- a text is that of 99 optional blocks at most
 abbrev pub HasBlocks : List ℕ → Type 0
@@ -179,18 +167,18 @@ HasBlocks optional =
     (blocks : List (List ℕ × List ℕ)) × (IsTrue (nat_le (length blocks) 99) × AreOptionalBlocks blocks optional)
 
 -- optional blocks that are none, or what no block is made of, or else only memory may be refused
-abbrev pub FailsAsMade : List ℕ → Version → List ℕ → List ℕ → List ℕ → Result (Vec ℕ Global) Kind → Type 0
-FailsAsMade protection version optional key random result =
+abbrev pub FailsAsMade : List ℕ → Header → List ℕ → List ℕ → List ℕ → Result (Vec ℕ Global) Kind → Type 0
+FailsAsMade protection header optional key random result =
     ((¬ HasBlocks optional) × (result ≡ Err (KeyBlock OptionalBlock)))
     ⊎ ((blocks : List (List ℕ × List ℕ)) × (AreOptionalBlocks blocks optional
-    × FailsBy (option_map KeyBlock (wrap_fault protection version blocks key (padding_of random key) 9999)) result))
+    × FailsBy (option_map KeyBlock (wrap_fault protection header blocks key (padding_of random key) 9999)) result))
 
 -- the texts at fault, or what the block is made of
 abbrev pub FailsAsWrapped : Wrapping → Inputs → Result (Vec ℕ Global) Kind → Type 0
 FailsAsWrapped wrapping inputs result =
     FailsOr (texts_fault wrapping inputs)
-    (FailsAsMade (bytes_of inputs.key.now) wrapping.version wrapping.optional.now (bytes_of inputs.text.now)
-    inputs.random.now result)
+    ((header : Header) × (IsHeaderOf wrapping header × FailsAsMade (bytes_of inputs.key.now) header
+    wrapping.optional.now (bytes_of inputs.text.now) inputs.random.now result))
     result
 
 -- ---- calculations

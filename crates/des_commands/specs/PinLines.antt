@@ -6,7 +6,7 @@ use Rattle.std.specs.declared.alloc.Global.{Global}
 use Rattle.des_payment.specs.Texts.{values, number_fault}
 use Rattle.des_payment.specs.PinBlocks.{pin_fault}
 use Rattle.des_payment.specs.PinVerification.{pvv, pvv_fault as value_fault, table_fault, key_fault, natural_fault as count_fault, natural_pin, pin_offset, IsRight}
-use Rattle.des_payment.specs.Translation.{IsTranslation, translation_fault}
+use Rattle.des_payment.specs.Translation.{IsTranslation, translation_fault, rekeyed, rekeying_fault}
 use Rattle.des_payment.specs.declared.translation.Format.{Format}
 use Rattle.des_payment.specs.declared.translation.Format.TheVariants.{Format0, Format1, Format2, Format3}
 use Rattle.des_payment.specs.declared.verification_error.VerificationError.{VerificationError}
@@ -14,7 +14,7 @@ use Rattle.des_payment.specs.declared.verification_error.VerificationError.TheVa
 use Rattle.des_commands.specs.declared.command.Inputs.{Inputs}
 use Rattle.des_commands.specs.declared.command.NaturalPins.{NaturalPins}
 use Rattle.des_commands.specs.declared.command.PinCalculation.{PinCalculation}
-use Rattle.des_commands.specs.declared.command.PinCalculation.TheVariants.{Translate, MakePvv, VerifyPvv, Natural, MakeOffset, VerifyOffset}
+use Rattle.des_commands.specs.declared.command.PinCalculation.TheVariants.{Translate, TranslateFormat1, MakePvv, VerifyPvv, Natural, MakeOffset, VerifyOffset}
 use Rattle.des_commands.specs.declared.fault.Kind.{Kind}
 use Rattle.des_commands.specs.declared.fault.Kind.TheVariants.{KeyLength, KeyText, ToKeyLength, ToKeyText, Value, Offset, Validation, BlockLength, BlockText, FillLength, FillText, Pin as PinFault, Translation as TranslationFault, Verification as VerificationFault}
 use Rattle.des_commands.specs.Faults.{FailsBy}
@@ -53,6 +53,18 @@ translated_fault from to fill inputs =
     (option_map TranslationFault
     (translation_fault (bytes_of inputs.key.now) from (bytes_of inputs.to_key.now) to inputs.account.now
     (fill_for to fill) (bytes_of inputs.text.now))))))
+
+-- the block of format 1 under the outgoing key, and the first fault in the same order
+abbrev pub rekeyed_by : Inputs → List ℕ
+rekeyed_by inputs = rekeyed (bytes_of inputs.key.now) (bytes_of inputs.to_key.now) (bytes_of inputs.text.now)
+
+abbrev pub rekeyed_fault : Inputs → Option Kind
+rekeyed_fault inputs =
+    option_or (any_key_fault (KeyLength None) KeyText inputs.key.now)
+    (option_or (any_key_fault ToKeyLength ToKeyText inputs.to_key.now)
+    (option_or (digits_fault 8 BlockLength BlockText inputs.text.now)
+    (option_map TranslationFault
+    (rekeying_fault (bytes_of inputs.key.now) (bytes_of inputs.to_key.now) (bytes_of inputs.text.now)))))
 
 -- ---- verdicts
 
@@ -144,6 +156,7 @@ offset_verdict_fault by offset inputs =
 abbrev pub IsPinLine : PinCalculation → Inputs → List ℕ → Type 0
 IsPinLine (Translate from to fill) inputs line =
     (block : List ℕ) × (IsTranslated from to fill.now inputs block × (line ≡ hex_line block))
+IsPinLine TranslateFormat1 inputs line = line ≡ hex_line (rekeyed_by inputs)
 IsPinLine (MakePvv index) inputs line = line ≡ text_line (pvv_of index inputs)
 IsPinLine (VerifyPvv index value) inputs line = IsVerdictLine (HasPvv index value.now inputs) line
 IsPinLine (Natural by count) inputs line = line ≡ text_line (natural_pin_by by count inputs.text.now)
@@ -153,6 +166,7 @@ IsPinLine (VerifyOffset by offset) inputs line = IsVerdictLine (HasOffset by off
 -- the first fault
 abbrev pub pin_line_fault : PinCalculation → Inputs → Option Kind
 pin_line_fault (Translate from to fill) inputs = translated_fault from to fill.now inputs
+pin_line_fault TranslateFormat1 inputs = rekeyed_fault inputs
 pin_line_fault (MakePvv index) inputs = pvv_fault index inputs
 pin_line_fault (VerifyPvv index value) inputs = pvv_verdict_fault index value.now inputs
 pin_line_fault (Natural by count) inputs = natural_fault by count inputs.text.now
@@ -162,6 +176,7 @@ pin_line_fault (VerifyOffset by offset) inputs = offset_verdict_fault by offset.
 -- the calculation asks whether a PIN is right
 abbrev pub is_question : PinCalculation → Bool
 is_question (Translate from to fill) = false
+is_question TranslateFormat1 = false
 is_question (MakePvv index) = false
 is_question (VerifyPvv index value) = true
 is_question (Natural by count) = false

@@ -152,7 +152,8 @@ pub struct NaturalPins<'a> {
     pub takes_any_table: bool,
 }
 
-/// A calculation with a PIN and a key. The input is the PIN, but for `Translate` and `Natural`.
+/// A calculation with a PIN and a key. The input is the PIN, but for `Translate`, `TranslateFormat1` and
+/// `Natural`.
 #[derive(Clone, Copy)]
 pub enum PinCalculation<'a> {
     /// The encrypted block of the same PIN under the outgoing key. The input is the block.
@@ -161,6 +162,8 @@ pub enum PinCalculation<'a> {
         to: Format,
         fill: &'a str,
     },
+    /// The encrypted block of format 1 under the outgoing key. The input is the block.
+    TranslateFormat1,
     /// The PIN verification value.
     MakePvv {
         index: u8,
@@ -185,11 +188,19 @@ pub enum PinCalculation<'a> {
     },
 }
 
+/// How the key of a card is made of its numbers.
+#[derive(Clone, Copy)]
+pub enum CardKeyOption {
+    A,
+    B,
+}
+
 /// A calculation with a card's keys and cryptograms. The input is the key, but for `Cryptogram`.
 #[derive(Clone, Copy)]
 pub enum EmvCalculation<'a> {
     /// The key of a card, from the issuer's.
     CardKey {
+        option: CardKeyOption,
         sequence: &'a str,
     },
     /// The session's key for application cryptograms, by the transaction counter.

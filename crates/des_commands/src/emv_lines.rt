@@ -1,16 +1,19 @@
 //! The lines of calculations with cards: their keys, cryptograms and the issuer's responses.
 
 ghost use Rattle.std.specs.Prelude.{◌≡◌, ◌≤◌, length, take, IfOk};
+ghost use Rattle.std.specs.Result.{result_err};
+ghost use Rattle.des_payment.specs.CardCryptograms.{card_fault};
 ghost use Rattle.des_commands.specs.Texts.{bytes_of as bytes_of_text, hex_line as hex_line_of};
 ghost use Rattle.des_commands.specs.Faults.{FailsBy, FailsOnlyBy};
-ghost use Rattle.des_commands.specs.EmvLines.{cryptogram_of, cryptogram_fault, issuer_data_fault, IsEmvLine, FailsAsEmv};
+ghost use Rattle.des_commands.specs.EmvLines.{card_key_by, cryptogram_of, cryptogram_fault, issuer_data_fault, IsEmvLine, FailsAsEmv};
 
-use crate::command::{EmvCalculation, Inputs};
+use crate::command::{CardKeyOption, EmvCalculation, Inputs};
 use crate::digits::{Lines, bytes_of, decode, hex_line};
 use crate::fault::Kind;
 use crate::keys::pair_of;
 use crate::lines::LONGEST_INPUT;
 use des_payment::emv;
+use des_payment::emv_error::EmvError;
 use std::alloc::Global;
 
 /// The line of a calculation with a card's keys and cryptograms.
@@ -22,9 +25,9 @@ pub fn emv_line(alloc: Global, calculation: EmvCalculation, inputs: Inputs) -> L
     ensures line { IfOk result (λ line. IsEmvLine calculation.entry inputs.entry line.items) }
 {
     match calculation {
-        EmvCalculation::CardKey { sequence } => {
+        EmvCalculation::CardKey { option, sequence } => {
             let issuer = pair_of(inputs.text)?;
-            let key = emv::card_key(&issuer, inputs.account, sequence.as_bytes())?;
+            let key = card_key(option, &issuer, inputs.account, sequence.as_bytes())?;
             Ok(hex_line(alloc, &key)?)
         }
         EmvCalculation::ApplicationKey { counter } => {
@@ -57,6 +60,23 @@ pub fn emv_line(alloc: Global, calculation: EmvCalculation, inputs: Inputs) -> L
             let response = emv::response_2(&session, &block, &status, &bytes[..size])?;
             Ok(hex_line(alloc, &response)?)
         }
+    }
+}
+
+// The key of a card by an option.
+fn card_key(
+    option: CardKeyOption,
+    issuer: &[u8; 16],
+    account: &[u8],
+    sequence: &[u8],
+) -> Result<[u8; 16], EmvError>
+    ensures fault { result_err result ≡ card_fault account.now sequence.now }
+    ensures key { IfOk result (λ key.
+        key ≡ card_key_by option issuer.now account.now sequence.now) }
+{
+    match option {
+        CardKeyOption::A => emv::card_key(issuer, account, sequence),
+        CardKeyOption::B => emv::card_key_b(issuer, account, sequence),
     }
 }
 

@@ -58,6 +58,8 @@ pub enum Misuse {
     Components,
     Fill,
     FillNeeded,
+    FillOfFormat1,
+    ToFormat1,
     LengthOfVerify,
     ResponseOfPin,
     Session,

@@ -6,9 +6,9 @@ ghost use Rattle.std.specs.String.{string_bytes};
 ghost use Rattle.des_payment.specs.KeyLengths.{is_key};
 ghost use Rattle.des_commands.specs.Texts.{bytes_of as bytes_of_text};
 ghost use Rattle.des_commands.specs.Faults.{FailsBy, FailsOnlyBy};
-ghost use Rattle.des_commands.specs.KeyBlockLines.{is_printable as is_printable_of, shown_character, shown_text, field_line, header_lines as header_lines_of, optional_line, optional_lines, check_lines};
+ghost use Rattle.des_commands.specs.KeyBlockLines.{shown_character, shown_text, field_line, header_lines as header_lines_of, context_lines, optional_line, optional_lines, check_lines};
 ghost use Rattle.des_commands.specs.KeyBlockLines.{IsReadable, TellsHeader, FailsAsHeader, protection_fault, TellsKey, FailsAsUnwrapped};
-ghost use Rattle.des_commands.specs.KeyBlockLines.{are_alphanumeric as are_alphanumeric_of, are_printable as are_printable_of, field_fault, header_text_fault, optional_fault, IsHeaderOf, IsMadeLine, IsWrapped, FailsAsMade, FailsAsWrapped};
+ghost use Rattle.des_commands.specs.KeyBlockLines.{field_fault, header_text_fault, IsHeaderOf, IsMadeLine, IsWrapped, FailsAsMade, FailsAsWrapped};
 ghost use Rattle.des_commands.specs.KeyBlockLines.{FailsAsKeyBlock, AnswersKeyBlock};
 
 use crate::command::{Inputs, KeyBlockCalculation, RANDOM, Wrapping};
@@ -16,16 +16,15 @@ use crate::digits::{Lines, hex_line, line_of};
 use crate::fault::{Field, Kind};
 use crate::keys::read_key;
 use des_payment::key_block_error::KeyBlockError;
-use des_payment::key_block_header::{Algorithm, Exportability, Header, Mode, Usage};
-use des_payment::key_blocks::{self, optional_block, wrap};
+use des_payment::key_block_header::{
+    Algorithm, Exportability, Header, KeyContext, MOST_CHARACTERS, Mode, Usage, are_alphanumeric,
+};
+use des_payment::key_blocks::{self, key_context, optional_block, wrap};
 use des_payment::key_check_value;
-use des_payment::optional_blocks::{OptionalBlock, read_optional_blocks};
+use des_payment::optional_blocks::{
+    MOST_BLOCKS, OptionalBlock, is_printable, read_optional_blocks,
+};
 use std::alloc::{AllocError, Global};
-
-// The most characters of a key block, and the most optional blocks.
-const MOST: usize = 9999;
-
-const MOST_BLOCKS: usize = 99;
 
 /// The lines of a calculation with a key block. The key protects blocks; the input is a block, or the
 /// digits of the key that is wrapped. A block that is made is padded by the first of the random bytes.
@@ -46,13 +45,6 @@ pub fn key_block_lines(alloc: Global, calculation: KeyBlockCalculation, inputs: 
 }
 
 // ---- headers
-
-// Whether a character is a space or a printable one of ASCII.
-fn is_printable(character: u8) -> bool
-    ensures { result ≡ is_printable_of character }
-{
-    character >= b' ' && character <= b'~'
-}
 
 // A character as a line shows it: a question mark in the place of one that is not printable.
 fn shown(character: u8) -> u8
@@ -111,6 +103,17 @@ fn add_header(lines: &mut Vec<u8>, header: &Header) -> Result<(), Kind>
     add_field(lines, "exportability", &[header.exportability.character()])
 }
 
+// Adds the line of a key's context, where it is not storage and exchange.
+fn add_context(lines: &mut Vec<u8>, context: KeyContext) -> Result<(), Kind>
+    ensures fault { FailsBy None result }
+    ensures line { OnOk result (lines.new.items ≡ lines.old.items ++ context_lines context) }
+{
+    match context {
+        KeyContext::StorageOrExchange => Ok(()),
+        _ => add_field(lines, "context", &[context.character()]),
+    }
+}
+
 fn add_optional(lines: &mut Vec<u8>, block: OptionalBlock) -> Result<(), Kind>
     ensures fault { FailsBy None result }
     ensures line { OnOk result (lines.new.items ≡ lines.old.items
@@ -139,7 +142,7 @@ fn add_optional_blocks(lines: &mut Vec<u8>, block: &[u8]) -> Result<(), Kind>
     Ok(())
 }
 
-// The lines of the header of a block, and of its optional blocks.
+// The lines of the header of a block, of its key's context, and of its optional blocks.
 fn header_lines(alloc: Global, block: &[u8]) -> Lines
     ensures fault { FailsAsHeader block.now result }
     ensures only { (header : Header) (blocks : List (List ℕ × List ℕ))
@@ -147,8 +150,10 @@ fn header_lines(alloc: Global, block: &[u8]) -> Lines
     ensures lines { IfOk result (λ lines. TellsHeader block.now lines.items) }
 {
     let header = key_blocks::header(block)?;
+    let context = key_context(block)?;
     let mut lines = Vec::new(alloc);
     add_header(&mut lines, &header)?;
+    add_context(&mut lines, context)?;
     add_optional_blocks(&mut lines, block)?;
     Ok(lines)
 }
@@ -212,13 +217,6 @@ fn unwrap_lines(alloc: Global, shows_key: bool, protection: &[u8], block: &[u8])
 
 // ---- blocks that are made
 
-fn are_alphanumeric(text: &[u8]) -> bool
-    ensures { result ≡ are_alphanumeric_of text.now }
-{
-    text.iter()
-        .all(|character| character.is_ascii_alphanumeric())
-}
-
 // The letters and digits of a field.
 fn field_of<const N: usize>(text: &str, field: Field) -> Result<[u8; N], Kind>
     requires { N ≤ 2 }
@@ -252,25 +250,6 @@ fn header_of(wrapping: &Wrapping) -> Result<Header, Kind>
     })
 }
 
-fn are_printable(text: &[u8]) -> bool
-    ensures { result ≡ are_printable_of text.now }
-{
-    text.iter().all(|character| is_printable(*character))
-}
-
-// The text of optional blocks, which has printable characters alone.
-fn optional_of(text: &str) -> Result<&[u8], Kind>
-    ensures fault { FailsOnlyBy (optional_fault text.now) result }
-    ensures text { IfOk result (λ optional. optional.now ≡ text.now) }
-{
-    let characters = text.as_bytes();
-    if are_printable(characters) {
-        Ok(characters)
-    } else {
-        Err(Kind::KeyBlock(KeyBlockError::OptionalBlock))
-    }
-}
-
 // The line of the block of a key, by the text of its optional blocks.
 fn block_line(
     alloc: Global,
@@ -282,8 +261,7 @@ fn block_line(
 ) -> Lines
     requires least { 8 ≤ length key.now }
     requires most { length key.now ≤ 24 }
-    ensures fault { FailsAsMade protection.now header.now.version optional.now key.now random.now
-        result }
+    ensures fault { FailsAsMade protection.now header.now optional.now key.now random.now result }
     ensures line { IfOk result (λ line.
         IsMadeLine protection.now header.now optional.now key.now random.now line.items) }
 {
@@ -294,7 +272,7 @@ fn block_line(
     let mut blocks = [nothing; MOST_BLOCKS];
     let count = read_optional_blocks(optional, &mut blocks)?;
     let padding = &random[..30 - key.len()];
-    let mut text = [0u8; MOST];
+    let mut text = [0u8; MOST_CHARACTERS];
     let size = wrap(
         protection,
         header,
@@ -316,7 +294,7 @@ fn wrap_line(alloc: Global, wrapping: &Wrapping, inputs: Inputs) -> Lines
     let mut key = [0u8; 24];
     let key_size = read_key(inputs.text, &mut key, Kind::ToKeyLength, Kind::ToKeyText)?;
     let header = header_of(wrapping)?;
-    let optional = optional_of(wrapping.optional)?;
+    let optional = wrapping.optional.as_bytes();
     let (protection, key) = (&buffer[..size], &key[..key_size]);
     block_line(alloc, protection, &header, optional, key, inputs.random)
 }

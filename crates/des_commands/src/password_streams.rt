@@ -16,12 +16,10 @@ use crate::notices::accept_key;
 use crate::stream_request::{Cipher, Password, StreamRequest, job_of};
 use crate::streams;
 use des_io::pieces::fill;
+use des_passwords::salted::PREFIX;
 use des_passwords::{SaltedError, read_salted};
 use std::alloc::Global;
 use std::io::{Read, Write};
-
-/// What stands before the salt.
-pub const PREFIX: [u8; 8] = *b"Salted__";
 
 /// A request by a password, and what else its stream takes.
 #[derive(Clone, Copy)]

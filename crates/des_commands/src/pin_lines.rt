@@ -3,9 +3,9 @@
 
 ghost use Rattle.std.specs.Prelude.{◌≡◌, IfOk};
 ghost use Rattle.des_payment.specs.Texts.{values, number_fault};
-ghost use Rattle.des_commands.specs.Texts.{bytes_of as bytes_of_text, text_line};
+ghost use Rattle.des_commands.specs.Texts.{bytes_of as bytes_of_text, hex_line as hex_line_of, text_line};
 ghost use Rattle.des_commands.specs.Faults.{FailsBy, FailsOnlyBy};
-ghost use Rattle.des_commands.specs.PinLines.{fill_for as fill_by, fill_text_fault, translated_fault, table_text_fault};
+ghost use Rattle.des_commands.specs.PinLines.{fill_for as fill_by, fill_text_fault, translated_fault, rekeyed_by, rekeyed_fault, table_text_fault};
 ghost use Rattle.des_commands.specs.PinLines.{pvv_of, pvv_fault, HasPvv, pvv_verdict_fault, natural_pin_by, natural_fault};
 ghost use Rattle.des_commands.specs.PinLines.{offset_by, offset_fault, HasOffset, offset_verdict_fault, IsVerdictLine, TellsOutcome};
 ghost use Rattle.des_commands.specs.PinLines.{pin_line_fault, IsPinLine, validation_fault};
@@ -16,7 +16,7 @@ use crate::digits::{Lines, bytes_of, fill_of, hex_line, line_of};
 use crate::fault::Kind;
 use crate::keys::{pair_of, read_key};
 use des_payment::pin_verification::{natural_pin, pin_offset, pvv, verify_offset, verify_pvv};
-use des_payment::translation::{Format, translate};
+use des_payment::translation::{Format, translate, translate_format_1};
 use des_payment::{DecimalTable, Pin, VerificationError};
 use std::alloc::Global;
 
@@ -36,6 +36,7 @@ pub fn pin_line(alloc: Global, calculation: PinCalculation, inputs: Inputs) -> L
         PinCalculation::Translate { from, to, fill } => {
             translated_line(alloc, from, to, fill, inputs)
         }
+        PinCalculation::TranslateFormat1 => rekeyed_line(alloc, inputs),
         PinCalculation::MakePvv { index } => pvv_line(alloc, index, inputs),
         PinCalculation::VerifyPvv { index, value } => pvv_verdict(alloc, index, value, inputs),
         PinCalculation::Natural { by, count } => natural_line(alloc, by, count, inputs.text),
@@ -81,6 +82,24 @@ fn translated_line(alloc: Global, from: Format, to: Format, fill: &str, inputs: 
         &fill,
         &block,
     )?;
+    Ok(hex_line(alloc, &answer)?)
+}
+
+fn rekeyed_line(alloc: Global, inputs: Inputs) -> Lines
+    ensures fault { FailsBy (rekeyed_fault inputs.entry) result }
+    ensures line { IfOk result (λ line. line.items ≡ hex_line_of (rekeyed_by inputs.entry)) }
+{
+    let mut key = [0u8; 24];
+    let size = read_key(inputs.key, &mut key, Kind::KeyLength(None), Kind::KeyText)?;
+    let mut outgoing = [0u8; 24];
+    let to_size = read_key(
+        inputs.to_key,
+        &mut outgoing,
+        Kind::ToKeyLength,
+        Kind::ToKeyText,
+    )?;
+    let block = bytes_of::<8>(inputs.text, Kind::BlockLength, Kind::BlockText)?;
+    let answer = translate_format_1(&key[..size], &outgoing[..to_size], &block)?;
     Ok(hex_line(alloc, &answer)?)
 }
 

@@ -124,6 +124,8 @@ fn misuse_words(misuse: Misuse) -> &'static str {
         Misuse::Components => "give --part-file twice or more, or --count and one source of all",
         Misuse::Fill => "formats 0 and 2 take no --fill",
         Misuse::FillNeeded => "formats 1 and 3 need --fill, ten digits",
+        Misuse::FillOfFormat1 => "from format 1 to 1 the digits stay: there is no --fill",
+        Misuse::ToFormat1 => "only a block of format 1 becomes one of format 1",
         Misuse::LengthOfVerify =>
             "--verify takes no --length: it compares as many bytes as its tag has",
         Misuse::ResponseOfPin => "--response is for mac, data and data-variant",
@@ -200,7 +202,7 @@ fn pin_words(error: PinError) -> &'static str {
 // What is said of a card's data.
 fn cvv_words(error: CvvError) -> &'static str {
     match error {
-        CvvError::AccountLength => "an account number of 13 to 19 digits is needed",
+        CvvError::AccountLength => "an account number of 12 to 19 digits is needed",
         CvvError::AccountDigit => "the account number has a character that is no digit",
         CvvError::ExpiryLength => "an expiry date has 4 digits",
         CvvError::ExpiryDigit => "the expiry date has a character that is no digit",
@@ -258,7 +260,7 @@ fn key_block_words(error: KeyBlockError) -> &'static str {
             "the block is not as long as its header says, or has more than 9999 characters",
         KeyBlockError::Version => "the block is of another version than A, B and C, in capitals",
         KeyBlockError::Header =>
-            "characters 13 to 16 are not the number of optional blocks and two zeros",
+            "characters 13 to 16 are not the number of optional blocks, 0, 1 or 2, and 0",
         KeyBlockError::OptionalBlock => "the optional blocks are not the standard's",
         KeyBlockError::DataLength => "the encrypted key and the MAC are too short or too long",
         KeyBlockError::Digit =>

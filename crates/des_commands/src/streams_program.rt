@@ -5,7 +5,7 @@ use crate::fault::{Fault, FileFault, Kind};
 use crate::inputs::{self, RANDOM_SOURCE, bytes_to_read, read_fault, system_random};
 use crate::notices::accept_key;
 use crate::output::{self, Readers, Target, output_name, refuse_terminal};
-use crate::password_streams::{PREFIX, PasswordJob, check_password, run_by_password};
+use crate::password_streams::{PasswordJob, check_password, run_by_password};
 use crate::reading::{key_in, password_in, password_name};
 use crate::report::{send, tell};
 use crate::sentences::English;
@@ -16,6 +16,7 @@ use crate::stream_request::{
 use crate::streams;
 use crate::watched::Watched;
 use des_io::pieces::fill;
+use des_passwords::salted::PREFIX;
 use des_passwords::{Base64Error, decode_base64};
 use std::io::{Read, Write};
 

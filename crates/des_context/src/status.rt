@@ -31,7 +31,7 @@ pub const ERR_PIN_LENGTH: i32 = 8;
 /// A character of the PIN is not a digit.
 pub const ERR_PIN_DIGIT: i32 = 9;
 
-/// The account number does not have 8 to 19 digits, for a PVV 12 to 19, for a CVV 13 to 19.
+/// The account number does not have 8 to 19 digits, for a PVV or a CVV 12 to 19.
 pub const ERR_ACCOUNT_LENGTH: i32 = 10;
 
 /// A character of the account number is not a digit.
@@ -101,12 +101,12 @@ pub const ERR_KEY_BLOCK_LENGTH: i32 = 31;
 /// The version of the key block is not one that the call takes.
 pub const ERR_VERSION: i32 = 32;
 
-/// The number of optional blocks is not two digits and two zeros, or a field to be written is not
+/// The header does not end with two digits, 0, 1 or 2, and 0, or a field to be written is not
 /// letters and digits.
 pub const ERR_HEADER: i32 = 33;
 
-/// The optional blocks can't be read: a wrong length, an end off a multiple of eight, or more than
-/// 99.
+/// The optional blocks can't be read or written: a wrong length, name, content or PB, an end off a
+/// multiple of eight, or more than 99.
 pub const ERR_OPTIONAL_BLOCK: i32 = 34;
 
 /// The encrypted key data do not have a length that they can have.

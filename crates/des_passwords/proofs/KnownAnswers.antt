@@ -31,6 +31,14 @@ bytes_to_key-md5 : bytes_to_key md5 16 (codes "password") (1 ∷ 2 ∷ 3 ∷ 4 �
 unfolding block_words rounds compress hash_after digest_bytes md5 repeated d ds
 bytes_to_key-md5 = refl
 
+-- three iterations, by Python's hashlib and by OpenSSL's EVP_BytesToKey
+bytes_to_key-thrice : bytes_to_key md5 16 (codes "password") (1 ∷ 2 ∷ 3 ∷ 4 ∷ 5 ∷ 6 ∷ 7 ∷ 8 ∷ []) 3 32
+    ≡ 0xe0 ∷ 0xdb ∷ 0x83 ∷ 0xf6 ∷ 0xef ∷ 0x47 ∷ 0xb8 ∷ 0x4a ∷ 0x15 ∷ 0x71 ∷ 0xe2 ∷ 0x5e
+    ∷ 0xe7 ∷ 0x9a ∷ 0x38 ∷ 0xc9 ∷ 0x09 ∷ 0xf6 ∷ 0x8c ∷ 0xdc ∷ 0x97 ∷ 0x15 ∷ 0x61 ∷ 0x3b
+    ∷ 0x9c ∷ 0x91 ∷ 0x1e ∷ 0xd2 ∷ 0xec ∷ 0x7b ∷ 0xd8 ∷ 0x8a ∷ []
+unfolding block_words rounds compress hash_after digest_bytes md5 repeated d ds
+bytes_to_key-thrice = refl
+
 nothing_named : Named
 nothing_named = record { key_length = false; prf = false }
 

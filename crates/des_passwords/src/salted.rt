@@ -6,7 +6,8 @@ ghost use Rattle.des_passwords.specs.Salted.{IsSalted};
 use std::error::Error;
 use std::fmt;
 
-const PREFIX: [u8; 8] = *b"Salted__";
+/// What stands before the salt.
+pub const PREFIX: [u8; 8] = *b"Salted__";
 
 /// Why bytes are not what `openssl enc` writes where it salts.
 #[derive(Clone, Copy, Debug, PartialEq, Eq)]

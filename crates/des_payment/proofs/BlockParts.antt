@@ -7,6 +7,7 @@ use Rattle.des_payment.specs.KeyBlockReading.{is_sealed_length}
 use Rattle.des_payment.specs.KeyBlocks.{HasParts}
 use Rattle.des_payment.specs.OptionalBlocks.{AreOptionalBlocks}
 use Rattle.des_payment.specs.declared.key_block_header.Header.{Header}
+use Rattle.des_payment.specs.declared.key_block_header.KeyContext.{KeyContext}
 use Rattle.des_payment.specs.declared.key_block_header.Version.{Version}
 use Rattle.des_payment.proofs.HeaderTexts.{header-sixteen}
 
@@ -31,10 +32,10 @@ sealed-there block front rest size version other is count same sealed =
 module _ (header : Header) (blocks : List (List ℕ × List ℕ)) (front rest block : List ℕ)
     (parts : HasParts header blocks front rest block) where
   abbrev head : List ℕ
-  head = header_text header (length block) (length blocks)
+  head = header_text header parts.context (length block) (length blocks)
 
   sixteen : length head ≡ 16
-  sixteen = header-sixteen header (length block) (length blocks) parts.is_header
+  sixteen = header-sixteen header parts.context (length block) (length blocks) parts.is_header
 
   pub front-length : length front ≡ 16 + length parts.optional
   front-length =
@@ -64,18 +65,20 @@ module _ (header : Header) (blocks : List (List ℕ × List ℕ)) (front rest bl
       ap (take (size - 16)) optional-there ∙ take_at parts.optional rest (size - 16) left
 
 -- the parts of a block of which a header and optional blocks were read
-pub parts-read : (header : Header) (blocks : List (List ℕ × List ℕ)) (count size : ℕ) (block : List ℕ)
-    → IsHeader header → length block < 10000 → count < 100 → header_text header (length block) count ≡ take 16 block
+pub parts-read : (header : Header) (context : KeyContext) (blocks : List (List ℕ × List ℕ)) (count size : ℕ)
+    (block : List ℕ) → IsHeader header → length block < 10000 → count < 100
+    → header_text header context (length block) count ≡ take 16 block
     → length blocks ≡ count → AreOptionalBlocks blocks (take size (take (length block - 16) (drop 16 block)))
     → size ≤ length (take (length block - 16) (drop 16 block)) → size % 8 ≡ 0
     → HasParts header blocks (take (16 + size) block) (drop (16 + size) block) block
-parts-read header blocks count size block is_header short few is counted are within whole =
+parts-read header context blocks count size block is_header short few is counted are within whole =
     let text : List ℕ = drop 16 block in
     let all : take (length block - 16) text ≡ text = take_rest block 16 in
     let fits : size ≤ length text = subst (λ (t : List ℕ). size ≤ length t) all within in
-    let head : header_text header (length block) (length blocks) ≡ take 16 block =
-    subst (λ n. header_text header (length block) n ≡ take 16 block) (sym counted) is in
+    let head : header_text header context (length block) (length blocks) ≡ take 16 block =
+    subst (λ n. header_text header context (length block) n ≡ take 16 block) (sym counted) is in
     record {
+      context = context;
       optional = take size text;
       is_header = is_header;
       short = short;

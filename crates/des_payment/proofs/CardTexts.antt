@@ -12,7 +12,7 @@ use Rattle.des_payment.specs.CardVerification.{card_text}
 abbrev pub zeros : List ℕ
 zeros = replicate 32 48
 
-module _ (account expiry service : List ℕ) (is_account : IsNumber 13 19 account) (is_expiry : IsNumber 4 4 expiry)
+module _ (account expiry service : List ℕ) (is_account : IsNumber 12 19 account) (is_expiry : IsNumber 4 4 expiry)
     (is_service : IsNumber 3 3 service) where
   -- the zeros after the data
   after : drop 3 (drop 4 (drop (length account) zeros)) ≡ replicate {A = ℕ} (25 - length account) 48

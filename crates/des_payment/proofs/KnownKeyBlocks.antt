@@ -17,6 +17,7 @@ use Rattle.des_payment.specs.Hex.{hex_number}
 use Rattle.des_payment.specs.KeyBlocks.{joined, IsKeyBlock}
 use Rattle.des_payment.specs.OptionalBlocks.{AreOptionalBlocks}
 use Rattle.des_payment.specs.declared.key_block_header.Header.{Header}
+use Rattle.des_payment.specs.declared.key_block_header.KeyContext.TheVariants.{StorageOrExchange}
 use Rattle.des_payment.specs.declared.key_block_header.Version.TheVariants.{A, B, C}
 use Rattle.des_payment.specs.declared.key_block_header.Usage.TheVariants.{BaseDerivation, PinEncryption}
 use Rattle.des_payment.specs.declared.key_block_header.Algorithm.TheVariants.{TripleDes}
@@ -88,6 +89,7 @@ known_block-A = record {
   front = codes "A0072P0TE00E0000";
   sealed = codes "F5161ED902807AF26F1D62263644BD24192FDB3193C730301CEE8701";
   parts = record {
+    context = StorageOrExchange;
     optional = [];
     is_header = (refl, refl);
     short = lit< tt;
@@ -135,6 +137,7 @@ known_block-B = record {
   front = codes "B0080P0TE00E0000";
   sealed = codes "94B420079CC80BA3461F86FE26EFC4A3B8E4FA4C5F5341176EED7B727B8A248E";
   parts = record {
+    context = StorageOrExchange;
     optional = [];
     is_header = (refl, refl);
     short = lit< tt;
@@ -186,6 +189,7 @@ known_block-C = record {
   front = codes "C0096B0TX12S0100KS1800604B120F9292800000";
   sealed = codes "BFB9B689CB567E66FC3FEE5AD5F52161FC6545B9D60989015D02155C";
   parts = record {
+    context = StorageOrExchange;
     optional = serial_block;
     is_header = (refl, refl);
     short = lit< tt;

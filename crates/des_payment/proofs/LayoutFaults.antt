@@ -2,7 +2,7 @@
 use Rattle.std.proofs.Common.{◌≡◌, ℕ, List, Bool, true, false, Some, None, subst}
 use Rattle.std.specs.Prelude.{not, if◌then◌else◌, slice_index}
 use Rattle.std.proofs.lemmas.Option.{same_Some}
-use Rattle.des_payment.specs.KeyBlockHeaders.{is_long, is_version, has_count, header_fault}
+use Rattle.des_payment.specs.KeyBlockHeaders.{is_long, is_version, has_ending, header_fault}
 use Rattle.des_payment.specs.KeyBlockReading.{HasLayoutFault}
 use Rattle.des_payment.specs.declared.key_block_error.KeyBlockError.{KeyBlockError}
 use Rattle.des_payment.specs.declared.key_block_error.KeyBlockError.TheVariants.{ProtectionKeyLength, Length, Version, Header, OptionalBlock, DataLength, Digit, Mac, KeyLength, PaddingLength}
@@ -24,7 +24,7 @@ of-header true true false error is = subst IsOfHeader (same_Some Header error is
 of-header true true true error is = absurd (cc is)
 
 other : (block : List ℕ) (error : KeyBlockError) → header_fault block ≡ Some error → IsOfHeader error
-other block error is = of-header (is_long block) (is_version (slice_index block 0)) (has_count block) error is
+other block error is = of-header (is_long block) (is_version (slice_index block 0)) (has_ending block) error is
 
 pub layout-fault : (block : List ℕ) (error : KeyBlockError) → header_fault block ≡ Some error
     → HasLayoutFault block error

@@ -28,6 +28,7 @@ pub mod RegistersAfter
 pub mod LowestOne
 pub mod NextTransaction
 pub mod RightmostDigits
+pub mod EvenDigits
 pub mod ModuloTen
 pub mod PvvTexts
 pub mod HexNumbers
@@ -35,6 +36,7 @@ pub mod HexBytes
 pub mod OptionalBlockTexts
 pub mod OptionalBlockLists
 pub mod OptionalBlockSizes
+pub mod PlacedBlocks
 pub mod OptionalBlockWrites
 pub mod OptionalBlockReads
 pub mod KeyParts

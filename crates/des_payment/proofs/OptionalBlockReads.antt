@@ -1,6 +1,6 @@
 -- Optional blocks that are read one after another from a text.
 use Rattle.std.proofs.Common.{◌≡◌, ◌≢◌, ℕ, ◌+◌, ◌<◌, List, [], ◌∷◌, ◌++◌, length, take, drop, set, refl, sym, ap, ◌∙◌, subst, arith}
-use Rattle.std.proofs.lemmas.List.{length-append, length-drop, take_more_set, map_push, drop_at, drop-drop}
+use Rattle.std.proofs.lemmas.List.{length-append, length-drop, take_more_set, map_push, drop_at, drop-drop, drop-set-lt}
 use Rattle.des_payment.specs.OptionalBlocks.{IsOptionalBlock, AreOptionalBlocks}
 use Rattle.des_payment.specs.declared.optional_blocks.OptionalBlock.{OptionalBlock}
 use Rattle.des_payment.proofs.OptionalBlockLists.{FirstBlock, none-empty, are-more, take-both}
@@ -20,6 +20,13 @@ read-step blocks count block at size text within are is =
     subst (λ (read : List (List ℕ × List ℕ)). AreOptionalBlocks read (take (at + size) text)) (sym pairs)
     (subst (λ (front : List ℕ). AreOptionalBlocks (before ++ pair_of block ∷ []) front)
     (sym (take-both at size text)) more)
+
+-- and those after it stay
+pub rest-step : (blocks before : List OptionalBlock) (count : ℕ) (block : OptionalBlock)
+    → drop count blocks ≡ drop count before → drop (count + 1) (set blocks count block) ≡ drop (count + 1) before
+rest-step blocks before count block same =
+    drop-set-lt (count + 1) blocks count block (omega arith) ∙ sym (drop-drop 1 count blocks) ∙ ap (drop 1) same
+    ∙ drop-drop 1 count before
 
 -- what is left of the blocks of a text after so many
 pub record LeftBlocks (read : List (List ℕ × List ℕ)) (count : ℕ) (rest : List ℕ) : Type 0 where

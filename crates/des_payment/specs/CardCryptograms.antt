@@ -1,18 +1,20 @@
 -- Card cryptograms (EMV 4.3, Book 2). Account numbers and sequence numbers are texts.
-use Rattle.std.specs.Prelude.{ℕ, nat_lt, if◌then◌else◌, List, ◌∷◌, ◌++◌, map, length, take, drop, replicate, codes, Option, Some, None}
+use Rattle.std.specs.Prelude.{ℕ, ◌%◌, nat_lt, if◌then◌else◌, List, ◌∷◌, ◌++◌, map, length, take, drop, replicate, codes, Option, Some, None}
 use Rattle.std.specs.Option.{option_or}
+use Rattle.sha1.specs.Sha1.{sha1}
 use Rattle.des.specs.Cbc.{xor_blocks}
 use Rattle.des.specs.Des.{encryption, decryption}
 use Rattle.des.specs.TripleCiphers.{ede2_encryption}
 use Rattle.des_mac.specs.Padding.{padded, one_bit_after}
 use Rattle.des_mac.specs.RetailMac.{retail_mac_of}
+use Rattle.des_payment.specs.CardVerification.{decimals_first}
 use Rattle.des_payment.specs.Components.{odd}
-use Rattle.des_payment.specs.Digits.{bytes_of}
+use Rattle.des_payment.specs.Digits.{digits_of, bytes_of}
 use Rattle.des_payment.specs.Texts.{values, number_fault}
 use Rattle.des_payment.specs.declared.emv_error.EmvError.{EmvError}
 use Rattle.des_payment.specs.declared.emv_error.EmvError.TheVariants.{AccountLength, AccountDigit, SequenceLength, SequenceDigit, DataLength}
 
--- ---- the card's key (A1.4.1, option A)
+-- ---- the card's key by option A (A1.4.1)
 
 -- the sixteen rightmost digits of a number, with zeros at the left: 48 is the character 0
 abbrev pub rightmost : List ℕ → List ℕ
@@ -26,11 +28,30 @@ card_block account sequence = bytes_of (values (rightmost (account ++ sequence))
 abbrev pub both : List ℕ → List ℕ → List ℕ → List ℕ
 both key left right = ede2_encryption key left ++ ede2_encryption key right
 
--- the card's key: the block and its complement encrypted under the issuer's key, with odd parity
+-- the block and its complement encrypted under the issuer's key, with odd parity
+abbrev pub key_of_block : List ℕ → List ℕ → List ℕ
+key_of_block issuer block = map odd (both issuer block (xor_blocks block (replicate 8 0xff)))
+
 abbrev pub card_key : List ℕ → List ℕ → List ℕ → List ℕ
-card_key issuer account sequence =
-    let block = card_block account sequence in
-    map odd (both issuer block (xor_blocks block (replicate 8 0xff)))
+card_key issuer account sequence = key_of_block issuer (card_block account sequence)
+
+-- ---- and by option B (A1.4.2)
+
+-- the bytes that digits write, two a byte, after a zero where they are odd in number
+abbrev pub even_bytes : List ℕ → List ℕ
+even_bytes digits = bytes_of (values (replicate (length digits % 2) 48 ++ digits))
+
+-- the block of both numbers: the first sixteen digits of their hash, those below ten first, and then the
+-- others, less ten
+abbrev pub hashed_block : List ℕ → List ℕ → List ℕ
+hashed_block account sequence =
+    bytes_of (take 16 (decimals_first (digits_of (sha1 (even_bytes (account ++ sequence))))))
+
+-- the card's key: of an account number of at most sixteen digits that by option A
+abbrev pub card_key_b : List ℕ → List ℕ → List ℕ → List ℕ
+card_key_b issuer account sequence =
+    key_of_block issuer
+    (if nat_lt 16 (length account) then hashed_block account sequence else card_block account sequence)
 
 -- the first fault
 abbrev pub card_fault : List ℕ → List ℕ → Option EmvError

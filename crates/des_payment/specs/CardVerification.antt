@@ -48,7 +48,7 @@ verification_value key account expiry service =
 -- the first fault
 abbrev pub card_fault : List ℕ → List ℕ → List ℕ → Option CvvError
 card_fault account expiry service =
-    option_or (number_fault 13 19 AccountLength AccountDigit account)
+    option_or (number_fault 12 19 AccountLength AccountDigit account)
     (option_or (number_fault 4 4 ExpiryLength ExpiryDigit expiry)
     (number_fault 3 3 ServiceLength ServiceDigit service))
 

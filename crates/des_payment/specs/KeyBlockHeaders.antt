@@ -1,6 +1,7 @@
 -- The header of a key block (ANSI X9.143, ASC X9 TR-31), as characters.
 use Rattle.std.specs.Prelude.{◌≡◌, ℕ, ◌+◌, ◌/◌, ◌%◌, ◌==◌, ◌&&◌, ◌||◌, Bool, true, false, not, nat_le, if◌then◌else◌, List, [], ◌∷◌, ◌++◌, length, slice_index, codes, Option, Some, None, IsTrue}
-use Rattle.std.specs.Char.{is_ascii_digit}
+use Rattle.std.specs.Char.{is_ascii_digit, is_ascii_alphanumeric}
+use Rattle.std.specs.List.{list_all}
 use Rattle.des_payment.specs.declared.key_block_header.Header.{Header}
 use Rattle.des_payment.specs.declared.key_block_header.Version.{Version}
 use Rattle.des_payment.specs.declared.key_block_header.Version.TheVariants.{A, B, C}
@@ -12,6 +13,8 @@ use Rattle.des_payment.specs.declared.key_block_header.Mode.{Mode}
 use Rattle.des_payment.specs.declared.key_block_header.Mode.TheVariants.{EncryptAndDecrypt, GenerateAndVerify, Decrypt, Encrypt, Generate, NoRestriction, Verify, Derive, OtherMode}
 use Rattle.des_payment.specs.declared.key_block_header.Exportability.{Exportability}
 use Rattle.des_payment.specs.declared.key_block_header.Exportability.TheVariants.{Exportable, NonExportable, Sensitive, OtherRule}
+use Rattle.des_payment.specs.declared.key_block_header.KeyContext.{KeyContext}
+use Rattle.des_payment.specs.declared.key_block_header.KeyContext.TheVariants.{StorageOrExchange, Storage, Exchange}
 use Rattle.des_payment.specs.declared.key_block_error.KeyBlockError.{KeyBlockError}
 use Rattle.des_payment.specs.declared.key_block_error.KeyBlockError.TheVariants.{Length as LengthFault, Version as VersionFault, Header as HeaderFault}
 
@@ -62,6 +65,11 @@ exportability_text NonExportable = 78
 exportability_text Sensitive = 83
 exportability_text (OtherRule character) = character
 
+abbrev pub context_text : KeyContext → ℕ
+context_text StorageOrExchange = 48
+context_text Storage = 49
+context_text Exchange = 50
+
 -- the decimal digit of a number at a power of ten
 abbrev pub decimal_at : ℕ → ℕ → ℕ
 decimal_at power number = 48 + number / power % 10
@@ -73,16 +81,24 @@ fields_text header =
     ++ header.key_version ++ exportability_text header.exportability ∷ []
 
 -- sixteen characters: the version, the length of the block in four digits, those fields, the number of optional
--- blocks in two, and two zeros
-abbrev pub header_text : Header → ℕ → ℕ → List ℕ
-header_text header length count =
+-- blocks in two, the key's context, and a zero
+abbrev pub header_text : Header → KeyContext → ℕ → ℕ → List ℕ
+header_text header context length count =
     version_text header.version
     ∷ decimal_at 1000 length ∷ decimal_at 100 length ∷ decimal_at 10 length ∷ decimal_at 1 length ∷ []
-    ++ fields_text header ++ decimal_at 10 count ∷ decimal_at 1 count ∷ 48 ∷ 48 ∷ []
+    ++ fields_text header ++ decimal_at 10 count ∷ decimal_at 1 count ∷ context_text context ∷ 48 ∷ []
 
 -- the usage has two characters, and so has the number of the key's version
 abbrev pub IsHeader : Header → Type 0
 IsHeader header = (length (usage_text header.usage) ≡ 2) × (length header.key_version ≡ 2)
+
+-- letters and digits
+abbrev pub are_alphanumeric : List ℕ → Bool
+are_alphanumeric text = list_all is_ascii_alphanumeric text
+
+-- the fields are written, whose characters are such
+abbrev pub is_written : Header → Bool
+is_written header = are_alphanumeric (fields_text header)
 
 -- ---- reading
 
@@ -127,16 +143,20 @@ is_long block = nat_le 16 (length block) && nat_le (length block) 9999 && says_l
 abbrev pub is_version : ℕ → Bool
 is_version character = character == 65 || character == 66 || character == 67
 
--- two digits and two zeros end the header
-abbrev pub has_count : List ℕ → Bool
-has_count block =
-    is_ascii_digit (slice_index block 12) && is_ascii_digit (slice_index block 13)
-    && slice_index block 14 == 48 && slice_index block 15 == 48
+-- 0, 1 or 2
+abbrev pub is_context : ℕ → Bool
+is_context character = character == 48 || character == 49 || character == 50
+
+-- two digits, a context and a zero end the header
+abbrev pub has_ending : List ℕ → Bool
+has_ending block =
+    is_ascii_digit (slice_index block 12) && is_ascii_digit (slice_index block 13) && is_context (slice_index block 14)
+    && slice_index block 15 == 48
 
 -- the first fault that shows in the header of a block
 abbrev pub header_fault : List ℕ → Option KeyBlockError
 header_fault block =
     if not (is_long block) then Some LengthFault
     else if not (is_version (slice_index block 0)) then Some VersionFault
-    else if not (has_count block) then Some HeaderFault
+    else if not (has_ending block) then Some HeaderFault
     else None

@@ -10,14 +10,16 @@ use Rattle.des_mac.specs.CbcMac.{cbc_mac}
 use Rattle.des_mac.specs.Cmac.{cmac}
 use Rattle.des_payment.specs.Hex.{hex_of}
 use Rattle.des_payment.specs.KeyLengths.{is_key}
-use Rattle.des_payment.specs.KeyBlockHeaders.{IsHeader, header_text}
-use Rattle.des_payment.specs.OptionalBlocks.{AreOptionalBlocks, blocks_text, filled, size_of_all}
+use Rattle.des_payment.specs.KeyBlockHeaders.{IsHeader, is_written, header_text}
+use Rattle.des_payment.specs.OptionalBlocks.{AreOptionalBlocks, are_written, are_placed, blocks_text, filled, size_of_all}
 use Rattle.des_payment.specs.ProtectionKeys.{encryption_key, mac_key}
 use Rattle.des_payment.specs.declared.key_block_header.Header.{Header}
 use Rattle.des_payment.specs.declared.key_block_header.Version.{Version}
 use Rattle.des_payment.specs.declared.key_block_header.Version.TheVariants.{A, B, C}
+use Rattle.des_payment.specs.declared.key_block_header.KeyContext.{KeyContext}
+use Rattle.des_payment.specs.declared.key_block_header.KeyContext.TheVariants.{StorageOrExchange}
 use Rattle.des_payment.specs.declared.key_block_error.KeyBlockError.{KeyBlockError}
-use Rattle.des_payment.specs.declared.key_block_error.KeyBlockError.TheVariants.{ProtectionKeyLength, Length, Version as VersionFault, OptionalBlock, KeyLength, PaddingLength}
+use Rattle.des_payment.specs.declared.key_block_error.KeyBlockError.TheVariants.{ProtectionKeyLength, Length, Version as VersionFault, Header as HeaderFault, OptionalBlock, KeyLength, PaddingLength}
 
 -- ---- key data, encrypted and authenticated
 
@@ -73,13 +75,14 @@ is_key_data key padding =
 
 -- a block is a header of 16 characters with optional blocks that end at a multiple of eight, and a rest
 pub record HasParts (header : Header) (blocks : List (List ℕ × List ℕ)) (front rest block : List ℕ) : Type 0 where
+  pub context : KeyContext
   pub optional : List ℕ
   pub is_header : IsHeader header
   pub short : length block < 10000
   pub few : length blocks < 100
   pub are_optional : AreOptionalBlocks blocks optional
   pub whole : length optional % 8 ≡ 0
-  pub is_front : front ≡ header_text header (length block) (length blocks) ++ optional
+  pub is_front : front ≡ header_text header context (length block) (length blocks) ++ optional
   pub is_block : block ≡ front ++ rest
 
 -- the block of a header, optional blocks, a key and padding under a protection key
@@ -107,17 +110,18 @@ is_made B = true
 is_made C = true
 
 -- the fault of what a block is to be made of, if it has one
-abbrev pub parts_fault : List ℕ → Version → List ℕ → List ℕ → Option KeyBlockError
-parts_fault protection version key padding =
+abbrev pub parts_fault : List ℕ → Header → List ℕ → List ℕ → Option KeyBlockError
+parts_fault protection header key padding =
     if not (is_protection_key protection) then Some ProtectionKeyLength
-    else if not (is_made version) then Some VersionFault
+    else if not (is_made header.version) then Some VersionFault
+    else if not (is_written header) then Some HeaderFault
     else if not (is_key key) then Some KeyLength
     else if not (is_key_data key padding) then Some PaddingLength
     else None
 
--- what is written before key data in a block of so many characters
+-- what is written before key data in a block of so many characters; the key may be stored and exchanged
 abbrev pub front_text : Header → List (List ℕ × List ℕ) → ℕ → List ℕ
-front_text header blocks size = header_text header size (length blocks) ++ blocks_text blocks
+front_text header blocks size = header_text header StorageOrExchange size (length blocks) ++ blocks_text blocks
 
 -- how many characters the block has, with as many optional blocks as fill it
 abbrev pub size_of_block : Version → List (List ℕ × List ℕ) → List ℕ → List ℕ → ℕ
@@ -128,13 +132,15 @@ size_of_block version blocks key padding =
 abbrev pub blocks_fault : List (List ℕ × List ℕ) → Option KeyBlockError
 blocks_fault blocks =
     if nat_lt 99 (length blocks) then Some OptionalBlock
+    else if not (are_written blocks) then Some OptionalBlock
     else if nat_lt 9999 (size_of_all blocks) then Some Length
+    else if not (are_placed blocks) then Some OptionalBlock
     else if nat_lt 99 (length (filled blocks)) then Some OptionalBlock
     else None
 
 -- the first fault, where there is room for so many characters
-abbrev pub wrap_fault : List ℕ → Version → List (List ℕ × List ℕ) → List ℕ → List ℕ → ℕ → Option KeyBlockError
-wrap_fault protection version blocks key padding room =
-    let size = size_of_block version blocks key padding in
-    option_or (parts_fault protection version key padding)
+abbrev pub wrap_fault : List ℕ → Header → List (List ℕ × List ℕ) → List ℕ → List ℕ → ℕ → Option KeyBlockError
+wrap_fault protection header blocks key padding room =
+    let size = size_of_block header.version blocks key padding in
+    option_or (parts_fault protection header key padding)
     (option_or (blocks_fault blocks) (if nat_lt 9999 size || nat_lt room size then Some Length else None))

@@ -1,7 +1,8 @@
 -- The optional blocks of a key block (ANSI X9.143, ASC X9 TR-31). Texts are lists of ASCII characters.
-use Rattle.std.specs.Prelude.{◌≡◌, ℕ, ◌+◌, ◌-◌, ◌%◌, ◌^◌, ◌<◌, ◌⊎◌, ◌==◌, nat_lt, if◌then◌else◌, List, [], ◌∷◌, ◌++◌, length, replicate, codes}
-use Rattle.std.specs.List.{flat_map}
+use Rattle.std.specs.Prelude.{◌≡◌, ℕ, ◌+◌, ◌-◌, ◌%◌, ◌^◌, ◌<◌, ◌⊎◌, ◌==◌, ◌&&◌, Bool, not, nat_lt, nat_le, if◌then◌else◌, List, [], ◌∷◌, ◌++◌, length, take, slice_index, replicate, codes}
+use Rattle.std.specs.List.{flat_map, list_all}
 use Rattle.des_payment.specs.Hex.{hex_number}
+use Rattle.des_payment.specs.KeyBlockHeaders.{are_alphanumeric}
 
 -- ---- one block
 
@@ -56,3 +57,29 @@ filling size = if size % 8 == 0 then [] else (codes "PB", replicate ((12 - size 
 
 abbrev pub filled : List (List ℕ × List ℕ) → List (List ℕ × List ℕ)
 filled blocks = blocks ++ filling (size_of_all blocks)
+
+-- ---- which are written
+
+-- a space or a printable character of ASCII
+abbrev pub is_printable : ℕ → Bool
+is_printable character = nat_le 32 character && nat_le character 126
+
+abbrev pub are_printable : List ℕ → Bool
+are_printable text = list_all is_printable text
+
+-- a name of letters and digits, and a content of printable characters
+abbrev pub is_written : List ℕ × List ℕ → Bool
+is_written block = are_alphanumeric block.0 && are_printable block.1
+
+abbrev pub are_written : List (List ℕ × List ℕ) → Bool
+are_written blocks = list_all is_written blocks
+
+-- its name is that of a block that fills: 80 is P, 66 is B
+abbrev pub is_filling : List ℕ × List ℕ → Bool
+is_filling block = slice_index block.0 0 == 80 && slice_index block.0 1 == 66
+
+-- the last block may fill, where with it they have a multiple of eight characters; no other fills
+abbrev pub are_placed : List (List ℕ × List ℕ) → Bool
+are_placed blocks =
+    let others = if size_of_all blocks % 8 == 0 then length blocks - 1 else length blocks in
+    list_all (λ block. not (is_filling block)) (take others blocks)

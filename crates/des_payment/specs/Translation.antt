@@ -16,7 +16,8 @@ use Rattle.des_payment.specs.declared.translation_error.TranslationError.TheVari
 
 -- ---- which translations there are
 
--- from a format that a host decrypts, all but 2, to one that binds the PIN to an account number
+-- from a format that a host decrypts, all but 2, to one that binds the PIN to an account number; a
+-- block of format 1 that stays one is `rekeyed`
 abbrev pub is_origin : Format → Bool
 is_origin Format0 = true
 is_origin Format1 = true
@@ -84,6 +85,18 @@ abbrev pub translation_fault : List ℕ → Format → List ℕ → Format → L
 translation_fault incoming from outgoing to account fill block =
     option_or (request_fault incoming from outgoing to account fill)
     (one_fault (block_fault from account (decryption_by incoming block)))
+
+-- ---- a block of format 1 under another key
+
+-- the block in clear, with its transaction digits, is the same
+abbrev pub rekeyed : List ℕ → List ℕ → List ℕ → List ℕ
+rekeyed incoming outgoing block = encryption_by outgoing (decryption_by incoming block)
+
+-- the first fault: of the keys, and then of the block, whose transaction digits are any
+abbrev pub rekeying_fault : List ℕ → List ℕ → List ℕ → Option TranslationError
+rekeying_fault incoming outgoing block =
+    option_or (key_fault incoming)
+    (option_or (key_fault outgoing) (one_fault (field_fault 1 0 (digits_of (decryption_by incoming block)))))
 
 -- the name that `Display` writes
 abbrev pub name_of : TranslationError → List ℕ

@@ -19,13 +19,13 @@ use des::tdes::key_part;
 // The data of a card: the first fault, if they have one.
 fn check_card(account: &[u8], expiry: &[u8], service: &[u8]) -> Result<(), CvvError>
     ensures fault { result_err result ≡ card_fault account.now expiry.now service.now }
-    ensures account { OnOk result (IsNumber 13 19 account.now) }
+    ensures account { OnOk result (IsNumber 12 19 account.now) }
     ensures expiry { OnOk result (IsNumber 4 4 expiry.now) }
     ensures service { OnOk result (IsNumber 3 3 service.now) }
 {
     check_number(
         account,
-        13,
+        12,
         19,
         CvvError::AccountLength,
         CvvError::AccountDigit,
@@ -42,7 +42,7 @@ fn check_card(account: &[u8], expiry: &[u8], service: &[u8]) -> Result<(), CvvEr
 
 // The data of a card, filled with zeros to 32 digits.
 fn card_text(account: &[u8], expiry: &[u8], service: &[u8]) -> [u8; 32]
-    requires account { IsNumber 13 19 account.now }
+    requires account { IsNumber 12 19 account.now }
     requires expiry { IsNumber 4 4 expiry.now }
     requires service { IsNumber 3 3 service.now }
     ensures text { result ≡ card_text_of account.now expiry.now service.now }
@@ -97,7 +97,7 @@ fn value_of(block: &[u8; 8]) -> [u8; 3]
     value
 }
 
-/// The card verification value, three ASCII digits, of an account number of 13 to 19 digits with
+/// The card verification value, three ASCII digits, of an account number of 12 to 19 digits with
 /// the check digit, an expiry date of four and a service code of three, under a key pair of 16
 /// bytes.
 ///

@@ -9,7 +9,7 @@ use std::fmt;
 /// Why there is no card verification value. The first of them is reported, in this order.
 #[derive(Clone, Copy, Debug, PartialEq, Eq)]
 pub enum CvvError {
-    /// The account number does not have 13 to 19 digits.
+    /// The account number does not have 12 to 19 digits.
     AccountLength,
     /// A character of the account number is not a digit.
     AccountDigit,

@@ -1,6 +1,6 @@
 //! Decimal digits that are taken from digits of four bits.
 
-ghost use Rattle.std.specs.Prelude.{◌≡◌, ◌<◌, ◌≤◌, take, IsTrue};
+ghost use Rattle.std.specs.Prelude.{◌≡◌, ◌<◌, ◌≤◌, take, length, IsTrue};
 ghost use Rattle.std.specs.List.{All, list_all};
 ghost use Rattle.des_payment.specs.CardVerification.{is_decimal, decimals_first};
 
@@ -8,8 +8,8 @@ use crate::masks::write_at;
 
 // The first digits, where those below ten come first, and then the others, less ten. A digit that is
 // passed over is written too, where the next one takes its place.
-pub(crate) fn first_decimals<const N: usize>(digits: &[u8; 16]) -> [u8; N]
-    requires few { N ≤ 16 }
+pub(crate) fn first_decimals<const N: usize>(digits: &[u8]) -> [u8; N]
+    requires few { N ≤ length digits.now }
     requires digits { All (λ digit. digit < 16) digits.now }
     ensures value { result ≡ take N (decimals_first digits.now) }
     ensures decimal { IsTrue (list_all is_decimal result) }

@@ -4,44 +4,28 @@
 //! A key has 16 bytes, two halves of 8. Which data a cryptogram is of, the issuer names. No table
 //! is read at an index that depends on a key, and no branch depends on one.
 
-ghost use Rattle.std.specs.Prelude.{◌≡◌, ℕ, List, ◌++◌, take, replicate, OnOk, IfOk, IsTrue};
+ghost use Rattle.std.specs.Prelude.{◌≡◌, ◌-◌, ◌++◌, length, take, replicate, OnOk, IfOk, IsTrue};
 ghost use Rattle.std.specs.Result.{result_err};
-ghost use Rattle.des_payment.specs.Texts.{are_digits as are_digits_of, IsNumber, number_fault};
-ghost use Rattle.des_payment.specs.CardCryptograms.{rightmost, card_block as card_block_of, both as both_of, card_key as card_key_of, card_fault};
+ghost use Rattle.sha1.specs.Sha1.{sha1};
+ghost use Rattle.des_payment.specs.Texts.{are_digits as are_digits_of, IsNumber};
+ghost use Rattle.des_payment.specs.CardCryptograms.{rightmost, card_block as card_block_of, both as both_of, key_of_block as key_of_block_of, card_key as card_key_of, card_fault};
+ghost use Rattle.des_payment.specs.CardCryptograms.{even_bytes, hashed_block as hashed_block_of, card_key_b as card_key_b_of};
 ghost use Rattle.des_payment.specs.CardCryptograms.{with_third as with_third_of, session_key as session_key_of, application_key as application_key_of};
 ghost use Rattle.des_payment.specs.CardCryptograms.{cryptogram as cryptogram_of, response_1 as response_1_of, response_2 as response_2_of, data_fault};
 
 use crate::components::set_odd_parity;
-use crate::digits::block_of;
+use crate::decimals::first_decimals;
+use crate::digits::{block_of, write_bytes, write_digits};
 use crate::dukpt::joined;
 use crate::emv_error::EmvError;
 use crate::passes::encrypted_by_ede2;
-use crate::texts::{are_digits, to_values};
+use crate::texts::{check_number, to_values};
 use crate::xor::xored;
 use des_fast::quiet::Des;
 use des_mac::mac::Mac;
 use des_mac::padding::Method2;
 use des_mac::retail_mac::RetailMac;
-
-// Whether a text is a number of `least` to `most` digits: its fault, if it has one.
-fn check_number(
-    text: &[u8],
-    least: usize,
-    most: usize,
-    length_fault: EmvError,
-    digit_fault: EmvError,
-) -> Result<(), EmvError>
-    ensures fault { result_err result ≡ number_fault least most length_fault digit_fault text.now }
-    ensures number { OnOk result (IsNumber least most text.now) }
-{
-    if text.len() < least || most < text.len() {
-        return Err(length_fault);
-    }
-    if !are_digits(text) {
-        return Err(digit_fault);
-    }
-    Ok(())
-}
+use sha1::Sha1;
 
 // The numbers of a card: the first fault, if they have one.
 fn check_card(account: &[u8], sequence: &[u8]) -> Result<(), EmvError>
@@ -69,8 +53,8 @@ fn check_card(account: &[u8], sequence: &[u8]) -> Result<(), EmvError>
 fn padded_digits(account: &[u8], sequence: &[u8]) -> [u8; 37]
     requires account { IsNumber 8 19 account.now }
     requires sequence { IsNumber 2 2 sequence.now }
-    ensures { (rest : List ℕ)
-        × (result ≡ replicate 16 48 ++ (account.now ++ sequence.now) ++ rest) }
+    ensures { result ≡ replicate 16 48 ++ (account.now ++ sequence.now)
+        ++ replicate (19 - length account.now) 48 }
 {
     let mut text = [b'0'; 37];
     let (_, rest) = text.split_at_mut(16);
@@ -94,7 +78,7 @@ fn rightmost_digits(account: &[u8], sequence: &[u8]) -> [u8; 16]
     digits
 }
 
-// The block of both numbers.
+// The block of both numbers by option A.
 fn card_block(account: &[u8], sequence: &[u8]) -> [u8; 8]
     requires account { IsNumber 8 19 account.now }
     requires sequence { IsNumber 2 2 sequence.now }
@@ -103,6 +87,32 @@ fn card_block(account: &[u8], sequence: &[u8]) -> [u8; 8]
     let mut digits = rightmost_digits(account, sequence);
     to_values(&mut digits);
     block_of(&digits)
+}
+
+// The hash of the bytes that both numbers write, after a zero where their digits are odd in number.
+fn hash_of(account: &[u8], sequence: &[u8]) -> [u8; 20]
+    requires account { IsNumber 8 19 account.now }
+    requires sequence { IsNumber 2 2 sequence.now }
+    ensures { result ≡ sha1 (even_bytes (account.now ++ sequence.now)) }
+{
+    let mut digits = padded_digits(account, sequence);
+    to_values(&mut digits);
+    let digits = &digits[16 - account.len() % 2..account.len() + 18];
+    let mut bytes = [0; 11];
+    let bytes = &mut bytes[..digits.len() / 2];
+    write_bytes(digits, bytes);
+    Sha1::digest(bytes)
+}
+
+// The block of both numbers by option B, where the account number has more than sixteen digits.
+fn hashed_block(account: &[u8], sequence: &[u8]) -> [u8; 8]
+    requires account { IsNumber 8 19 account.now }
+    requires sequence { IsNumber 2 2 sequence.now }
+    ensures { result ≡ hashed_block_of account.now sequence.now }
+{
+    let mut digits = [0; 40];
+    write_digits(&hash_of(account, sequence), &mut digits);
+    block_of(&first_decimals::<16>(&digits))
 }
 
 // Two blocks encrypted under a key, one after the other.
@@ -114,21 +124,47 @@ fn both(key: &[u8; 16], left: &[u8; 8], right: &[u8; 8]) -> [u8; 16]
     joined(&left, &right)
 }
 
+// The key of the card that a block stands for.
+fn key_of_block(issuer: &[u8; 16], block: &[u8; 8]) -> [u8; 16]
+    ensures { result ≡ key_of_block_of issuer.now block.now }
+{
+    let mut key = both(issuer, block, &xored(block, &[0xff; 8]));
+    set_odd_parity(&mut key);
+    key
+}
+
 /// The key of a card by option A (A1.4.1), from the issuer's master key, the account number, a text
 /// of 8 to 19 digits with the check digit, and the sequence number of the card, a text of two
 /// digits: `00` where the card has none.
 ///
 /// The sixteen rightmost digits of both numbers together are a block; it and its complement are
-/// encrypted under the issuer's key. Each byte of the key has odd parity.
+/// encrypted under the issuer's key. Each byte of the key has odd parity. Most issuers take this
+/// option, which is defined for each length of the account number.
 pub fn card_key(issuer: &[u8; 16], account: &[u8], sequence: &[u8]) -> Result<[u8; 16], EmvError>
     ensures fault { result_err result ≡ card_fault account.now sequence.now }
     ensures key { IfOk result (λ key. key ≡ card_key_of issuer.now account.now sequence.now) }
 {
     check_card(account, sequence)?;
-    let block = card_block(account, sequence);
-    let mut key = both(issuer, &block, &xored(&block, &[0xff; 8]));
-    set_odd_parity(&mut key);
-    Ok(key)
+    Ok(key_of_block(issuer, &card_block(account, sequence)))
+}
+
+/// The key of a card by option B (A1.4.2), from the same. It differs from `card_key` where the
+/// account number has more than sixteen digits: take it for these where the card scheme asks for it.
+///
+/// Both numbers, after a `0` where their digits are odd in number, write bytes, two digits a byte.
+/// Of the forty hexadecimal digits of their SHA-1 hash those from 0 to 9 are taken in order, and
+/// then the others in order, less ten; the first sixteen are the block.
+pub fn card_key_b(issuer: &[u8; 16], account: &[u8], sequence: &[u8]) -> Result<[u8; 16], EmvError>
+    ensures fault { result_err result ≡ card_fault account.now sequence.now }
+    ensures key { IfOk result (λ key. key ≡ card_key_b_of issuer.now account.now sequence.now) }
+{
+    check_card(account, sequence)?;
+    let block = if account.len() > 16 {
+        hashed_block(account, sequence)
+    } else {
+        card_block(account, sequence)
+    };
+    Ok(key_of_block(issuer, &block))
 }
 
 // The block with another third byte.

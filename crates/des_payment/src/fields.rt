@@ -127,8 +127,14 @@ fn pin_or_zeros(is_right: bool, field: &[u8; 16]) -> Pin
     Pin::of_first(count, &first_or_zeros(taken, &field[2..14]))
 }
 
-// Whether the digits are a PIN field of a format that has fill digits from a least one to 15, and its
-// PIN, or four zeros.
+// Whether the digits are a PIN field of a format that has fill digits from a least one to 15.
+pub(crate) fn is_pin_field(format: u8, least: u8, field: &[u8; 16]) -> bool
+    ensures { IsTrue result ↔ (field_fault format least field.now ≡ None) }
+{
+    are_passed(tests_of(format, least, field))
+}
+
+// The same, and the PIN of the field, or four zeros.
 pub(crate) fn read_or_zeros(format: u8, least: u8, field: &[u8; 16]) -> (bool, Pin)
     ensures right { IsTrue result.0 ↔ (field_fault format least field.now ≡ None) }
     ensures pin { IsTrue result.0 → result.1 ≡ text_of (pin_digits field.now) }

@@ -1,13 +1,18 @@
 //! The header of a key block (ANSI X9.143, ASC X9 TR-31): what its key is for, and who may have it.
 
-ghost use Rattle.std.specs.Prelude.{◌≡◌, ℕ, ◌<◌, ◌≤◌, [], ◌∷◌, length, take, slice_index, is_some, IsTrue, IfOk, IfSome, IfNone, IsOkAnd};
+ghost use Rattle.std.specs.Prelude.{◌≡◌, ℕ, ◌<◌, ◌≤◌, [], ◌∷◌, ◌++◌, length, take, slice_index, is_some, IsTrue, IfOk, IfSome, IfNone, IsOkAnd};
 ghost use Rattle.std.specs.Result.{result_err};
 ghost use Rattle.des_payment.specs.KeyBlockHeaders.{version_text, usage_text, algorithm_text, mode_text, exportability_text};
 ghost use Rattle.des_payment.specs.KeyBlockHeaders.{is_named_usage, is_named_algorithm, is_named_mode, is_named_rule, IsHeader, IsNamed, decimal_at};
-ghost use Rattle.des_payment.specs.KeyBlockHeaders.{fields_text, header_text as header_text_of};
-ghost use Rattle.des_payment.specs.KeyBlockHeaders.{says_length as says_length_of, has_count, header_fault};
+ghost use Rattle.des_payment.specs.declared.key_block_header.KeyContext.TheVariants.{StorageOrExchange};
+ghost use Rattle.des_payment.specs.KeyBlockHeaders.{context_text, fields_text, header_text as header_text_of};
+ghost use Rattle.des_payment.specs.KeyBlockHeaders.{are_alphanumeric as are_alphanumeric_of, is_written as is_written_of};
+ghost use Rattle.des_payment.specs.KeyBlockHeaders.{says_length as says_length_of, has_ending, header_fault};
 
 use crate::key_block_error::KeyBlockError;
+
+/// The most characters of a key block: its length has four digits.
+pub const MOST_CHARACTERS: usize = 9999;
 
 /// The version of a key block: how it is encrypted and authenticated.
 #[derive(Clone, Copy, Debug, PartialEq, Eq)]
@@ -107,8 +112,19 @@ pub enum Exportability {
     OtherRule(u8),
 }
 
+/// Where the key of a block may be (X9.143:2021): character 15 of the header.
+#[derive(Clone, Copy, Debug, PartialEq, Eq)]
+pub enum KeyContext {
+    /// In storage and in exchange (`0`).
+    StorageOrExchange,
+    /// In storage only (`1`).
+    Storage,
+    /// In exchange only (`2`).
+    Exchange,
+}
+
 /// The fields of a header, without the length of the block and the number of optional blocks, which
-/// follow from the rest.
+/// follow from the rest, and without the key's context, which `key_context` reads.
 #[derive(Clone, Copy, Debug, PartialEq, Eq)]
 pub struct Header {
     /// The version of the block.
@@ -297,6 +313,53 @@ impl Exportability {
     }
 }
 
+impl KeyContext {
+    /// The context of a character.
+    pub fn of(character: u8) -> Option<KeyContext>
+        ensures some { IfSome result (λ context. context_text context ≡ character) }
+        ensures none { IfNone result
+            ((context : KeyContext) → ¬ (context_text context ≡ character)) }
+    {
+        match character {
+            b'0' => Some(KeyContext::StorageOrExchange),
+            b'1' => Some(KeyContext::Storage),
+            b'2' => Some(KeyContext::Exchange),
+            _ => None,
+        }
+    }
+
+    /// Its character.
+    pub fn character(self) -> u8
+        ensures { result ≡ context_text self }
+    {
+        match self {
+            KeyContext::StorageOrExchange => b'0',
+            KeyContext::Storage => b'1',
+            KeyContext::Exchange => b'2',
+        }
+    }
+}
+
+/// Whether all characters are letters and digits, as those of fields that are written and of names
+/// of optional blocks.
+pub fn are_alphanumeric(text: &[u8]) -> bool
+    ensures { result ≡ are_alphanumeric_of text.now }
+{
+    text.iter()
+        .all(|character| character.is_ascii_alphanumeric())
+}
+
+// Whether the characters of the fields are letters and digits.
+pub(crate) fn is_written(header: &Header) -> bool
+    ensures { result ≡ is_written_of header.now }
+{
+    let marks = [header.algorithm.character(), header.mode.character()];
+    are_alphanumeric(&header.usage.text())
+        && are_alphanumeric(&marks)
+        && are_alphanumeric(&header.key_version)
+        && are_alphanumeric(&[header.exportability.character()])
+}
+
 // A decimal digit of a number, that of a power of ten.
 fn decimal(number: usize, power: usize) -> u8
     requires { 0 < power }
@@ -311,7 +374,7 @@ pub(crate) fn header_text(header: &Header, length: usize, count: usize) -> [u8; 
     requires length { length < 10000 }
     requires count { count < 100 }
     ensures is_header { IsHeader header.now }
-    ensures text { result ≡ header_text_of header.now length count }
+    ensures text { result ≡ header_text_of header.now StorageOrExchange length count }
 {
     let usage = header.usage.text();
     [
@@ -329,7 +392,7 @@ pub(crate) fn header_text(header: &Header, length: usize, count: usize) -> [u8; 
         header.exportability.character(),
         decimal(count, 10),
         decimal(count, 1),
-        b'0',
+        KeyContext::StorageOrExchange.character(),
         b'0',
     ]
 }
@@ -346,23 +409,25 @@ fn says_length(block: &[u8]) -> bool
         && block[4] == decimal(length, 1)
 }
 
-// How many optional blocks a header says that there are.
-fn count_of(block: &[u8]) -> Option<usize>
+// How many optional blocks a header says that there are, and the key's context.
+fn ending_of(block: &[u8]) -> Option<(usize, KeyContext)>
     requires { 16 ≤ length block.now }
-    ensures some { is_some result ≡ has_count block.now }
-    ensures few { IfSome result (λ count. count < 100) }
-    ensures tens { IfSome result (λ count. decimal_at 10 count ≡ slice_index block.now 12) }
-    ensures ones { IfSome result (λ count. decimal_at 1 count ≡ slice_index block.now 13) }
+    ensures some { is_some result ≡ has_ending block.now }
+    ensures few { IfSome result (λ ending. ending.0 < 100) }
+    ensures tens { IfSome result (λ ending. decimal_at 10 ending.0 ≡ slice_index block.now 12) }
+    ensures ones { IfSome result (λ ending. decimal_at 1 ending.0 ≡ slice_index block.now 13) }
+    ensures context { IfSome result (λ ending. context_text ending.1 ≡ slice_index block.now 14) }
 {
     let tens = block[12];
     let ones = block[13];
-    if !tens.is_ascii_digit() || !ones.is_ascii_digit() {
+    if !tens.is_ascii_digit() || !ones.is_ascii_digit() || block[15] != b'0' {
         return None;
     }
-    if block[14] != b'0' || block[15] != b'0' {
-        return None;
+    let count = 10 * (tens - b'0') as usize + (ones - b'0') as usize;
+    match KeyContext::of(block[14]) {
+        Some(context) => Some((count, context)),
+        None => None,
     }
-    Some(10 * (tens - b'0') as usize + (ones - b'0') as usize)
 }
 
 // The fields of the header of a block of a version.
@@ -388,31 +453,32 @@ fn fields_of(version: Version, block: &[u8]) -> Header
     }
 }
 
-// The header of a block and the number of optional blocks, or the first fault.
-pub(crate) fn read_header(block: &[u8]) -> Result<(Header, usize), KeyBlockError>
+// The header of a block, the number of optional blocks and the key's context, or the first fault.
+pub(crate) fn read_header(block: &[u8]) -> Result<(Header, usize, KeyContext), KeyBlockError>
     ensures least { IfOk result (λ _. 16 ≤ length block.now) }
     ensures short { IfOk result (λ _. length block.now < 10000) }
     ensures few { IfOk result (λ read. read.1 < 100) }
     ensures is_header { IfOk result (λ read. IsHeader read.0) }
     ensures named { IfOk result (λ read. IsNamed read.0) }
     ensures text { IfOk result (λ read.
-        header_text_of read.0 (length block.now) read.1 ≡ take 16 block.now) }
-    ensures only { (header : Header) (count : ℕ) → 16 ≤ length block.now
+        header_text_of read.0 read.2 (length block.now) read.1 ≡ take 16 block.now) }
+    ensures only { (header : Header) (context : KeyContext) (count : ℕ) → 16 ≤ length block.now
         → length block.now < 10000 → count < 100
-        → header_text_of header (length block.now) count ≡ take 16 block.now
+        → header_text_of header context (length block.now) count ≡ take 16 block.now
         → IsOkAnd result (λ read. (read.0.version ≡ header.version)
-        × (fields_text read.0 ≡ fields_text header) × (read.1 ≡ count)) }
+        × (fields_text read.0 ≡ fields_text header) × (read.1 ≡ count)
+        × (read.2 ≡ context)) }
     ensures fault { result_err result ≡ header_fault block.now }
 {
-    if block.len() < 16 || block.len() > 9999 || !says_length(block) {
+    if block.len() < 16 || block.len() > MOST_CHARACTERS || !says_length(block) {
         return Err(KeyBlockError::Length);
     }
     let version = match Version::of(block[0]) {
         Some(version) => version,
         None => return Err(KeyBlockError::Version),
     };
-    match count_of(block) {
-        Some(count) => Ok((fields_of(version, block), count)),
+    match ending_of(block) {
+        Some((count, context)) => Ok((fields_of(version, block), count, context)),
         None => Err(KeyBlockError::Header),
     }
 }

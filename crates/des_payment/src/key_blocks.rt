@@ -1,11 +1,12 @@
 //! Key blocks (ANSI X9.143, ASC X9 TR-31) of versions B and C, and reading of version A: a key with
 //! what it is for, encrypted and authenticated under a protection key, as ASCII characters.
 
-ghost use Rattle.std.specs.Prelude.{◌≡◌, ◌+◌, ◌*◌, ◌%◌, ◌<◌, ◌≤◌, ◌++◌, List, ℕ, length, map, take, drop, slice_get, option_map, IfOk, IfErr, IsOkAnd, IfSome, IfNone, OnErr, IsTrue};
+ghost use Rattle.std.specs.Prelude.{◌≡◌, ◌+◌, ◌*◌, ◌%◌, ◌<◌, ◌≤◌, ◌++◌, List, ℕ, length, map, take, drop, slice_get, option_map, IfOk, IfErr, IsOkAnd, IfSome, IfNone, OnOk, OnErr, IsTrue};
 ghost use Rattle.std.specs.Result.{result_err};
 ghost use Rattle.std.specs.List.{All};
 ghost use Rattle.des.specs.Blocks.{AreBytes, IsBlock};
 ghost use Rattle.des_payment.specs.Hex.{hex_of};
+ghost use Rattle.des_payment.specs.declared.key_block_header.KeyContext.TheVariants.{StorageOrExchange};
 ghost use Rattle.des_payment.specs.KeyBlockHeaders.{IsHeader, IsNamed, header_text as header_text_of};
 ghost use Rattle.des_payment.specs.KeyBlocks.{joined, key_data, mac_size as mac_size_of, is_protection_key, is_key_data, parts_fault, HasParts, IsSealed, HoldsKey, IsKeyBlock, front_text, size_of_block, wrap_fault};
 ghost use Rattle.des_payment.specs.KeyBlockReading.{AreAlike, is_sealed_length as is_sealed_length_of, AreHexDigits, HasLayout, HasLayoutFault, HasSealFault, HasFault};
@@ -14,9 +15,11 @@ ghost use Rattle.des_payment.specs.OptionalBlocks.{AreOptionalBlocks, blocks_tex
 
 use crate::hex::{read_hex, write_hex};
 use crate::key_block_error::KeyBlockError;
-use crate::key_block_header::{Header, Version, header_text, read_header};
+use crate::key_block_header::{
+    Header, KeyContext, MOST_CHARACTERS, Version, header_text, is_written, read_header,
+};
 use crate::optional_blocks::{
-    MOST, OptionalBlock, filled_extent, first_block, size_of_blocks, write_blocks,
+    OptionalBlock, filled_extent, first_block, size_of_blocks, write_blocks,
 };
 use crate::passes::is_key;
 use crate::protection_keys::protection_keys;
@@ -72,9 +75,9 @@ impl fmt::Debug for BlockKey {
     }
 }
 
-// The header of a block, and how many characters it has with the optional blocks, or the first
-// fault of these.
-fn front_of(block: &[u8]) -> Result<(Header, usize), KeyBlockError>
+// The header of a block, how many characters it has with the optional blocks, and the key's
+// context, or the first fault of these.
+fn front_of(block: &[u8]) -> Result<(Header, usize, KeyContext), KeyBlockError>
     ensures least { IfOk result (λ found. 16 ≤ found.1) }
     ensures within { IfOk result (λ found. found.1 ≤ length block.now) }
     ensures found { IfOk result (λ found. (blocks : List (List ℕ × List ℕ))
@@ -83,9 +86,12 @@ fn front_of(block: &[u8]) -> Result<(Header, usize), KeyBlockError>
     ensures only { (header : Header) (blocks : List (List ℕ × List ℕ)) (front rest : List ℕ)
         → HasParts header blocks front rest block.now
         → IsOkAnd result (λ found. AreAlike found.0 header × (found.1 ≡ length front)) }
+    ensures context { (header : Header) (blocks : List (List ℕ × List ℕ)) (front rest : List ℕ)
+        → (parts : HasParts header blocks front rest block.now)
+        → IsOkAnd result (λ found. found.2 ≡ parts.context) }
     ensures fault { IfErr result (λ error. HasLayoutFault block.now error) }
 {
-    let (header, count) = read_header(block)?;
+    let (header, count, context) = read_header(block)?;
     let size = match size_of_blocks(&block[HEADER..], count) {
         Some(size) => size,
         None => return Err(KeyBlockError::OptionalBlock),
@@ -93,7 +99,7 @@ fn front_of(block: &[u8]) -> Result<(Header, usize), KeyBlockError>
     if size % 8 != 0 {
         return Err(KeyBlockError::OptionalBlock);
     }
-    Ok((header, HEADER + size))
+    Ok((header, HEADER + size, context))
 }
 
 // Whether so many characters are those of encrypted key data and a MAC.
@@ -104,9 +110,9 @@ fn is_sealed_length(version: Version, size: usize) -> bool
     size == mac + 16 || size == mac + 32 || size == mac + 48 || size == mac + 64
 }
 
-// The header of a block, and how many characters it has with the optional blocks, or the first
-// fault that shows without a key.
-fn layout_of(block: &[u8]) -> Result<(Header, usize), KeyBlockError>
+// The header of a block, how many characters it has with the optional blocks, and the key's
+// context, or the first fault that shows without a key.
+fn layout_of(block: &[u8]) -> Result<(Header, usize, KeyContext), KeyBlockError>
     ensures least { IfOk result (λ found. 16 ≤ found.1) }
     ensures within { IfOk result (λ found. found.1 ≤ length block.now) }
     ensures found { IfOk result (λ found. (blocks : List (List ℕ × List ℕ))
@@ -118,13 +124,15 @@ fn layout_of(block: &[u8]) -> Result<(Header, usize), KeyBlockError>
         → HasParts header blocks front rest block.now
         → IsTrue (is_sealed_length_of header.version (length rest))
         → IsOkAnd result (λ found. AreAlike found.0 header × (found.1 ≡ length front)) }
+    ensures context { (layout : HasLayout block.now)
+        → IsOkAnd result (λ found. found.2 ≡ layout.parts.context) }
     ensures fault { IfErr result (λ error. HasLayoutFault block.now error) }
 {
-    let (header, front) = front_of(block)?;
+    let (header, front, context) = front_of(block)?;
     if !is_sealed_length(header.version, block.len() - front) {
         return Err(KeyBlockError::DataLength);
     }
-    Ok((header, front))
+    Ok((header, front, context))
 }
 
 // Eight of the bytes, from a place.
@@ -258,7 +266,7 @@ pub fn unwrap(protection: &[u8], block: &[u8]) -> Result<(Header, BlockKey), Key
     if protection.len() != 16 && protection.len() != 24 {
         return Err(KeyBlockError::ProtectionKeyLength);
     }
-    let (header, size) = layout_of(block)?;
+    let (header, size, _) = layout_of(block)?;
     let (front, text) = block.split_at(size);
     let key = sealed_key(header.version, protection, front, text)?;
     Ok((header, key))
@@ -277,8 +285,20 @@ pub fn header(block: &[u8]) -> Result<Header, KeyBlockError>
         → IsOkAnd result (λ found. AreAlike found header) }
     ensures fault { IfErr result (λ error. HasLayoutFault block.now error) }
 {
-    let (header, _) = layout_of(block)?;
+    let (header, _, _) = layout_of(block)?;
     Ok(header)
+}
+
+/// Where the key of a block may be, by the block's header, or the block's first fault, as far as it
+/// has one that shows without a key. Nothing of it is authenticated: `unwrap` does that.
+pub fn key_context(block: &[u8]) -> Result<KeyContext, KeyBlockError>
+    ensures parts { IfOk result (λ _. HasLayout block.now) }
+    ensures found { (layout : HasLayout block.now)
+        → IsOkAnd result (λ context. context ≡ layout.parts.context) }
+    ensures fault { IfErr result (λ error. HasLayoutFault block.now error) }
+{
+    let (_, _, context) = layout_of(block)?;
+    Ok(context)
 }
 
 // The block at a place, from 0, of a text of optional blocks, and how many characters stand before
@@ -322,7 +342,7 @@ pub fn placed_optional_block(
         (drop 16 (take (found.1 + length found.0.content.now) block.now)))) }
     ensures fault { IfErr result (λ error. HasLayoutFault block.now error) }
 {
-    let (_, size) = layout_of(block)?;
+    let (_, size, _) = layout_of(block)?;
     match block_at(&block[HEADER..size], place) {
         Some((found, before)) => Ok(Some((found, HEADER + before))),
         None => Ok(None),
@@ -370,17 +390,23 @@ fn data_of(key: &[u8], padding: &[u8]) -> [u8; MOST_DATA]
 // The fault of what a block is to be made of, if it has one.
 fn check_parts(
     protection: &[u8],
-    version: Version,
+    header: &Header,
     key: &[u8],
     padding: &[u8],
 ) -> Result<(), KeyBlockError>
-    ensures { result_err result ≡ parts_fault protection.now version key.now padding.now }
+    ensures fault { result_err result ≡ parts_fault protection.now header.now key.now padding.now }
+    ensures protection { OnOk result (IsTrue (is_protection_key protection.now)) }
+    ensures clear { OnOk result (IsTrue (is_key_data key.now padding.now)) }
+    ensures small { OnOk result (2 + length key.now + length padding.now ≤ 32) }
 {
     if protection.len() != 16 && protection.len() != 24 {
         return Err(KeyBlockError::ProtectionKeyLength);
     }
-    if version == Version::A {
+    if header.version == Version::A {
         return Err(KeyBlockError::Version);
+    }
+    if !is_written(header) {
+        return Err(KeyBlockError::Header);
     }
     if !is_key(key) {
         return Err(KeyBlockError::KeyLength);
@@ -409,7 +435,7 @@ fn write_front(
     ensures are { AreOptionalBlocks
         (filled (map (λ block. (block.name, block.content.now)) optional.now))
         (blocks_text (filled (map (λ block. (block.name, block.content.now)) optional.now))) }
-    ensures text { front.new ≡ header_text_of header.now size count
+    ensures text { front.new ≡ header_text_of header.now StorageOrExchange size count
         ++ blocks_text (filled (map (λ block. (block.name, block.content.now)) optional.now)) }
 {
     let (fields, blocks) = front.split_at_mut(HEADER);
@@ -452,13 +478,17 @@ fn write_sealed(
 ///
 /// The padding fills the last eight bytes after two bytes of length and the key; 22, 14 or 6 bytes
 /// of it hide how long the key is. Where the optional blocks do not fill eight characters, a block
-/// `PB` of zeros does. A block's length has two digits where they hold it, else the longer form.
+/// `PB` of zeros does. A block's length has two digits where they hold it, else the longer form. The
+/// key's context is `StorageOrExchange`.
 ///
 /// The first fault is reported, in this order: `ProtectionKeyLength`; `Version`, where it is `A`;
-/// `KeyLength`; `PaddingLength`; `OptionalBlock`, where there are more than 99; `Length`, where
-/// they have more than 9999 characters; `OptionalBlock`, where one more than 99 would have to fill
-/// them; `Length`, where the block has more than 9999 characters or `text` is too short. After a
-/// fault `text` is what it was, and else what stands in it after the block is.
+/// `Header`, where a field has other characters than letters and digits; `KeyLength`;
+/// `PaddingLength`; `OptionalBlock`, where there are more than 99, or one has a name that is not
+/// letters and digits or a content that is not printable ASCII; `Length`, where they have more than
+/// 9999 characters; `OptionalBlock`, where a `PB` is not their last, or does not end at a multiple
+/// of eight characters, or where one more than 99 would have to fill them; `Length`, where the block
+/// has more than 9999 characters or `text` is too short. After a fault `text` is what it was, and
+/// else what stands in it after the block is.
 pub fn wrap(
     protection: &[u8],
     header: &Header,
@@ -467,7 +497,7 @@ pub fn wrap(
     padding: &[u8],
     text: &mut [u8],
 ) -> Result<usize, KeyBlockError>
-    ensures fault { result_err result ≡ wrap_fault protection.now header.now.version
+    ensures fault { result_err result ≡ wrap_fault protection.now header.now
         (map (λ block. (block.name, block.content.now)) optional.now)
         key.now padding.now (length text.old) }
     ensures within { IfOk result (λ size. size ≤ length text.new) }
@@ -485,11 +515,11 @@ pub fn wrap(
     ensures rest { IfOk result (λ size. drop size text.new ≡ drop size text.old) }
     ensures same { OnErr result (text.new ≡ text.old) }
 {
-    check_parts(protection, header.version, key, padding)?;
+    check_parts(protection, header, key, padding)?;
     let (size, count) = filled_extent(optional)?;
     let front = HEADER + size;
     let whole = front + 2 * (2 + key.len() + padding.len() + mac_size(header.version));
-    if whole > text.len() || whole > MOST {
+    if whole > text.len() || whole > MOST_CHARACTERS {
         return Err(KeyBlockError::Length);
     }
     let (block, _) = text.split_at_mut(whole);

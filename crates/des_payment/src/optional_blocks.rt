@@ -1,15 +1,20 @@
 //! The optional blocks of a key block (ANSI X9.143, ASC X9 TR-31), which stand after the header.
 
-ghost use Rattle.std.specs.Prelude.{◌≡◌, ℕ, List, ◌+◌, ◌-◌, ◌*◌, ◌%◌, ◌^◌, ◌<◌, ◌≤◌, ◌⊎◌, ◌++◌, length, map, take, drop, codes, Some, Ok, IfSome, IfNone, IsSomeAnd, IfOk, IfErr};
+ghost use Rattle.std.specs.Prelude.{◌≡◌, ℕ, List, ◌+◌, ◌-◌, ◌*◌, ◌%◌, ◌^◌, ◌<◌, ◌≤◌, ◌⊎◌, ◌==◌, ◌++◌, if◌then◌else◌, length, map, take, drop, codes, Some, Ok, IfSome, IfNone, IsSomeAnd, IfOk, IfErr, OnErr};
 ghost use Rattle.std.specs.Result.{result_err};
 ghost use Rattle.des_payment.specs.declared.key_block_error.KeyBlockError.TheVariants.{OptionalBlock as NoOptionalBlock};
 ghost use Rattle.des_payment.specs.KeyBlocks.{blocks_fault};
 ghost use Rattle.des_payment.specs.OptionalBlocks.{long_block, IsOptionalBlock, AreOptionalBlocks, block_text, blocks_text, filled};
 ghost use Rattle.des_payment.specs.OptionalBlocks.{size_of as size_of_content, size_of_all as size_of_contents};
+ghost use Rattle.des_payment.specs.OptionalBlocks.{is_printable as is_printable_of, are_printable as are_printable_of, is_written as is_written_of, are_written as are_written_of, is_filling as is_filling_of, are_placed as are_placed_of};
 ghost use Rattle.des_payment.specs.Hex.{hex_number as hex_number_of};
 
 use crate::hex::{hex_digit, hex_number};
 use crate::key_block_error::KeyBlockError;
+use crate::key_block_header::{MOST_CHARACTERS, are_alphanumeric};
+
+/// The most optional blocks of a key block.
+pub const MOST_BLOCKS: usize = 99;
 
 /// An optional block: its name, two characters, and its content, ASCII characters.
 #[derive(Clone, Copy)]
@@ -104,16 +109,15 @@ pub(crate) fn size_of_blocks(text: &[u8], count: usize) -> Option<usize>
     Some(first + rest)
 }
 
-/// Reads optional blocks that stand one after another, as in a key block, to the front of `blocks`,
-/// and gives how many they are. A text that is not such, or holds more than 99, is an error,
-/// `OptionalBlock`.
-pub fn read_optional_blocks<'a>(
+// Reads optional blocks to the front of `blocks`, and gives how many they are.
+fn read_blocks<'a>(
     text: &'a [u8],
-    blocks: &mut [OptionalBlock<'a>; 99],
+    blocks: &mut [OptionalBlock<'a>; MOST_BLOCKS],
 ) -> Result<usize, KeyBlockError>
     ensures few { IfOk result (λ count. count ≤ 99) }
     ensures read { IfOk result (λ count. AreOptionalBlocks
         (map (λ block. (block.name, block.content.now)) (take count blocks.new)) text.now) }
+    ensures rest { IfOk result (λ count. drop count blocks.new ≡ drop count blocks.old) }
     ensures only { (read : List (List ℕ × List ℕ)) → length read ≤ 99
         → AreOptionalBlocks read text.now → result ≡ Ok (length read) }
     ensures fault { IfErr result (λ error. error ≡ NoOptionalBlock) }
@@ -134,11 +138,96 @@ pub fn read_optional_blocks<'a>(
     Ok(count)
 }
 
-// The most characters of a key block.
-pub(crate) const MOST: usize = 9999;
+/// Reads optional blocks that stand one after another, as in a key block, to the front of `blocks`,
+/// and gives how many they are; those after them stay. A text that is not such, or holds more than
+/// 99, is an error, `OptionalBlock`, and then all of `blocks` stays.
+pub fn read_optional_blocks<'a>(
+    text: &'a [u8],
+    blocks: &mut [OptionalBlock<'a>; MOST_BLOCKS],
+) -> Result<usize, KeyBlockError>
+    ensures few { IfOk result (λ count. count ≤ 99) }
+    ensures read { IfOk result (λ count. AreOptionalBlocks
+        (map (λ block. (block.name, block.content.now)) (take count blocks.new)) text.now) }
+    ensures rest { IfOk result (λ count. drop count blocks.new ≡ drop count blocks.old) }
+    ensures only { (read : List (List ℕ × List ℕ)) → length read ≤ 99
+        → AreOptionalBlocks read text.now → result ≡ Ok (length read) }
+    ensures fault { IfErr result (λ error. error ≡ NoOptionalBlock) }
+    ensures same { OnErr result (blocks.new ≡ blocks.old) }
+{
+    let mut read = *blocks;
+    let count = read_blocks(text, &mut read)?;
+    *blocks = read;
+    Ok(count)
+}
 
-// The most optional blocks.
-const MOST_BLOCKS: usize = 99;
+/// Whether a character is a space or a printable one of ASCII.
+pub fn is_printable(character: u8) -> bool
+    ensures { result ≡ is_printable_of character }
+{
+    character >= b' ' && character <= b'~'
+}
+
+// Whether all characters are such.
+fn are_printable(text: &[u8]) -> bool
+    ensures { result ≡ are_printable_of text.now }
+{
+    text.iter().all(|character| is_printable(*character))
+}
+
+// Whether a block has a name of letters and digits, and a content of printable characters.
+fn is_written(block: &OptionalBlock<'_>) -> bool
+    ensures { result ≡ is_written_of (block.now.name, block.now.content.now) }
+{
+    are_alphanumeric(&block.name) && are_printable(block.content)
+}
+
+// Whether all blocks are such.
+fn are_written(blocks: &[OptionalBlock<'_>]) -> bool
+    ensures { result
+        ≡ are_written_of (map (λ block. (block.name, block.content.now)) blocks.now) }
+{
+    for block in blocks {
+        if !is_written(block) {
+            return false;
+        }
+    }
+    true
+}
+
+// Whether a block has the name of one that fills.
+fn is_filling(block: &OptionalBlock<'_>) -> bool
+    ensures { result ≡ is_filling_of (block.now.name, block.now.content.now) }
+{
+    block.name[0] == b'P' && block.name[1] == b'B'
+}
+
+// How many of so many blocks may not fill: where they have a multiple of eight characters, the last
+// may.
+fn unfilling(count: usize, size: usize) -> usize
+    ensures { result ≡ (if size % 8 == 0 then count - 1 else count) }
+{
+    if size % 8 == 0 {
+        count.saturating_sub(1)
+    } else {
+        count
+    }
+}
+
+// Whether no block is a `PB`, but the last, where they end with it at a multiple of eight of so many
+// characters.
+fn are_placed(blocks: &[OptionalBlock<'_>], size: usize) -> bool
+    requires { size ≡ size_of_contents (map (λ block. (block.name, block.content.now)) blocks.now) }
+    ensures { result
+        ≡ are_placed_of (map (λ block. (block.name, block.content.now)) blocks.now) }
+{
+    let others = &blocks[..unfilling(blocks.len(), size)];
+    for block in others {
+        if is_filling(block) {
+            return false;
+        }
+    }
+    true
+}
 
 // How many characters an optional block of a content has.
 fn size_of(content: &[u8]) -> usize
@@ -161,11 +250,11 @@ fn size_of_all(blocks: &[OptionalBlock<'_>]) -> Option<usize>
 {
     let mut size = 0;
     for block in blocks {
-        if block.content.len() > MOST {
+        if block.content.len() > MOST_CHARACTERS {
             return None;
         }
         size += size_of(block.content);
-        if size > MOST {
+        if size > MOST_CHARACTERS {
             return None;
         }
     }
@@ -193,13 +282,16 @@ pub(crate) fn filled_extent(blocks: &[OptionalBlock<'_>]) -> Result<(usize, usiz
     ensures alone { IfOk result (λ _. size_of_contents
         (map (λ block. (block.name, block.content.now)) blocks.now) ≤ 9999) }
 {
-    if blocks.len() > MOST_BLOCKS {
+    if blocks.len() > MOST_BLOCKS || !are_written(blocks) {
         return Err(KeyBlockError::OptionalBlock);
     }
     let size = match size_of_all(blocks) {
         Some(size) => size,
         None => return Err(KeyBlockError::Length),
     };
+    if !are_placed(blocks, size) {
+        return Err(KeyBlockError::OptionalBlock);
+    }
     if size % 8 == 0 {
         return Ok((size, blocks.len()));
     }

@@ -6,8 +6,9 @@
 //! mask. A bit that is clear in all counters of a group takes no time. No branch and no index
 //! depends on a key; serial numbers are no secrets.
 
-ghost use Rattle.std.specs.Prelude.{◌≡◌, ◌↔◌, ℕ, ◌+◌, ◌*◌, ◌/◌, ◌^◌, ◌<◌, ◌≤◌, ◌==◌, ◌++◌, if◌then◌else◌, false, length, map, IsOk, OnOk, OnErr};
+ghost use Rattle.std.specs.Prelude.{◌≡◌, ◌↔◌, ℕ, ◌+◌, ◌*◌, ◌/◌, ◌^◌, ◌<◌, ◌≤◌, ◌==◌, ◌++◌, if◌then◌else◌, length, map, IsOk, OnOk, OnErr};
 ghost use Rattle.std.specs.Int.{w64, bit_at, to_be_bytes};
+ghost use Rattle.std.specs.List.{list_any};
 ghost use Rattle.std.specs.Simd.Lanes.{zip2};
 ghost use Rattle.des.specs.Blocks.{part};
 ghost use Rattle.des.specs.Cbc.{xor_blocks};
@@ -164,15 +165,10 @@ fn keys_after(
 // Whether a counter has a one at a place.
 fn some_take(serials: &[[u8; 10]], place: u32) -> bool
     requires { place < 21 }
-    ensures { result ≡ false → (k : ℕ) → k < length serials.now
-        → bit_at (counter_of (block_at serials.now k)) place ≡ 0 }
+    ensures { result
+        ≡ list_any (λ serial. bit_at (counter_of serial) place == 1) serials.now }
 {
-    'lanes: for k in 0..serials.len() {
-        if counter_bit(&serials[k], place) == 1 {
-            return true;
-        }
-    }
-    false
+    serials.iter().any(|serial| counter_bit(serial, place) == 1)
 }
 
 // Takes the keys of a group through one place of their counters.

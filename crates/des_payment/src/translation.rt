@@ -2,6 +2,7 @@
 //! The PIN does not come out.
 
 ghost use Rattle.std.specs.Prelude.{◌≡◌, ◌↔◌, ℕ, List, None, IfOk, OnOk, IsTrue};
+ghost use Rattle.std.specs.Option.{option_or};
 ghost use Rattle.std.specs.Result.{result_err};
 ghost use Rattle.des.specs.Cbc.{xor_blocks};
 ghost use Rattle.des_payment.specs.Digits.{digits_of as digits_in};
@@ -9,10 +10,10 @@ ghost use Rattle.des_payment.specs.Texts.{IsAccountNumber};
 ghost use Rattle.des_payment.specs.PinBlocks.{account_field as account_field_of};
 ghost use Rattle.des_payment.specs.KeyLengths.{is_key as is_key_of};
 ghost use Rattle.des_payment.specs.Translation.{is_origin as is_origin_of, is_target as is_target_of, IsIn, block_fault, IsTranslation, request_fault, fill_fault};
-ghost use Rattle.des_payment.specs.Translation.{translation_fault};
+ghost use Rattle.des_payment.specs.Translation.{translation_fault, key_fault, rekeying_fault, rekeyed};
 
 use crate::digits::digits_of;
-use crate::fields::{account_field, are_fill, read_or_zeros};
+use crate::fields::{account_field, are_fill, is_pin_field, read_or_zeros};
 use crate::passes::{decrypted_by, encrypted_by, is_key};
 use crate::pin::Pin;
 use crate::pin_blocks::{encode_format_0, encode_format_3};
@@ -74,6 +75,18 @@ fn check_fill(format: Format, fill: &[u8; 10]) -> Result<(), TranslationError>
     }
 }
 
+// Whether the keys have one part, two or three.
+fn check_keys(incoming: &[u8], outgoing: &[u8]) -> Result<(), TranslationError>
+    ensures fault { result_err result ≡ option_or (key_fault incoming.now) (key_fault outgoing.now) }
+    ensures incoming { OnOk result (IsTrue (is_key_of incoming.now)) }
+    ensures outgoing { OnOk result (IsTrue (is_key_of outgoing.now)) }
+{
+    if !is_key(incoming) || !is_key(outgoing) {
+        return Err(TranslationError::KeyLength);
+    }
+    Ok(())
+}
+
 // The first fault of what is asked for, if it has one.
 fn check_request(
     incoming: &[u8],
@@ -91,9 +104,7 @@ fn check_request(
     ensures account { OnOk result (IsAccountNumber account.now) }
     ensures fill { OnOk result (fill_fault to fill.now ≡ None) }
 {
-    if !is_key(incoming) || !is_key(outgoing) {
-        return Err(TranslationError::KeyLength);
-    }
+    check_keys(incoming, outgoing)?;
     if !is_origin(from) || !is_target(to) {
         return Err(TranslationError::Formats);
     }
@@ -146,11 +157,11 @@ fn encoded(format: Format, pin: &Pin, account: &[u8], fill: &[u8; 10]) -> [u8; 8
 /// Translates a PIN block that is encrypted under one key, of 8, 16 or 24 bytes, into the block of
 /// the same PIN that is encrypted under another: by DES, or by triple DES in the EDE form.
 ///
-/// The standard translates from the formats 0, 1 and 3 to the formats 0 and 3. The account number, a
-/// text of 8 to 19 digits with the check digit, is that of both blocks, and the fill digits are
-/// those of an outgoing block of format 3. The faults are `KeyLength`, `Formats`, `AccountLength`,
-/// `AccountDigit` and `Fill`, and then `Block`, whatever is wrong with the block: it is told last,
-/// when a block was encrypted all the same.
+/// It goes from the formats 0, 1 and 3 to the formats 0 and 3; for 1 to 1 there is
+/// `translate_format_1`. The account number, a text of 8 to 19 digits with the check digit, is that
+/// of both blocks, and the fill digits are those of an outgoing block of format 3. The faults are
+/// `KeyLength`, `Formats`, `AccountLength`, `AccountDigit` and `Fill`, and then `Block`, whatever is
+/// wrong with the block: it is told last, when a block was encrypted all the same.
 pub fn translate(
     incoming: &[u8],
     from: Format,
@@ -168,6 +179,29 @@ pub fn translate(
     check_request(incoming, from, outgoing, to, account, fill)?;
     let (is_right, pin) = decoded(from, &decrypted_by(incoming, block), account);
     let answer = encrypted_by(outgoing, &encoded(to, &pin, account, fill));
+    if is_right {
+        Ok(answer)
+    } else {
+        Err(TranslationError::Block)
+    }
+}
+
+/// Translates a PIN block of format 1 that is encrypted under one key, of 8, 16 or 24 bytes, into the
+/// same block under another: by DES, or by triple DES in the EDE form. The transaction digits, which
+/// are any, stay, and there is no account number. The faults are `KeyLength`, and then `Block`, which
+/// is told last as by `translate`.
+pub fn translate_format_1(
+    incoming: &[u8],
+    outgoing: &[u8],
+    block: &[u8; 8],
+) -> Result<[u8; 8], TranslationError>
+    ensures fault { result_err result ≡ rekeying_fault incoming.now outgoing.now block.now }
+    ensures answer { IfOk result (λ answer. answer ≡ rekeyed incoming.now outgoing.now block.now) }
+{
+    check_keys(incoming, outgoing)?;
+    let clear = decrypted_by(incoming, block);
+    let is_right = is_pin_field(1, 0, &digits_of(&clear));
+    let answer = encrypted_by(outgoing, &clear);
     if is_right {
         Ok(answer)
     } else {

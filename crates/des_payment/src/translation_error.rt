@@ -12,7 +12,7 @@ use std::fmt;
 pub enum TranslationError {
     /// One of the keys does not have 8, 16 or 24 bytes.
     KeyLength,
-    /// The standard has no translation from the one format to the other.
+    /// `translate` does not go from the one format to the other.
     Formats,
     /// The account number does not have 8 to 19 digits.
     AccountLength,

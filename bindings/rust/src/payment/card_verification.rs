@@ -9,7 +9,7 @@ use crate::statuses::{
 /// Why there is no card verification value. The first of them is reported, in this order.
 #[derive(Clone, Copy, Debug, PartialEq, Eq)]
 pub enum CvvError {
-    /// The account number does not have 13 to 19 digits.
+    /// The account number does not have 12 to 19 digits.
     AccountLength,
     /// A character of the account number is not a digit.
     AccountDigit,
@@ -24,7 +24,7 @@ pub enum CvvError {
 }
 
 sentences!(CvvError:
-    CvvError::AccountLength => "the account number does not have 13 to 19 digits",
+    CvvError::AccountLength => "the account number does not have 12 to 19 digits",
     CvvError::AccountDigit => sentence(ACCOUNT_DIGIT),
     CvvError::ExpiryLength => sentence(EXPIRY_LENGTH),
     CvvError::ExpiryDigit => sentence(EXPIRY_DIGIT),
@@ -32,7 +32,7 @@ sentences!(CvvError:
     CvvError::ServiceDigit => sentence(SERVICE_DIGIT),
 );
 
-/// The card verification value, three ASCII digits, of an account number of 13 to 19 digits with the check digit, an expiry
+/// The card verification value, three ASCII digits, of an account number of 12 to 19 digits with the check digit, an expiry
 /// date of four and a service code of three, under a key pair of 16 bytes.
 pub fn cvv(key: &[u8; 16], account: &[u8], expiry: &[u8], service: &[u8]) -> Result<[u8; 3], CvvError> {
     let mut value = [0; 4];

@@ -35,11 +35,12 @@ pub enum KeyBlockError {
     Length,
     /// The version is none of `A`, `B` and `C`; or a block of another than `B` and `C` is to be made.
     Version,
-    /// The number of optional blocks is not two digits and two zeros; or a field of a header that is to be written has other
+    /// The header does not end with two digits, a context and a zero; or a field of a header that is to be written has other
     /// characters than letters and digits.
     Header,
     /// The optional blocks of a block can't be read, or do not end at a multiple of eight characters; or those of a block that is
-    /// to be made are more than 99, or one of them is a `PB`, or has a content that is not printable ASCII alone.
+    /// to be made are more than 99, or one has a name that is not letters and digits, or a content that is not printable ASCII, or
+    /// is a `PB` that is not the last, or does not end at a multiple of eight characters.
     OptionalBlock,
     /// What stands after the header and the optional blocks is not as long as encrypted key data and a MAC are.
     DataLength,
@@ -58,7 +59,7 @@ sentences!(KeyBlockError:
     KeyBlockError::Length => sentence(KEY_BLOCK_LENGTH),
     KeyBlockError::Version => sentence(VERSION),
     KeyBlockError::Header => sentence(HEADER),
-    KeyBlockError::OptionalBlock => sentence(OPTIONAL_BLOCK); "; or one is a PB, or its content is not printable ASCII",
+    KeyBlockError::OptionalBlock => sentence(OPTIONAL_BLOCK),
     KeyBlockError::DataLength => sentence(KEY_DATA_LENGTH),
     KeyBlockError::Digit => sentence(KEY_BLOCK_DIGIT),
     KeyBlockError::Mac => sentence(KEY_BLOCK_MAC),
@@ -196,6 +197,16 @@ pub fn header(block: &[u8]) -> Result<Header, KeyBlockError> {
     checked(status, Header::from(&fields))
 }
 
+/// Where the key of a block may be, or the block's first fault, as far as it has one that shows without a key: `0` in storage and
+/// exchange, as [`wrap`] writes it, `1` in storage only, `2` in exchange only. Nothing of it is authenticated: [`unwrap`] does that.
+pub fn key_context(block: &[u8]) -> Result<u8, KeyBlockError> {
+    let mut context = [0];
+    let written: *mut [u8; 1] = &mut context;
+    let status = unsafe { ffi::cukvashe_key_block_context(block.as_ptr().cast(), block.len(), written.cast()) };
+    let [character] = context;
+    checked(status, character)
+}
+
 /// The optional block of a block at a place, from 0, or `None` where there are no more. Nothing of it is authenticated.
 pub fn optional_block(block: &[u8], place: usize) -> Result<Option<OptionalBlock<'_>>, KeyBlockError> {
     let (mut name, mut offset, mut length) = ([0; 3], 0, 0);
@@ -218,15 +229,9 @@ const MOST_BLOCKS: usize = 99;
 /// More characters than as many optional blocks can have in a key block, each with a length of four digits.
 const MOST_OPTIONAL: usize = MOST + 6 * MOST_BLOCKS;
 
-/// Whether an optional block can be written: it is no `PB`, which the library adds, and its content is printable ASCII, since others take
-/// a line end or a zero byte for the end of the block.
-fn is_writable(block: &OptionalBlock<'_>) -> bool {
-    block.name != *b"PB" && block.content.iter().all(|character| (b' '..=b'~').contains(character))
-}
-
 /// Writes optional blocks one after the other, and gives how many characters they have. The library writes each in its shortest form.
 fn write_blocks(blocks: &[OptionalBlock<'_>], text: &mut [u8; MOST_OPTIONAL]) -> Result<usize, KeyBlockError> {
-    if blocks.len() > MOST_BLOCKS || !blocks.iter().all(is_writable) {
+    if blocks.len() > MOST_BLOCKS {
         return Err(KeyBlockError::OptionalBlock);
     }
     let mut at = 0;
@@ -249,15 +254,15 @@ fn write_blocks(blocks: &[OptionalBlock<'_>], text: &mut [u8; MOST_OPTIONAL]) ->
 /// bytes to the front of `text`, and gives how many characters the block has.
 ///
 /// The padding stands after two bytes of length and the key, and ends at a multiple of eight bytes: 22, 14 or 6 bytes of it hide how
-/// long a key of 8, 16 or 24 bytes is. They have to be random: take them from the system. Where the optional blocks do not end at a
-/// multiple of eight characters, a block `PB` of zeros is added, so none is taken from you: leave out that of a block that was read.
-/// The content of an optional block is printable ASCII alone, from space to `~`; the characters of names are not tested.
+/// long a key of 8, 16 or 24 bytes is. They have to be random: take them from the system. An optional block has a name of letters and
+/// digits, and a content of printable ASCII, from space to `~`. Where they do not end at a multiple of eight characters, a block `PB` of
+/// zeros is added. A `PB` of yours is taken only as the last, where with it they end at one.
 ///
-/// The first fault is reported, in this order: `OptionalBlock`, where there are more than 99, or one is a `PB` or has a content of
-/// other characters; `Version`, where it is neither `B` nor `C`; `Header`, where a field has other characters than letters and digits;
-/// `ProtectionKeyLength`; `KeyLength`; `PaddingLength`; `OptionalBlock`, where with `PB` there are more than 99; and `Length`, where
-/// the block has more than 9999 characters, or is longer than `text`. Of optional blocks that are too long `Length` may come before
-/// all but the first of these. After a fault `text` stays as it was.
+/// The first fault is reported, in this order: `OptionalBlock`, where there are more than 99; `Version`, where it is neither `B` nor
+/// `C`; `ProtectionKeyLength`; `Header`, where a field has other characters than letters and digits; `KeyLength`; `PaddingLength`;
+/// `OptionalBlock`, where a name or a content has other characters, a `PB` is not taken, or with one that is added there are more than
+/// 99; and `Length`, where the block has more than 9999 characters, or is longer than `text`. Of optional blocks that are too long
+/// `Length` may come before all but the first of these. After a fault `text` stays as it was.
 pub fn wrap(
     protection: &[u8],
     header: &Header,

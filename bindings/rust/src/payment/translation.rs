@@ -37,7 +37,7 @@ pub enum Format {
 pub enum TranslationError {
     /// One of the keys does not have 8, 16 or 24 bytes.
     KeyLength,
-    /// The standard has no translation from the one format to the other.
+    /// [`translate`] does not go from the one format to the other.
     Formats,
     /// The account number does not have 8 to 19 digits.
     AccountLength,
@@ -61,8 +61,9 @@ sentences!(TranslationError:
 /// Translates a PIN block that is encrypted under one key, of 8, 16 or 24 bytes, into the block of the same PIN that is encrypted
 /// under another: by DES, or by triple DES in the EDE form.
 ///
-/// The standard translates from the formats 0, 1 and 3 to the formats 0 and 3. The account number, a text of 8 to 19 digits with
-/// the check digit, is that of both blocks, and the fill digits, from 10 to 15, are those of an outgoing block of format 3.
+/// It goes from the formats 0, 1 and 3 to the formats 0 and 3; for 1 to 1 there is [`translate_format_1`]. The account number, a
+/// text of 8 to 19 digits with the check digit, is that of both blocks, and the fill digits, from 10 to 15, are those of an outgoing
+/// block of format 3.
 pub fn translate(
     incoming: &[u8],
     from: Format,
@@ -72,7 +73,7 @@ pub fn translate(
     fill: &[u8; 10],
     block: &Block,
 ) -> Result<Block, TranslationError> {
-    // There is no translation to formats 1 and 2, as there is none from format 2, which the library refuses.
+    // It does not go to formats 1 and 2, as it does not from format 2, which the library refuses.
     let number = match to {
         Format::Format0 | Format::Format3 => from as c_int,
         Format::Format1 | Format::Format2 => Format::Format2 as c_int,
@@ -108,6 +109,30 @@ pub fn translate(
             ),
         }
     };
+    answer_of(status, translated)
+}
+
+/// Translates a PIN block of format 1 that is encrypted under one key, of 8, 16 or 24 bytes, into the same block under another: by
+/// DES, or by triple DES in the EDE form. The transaction digits, which are any, stay, and there is no account number. The errors are
+/// `KeyLength` and `Block`.
+pub fn translate_format_1(incoming: &[u8], outgoing: &[u8], block: &Block) -> Result<Block, TranslationError> {
+    let mut translated = [0; 8];
+    // SAFETY: the pointers are of references, those of keys good for their lengths, and don't overlap what is written.
+    let status = unsafe {
+        ffi::cukvashe_pin_translate_to_1(
+            incoming.as_ptr(),
+            incoming.len(),
+            outgoing.as_ptr(),
+            outgoing.len(),
+            block,
+            &mut translated,
+        )
+    };
+    answer_of(status, translated)
+}
+
+/// What a translation gives, by its status.
+fn answer_of(status: c_int, translated: Block) -> Result<Block, TranslationError> {
     match status {
         OK => Ok(translated),
         KEY_LENGTH => Err(TranslationError::KeyLength),

@@ -36,7 +36,24 @@ fn keys_of_cards_answer() {
     for length in LENGTHS {
         let fault = (!(8..=19).contains(&length)).then_some(EmvError::AccountLength);
         assert_eq!(card_key(&issuer, &vec![b'1'; length], b"00").err(), fault);
+        assert_eq!(card_key_b(&issuer, &vec![b'1'; length], b"00").err(), fault);
     }
+}
+
+/// By Python's hashlib and OpenSSL's cipher: of a hash with fourteen decimal digits, and of others.
+#[test]
+fn keys_of_cards_by_option_b_answer() {
+    let issuer = BASE.to_be_bytes();
+    for (account, sequence, key) in [
+        (&b"99012345678901234"[..], b"45", 0x985ec4fd3edf6162e31af1c7d0543416_u128),
+        (b"400000000000000033", b"00", 0x230138e9c154258a675808b649cdc79d),
+        (b"6304000000000000001", b"00", 0x37620232abc87a07c2d5d6586219929d),
+        (b"40000002", b"01", 0x8054df75a2b9a17915ce4cb613752549),
+    ] {
+        assert_eq!(card_key_b(&issuer, account, sequence), Ok(key.to_be_bytes()));
+    }
+    assert_eq!(card_key_b(&issuer, b"1234567a", b"0"), Err(EmvError::AccountDigit));
+    assert_eq!(card_key_b(&issuer, b"12345678", b"0:"), Err(EmvError::SequenceDigit));
 }
 
 /// The third byte of what a session key is made from plays no part.

@@ -64,6 +64,25 @@ fn known_blocks_are_opened() {
     }
 }
 
+/// The third known block in each other context, by OpenSSL, and the fourth, by the package; a last one of other fields.
+#[test]
+fn contexts_are_read() {
+    for (_, block, _, _) in KNOWN {
+        assert_eq!(key_context(block.as_bytes()), Ok(b'0'));
+    }
+    for (known, context, block) in [
+        (2, b'1', "C0096B0TX12S0110KS1800604B120F9292800000BFB9B689CB567E66FC3FEE5AD5F52161FC6545B9D60989017E674D98"),
+        (2, b'2', "C0096B0TX12S0120KS1800604B120F9292800000BFB9B689CB567E66FC3FEE5AD5F52161FC6545B9D6098901024F5594"),
+        (3, b'1', "B0080P0TE00E00106DFA2F8882DD45AB34AC04BC00A6A0D83D6C4757AC498C6A87197B104026787E"),
+        (3, b'2', "B0080P0TE00E00209847BA810EA9906EFB6E290E2F471CE7BF84D490AE1A4DB4B21FD7502A72DBD3"),
+        (2, b'0', "C0096B-T.1 S0100KS1800604B120F929280000056C75D0A42701F1C3139462287BBFA82C3254149E89A57036AED36A0"),
+    ] {
+        let (protection, _, key, _) = KNOWN[known];
+        let (_, bytes) = unwrap(&bytes_of(protection), block.as_bytes()).unwrap();
+        assert_eq!((bytes.bytes(), key_context(block.as_bytes())), (&bytes_of(key)[..], Ok(context)));
+    }
+}
+
 #[test]
 fn optional_blocks_are_read() {
     let of = |block: usize, place| optional_block(KNOWN[block].1.as_bytes(), place);
@@ -137,7 +156,10 @@ fn fault_with(place: usize, character: u8) -> Option<KeyBlockError> {
     let fault = unwrap(&protection, &block).err();
     // What shows without a key.
     let shown = fault.filter(|fault| ![KeyBlockError::Digit, KeyBlockError::Mac].contains(fault));
-    assert_eq!((header(&block).err(), optional_block(&block, 0).err()), (shown, shown));
+    assert_eq!(
+        (header(&block).err(), key_context(&block).err(), optional_block(&block, 0).err()),
+        (shown, shown, shown)
+    );
     fault
 }
 
@@ -147,6 +169,8 @@ fn blocks_are_refused() {
         (4, b'1', KeyBlockError::Length),
         (0, b'D', KeyBlockError::Version),
         (12, b'x', KeyBlockError::Header),
+        (14, b'3', KeyBlockError::Header),
+        (14, b'1', KeyBlockError::Mac),
         (15, b'1', KeyBlockError::Header),
         (13, b'1', KeyBlockError::OptionalBlock),
         (0, b'A', KeyBlockError::DataLength),
@@ -207,15 +231,20 @@ fn parts_are_refused() {
             Header { key_version: [b'0', wrong], ..PIN },
             Header { exportability: wrong, ..PIN },
         ] {
-            assert_eq!(wrap_fault(&header, &[], 0, 0, 0), Some(KeyBlockError::Header));
+            assert_eq!(wrap_fault(&header, &[], 16, 0, 0), Some(KeyBlockError::Header));
         }
     }
     assert_eq!(wrap_fault(&PIN, &[none; 100], 0, 0, 0), Some(KeyBlockError::OptionalBlock));
     assert_eq!(wrap_fault(&PIN, &[none; 99], 16, 16, 14), Some(KeyBlockError::OptionalBlock));
-    // A PB, also one that would be right; names that are alike are taken.
+    // A PB that does not fill, or is not the last; one that does, and names that are alike, are taken.
     let filling = OptionalBlock { name: *b"PB", content: b"" };
-    for optional in [&[filling][..], &[none, filling], &[filling, none]] {
-        assert_eq!(wrap_fault(&PIN, optional, 0, 0, 0), Some(KeyBlockError::OptionalBlock));
+    for optional in [&[filling][..], &[none, none, filling], &[filling, none], &[filling, none, none, filling]] {
+        assert_eq!(wrap_fault(&PIN, optional, 16, 16, 14), Some(KeyBlockError::OptionalBlock));
+    }
+    assert_eq!(wrap_fault(&PIN, &[none, filling], 16, 16, 14), None);
+    for name in [*b"K-", *b" S", *b"K\n", [b'K', 0xe9], [0, b'S']] {
+        let block = OptionalBlock { name, ..none };
+        assert_eq!(wrap_fault(&PIN, &[none, block], 16, 16, 14), Some(KeyBlockError::OptionalBlock));
     }
     for name in [*b"pb", *b"Pb", *b"BP", *b"PA"] {
         assert_eq!(wrap_fault(&PIN, &[OptionalBlock { name, ..none }], 16, 16, 14), None);
@@ -244,8 +273,4 @@ fn contents_are_printable() {
             assert_eq!(wrap_fault(&PIN, &[none, block], 16, 16, 14), fault);
         }
     }
-    // It stands before all faults that the library finds.
-    let block = OptionalBlock { content: "é".as_bytes(), ..none };
-    let header = Header { version: b'A', ..PIN };
-    assert_eq!(wrap_fault(&header, &[block], 0, 0, 0), Some(KeyBlockError::OptionalBlock));
 }

@@ -312,8 +312,10 @@ fn pin_blocks_are_refused() {
 fn card_verification_values_answer() {
     let (key, account) = (BASE.to_be_bytes(), b"4123456789012345");
     assert_eq!(cvv(&key, account, b"8701", b"101"), Ok(*b"561"));
+    // OpenSSL's ciphers make fe463f8ab388e519 of an account number of twelve digits.
+    assert_eq!(cvv(&key, b"400000123457", b"8701", b"101"), Ok(*b"463"));
     for (account, expiry, service, fault) in [
-        (&account[4..], &b""[..], &b""[..], CvvError::AccountLength),
+        (&account[5..], &b""[..], &b""[..], CvvError::AccountLength),
         (b"412345678901234:", b"", b"", CvvError::AccountDigit),
         (account, b"870", b"", CvvError::ExpiryLength),
         (account, b"87010", b"", CvvError::ExpiryLength),
@@ -326,7 +328,7 @@ fn card_verification_values_answer() {
     }
     for length in LENGTHS {
         let texts = vec![b'4'; length];
-        let fault = (!(13..=19).contains(&length)).then_some(CvvError::AccountLength);
+        let fault = (!(12..=19).contains(&length)).then_some(CvvError::AccountLength);
         assert_eq!(cvv(&key, &texts, b"8701", b"101").err(), fault);
         assert_eq!(
             cvv(&key, account, &texts, b"").err(),

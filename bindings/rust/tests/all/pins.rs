@@ -147,10 +147,11 @@ const ACCOUNT: &[u8] = b"4012345678909";
 const FILL: [u8; 10] = [10, 11, 12, 13, 14, 15, 10, 11, 12, 13];
 
 /// Blocks of the PIN 1234: of format 0 under the pair and under the other key, of format 3 under the other, of format 1 under the
-/// first part.
+/// pair and under its first part.
 const OF_0: u64 = 0xc03d21cdbcb0c58b;
 const OF_0_OTHER: u64 = 0x8856db66d89e9eff;
 const OF_3_OTHER: u64 = 0xba041cb9b3034d36;
+const OF_1: u64 = 0x646855a2370347d8;
 const OF_1_SINGLE: u64 = 0x824daa361d7dc65a;
 
 #[test]
@@ -167,6 +168,30 @@ fn blocks_are_translated() {
     ] {
         let made = translate(incoming, from, outgoing, to, ACCOUNT, &FILL, &block.to_be_bytes());
         assert_eq!(made, Ok(translated.to_be_bytes()));
+    }
+}
+
+/// A block of format 1 of PIN 1234 and the digits 0123456789, under keys of one part, two and three.
+#[test]
+fn blocks_of_format_1_are_translated() {
+    let (pair, other, parts) = (pair(), other(), parts());
+    let keys = [(&pair[..8], OF_1_SINGLE), (&pair, OF_1), (&other, 0xc6410daf0a0ad8f7), (&parts, 0x0fc16e52093ce92f)];
+    for ((incoming, block), (outgoing, answer)) in keys.into_iter().flat_map(|from| keys.map(|to| (from, to))) {
+        let made = translate_format_1(incoming, outgoing, &block.to_be_bytes());
+        assert_eq!(made, Ok(answer.to_be_bytes()));
+    }
+    for length in LENGTHS.filter(|length| ![8, 16, 24].contains(length)) {
+        let key = vec![1; length];
+        for (incoming, outgoing) in [(&key[..], &pair[..]), (&pair, &key)] {
+            let made = translate_format_1(incoming, outgoing, &[0; 8]);
+            assert_eq!(made, Err(TranslationError::KeyLength));
+        }
+    }
+    let cipher = TdesEde2::new(&pair);
+    for digits in [0x041274edcba9876f_u64, 0x1312340123456789, 0x1d12340123456789, 0x141a340123456789] {
+        let mut block = digits.to_be_bytes();
+        cipher.encrypt_block(&mut block);
+        assert_eq!(translate_format_1(&pair, &other, &block), Err(TranslationError::Block));
     }
 }
 

@@ -211,7 +211,7 @@ fn errors_are_sentences() {
         (Box::new(PinError::AccountLength), "the account number does not have 8 to 19 digits"),
         (Box::new(PinError::AccountDigit), "a character of the account number is not a digit"),
         (Box::new(PinError::Fill), "a fill digit is not one that the format allows"),
-        (Box::new(CvvError::AccountLength), "the account number does not have 13 to 19 digits"),
+        (Box::new(CvvError::AccountLength), "the account number does not have 12 to 19 digits"),
         (Box::new(CvvError::AccountDigit), "a character of the account number is not a digit"),
         (Box::new(CvvError::ExpiryLength), "the expiry date does not have four digits"),
         (Box::new(CvvError::ExpiryDigit), "a character of the expiry date is not a digit"),
@@ -254,12 +254,12 @@ fn errors_are_sentences() {
         (Box::new(KeyBlockError::Version), "the version of the key block is not one that the call takes"),
         (
             Box::new(KeyBlockError::Header),
-            "the number of optional blocks is not two digits and two zeros, or a field to be written is not letters and digits",
+            "the header does not end with two digits, 0, 1 or 2, and 0, or a field to be written is not letters and digits",
         ),
         (
             Box::new(KeyBlockError::OptionalBlock),
-            "the optional blocks can't be read: a wrong length, an end off a multiple of eight, or more than 99; \
-             or one is a PB, or its content is not printable ASCII",
+            "the optional blocks can't be read or written: a wrong length, name, content or PB, an end off a multiple of eight, \
+             or more than 99",
         ),
         (Box::new(KeyBlockError::DataLength), "the encrypted key data do not have a length that they can have"),
         (Box::new(KeyBlockError::Digit), "a character of the encrypted key data or the MAC is not 0 to 9 or A to F"),

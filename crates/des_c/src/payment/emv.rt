@@ -1,7 +1,7 @@
 //! The exports of card cryptograms (EMV 4.3, Book 2).
 
 ghost use Rattle.std.specs.Prelude.{◌≡◌, ◌≢◌};
-ghost use Rattle.des_payment.specs.CardCryptograms.{card_key as card_key_of, card_fault, session_key as session_key_of, application_key as application_key_of};
+ghost use Rattle.des_payment.specs.CardCryptograms.{card_key as card_key_of, card_key_b as card_key_b_of, card_fault, session_key as session_key_of, application_key as application_key_of};
 ghost use Rattle.des_payment.specs.CardCryptograms.{cryptogram as cryptogram_of, response_1 as response_1_of, response_2 as response_2_of, data_fault};
 ghost use Rattle.des_c.specs.EmvStatuses.{status_of as status_of_fault};
 ghost use Rattle.des_c.specs.Statuses.{status_after};
@@ -11,7 +11,8 @@ use des_context::status::{
     ERR_SEQUENCE_LENGTH, OK,
 };
 use des_payment::emv::{
-    application_cryptogram, application_key, card_key, response_1, response_2, session_key,
+    application_cryptogram, application_key, card_key, card_key_b, response_1, response_2,
+    session_key,
 };
 use des_payment::emv_error::EmvError;
 
@@ -44,6 +45,28 @@ pub extern "C" fn cukvashe_emv_card_key(
     ensures kept { result ≢ OK → key.new ≡ key.old }
 {
     match card_key(issuer, account, sequence) {
+        Ok(made) => {
+            *key = made;
+            OK
+        }
+        Err(fault) => status_of(fault),
+    }
+}
+
+/// The key of a card by option B (A1.4.2), and else as `cukvashe_emv_card_key`.
+#[unsafe(no_mangle)]
+pub extern "C" fn cukvashe_emv_card_key_b(
+    issuer: &[u8; 16],
+    account: &[u8],
+    sequence: &[u8],
+    key: &mut [u8; 16],
+) -> i32
+    ensures status { result
+        ≡ status_after status_of_fault (card_fault account.now sequence.now) }
+    ensures key { result ≡ OK → key.new ≡ card_key_b_of issuer.now account.now sequence.now }
+    ensures kept { result ≢ OK → key.new ≡ key.old }
+{
+    match card_key_b(issuer, account, sequence) {
         Ok(made) => {
             *key = made;
             OK

@@ -2,12 +2,12 @@
 
 ghost use Rattle.std.specs.Prelude.{◌≡◌, ◌≢◌, ◌⊎◌, ◌↔◌, ◌≤◌, ◌+◌, ◌-◌, ℕ, List, [], ◌∷◌, Some, None, IfOk, IsTrue, length as length_of, take, drop, slice_get, slice_index};
 ghost use Rattle.std.specs.Result.{result_err};
-ghost use Rattle.des_payment.specs.KeyBlockHeaders.{version_text};
+ghost use Rattle.des_payment.specs.KeyBlockHeaders.{context_text, version_text};
 ghost use Rattle.des_payment.specs.KeyBlockReading.{HasFault, HasLayout, HasLayoutFault};
 ghost use Rattle.des_payment.specs.KeyBlocks.{wrap_fault, HoldsKey};
 ghost use Rattle.des_payment.specs.OptionalBlocks.{AreOptionalBlocks};
 ghost use Rattle.des_c.specs.KeyBlockStatuses.{status_of as status_of_fault};
-ghost use Rattle.des_c.specs.KeyBlockTexts.{are_alphanumeric as are_alphanumeric_characters, is_made, is_written as is_written_text, shown, text_fault, version_of as version_of_text, AreReadable, IsMade, IsTextOf, IsUnwrapped, IsWrapped, IsWrittenTextOf};
+ghost use Rattle.des_c.specs.KeyBlockTexts.{shown, version_fault, AreReadable, IsMade, IsTextOf, IsUnwrapped, IsWrapped, IsWrittenTextOf};
 ghost use Rattle.des_c.specs.Statuses.{status_after};
 ghost use Rattle.des_c.specs.Texts.{with_zeros};
 
@@ -19,8 +19,8 @@ use des_context::status::{
 };
 use des_payment::key_block_error::KeyBlockError;
 use des_payment::key_block_header::{Algorithm, Exportability, Header, Mode, Usage, Version};
-use des_payment::key_blocks::{header, placed_optional_block, unwrap, wrap};
-use des_payment::optional_blocks::{OptionalBlock, read_optional_blocks};
+use des_payment::key_blocks::{header, key_context, placed_optional_block, unwrap, wrap};
+use des_payment::optional_blocks::{MOST_BLOCKS, OptionalBlock, read_optional_blocks};
 
 fn status_of(fault: KeyBlockError) -> i32
     ensures status { result ≡ status_of_fault fault }
@@ -82,49 +82,25 @@ fn two_of(text: &[u8; 3]) -> [u8; 2]
     [text[0], text[1]]
 }
 
-// Whether a text of two is of letters and digits.
-fn are_alphanumeric(text: &[u8; 3]) -> bool
-    ensures { result ≡ are_alphanumeric_characters text.now }
-{
-    text[0].is_ascii_alphanumeric() && text[1].is_ascii_alphanumeric()
-}
-
-// Whether the fields after the version are letters and digits.
-fn is_written(text: &HeaderText) -> bool
-    ensures { result ≡ is_written_text text.now }
-{
-    are_alphanumeric(&text.usage)
-        && text.algorithm.is_ascii_alphanumeric()
-        && text.mode.is_ascii_alphanumeric()
-        && are_alphanumeric(&text.key_version)
-        && text.exportability.is_ascii_alphanumeric()
-}
-
 // The version of a block that can be made.
-fn version_of(text: &HeaderText) -> Version
-    ensures version { result ≡ version_of_text text.now }
-    ensures text { IsTrue (is_made text.now) → text.now.version ≡ version_text result }
+fn version_of(text: &HeaderText) -> Result<Version, KeyBlockError>
+    ensures fault { result_err result ≡ version_fault text.now }
+    ensures version { IfOk result (λ version. text.now.version ≡ version_text version) }
 {
     match text.version {
-        b'B' => Version::B,
-        _ => Version::C,
+        b'B' => Ok(Version::B),
+        b'C' => Ok(Version::C),
+        _ => Err(KeyBlockError::Version),
     }
 }
 
-// The header of these characters, under which a block can be made.
+// The header of these characters, whose version is one of a block that can be made.
 fn header_of(text: &HeaderText) -> Result<Header, KeyBlockError>
-    ensures fault { result_err result ≡ text_fault text.now }
+    ensures fault { result_err result ≡ version_fault text.now }
     ensures header { IfOk result (λ header. IsTextOf text.now header) }
-    ensures version { IfOk result (λ header. header.version ≡ version_of_text text.now) }
 {
-    if text.version != b'B' && text.version != b'C' {
-        return Err(KeyBlockError::Version);
-    }
-    if !is_written(text) {
-        return Err(KeyBlockError::Header);
-    }
     Ok(Header {
-        version: version_of(text),
+        version: version_of(text)?,
         usage: Usage::of(two_of(&text.usage)),
         algorithm: Algorithm::of(text.algorithm),
         mode: Mode::of(text.mode),
@@ -186,6 +162,27 @@ pub extern "C" fn cukvashe_key_block_header(block: &[u8], text: &mut HeaderText)
     }
 }
 
+/// Where the key of a block may be, as the character of its header, with no key: `0`, `1` or `2`. The
+/// status is that of the first fault that shows without one, and then `context` stays. Nothing of it
+/// is authenticated.
+#[unsafe(no_mangle)]
+pub extern "C" fn cukvashe_key_block_context(block: &[u8], context: &mut u8) -> i32
+    ensures found { (layout : HasLayout block.now)
+        → (result ≡ OK) × (context.new ≡ context_text layout.parts.context) }
+    ensures parts { result ≡ OK → HasLayout block.now }
+    ensures fault { result ≢ OK → (error : KeyBlockError) × ((result ≡ status_of_fault error)
+        × HasLayoutFault block.now error) }
+    ensures kept { result ≢ OK → context.new ≡ context.old }
+{
+    match key_context(block) {
+        Ok(found) => {
+            *context = found.character();
+            OK
+        }
+        Err(fault) => status_of(fault),
+    }
+}
+
 /// The optional block of a block at a place, from 0: its name and a zero byte, and where its
 /// content stands in the block and how many characters it has. The status is that of the block's
 /// first fault that shows without a key, and then `ERR_NO_OPTIONAL_BLOCK` where there are no more;
@@ -234,9 +231,8 @@ fn write_wrapped(
     block: &mut [u8],
     length: &mut usize,
 ) -> i32
-    ensures status { result ≡ status_after status_of_fault (wrap_fault protection.now
-        header.now.version (shown optional.now)
-        key.now padding.now (length_of block.old - 1)) }
+    ensures status { result ≡ status_after status_of_fault (wrap_fault protection.now header.now
+        (shown optional.now) key.now padding.now (length_of block.old - 1)) }
     ensures wrapped { result ≡ OK → IsMade protection.now header.now (shown optional.now) key.now
         padding.now (take length.new block.new) length.new }
     ensures end { result ≡ OK → slice_index block.new length.new ≡ 0 }
@@ -266,10 +262,9 @@ fn write_wrapped(
 /// or 24 bytes with random padding, under a protection key of 16 or 24 bytes; then a zero byte, for
 /// which there has to be room; and how many characters the block has without it.
 ///
-/// The status is that of the first fault, and then `block` and `length` stay: of the header
-/// `ERR_VERSION` where the version is neither `B` nor `C`, and `ERR_HEADER` where a field has other
-/// characters than letters and digits; `ERR_OPTIONAL_BLOCK` where the optional blocks can't be
-/// read, or are more than 99; and then as `wrap` says.
+/// The status is that of the first fault, and then `block` and `length` stay: `ERR_VERSION` where
+/// the version is neither `B` nor `C`; `ERR_OPTIONAL_BLOCK` where the optional blocks can't be read,
+/// or are more than 99; and then as `wrap` says.
 #[unsafe(no_mangle)]
 pub extern "C" fn cukvashe_key_block_wrap(
     protection: &[u8],
@@ -280,13 +275,13 @@ pub extern "C" fn cukvashe_key_block_wrap(
     block: &mut [u8],
     length: &mut usize,
 ) -> i32
-    ensures header { text_fault header.now ≢ None
-        → result ≡ status_after status_of_fault (text_fault header.now) }
-    ensures status { text_fault header.now ≡ None → AreReadable optional.now
-        → (blocks : List (List ℕ × List ℕ)) × (AreOptionalBlocks blocks optional.now
-        × (result ≡ status_after status_of_fault (wrap_fault protection.now
-        (version_of_text header.now) blocks key.now padding.now (length_of block.old - 1)))) }
-    ensures unread { text_fault header.now ≡ None → ¬ (AreReadable optional.now)
+    ensures version { version_fault header.now ≢ None → result ≡ ERR_VERSION }
+    ensures status { version_fault header.now ≡ None → AreReadable optional.now
+        → (of : Header) × ((blocks : List (List ℕ × List ℕ)) × (IsTextOf header.now of
+        × AreOptionalBlocks blocks optional.now
+        × (result ≡ status_after status_of_fault (wrap_fault protection.now of blocks
+        key.now padding.now (length_of block.old - 1))))) }
+    ensures unread { version_fault header.now ≡ None → ¬ (AreReadable optional.now)
         → result ≡ ERR_OPTIONAL_BLOCK }
     ensures wrapped { result ≡ OK → IsWrapped protection.now header.now optional.now key.now
         padding.now (take length.new block.new) length.new }
@@ -303,7 +298,7 @@ pub extern "C" fn cukvashe_key_block_wrap(
         name: [0; 2],
         content: &[],
     };
-    let mut blocks = [none; 99];
+    let mut blocks = [none; MOST_BLOCKS];
     let count = match read_optional_blocks(optional, &mut blocks) {
         Ok(count) => count,
         Err(fault) => return status_of(fault),

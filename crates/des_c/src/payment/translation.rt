@@ -2,7 +2,7 @@
 
 ghost use Rattle.std.specs.Prelude.{◌≡◌, ◌≢◌, replicate, Ok};
 ghost use Rattle.std.specs.Result.{result_err};
-ghost use Rattle.des_payment.specs.Translation.{translation_fault, IsTranslation};
+ghost use Rattle.des_payment.specs.Translation.{translation_fault, IsTranslation, rekeying_fault, rekeyed};
 ghost use Rattle.des_c.specs.Formats.{format_of as format_by};
 ghost use Rattle.des_c.specs.TranslationStatuses.{status_of as status_of_fault};
 ghost use Rattle.des_c.specs.Statuses.{status_after};
@@ -11,7 +11,7 @@ use des_context::status::{
     ERR_ACCOUNT_DIGIT, ERR_ACCOUNT_LENGTH, ERR_FILL, ERR_FORMATS, ERR_KEY_LENGTH, ERR_PIN_BLOCK, OK,
 };
 use des_payment::TranslationError;
-use des_payment::translation::{Format, translate};
+use des_payment::translation::{Format, translate, translate_format_1};
 
 fn status_of(fault: TranslationError) -> i32
     ensures status { result ≡ status_of_fault fault }
@@ -82,7 +82,26 @@ pub extern "C" fn cukvashe_pin_translate_to_0(
     write_block(made, translated)
 }
 
-/// The same into the block of format 3, of which `fill` has ten fill digits from 10 to 15: the
+/// Translates a PIN block of format 1 that is encrypted under one key, of 8, 16 or 24 bytes, into the
+/// same block under another. The status is `ERR_KEY_LENGTH`, and then `ERR_PIN_BLOCK` where it is no
+/// block of format 1; and then `translated` stays.
+#[unsafe(no_mangle)]
+pub extern "C" fn cukvashe_pin_translate_to_1(
+    incoming: &[u8],
+    outgoing: &[u8],
+    block: &[u8; 8],
+    translated: &mut [u8; 8],
+) -> i32
+    ensures status { result ≡ status_after status_of_fault
+        (rekeying_fault incoming.now outgoing.now block.now) }
+    ensures answer { result ≡ OK
+        → translated.new ≡ rekeyed incoming.now outgoing.now block.now }
+    ensures kept { result ≢ OK → translated.new ≡ translated.old }
+{
+    write_block(translate_format_1(incoming, outgoing, block), translated)
+}
+
+/// As to format 0, into the block of format 3, of which `fill` has ten fill digits from 10 to 15: the
 /// status is `ERR_FILL` after a fault of the account number.
 #[unsafe(no_mangle)]
 pub extern "C" fn cukvashe_pin_translate_to_3(

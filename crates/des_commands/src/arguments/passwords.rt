@@ -14,9 +14,7 @@ use crate::source::Source;
 use crate::stream_request::{Password, Secret};
 use clap::ArgMatches;
 use des_passwords::Derivation;
-
-// The most iterations, unless more are asked for.
-const MOST_ITERATIONS: u32 = 10000000;
+use des_passwords::encrypted_keys::MOST_ITERATIONS;
 
 // What encryption takes: `--derive` names another count.
 const ITERATIONS: u32 = 600000;

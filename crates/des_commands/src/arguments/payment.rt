@@ -5,7 +5,7 @@ use super::{
     Requested, by_input, by_key, input_at, key_of, misuse, one_of, with_account, with_key,
 };
 use crate::command::{
-    Calculation, CalculationRequest, EmvCalculation, NaturalPins, PinCalculation,
+    Calculation, CalculationRequest, CardKeyOption, EmvCalculation, NaturalPins, PinCalculation,
 };
 use crate::fault::{Fault, Misuse};
 use clap::ArgMatches;
@@ -76,13 +76,33 @@ fn decode_request<'a>(matches: &ArgMatches<'a>) -> Requested<'a> {
     with_account_of(format, request, matches)
 }
 
+// The request of a translation of a block of format 1 to format 1, in which its digits stay.
+fn format_1_request<'a>(matches: &ArgMatches<'a>) -> Requested<'a> {
+    if is_given(matches, "fill") {
+        return Err(misuse(Misuse::FillOfFormat1, ""));
+    }
+    refuse_account(matches)?;
+    let calculation = Calculation::Pin(PinCalculation::TranslateFormat1);
+    Ok(by_input(calculation, input_at(matches, "block-file")))
+}
+
+// The request of a translation between two formats, without its keys.
+fn translation_between<'a>(from: Format, to: Format, matches: &ArgMatches<'a>) -> Requested<'a> {
+    match (from, to) {
+        (Format::Format1, Format::Format1) => format_1_request(matches),
+        (_, Format::Format1) => Err(misuse(Misuse::ToFormat1, "")),
+        _ => {
+            let fill = fill_of(to, matches)?;
+            let calculation = Calculation::Pin(PinCalculation::Translate { from, to, fill });
+            let block = input_at(matches, "block-file");
+            with_account(by_input(calculation, block), matches)
+        }
+    }
+}
+
 fn translate_request<'a>(matches: &ArgMatches<'a>) -> Requested<'a> {
-    let from = format_of(matches, "from");
-    let to = format_of(matches, "to");
-    let fill = fill_of(to, matches)?;
-    let calculation = Calculation::Pin(PinCalculation::Translate { from, to, fill });
-    let block = input_at(matches, "block-file");
-    let request = with_account(by_input(calculation, block), matches)?;
+    let (from, to) = (format_of(matches, "from"), format_of(matches, "to"));
+    let request = translation_between(from, to, matches)?;
     let names = ["to-key-file", "to-key-fd", "to-key-env"];
     let to_key = Some(one_of(matches, names, Misuse::ToKeySource)?);
     with_key(CalculationRequest { to_key, ..request }, key_of(matches)?)
@@ -166,6 +186,22 @@ fn response_of<'a>(matches: &ArgMatches<'a>) -> EmvCalculation<'a> {
     }
 }
 
+// The option of a word that the grammar takes.
+fn card_key_option_of(word: Option<&str>) -> CardKeyOption {
+    match word {
+        Some("b") => CardKeyOption::B,
+        _ => CardKeyOption::A,
+    }
+}
+
+// The key of a card.
+fn card_key_of<'a>(matches: &ArgMatches<'a>) -> EmvCalculation<'a> {
+    EmvCalculation::CardKey {
+        option: card_key_option_of(text_of(matches, "option")),
+        sequence: text_of(matches, "sequence").unwrap_or("00"),
+    }
+}
+
 // A calculation with a card whose input is the key.
 fn by_card_key<'a>(calculation: EmvCalculation<'a>, matches: &ArgMatches<'a>) -> Requested<'a> {
     by_key(Calculation::Emv(calculation), matches)
@@ -175,8 +211,7 @@ fn by_card_key<'a>(calculation: EmvCalculation<'a>, matches: &ArgMatches<'a>) ->
 pub fn emv_request<'a>(name: &str, matches: &ArgMatches<'a>) -> Requested<'a> {
     match name {
         "card-key" => {
-            let sequence = text_of(matches, "sequence").unwrap_or("00");
-            let request = by_card_key(EmvCalculation::CardKey { sequence }, matches)?;
+            let request = by_card_key(card_key_of(matches), matches)?;
             with_account(request, matches)
         }
         "session-key" => by_card_key(session_of(matches)?, matches),

@@ -185,7 +185,7 @@ static PIN: Group<'static> = group! {
     "translate": "Print an encrypted block of the same PIN, under another key or in another format";
     [{
         "from": Place("FROM", &["0", "1", "3"]) => "The format of the block (ISO 9564-1)";
-        "to": Place("TO", &["0", "3"]) => "The format of the block that is printed";
+        "to": Place("TO", &["0", "1", "3"]) => "The format of the block that is printed; 1 from 1 alone";
         "block-file": Text("FILE") =>
             "Read the encrypted block's 16 digits from a file [default: standard input]";
         "fill": Text("DIGITS") => "Needed to format 3: ten random hexadecimal digits from a to f";
@@ -240,6 +240,8 @@ static EMV: Group<'static> = group! {
     [{
         "sequence": Text("DIGITS") =>
             "The card's sequence number, 2 digits [default: 00, of a card without one]";
+        "option": Word("OPTION", &["a", "b"]) =>
+            "By option A, or B, which differs for account numbers of more than 16 digits [default: a]";
     }, Account, Key] "Example:
   KEY=0123456789abcdeffedcba9876543210 cukvashe emv card-key --account 4111111111111111 \\
     --sequence 01 --key-env KEY";

@@ -117,7 +117,7 @@ const PROGRESS: &[Argument<'static>] = arguments! {
 
 const ACCOUNT: &[Argument<'static>] = arguments! {
     "account": Text("DIGITS") =>
-        "The account number, 8 to 19 digits, the last its check digit; of pvv 12, of cvv 13 at least";
+        "The account number, 8 to 19 digits, the last its check digit; of pvv and cvv 12 at least";
     "account-file": Text("FILE") => "Read the account number from a file, or - for standard input";
     "check-digit": Word("CHOICE", &["warn", "refuse"]) =>
         "What to do where the last digit is not the check digit [default: warn]";

@@ -1,4 +1,4 @@
-use Rattle.std.proofs.Common.{List, ℕ, ◌<◌, sym, subst, rules, lit<, lit≤}
+use Rattle.std.proofs.Common.{List, ℕ, ◌<◌, sym, subst, rules, lit<, arith}
 use Rattle.std.specs.List.{All}
 use Rattle.std.proofs.lemmas.List.Elements.{All-from_get_or}
 use Rattle.des_payment.proofs.DigitLists.{digits_of-below}
@@ -12,7 +12,7 @@ first_decimals-value-requires c =
     All-from_get_or (λ byte. byte < 256) block 0 (λ i within. search rules) in (
       lit< tt,
       (
-        lit≤ tt,
+        omega arith,
         subst (λ (digits : List ℕ). All (λ digit. digit < 16) digits) (sym c.digits_of.ensures)
             (digits_of-below block small),
       ),

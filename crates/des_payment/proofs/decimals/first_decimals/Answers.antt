@@ -58,10 +58,10 @@ loop-digit-2-preserved g c =
           (ap (λ (n : ℕ). c.loop-digit-2.count + n) (ap bool_byte (letter_is digit) ∙ counted (is_letter digit)))
           (found-letter front digits i written within (λ letter. c.saturating_sub.ensures));
       long = c.write_at-in-loop-digit-2.ensures.long ∙ c.loop-digit-2.invariant.long;
-      few = omega (arith, few_more c.loop-digit-2.count (16 + i) (nat_le 10 digit) c.loop-digit-2.invariant.few);
+      few = omega (arith, few_more c.loop-digit-2.count (length digits + i) (nat_le 10 digit) c.loop-digit-2.invariant.few);
     }
 
--- all sixteen digits are found, so as many as there is room for are written
+-- all digits are found, so as many as there is room for are written
 whole : goal.returns-clause-value
 whole g c =
     let digits : List ℕ = c.args.digits.now in
@@ -74,7 +74,7 @@ whole g c =
     c.loop-digit-2.invariant.is_written in
     let long : length c.loop-digit-2.value ≡ g.row.N = c.loop-digit-2.invariant.long in
     IsWritten-all c.loop-digit-2.count c.loop-digit-2.value (decimals_first digits) is_written
-    (omega (arith, long, length-decimals_first digits, c.told-digits, c.requires.few))
+    (omega (arith, long, length-decimals_first digits, c.requires.few))
     ∙ ap (λ (n : ℕ). take n (decimals_first digits)) long
 
 pub returns-clause-value : goal.returns-clause-value

@@ -18,5 +18,5 @@ invariant-loop-digit-2 g l = record {
   is_written : IsWritten l.count l.value
       (filter is_decimal l.digits ++ map (λ digit. digit - 10) (filter is_letter (take l.digit-index l.digits)));
   long : length l.value ≡ g.row.N;
-  few : l.count ≤ 16 + l.digit-index;
+  few : l.count ≤ length l.digits + l.digit-index;
 }

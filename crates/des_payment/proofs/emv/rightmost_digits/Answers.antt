@@ -7,14 +7,14 @@ use Rattle.des_payment.proofs.emv.rightmost_digits.Goals as goal
 
 -- the part of the longer text that is copied
 copied : (account sequence text part : List ℕ) → length sequence ≡ 2
-    → (rest : List ℕ) × (text ≡ replicate 16 48 ++ (account ++ sequence) ++ rest)
+    → text ≡ replicate 16 48 ++ (account ++ sequence) ++ replicate (19 - length account) 48
     → part ≡ take (length account + 18 - (length account + 2)) (drop (length account + 2) text)
     → part ≡ rightmost (account ++ sequence)
 copied account sequence text part two padded is =
     let count : length account + 2 ≡ length (account ++ sequence) = omega (arith, length-append account sequence) in
     is
-    ∙ ap (λ (xs : List ℕ). take (length account + 18 - (length account + 2)) (drop (length account + 2) xs)) padded.1
-    ∙ rightmost-taken (account ++ sequence) padded.0 (length account + 2)
+    ∙ ap (λ (xs : List ℕ). take (length account + 18 - (length account + 2)) (drop (length account + 2) xs)) padded
+    ∙ rightmost-taken (account ++ sequence) (replicate (19 - length account) 48) (length account + 2)
     (length account + 18 - (length account + 2)) count (omega arith)
 
 pub returns-clause-text : goal.returns-clause-text

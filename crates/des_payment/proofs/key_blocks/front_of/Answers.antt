@@ -8,7 +8,7 @@ use Rattle.des_payment.proofs.key_blocks.front_of.Goals as goal
 
 pub returns-in_err-header-clause-only : goal.returns-in_err-header-clause-only
 returns-in_err-header-clause-only c = λ header blocks front rest parts.
-    absurd (c.in_err-header.ensures.only header (length blocks) (least header blocks front rest c.args.block.now parts)
+    absurd (c.in_err-header.ensures.only header parts.context (length blocks) (least header blocks front rest c.args.block.now parts)
     parts.short parts.few (header-there header blocks front rest c.args.block.now parts))
 
 pub returns-in_err-header-clause-fault : goal.returns-in_err-header-clause-fault
@@ -20,7 +20,7 @@ returns-in_err-header-clause-fault c =
 pub returns-in-None-clause-only : goal.returns-in-None-clause-only
 returns-in-None-clause-only c = λ header blocks front rest parts.
     let block : List ℕ = c.args.block.now in
-    let read = c.in_ok-header.ensures.only header (length blocks) (least header blocks front rest block parts)
+    let read = c.in_ok-header.ensures.only header parts.context (length blocks) (least header blocks front rest block parts)
     parts.short parts.few (header-there header blocks front rest block parts) in
     let found = c.in-None.ensures.only blocks parts.optional rest (sym read.2) parts.are_optional
     (take_rest block 16 ∙ optional-there header blocks front rest block parts) in
@@ -35,7 +35,7 @@ returns-in-None-clause-fault c = (
 pub returns-then-size-ne0-clause-only : goal.returns-then-size-ne0-clause-only
 returns-then-size-ne0-clause-only c = λ header blocks front rest parts.
     let block : List ℕ = c.args.block.now in
-    let read = c.in_ok-header.ensures.only header (length blocks) (least header blocks front rest block parts)
+    let read = c.in_ok-header.ensures.only header parts.context (length blocks) (least header blocks front rest block parts)
     parts.short parts.few (header-there header blocks front rest block parts) in
     let found = c.in-Some.ensures.only blocks parts.optional rest (sym read.2) parts.are_optional
     (take_rest block 16 ∙ optional-there header blocks front rest block parts) in
@@ -53,7 +53,7 @@ pub returns-clause-found : goal.returns-clause-found
 returns-clause-found c =
     let all = c.in-Some.ensures.all in (
       all.0,
-      parts-read c.in_ok-header.header all.0 c.in_ok-header.count c.in-Some.size c.args.block.now
+      parts-read c.in_ok-header.header c.in_ok-header.context all.0 c.in_ok-header.count c.in-Some.size c.args.block.now
           c.in_ok-header.ensures.is_header c.in_ok-header.ensures.short c.in_ok-header.ensures.few
           c.in_ok-header.ensures.text all.1.0 all.1.1 c.in-Some.ensures.within c.if-size-ne0.false,
     )
@@ -61,9 +61,29 @@ returns-clause-found c =
 pub returns-clause-only : goal.returns-clause-only
 returns-clause-only c = λ header blocks front rest parts.
     let block : List ℕ = c.args.block.now in
-    let read = c.in_ok-header.ensures.only header (length blocks) (least header blocks front rest block parts)
+    let read = c.in_ok-header.ensures.only header parts.context (length blocks) (least header blocks front rest block parts)
     parts.short parts.few (header-there header blocks front rest block parts) in
     let found = c.in-Some.ensures.only blocks parts.optional rest (sym read.2) parts.are_optional
     (take_rest block 16 ∙ optional-there header blocks front rest block parts) in
     let size : c.in-Some.size ≡ length parts.optional = same_Some _ _ found in
     ((read.0, read.1), ap (λ n. 16 + n) size ∙ sym (front-length header blocks front rest block parts))
+
+pub returns-in_err-header-clause-context : goal.returns-in_err-header-clause-context
+returns-in_err-header-clause-context c = λ header blocks front rest parts.
+    absurd (c.in_err-header.ensures.only header parts.context (length blocks)
+    (least header blocks front rest c.args.block.now parts) parts.short parts.few
+    (header-there header blocks front rest c.args.block.now parts))
+
+pub returns-in-None-clause-context : goal.returns-in-None-clause-context
+returns-in-None-clause-context c = λ header blocks front rest parts.
+    absurd (returns-in-None-clause-only c header blocks front rest parts)
+
+pub returns-then-size-ne0-clause-context : goal.returns-then-size-ne0-clause-context
+returns-then-size-ne0-clause-context c = λ header blocks front rest parts.
+    absurd (returns-then-size-ne0-clause-only c header blocks front rest parts)
+
+pub returns-clause-context : goal.returns-clause-context
+returns-clause-context c = λ header blocks front rest parts.
+    (c.in_ok-header.ensures.only header parts.context (length blocks)
+    (least header blocks front rest c.args.block.now parts) parts.short parts.few
+    (header-there header blocks front rest c.args.block.now parts)).3

@@ -2,10 +2,11 @@ use Rattle.std.proofs.Common.{rules, ◌≡◌, ℕ, ◌+◌, ◌*◌, ◌%◌, 
 use Rattle.std.proofs.lemmas.List.{length-append, take_at}
 use Rattle.des_payment.specs.KeyBlocks.{key_data, front_text, IsSealed}
 use Rattle.des_payment.specs.KeyBlockHeaders.{header_text}
+use Rattle.des_payment.specs.declared.key_block_header.KeyContext.TheVariants.{StorageOrExchange}
 use Rattle.des_payment.specs.OptionalBlocks.{blocks_text, filled}
 use Rattle.des_payment.proofs.FilledBlocks.{filled-whole}
 use Rattle.des_payment.proofs.HeaderTexts.{header-sixteen}
-use Rattle.des_payment.proofs.WrittenBlocks.{block-written, parts-right}
+use Rattle.des_payment.proofs.WrittenBlocks.{block-written}
 use Rattle.des_payment.proofs.key_blocks.wrap.Goals as goal
 
 pub write_sealed-requires-clause-whole : goal.write_sealed-requires-clause-whole
@@ -30,7 +31,7 @@ returns-clause-text c =
     let cut : take whole (front ++ rest ++ last) ≡ front ++ rest = take_at (front ++ rest) last whole size in
     let is : front ≡ front_text c.args.header.now (filled pairs) whole =
     c.write_front.ensures.text
-    ∙ ap (λ n. header_text c.args.header.now whole n ++ blocks_text (filled pairs)) c.in_ok-size.ensures.count in (
+    ∙ ap (λ n. header_text c.args.header.now StorageOrExchange whole n ++ blocks_text (filled pairs)) c.in_ok-size.ensures.count in (
       rest,
       (
         cut ∙ ap (λ (text : List ℕ). text ++ rest) is,
@@ -48,21 +49,20 @@ returns-clause-wrapped c =
     let rest : List ℕ = c.write_sealed.new.text in
     let last : List ℕ = c.split_at_mut-block.result.1.now in
     let text : List ℕ = blocks_text (filled pairs) in
-    let head : List ℕ = header_text c.args.header.now whole c.in_ok-size.count in
+    let head : List ℕ = header_text c.args.header.now StorageOrExchange whole c.in_ok-size.count in
     let is_header = c.write_front.ensures.is_header in
-    let right = parts-right c.args.protection.now c.args.header.now.version c.args.key.now c.args.padding.now
-    c.in_ok-check_parts.ensures in
     let is_front : front ≡ head ++ text = c.write_front.ensures.text in
     let front_size : length front ≡ 16 + c.in_ok-size.size = search rules in
     let rest_size : length rest ≡ 2 * bytes = search rules in
     let short : whole < 10000 = omega arith in
-    let sixteen : length head ≡ 16 = header-sixteen c.args.header.now whole c.in_ok-size.count is_header in
+    let sixteen : length head ≡ 16 = header-sixteen c.args.header.now StorageOrExchange whole c.in_ok-size.count
+    is_header in
     let text_size : length text ≡ c.in_ok-size.size =
     omega (arith, front_size, sixteen, ap length is_front, length-append head text) in
     let even : length text % 8 ≡ 0 = omega (arith, text_size, filled-whole pairs, c.in_ok-size.ensures.size) in
     let size : length (front ++ rest) ≡ whole = omega (arith, length-append front rest) in
     let cut : take whole (front ++ rest ++ last) ≡ front ++ rest = take_at (front ++ rest) last whole size in
-    block-written c.args.protection.now c.args.header.now (filled pairs) c.args.key.now c.args.padding.now front rest
+    block-written c.args.protection.now c.args.header.now StorageOrExchange (filled pairs) c.args.key.now c.args.padding.now front rest
     (take whole (front ++ rest ++ last)) text whole c.in_ok-size.count cut (ap length cut ∙ size) short
-    c.in_ok-size.ensures.count c.in_ok-size.ensures.few c.write_front.ensures.are is_front is_header even right.0
-    right.1 c.write_sealed.ensures
+    c.in_ok-size.ensures.count c.in_ok-size.ensures.few c.write_front.ensures.are is_front is_header even
+    c.in_ok-check_parts.ensures.protection c.in_ok-check_parts.ensures.clear c.write_sealed.ensures

@@ -2,9 +2,9 @@ use Rattle.std.proofs.Common.{◌≡◌, ℕ, ◌-◌, ◌≤◌, List, ◌++◌
 use Rattle.std.proofs.lemmas.List.{length-take, length-drop, take_rest}
 use Rattle.des_payment.specs.OptionalBlocks.{IsOptionalBlock, AreOptionalBlocks}
 use Rattle.des_payment.proofs.OptionalBlockLists.{first-of}
-use Rattle.des_payment.proofs.OptionalBlockReads.{read-step, left-some, left-none, left-after}
+use Rattle.des_payment.proofs.OptionalBlockReads.{read-step, rest-step, left-some, left-none, left-after}
 use Rattle.des_payment.proofs.OptionalBlockTexts.{block-least}
-use Rattle.des_payment.proofs.optional_blocks.read_optional_blocks.Goals as goal
+use Rattle.des_payment.proofs.optional_blocks.read_blocks.Goals as goal
 
 pub loop-at-init : goal.loop-at-init
 unfolding AreOptionalBlocks
@@ -13,6 +13,7 @@ loop-at-init c = record {
   few = omega arith;
   within = omega arith;
   are = refl;
+  rest = refl;
   left = λ read are. record { others = read; are = are; all = omega arith };
 }
 
@@ -71,6 +72,7 @@ loop-at-preserved c =
       are = read-step _ count c.in-Some.block at size text (omega (arith, room)) c.loop-at.invariant.are
           (subst (λ (rest : List ℕ). IsOptionalBlock c.in-Some.block.name c.in-Some.block.content.now (take size rest))
           (take_rest text at) first);
+      rest = rest-step _ _ c.loop-at.count c.in-Some.block c.loop-at.invariant.rest;
       left = λ read are.
           let left = c.loop-at.invariant.left read are in
           let some = left-some read count at text c.loop-at-test.true left in

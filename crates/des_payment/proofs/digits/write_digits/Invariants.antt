@@ -1,11 +1,11 @@
 use Rattle.std.proofs.Common.{◌≡◌, ℕ, ◌+◌, ◌*◌, ◌/◌, ◌%◌, ◌<◌, length, get_or}
-use Rattle.des_payment.proofs.digits.digits_of.Given as goal
+use Rattle.des_payment.proofs.digits.write_digits.Given as goal
 
 -- the digits of the bytes before the index are written
 abbrev pub invariant-loop-i : goal.invariant-loop-i
 invariant-loop-i l = record {
-  count : length l.digits ≡ 16;
+  count : length l.digits ≡ length l.initial.digits;
   written : (k : ℕ) → k < l.i
-      → (get_or l.digits (2 * k) 0 ≡ get_or l.block k 0 / 16)
-      × (get_or l.digits (2 * k + 1) 0 ≡ get_or l.block k 0 % 16);
+      → (get_or l.digits (2 * k) 0 ≡ get_or l.bytes k 0 / 16)
+      × (get_or l.digits (2 * k + 1) 0 ≡ get_or l.bytes k 0 % 16);
 }

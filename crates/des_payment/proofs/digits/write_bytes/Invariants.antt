@@ -1,10 +1,10 @@
 use Rattle.std.proofs.Common.{◌≡◌, ℕ, ◌+◌, ◌*◌, ◌<◌, length, get_or}
-use Rattle.des_payment.proofs.digits.block_of.Given as goal
+use Rattle.des_payment.proofs.digits.write_bytes.Given as goal
 
 -- the bytes before the index are those of their digits
 abbrev pub invariant-loop-i : goal.invariant-loop-i
 invariant-loop-i l = record {
-  count : length l.byte-items ≡ 8;
+  count : length l.bytes ≡ length l.initial.bytes;
   written : (k : ℕ) → k < l.i
-      → get_or l.byte-items k 0 ≡ 16 * get_or l.digits (2 * k) 0 + get_or l.digits (2 * k + 1) 0;
+      → get_or l.bytes k 0 ≡ 16 * get_or l.digits (2 * k) 0 + get_or l.digits (2 * k + 1) 0;
 }

@@ -1,15 +1,16 @@
 use Rattle.std.proofs.Common.{◌≡◌, ℕ, ◌-◌, ◌≤◌, List, length, map, take, drop}
 use Rattle.des_payment.specs.OptionalBlocks.{AreOptionalBlocks}
 use Rattle.des_payment.proofs.OptionalBlockReads.{LeftBlocks}
-use Rattle.des_payment.proofs.optional_blocks.read_optional_blocks.Given as goal
+use Rattle.des_payment.proofs.optional_blocks.read_blocks.Given as goal
 
--- the characters so far are those of the blocks so far, which all blocks of the text begin with
+-- the characters so far are those of the blocks so far, which all blocks of the text begin with; the list after them stays
 abbrev pub invariant-loop-at : goal.invariant-loop-at
 invariant-loop-at l = record {
   room : length l.blocks ≡ 99;
   few : l.count ≤ 99;
   within : l.at ≤ length l.text;
   are : AreOptionalBlocks (map (λ block. (block.name, block.content.now)) (take l.count l.blocks)) (take l.at l.text);
+  rest : drop l.count l.blocks ≡ drop l.count l.initial.blocks;
   left : (read : List (List ℕ × List ℕ)) → AreOptionalBlocks read l.text → LeftBlocks read l.count (drop l.at l.text);
 }
 
