@@ -110,8 +110,8 @@ extern "C" {
 #define CUKVASHE_ERR_FORMAT 7                 /* the first digit of the PIN block is not that of the format */
 #define CUKVASHE_ERR_PIN_LENGTH 8             /* the PIN does not have 4 to 12 digits */
 #define CUKVASHE_ERR_PIN_DIGIT 9              /* a character of the PIN is not a digit */
-#define CUKVASHE_ERR_ACCOUNT_LENGTH 10        /* the account number does not have 8 to 19 digits, for a PVV 12 to 19,
-                                                 for a CVV 13 to 19 */
+#define CUKVASHE_ERR_ACCOUNT_LENGTH 10        /* the account number does not have 8 to 19 digits,
+                                                 for a PVV or a CVV 12 to 19 */
 #define CUKVASHE_ERR_ACCOUNT_DIGIT 11         /* a character of the account number is not a digit */
 #define CUKVASHE_ERR_FILL 12                  /* a fill digit is not one that the format allows */
 #define CUKVASHE_ERR_EXPIRY_LENGTH 13         /* the expiry date does not have four digits */
@@ -137,10 +137,10 @@ extern "C" {
 #define CUKVASHE_ERR_KEY_BLOCK_LENGTH 31      /* the key block is not as long as its header says,
                                                  longer than 9999 characters, or too long for its buffer */
 #define CUKVASHE_ERR_VERSION 32               /* the version of the key block is not one that the call takes */
-#define CUKVASHE_ERR_HEADER 33                /* the number of optional blocks is not two digits and two zeros,
+#define CUKVASHE_ERR_HEADER 33                /* the header does not end with two digits, 0, 1 or 2, and 0,
                                                  or a field to be written is not letters and digits */
-#define CUKVASHE_ERR_OPTIONAL_BLOCK 34        /* the optional blocks can't be read: a wrong length,
-                                                 an end off a multiple of eight, or more than 99 */
+#define CUKVASHE_ERR_OPTIONAL_BLOCK 34        /* the optional blocks can't be read or written: a wrong length, name,
+                                                 content or PB, an end off a multiple of eight, or more than 99 */
 #define CUKVASHE_ERR_KEY_DATA_LENGTH 35       /* the encrypted key data do not have a length that they can have */
 #define CUKVASHE_ERR_KEY_BLOCK_DIGIT 36       /* a character of the encrypted key data or the MAC
                                                  is not 0 to 9 or A to F */
@@ -716,25 +716,28 @@ CUKVASHE_CHECK int cukvashe_pin_decode_3(const uint8_t block[8], const char *acc
                                          char pin[13]);
 
 /*
- * TRANSLATION OF PIN BLOCKS
+ * TRANSLATION OF PIN BLOCKS (ISO 9564-1)
  *
  * Decrypts a PIN block under the incoming key, takes the PIN out of it, and encrypts under the outgoing key the block
  * of format 0, or 3, of the same PIN, which does not come out. Keys have 8, 16 or 24 bytes: DES, or triple DES (EDE).
- * `incoming_format` is 0, 1 or 3: the standard (ISO 9564-1) has translations from these formats, and to 0 and 3. The
- * account number, as of PIN blocks, is that of both blocks, where the format has one. `fill` are ten fill digits, 10 to
- * 15.
+ * `incoming_format` is 0, 1 or 3. The account number, as of PIN blocks, is that of both blocks, where the format has
+ * one. `fill` are ten fill digits, 10 to 15. To format 1 a block comes from format 1 alone: it is the same block under
+ * the outgoing key, with its transaction digits.
  *
  * The status is that of the first fault of CUKVASHE_ERR_KEY_LENGTH, _FORMATS, _ACCOUNT_LENGTH, _ACCOUNT_DIGIT, _FILL;
  * and then CUKVASHE_ERR_PIN_BLOCK, whatever is wrong with the block: whoever could tell its faults apart would learn
  * PINs.
  *
- * Both branch on the lengths of keys and of the account number, on whether each of its characters, and of the fill
+ * They branch on the lengths of keys and of the account number, on whether each of its characters, and of the fill
  * digits, is one that may be there, and on whether the block is right. Nothing else of a key, a block or a PIN decides a
  * branch or an address; a block is encrypted even if the incoming one is not right.
  */
 CUKVASHE_CHECK int cukvashe_pin_translate_to_0(const uint8_t *incoming_key, size_t incoming_key_length,
                                                int incoming_format, const uint8_t *outgoing_key,
                                                size_t outgoing_key_length, const char *account, size_t account_length,
+                                               const uint8_t block[8], uint8_t translated[8]);
+CUKVASHE_CHECK int cukvashe_pin_translate_to_1(const uint8_t *incoming_key, size_t incoming_key_length,
+                                               const uint8_t *outgoing_key, size_t outgoing_key_length,
                                                const uint8_t block[8], uint8_t translated[8]);
 CUKVASHE_CHECK int cukvashe_pin_translate_to_3(const uint8_t *incoming_key, size_t incoming_key_length,
                                                int incoming_format, const uint8_t *outgoing_key,
@@ -803,7 +806,7 @@ CUKVASHE_CHECK int cukvashe_pin_offset_verify(const uint8_t *key, size_t key_len
 /*
  * CARD VERIFICATION VALUES
  *
- * Writes the card verification value, three ASCII digits and a zero byte, under a key pair, of an account number of 13
+ * Writes the card verification value, three ASCII digits and a zero byte, under a key pair, of an account number of 12
  * to 19 digits, an expiry date of four, in the order that the issuer takes, and a service code of three: texts as those
  * of PIN blocks. The status is that of the first fault of CUKVASHE_ERR_ACCOUNT_LENGTH, _ACCOUNT_DIGIT, _EXPIRY_LENGTH,
  * _EXPIRY_DIGIT, _SERVICE_LENGTH, _SERVICE_DIGIT. The call branches on the lengths of the texts and on whether each
@@ -821,6 +824,8 @@ CUKVASHE_CHECK int cukvashe_cvv(const uint8_t key[16], const char *account, size
  * card_key makes a card's key (A1.4.1, option A), with odd parity, from the issuer's key, an account number of 8 to 19
  * digits and a sequence number of two: texts as those of PIN blocks, `00` where the card has no sequence number. The
  * status is that of the first fault of CUKVASHE_ERR_ACCOUNT_LENGTH, _ACCOUNT_DIGIT, _SEQUENCE_LENGTH, _SEQUENCE_DIGIT.
+ * Most issuers take option A. card_key_b is the same by option B (A1.4.2), which differs where the account number has
+ * more than sixteen digits: take it for these where the card scheme asks for it.
  *
  * application_key makes the session key for application cryptograms from the card's key and the application transaction
  * counter; session_key that for other uses (A1.3), from eight bytes that are different for each session: for secure
@@ -834,11 +839,13 @@ CUKVASHE_CHECK int cukvashe_cvv(const uint8_t key[16], const char *account, size
  * characters; response_2 that by method 2 (8.2.2), with a card status update of four bytes and `length` bytes of the
  * issuer's, at most 8: CUKVASHE_ERR_DATA_LENGTH if there are more.
  *
- * Calls branch on lengths, card_key on whether each character of its texts is a digit. None branches else on keys or
- * data, or reads tables at addresses that depend on them.
+ * Calls branch on lengths, card_key and card_key_b on whether each character of their texts is a digit. None branches
+ * else on keys or data, or reads tables at addresses that depend on them.
  */
 CUKVASHE_CHECK int cukvashe_emv_card_key(const uint8_t issuer[16], const char *account, size_t account_length,
                                          const char *sequence, size_t sequence_length, uint8_t key[16]);
+CUKVASHE_CHECK int cukvashe_emv_card_key_b(const uint8_t issuer[16], const char *account, size_t account_length,
+                                           const char *sequence, size_t sequence_length, uint8_t key[16]);
 void cukvashe_emv_application_key(const uint8_t card[16], const uint8_t counter[2], uint8_t key[16]);
 void cukvashe_emv_session_key(const uint8_t card[16], const uint8_t block[8], uint8_t key[16]);
 void cukvashe_emv_application_cryptogram(const uint8_t session[16], const uint8_t *data, size_t length,
@@ -860,35 +867,37 @@ CUKVASHE_CHECK int cukvashe_emv_response_2(const uint8_t session[16], const uint
  *
  * unwrap writes the header, the key and then zeros to 24 bytes, and into `key_length` how many bytes the key has. The
  * status is that of the first fault, in this order: CUKVASHE_ERR_PROTECTION_KEY_LENGTH; _KEY_BLOCK_LENGTH; _VERSION;
- * _HEADER, if the number of optional blocks is not two digits with two zeros after it; _OPTIONAL_BLOCK, if the blocks
- * can't be read, or do not end at a multiple of eight characters; _KEY_DATA_LENGTH; _KEY_BLOCK_DIGIT; _KEY_BLOCK_MAC;
- * _KEY_LENGTH. The key's length is looked at only when the MAC is right. The header says what the key may be used for:
- * look at it before you use the key. No call compares it with the key's length.
+ * _HEADER, if the number of optional blocks is not two digits, or after it stand no context and zero; _OPTIONAL_BLOCK,
+ * if the blocks can't be read, or do not end at a multiple of eight characters; _KEY_DATA_LENGTH; _KEY_BLOCK_DIGIT;
+ * _KEY_BLOCK_MAC; _KEY_LENGTH. The key's length is looked at only when the MAC is right. The header says what the key
+ * may be used for: look at it before you use the key. No call compares it with the key's length. Other characters of its
+ * fields, and of optional blocks, are read as they stand.
  *
  * wrap writes the block and a zero byte, and into `length` how many characters the block has; `room` is the number of
  * bytes at `block`, that of the zero byte included. Without optional blocks a block has at most 96 characters.
  *
- * `optional` are the optional blocks, one after the other. Each is a name of two characters, its whole length in two
- * hexadecimal digits in upper case, as KS1800604B120F9292800000, and its content; one that is longer than 255 characters
- * has 0002 and four digits in their place. They are written in this order, each with the shorter form of its length. If
- * they end at no multiple of eight characters, a block `PB` of zeros is added: leave out that of a block that was read.
- * The characters of names and contents are not tested. Take printable ASCII alone, 0x20 to 0x7E: a line end or a zero byte
- * is written as it is.
+ * `optional` are the optional blocks, one after the other. Each is a name of two letters or digits, its whole length in
+ * two hexadecimal digits in upper case, as KS1800604B120F9292800000, and its content, of printable ASCII, 0x20 to 0x7E; one
+ * that is longer than 255 characters has 0002 and four digits in their place. They are written in this order, each with
+ * the shorter form of its length. If they end at no multiple of eight characters, a block `PB` of zeros is added. A `PB`
+ * of yours is taken only as the last, where with it they end at one.
  *
  * `padding` are random bytes of yours, after the key. CUKVASHE_KEY_DATA_SIZE - 2 - key_length of them hide how long the
  * key is. Do not give the same bytes each time.
  *
  * The status of wrap is that of the first fault, in this order: CUKVASHE_ERR_VERSION, unless the version is B or C;
- * _HEADER, if a field has other characters than letters and digits; _OPTIONAL_BLOCK, if `optional` can't be read, or
- * holds more than 99; _PROTECTION_KEY_LENGTH; _KEY_LENGTH; _PADDING_LENGTH, unless 2 bytes, the key and the padding are
- * 8, 16, 24 or 32 bytes together; _KEY_BLOCK_LENGTH, if the optional blocks have more than 9999 characters;
- * _OPTIONAL_BLOCK, if they are more than 99 with `PB`; _KEY_BLOCK_LENGTH, if the block has more than 9999 characters, or
- * `room` is too small.
+ * _OPTIONAL_BLOCK, if `optional` can't be read, or holds more than 99; _PROTECTION_KEY_LENGTH; _HEADER, if a field has
+ * other characters than letters and digits; _KEY_LENGTH; _PADDING_LENGTH, unless 2 bytes, the key and the padding are 8,
+ * 16, 24 or 32 bytes together; _OPTIONAL_BLOCK, if a name or a content has other characters; _KEY_BLOCK_LENGTH, if the
+ * optional blocks have more than 9999; _OPTIONAL_BLOCK, if a `PB` is not taken, or they are more than 99 with one that is
+ * added; _KEY_BLOCK_LENGTH, if the block has more than 9999 characters, or `room` is too small.
  *
- * header writes the fields of a block's header. optional_block writes the name of the optional block at a place, from 0,
- * into `offset` where in the block its content begins, and into `length` the content's length. Neither takes a key, and
- * nothing that they write is authenticated. The status is that of the first fault of unwrap's, from _KEY_BLOCK_LENGTH to
- * _KEY_DATA_LENGTH; of optional_block then CUKVASHE_ERR_NO_OPTIONAL_BLOCK, if there is none at this place.
+ * header writes the fields of a block's header. context writes where the key may be, character 15 of the header: '0' in
+ * storage and exchange, as wrap writes it, '1' in storage only, '2' in exchange only. optional_block writes the name of
+ * the optional block at a place, from 0, into `offset` where in the block its content begins, and into `length` the
+ * content's length. None takes a key, and nothing that they write is authenticated: unwrap does that. The status is that
+ * of the first fault of unwrap's, from _KEY_BLOCK_LENGTH to _KEY_DATA_LENGTH; of optional_block then
+ * CUKVASHE_ERR_NO_OPTIONAL_BLOCK, if there is none at this place.
  *
  * These calls branch on what is no secret: lengths, the block, its header. unwrap compares all bytes of the MAC, branches
  * on whether it is right, and then on the key's length. Nothing else of a key decides a branch or an address. That is
@@ -912,6 +921,7 @@ CUKVASHE_CHECK int cukvashe_key_block_wrap(const uint8_t *protection, size_t pro
                                            const uint8_t *padding, size_t padding_length, char *block, size_t room,
                                            size_t *length);
 CUKVASHE_CHECK int cukvashe_key_block_header(const char *block, size_t block_length, cukvashe_key_block_fields *header);
+CUKVASHE_CHECK int cukvashe_key_block_context(const char *block, size_t block_length, char *context);
 CUKVASHE_CHECK int cukvashe_key_block_optional_block(const char *block, size_t block_length, size_t place, char name[3],
                                                      size_t *offset, size_t *length);
 

@@ -106,12 +106,12 @@ export class ProtectionKeyLength extends CukvasheError {}
 export class KeyBlockLength extends CukvasheError {}
 /** The version of a key block is none of A, B and C, or one is to be made of another than B and C. */
 export class KeyBlockVersion extends CukvasheError {}
-/** A key block's number of optional blocks is not two digits and two zeros, or a field is not letters and digits. */
+/** A key block's header does not end with two digits, 0 to 2, and 0, or a field is not letters and digits. */
 export class KeyBlockField extends CukvasheError {}
 /**
  * The optional blocks of a key block can't be read, do not end at a multiple of eight characters, or are more than 99; or
- * one of a block that is to be made is a PB, or has a name that is not two ASCII characters or a content that is not
- * printable ASCII.
+ * one of a block that is to be made has a name that is not two letters or digits or a content that is not printable
+ * ASCII, or is a PB that is not the last, or does not end at a multiple of eight characters.
  */
 export class OptionalBlock extends CukvasheError {}
 /** The encrypted key of a key block does not have a length that it can have. */
@@ -296,6 +296,8 @@ export interface TranslationKeys {
 export function pinTranslateTo0(
   incomingFormat: 0 | 1 | 3, account: Digits, block: Uint8Array, keys: TranslationKeys,
 ): Uint8Array;
+/** From format 1. KeyLength, and else PinBlock. */
+export function pinTranslateTo1(block: Uint8Array, keys: TranslationKeys): Uint8Array;
 export function pinTranslateTo3(
   incomingFormat: 0 | 1 | 3, account: Digits, fill: Uint8Array, block: Uint8Array, keys: TranslationKeys,
 ): Uint8Array;
@@ -320,6 +322,7 @@ export function pinOffsetVerify(
 // ---- Card cryptograms (EMV), the issuer's side. KeyLength, BlockLength, DataLength
 
 export function emvCardKey(issuer: Uint8Array, account: Digits, sequence: Digits): Uint8Array;
+export function emvCardKeyB(issuer: Uint8Array, account: Digits, sequence: Digits): Uint8Array;
 export function emvSessionKey(card: Uint8Array, block: Uint8Array): Uint8Array;
 export function emvApplicationKey(card: Uint8Array, counter: Uint8Array): Uint8Array;
 export function emvApplicationCryptogram(session: Uint8Array, data: Uint8Array): Uint8Array;
@@ -349,13 +352,15 @@ export function unwrapKeyBlock(
 ): { header: KeyBlockHeader; key: Uint8Array };
 /**
  * The padding is random where it is not given; an option of another name is a TypeError. The content of an optional block
- * is printable ASCII. A block PB is added where one is needed, and none is taken: leave out that of a block that was read.
- * KeyBlockVersion, KeyBlockField, OptionalBlock, ProtectionKeyLength, KeyLength, PaddingLength, KeyBlockLength.
+ * is printable ASCII. A block PB is added where one is needed, and taken only as the last that fills them. KeyBlockVersion,
+ * OptionalBlock, ProtectionKeyLength, KeyBlockField, KeyLength, PaddingLength, KeyBlockLength.
  */
 export function wrapKeyBlock(
   protection: Uint8Array, header: KeyBlockHeader, key: Uint8Array,
   options?: { optional?: Iterable<[name: string, content: string]>; padding?: Uint8Array },
 ): string;
+/** Where its key may be: "0" in storage and exchange, "1" in storage only, "2" in exchange only. Nothing is authenticated. */
+export function keyBlockContext(block: string | Uint8Array): string;
 /** Nothing of it is authenticated. */
 export function keyBlockHeader(block: string | Uint8Array): KeyBlockHeader;
 /** Nothing of them is authenticated. */

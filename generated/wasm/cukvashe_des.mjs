@@ -18,7 +18,7 @@ export const BLOCK_SIZE = 8;
 export const TAG_SIZE = 8;
 
 // The SHA-256 of the module that this file was built with.
-const MODULE_SUM = "77fd39c92a4f443829e50f4d60afcebdc5a8c7ca43eec693eab89ed8a25ca709";
+const MODULE_SUM = "1597a441cdb48e17514fc6a6192ddea68c497b0952f497469f014f5139e59f69";
 
 // The bytes of the module's stack, which lies at its address 0. `build` links it so.
 const STACK_SIZE = 131072;
@@ -142,7 +142,7 @@ const SENTENCES = [
   "the first digit of the PIN block is not that of the format",
   "the PIN does not have 4 to 12 digits",
   "a character of the PIN is not a digit",
-  "the account number does not have 8 to 19 digits, for a PVV 12 to 19, for a CVV 13 to 19",
+  "the account number does not have 8 to 19 digits, for a PVV or a CVV 12 to 19",
   "a character of the account number is not a digit",
   "a fill digit is not one that the format allows",
   "the expiry date does not have four digits",
@@ -165,8 +165,8 @@ const SENTENCES = [
   "the protection key does not have 16 or 24 bytes",
   "the key block is not as long as its header says, longer than 9999 characters, or too long for its buffer",
   "the version of the key block is not one that the call takes",
-  "the number of optional blocks is not two digits and two zeros, or a field to be written is not letters and digits",
-  "the optional blocks can't be read: a wrong length, an end off a multiple of eight, or more than 99",
+  "the header does not end with two digits, 0, 1 or 2, and 0, or a field to be written is not letters and digits",
+  "the optional blocks can't be read or written: a wrong length, name, content or PB, an end off a multiple of eight, or more than 99",
   "the encrypted key data do not have a length that they can have",
   "a character of the encrypted key data or the MAC is not 0 to 9 or A to F",
   "the MAC is not that of the key block",
@@ -1140,16 +1140,28 @@ export function pinTranslateTo0(incomingFormat, account, block, keys) {
   return written(BLOCK_SIZE, "pin_translate_to_0", translated(incomingFormat, account, [], block, keys));
 }
 
-/** The same to a block of format 3, with ten fill digits as of pinEncode3. */
+/** The same of a block of format 1 to format 1: its transaction digits stay, and it has no account number. */
+export function pinTranslateTo1(block, keys) {
+  const [laid, bytes] = [keysOf(keys), blockOf(block)];
+  const lay = (memory) => [...laid.flatMap((key) => memory.list(key)), memory.put(bytes)];
+  return written(BLOCK_SIZE, "pin_translate_to_1", lay);
+}
+
+/** As pinTranslateTo0, to a block of format 3, with ten fill digits as of pinEncode3. */
 export function pinTranslateTo3(incomingFormat, account, fill, block, keys) {
   return written(BLOCK_SIZE, "pin_translate_to_3", translated(incomingFormat, account, [fill], block, keys));
+}
+
+/** The incoming key and the outgoing one. */
+function keysOf(keys) {
+  const { incomingKey, outgoingKey } = optionsOf(keys, "incomingKey", "outgoingKey");
+  return [keyOf(incomingKey, ...SIZES), keyOf(outgoingKey, ...SIZES)];
 }
 
 /** What a translation takes, laid down. */
 function translated(incomingFormat, account, fills, block, keys) {
   const [format, digits] = [numberOf(incomingFormat, 0, 3, "the incoming format"), fills.map(fillOf)];
-  const { incomingKey, outgoingKey } = optionsOf(keys, "incomingKey", "outgoingKey");
-  const [incoming, outgoing] = [keyOf(incomingKey, ...SIZES), keyOf(outgoingKey, ...SIZES)];
+  const [incoming, outgoing] = keysOf(keys);
   const [number, bytes] = [textOf(account, "an account number"), blockOf(block)];
   return (memory) => [
     ...memory.list(incoming), format, ...memory.list(outgoing), ...memory.list(number),
@@ -1261,14 +1273,26 @@ export function pinOffsetVerify(key, table, validation, pin, offset) {
 
 const cryptogramOf = (bytes) => dataOf(bytes, BLOCK_SIZE, "an application cryptogram", "has", BlockLength);
 
-/**
- * The key of a card (option A), with odd parity, from the issuer's key, an account number of 8 to 19 digits and a
- * sequence number of two: "00" where the card has none.
- */
-export function emvCardKey(issuer, account, sequence) {
+function cardKeyBy(name, issuer, account, sequence) {
   const key = keyOf(issuer, 16);
   const texts = [textOf(account, "an account number"), textOf(sequence, "a sequence number")];
-  return written(16, "emv_card_key", (memory) => [memory.put(key), ...texts.flatMap((text) => memory.list(text))]);
+  return written(16, name, (memory) => [memory.put(key), ...texts.flatMap((text) => memory.list(text))]);
+}
+
+/**
+ * The key of a card (option A), with odd parity, from the issuer's key, an account number of 8 to 19 digits and a
+ * sequence number of two: "00" where the card has none. Most issuers take option A.
+ */
+export function emvCardKey(issuer, account, sequence) {
+  return cardKeyBy("emv_card_key", issuer, account, sequence);
+}
+
+/**
+ * The key of a card by option B, from the same. It differs where the account number has more than sixteen digits: take
+ * it for these where the card scheme asks for it.
+ */
+export function emvCardKeyB(issuer, account, sequence) {
+  return cardKeyBy("emv_card_key_b", issuer, account, sequence);
 }
 
 /**
@@ -1318,7 +1342,7 @@ export function emvResponse2(session, cryptogram, status, data = new Uint8Array(
 // ---- Card verification values
 
 /**
- * The card verification value, three digits, under a key pair of 16 bytes, of an account number of 13 to 19 digits, an
+ * The card verification value, three digits, under a key pair of 16 bytes, of an account number of 12 to 19 digits, an
  * expiry date of four and a service code of three.
  */
 export function cvv(key, account, expiry, service) {
@@ -1337,7 +1361,6 @@ const MORE_CHARACTERS = 128;
 const TOO_MANY_CHARACTERS = 10000;
 
 const isAscii = (text) => /^[\0-\x7f]*$/.test(text);
-const isPrintable = (text) => /^[ -~]*$/.test(text);
 
 /** The bytes of a text of ASCII characters. Another character becomes one that no field of a header has. */
 const asciiOf = (text) => Uint8Array.from(text, (character) => (isAscii(character) ? character.charCodeAt(0) : 63));
@@ -1373,19 +1396,14 @@ function fieldsOf(header) {
   return asciiOf(`${version}${usage}\0${algorithm}${mode}${keyVersion}\0${exportability}`);
 }
 
-/** An optional block. The library writes it in its shortest form. */
+/** An optional block. The library tests its characters, and writes it in its shortest form. */
 function optionalText(pair) {
   if (!Array.isArray(pair) || pair.length !== 2 || pair.some((part) => typeof part !== "string")) {
     throw new TypeError("an optional block: a pair of its name and its content, two strings, is needed");
   }
-  const [name, content] = pair;
-  if (name.length !== 2 || !isAscii(name)) {
-    throw new OptionalBlock("the name of an optional block has two characters, both ASCII");
-  }
-  if (name === "PB") {
-    throw new OptionalBlock("a block PB is added where one is needed: leave out that of a block that was read");
-  }
-  if (!isPrintable(content)) throw new OptionalBlock("the content of an optional block is printable ASCII alone");
+  // A character that is not ASCII becomes one that the library refuses.
+  const [name, content] = pair.map((text) => text.replace(/[^\0-\x7f]/g, "\x7f"));
+  if (name.length !== 2) throw new OptionalBlock("the name of an optional block has two characters, letters or digits");
   if (content.length > TOO_MANY_CHARACTERS) throw new KeyBlockLength("a key block has at most 9999 characters");
   return `${name}0002${(content.length + 10).toString(16).toUpperCase().padStart(4, "0")}${content}`;
 }
@@ -1417,9 +1435,10 @@ export function unwrapKeyBlock(protection, block) {
 /**
  * The key block, a string, of a key of 8, 16 or 24 bytes under a protection key of 16 or 24 bytes, of version B or C.
  * `header` has the fields that unwrapKeyBlock gives; no call compares them with the key's length. Options are `optional`,
- * pairs of a name of two characters and its content, printable ASCII, after which a block PB is added where they do not
- * end at a multiple of eight characters, and none is taken: OptionalBlock; and `padding`, random bytes that hide how long
- * the key is, 6, 14 or 22: without it they come from the engine. An option of another name is a TypeError.
+ * pairs of a name of two letters or digits and its content, printable ASCII, after which a block PB is added where they do
+ * not end at a multiple of eight characters, and taken only as the last, where with it they do: OptionalBlock; and
+ * `padding`, random bytes that hide how long the key is, 6, 14 or 22: without it they come from the engine. An option of
+ * another name is a TypeError.
  */
 export function wrapKeyBlock(protection, header, key, options = {}) {
   const { optional = [], padding } = optionsOf(options, "optional", "padding");
@@ -1440,6 +1459,15 @@ export function wrapKeyBlock(protection, header, key, options = {}) {
 export function keyBlockHeader(block) {
   const text = keyBlockOf(block);
   return headerFrom(written(FIELDS_SIZE, "key_block_header", (memory) => memory.list(text)));
+}
+
+/**
+ * Where the key of a key block may be, read with no key: "0" in storage and exchange, as wrapKeyBlock writes it, "1" in
+ * storage only, "2" in exchange only. Nothing of it is authenticated: unwrapKeyBlock does that.
+ */
+export function keyBlockContext(block) {
+  const text = keyBlockOf(block);
+  return charactersOf(written(1, "key_block_context", (memory) => memory.list(text)));
 }
 
 /** The optional blocks of a key block, pairs of a name and its content, read with no key. Nothing is authenticated. */

@@ -21627,29 +21627,29 @@ cukvashe_wide_dukpt_transaction_keys:
 	pushq	%rdi
 	pushq	%rbp
 	pushq	%rbx
-	movl	$14488, %eax
+	movl	$14504, %eax
 	callq	___chkstk_ms
 	subq	%rax, %rsp
 	movq	%r8, %rsi
 	movq	%rcx, %r14
-	movq	%rdx, 48(%rsp)
+	movq	%rdx, 56(%rsp)
 	testq	%rdx, %rdx
 	sete	%r8b
 	xorl	%ecx, %ecx
 	testq	%r9, %r9
 	sete	%dl
 	movl	$19, %eax
-	cmpq	14592(%rsp), %rsi
-	jne	.LBB73_3
+	cmpq	14608(%rsp), %rsi
+	jne	.LBB73_27
 	testq	%rsi, %rsi
-	je	.LBB73_2
+	je	.LBB73_26
 	xorl	%r10d, %r10d
 	movb	%r8b, %r10b
 	shll	$12, %r10d
-	movq	48(%rsp), %rax
-	movq	%r10, 56(%rsp)
+	movq	56(%rsp), %rax
+	movq	%r10, 64(%rsp)
 	addq	%r10, %rax
-	movq	%rax, 96(%rsp)
+	movq	%rax, 104(%rsp)
 	movb	%dl, %cl
 	shll	$12, %ecx
 	leaq	(%r9,%rcx), %rax
@@ -21658,27 +21658,28 @@ cukvashe_wide_dukpt_transaction_keys:
 	addq	$8, %rax
 	movq	%rax, 72(%rsp)
 	xorl	%r13d, %r13d
-	movq	%rsi, 64(%rsp)
-	jmp	.LBB73_5
+	movq	%rsi, 88(%rsp)
+	jmp	.LBB73_3
 	.p2align	4
-.LBB73_12:
+.LBB73_9:
 	addq	%rbx, %r13
+	movq	88(%rsp), %rsi
 	cmpq	%rsi, %r13
-	jae	.LBB73_13
-.LBB73_5:
+	jae	.LBB73_10
+.LBB73_3:
 	subq	%r13, %rsi
 	cmpq	$256, %rsi
 	movl	$256, %ebx
 	cmovbq	%rsi, %rbx
 	leaq	(%r13,%r13,4), %rax
-	movq	48(%rsp), %rcx
-	movq	56(%rsp), %rdx
+	movq	56(%rsp), %rcx
+	movq	64(%rsp), %rdx
 	addq	%rdx, %rcx
 	leaq	(%rcx,%rax,2), %r12
 	movq	%r13, %rbp
 	shlq	$4, %rbp
 	xorl	%r15d, %r15d
-	leaq	6296(%rsp), %rdi
+	leaq	6312(%rsp), %rdi
 	movl	$2048, %r8d
 	movq	%rdi, %rcx
 	xorl	%edx, %edx
@@ -21689,33 +21690,29 @@ cukvashe_wide_dukpt_transaction_keys:
 	movq	%r12, %r8
 	movq	%rbx, %r9
 	callq	"des_payment::transaction_lists::initial_halves::<#336421e3ca4bafb2>"
-	leaq	144(%rsp), %rcx
+	leaq	160(%rsp), %rcx
 	movl	$2048, %r8d
 	movq	%rdi, %rdx
 	callq	memcpy
 	vmovdqu	(%r14), %xmm0
 	vpxor	.LCPI73_0(%rip), %xmm0, %xmm0
-	vmovdqa	%xmm0, 4240(%rsp)
-	leaq	4240(%rsp), %rdx
+	vmovdqa	%xmm0, 4256(%rsp)
+	leaq	4256(%rsp), %rdx
 	movq	%rdi, %rcx
 	movq	%r12, %r8
 	movq	%rbx, %r9
 	callq	"des_payment::transaction_lists::initial_halves::<#336421e3ca4bafb2>"
 	cmpq	$4, %rsi
-	jae	.LBB73_7
-	movq	64(%rsp), %rsi
-	jmp	.LBB73_10
-	.p2align	4
-.LBB73_7:
+	jb	.LBB73_7
 	movq	80(%rsp), %rax
 	addq	%rbp, %rax
 	movl	%ebx, %r15d
 	andl	$508, %r15d
 	xorl	%ecx, %ecx
 	.p2align	4
-.LBB73_8:
-	vmovdqu	144(%rsp,%rcx,8), %ymm0
-	vmovdqu	6296(%rsp,%rcx,8), %ymm1
+.LBB73_5:
+	vmovdqu	160(%rsp,%rcx,8), %ymm0
+	vmovdqu	6312(%rsp,%rcx,8), %ymm1
 	vpermq	$96, %ymm1, %ymm2
 	vpermq	$212, %ymm0, %ymm3
 	vpblendd	$204, %ymm2, %ymm3, %ymm2
@@ -21727,182 +21724,183 @@ cukvashe_wide_dukpt_transaction_keys:
 	addq	$4, %rcx
 	addq	$64, %rax
 	cmpq	%rcx, %r15
-	jne	.LBB73_8
+	jne	.LBB73_5
 	cmpq	%r15, %rbx
-	movq	64(%rsp), %rsi
-	je	.LBB73_12
-.LBB73_10:
+	je	.LBB73_9
+.LBB73_7:
 	movl	%r15d, %eax
 	shll	$4, %eax
 	addq	72(%rsp), %rbp
 	addq	%rax, %rbp
 	.p2align	4
-.LBB73_11:
-	movq	144(%rsp,%r15,8), %rax
-	movq	6296(%rsp,%r15,8), %rcx
+.LBB73_8:
+	movq	160(%rsp,%r15,8), %rax
+	movq	6312(%rsp,%r15,8), %rcx
 	movq	%rax, -8(%rbp)
 	movq	%rcx, (%rbp)
 	incq	%r15
 	addq	$16, %rbp
 	cmpq	%r15, %rbx
-	jne	.LBB73_11
-	jmp	.LBB73_12
-.LBB73_13:
+	jne	.LBB73_8
+	jmp	.LBB73_9
+.LBB73_10:
 	movabsq	$-247390116249600, %rdi
-	movq	48(%rsp), %rax
-	movq	56(%rsp), %rcx
+	movq	56(%rsp), %rax
+	movq	64(%rsp), %rcx
 	addq	%rcx, %rax
 	addq	$2, %rax
-	movq	%rax, 88(%rsp)
+	movq	%rax, 96(%rsp)
 	xorl	%r15d, %r15d
-	jmp	.LBB73_14
+	jmp	.LBB73_11
 	.p2align	4
-.LBB73_28:
-	movq	104(%rsp), %r15
-	addq	%rbx, %r15
-	movq	64(%rsp), %rsi
+.LBB73_25:
+	movq	112(%rsp), %r15
+	addq	56(%rsp), %r15
+	movq	88(%rsp), %rsi
 	cmpq	%rsi, %r15
-	jae	.LBB73_2
-.LBB73_14:
+	jae	.LBB73_26
+.LBB73_11:
 	subq	%r15, %rsi
 	cmpq	$256, %rsi
-	movl	$256, %ebx
-	cmovbq	%rsi, %rbx
+	movl	$256, %ecx
+	cmovbq	%rsi, %rcx
 	leaq	(%r15,%r15), %rax
-	leaq	(%rax,%rax,4), %r14
-	movq	96(%rsp), %rax
-	addq	%r14, %rax
+	leaq	(%rax,%rax,4), %r12
+	movq	104(%rsp), %rax
+	addq	%r12, %rax
 	movq	%rax, 72(%rsp)
-	movq	%r15, 104(%rsp)
+	movq	%r15, 112(%rsp)
 	shlq	$4, %r15
 	addq	80(%rsp), %r15
-	movl	%ebx, %eax
+	movl	%ecx, %eax
 	shll	$4, %eax
-	movq	%rax, 136(%rsp)
-	leaq	-1(%rbx), %rax
-	movq	%rax, 128(%rsp)
-	movl	%ebx, %r12d
-	andl	$7, %r12d
-	movl	%ebx, %eax
+	movq	%rax, 152(%rsp)
+	leaq	-1(%rcx), %rax
+	movq	%rax, 144(%rsp)
+	movl	%ecx, %edx
+	andl	$7, %edx
+	movl	%ecx, %eax
 	andl	$504, %eax
-	movq	%rax, 112(%rsp)
-	addq	88(%rsp), %r14
-	movq	%r12, 120(%rsp)
-	shll	$4, %r12d
+	movq	%rax, 120(%rsp)
+	addq	96(%rsp), %r12
+	movq	%rcx, 56(%rsp)
+	leaq	(%rcx,%rcx,4), %rax
+	leaq	10(,%rax,2), %r14
+	movq	%rdx, 128(%rsp)
+	movl	%edx, %esi
+	shll	$4, %esi
 	movl	$21, %r13d
-	movq	%rbx, 48(%rsp)
-	movq	%r14, 56(%rsp)
-	jmp	.LBB73_15
+	movq	%r12, 64(%rsp)
+	movq	%rsi, 136(%rsp)
+	jmp	.LBB73_12
 	.p2align	4
-.LBB73_26:
-	leaq	6296(%rsp), %rbp
-	leaq	144(%rsp), %rdx
-	movl	$4096, %r8d
-	movq	%rbp, %rcx
-	callq	memcpy
-	leaq	144(%rsp), %rsi
+.LBB73_23:
+	leaq	6312(%rsp), %rsi
+	leaq	160(%rsp), %rdx
 	movl	$4096, %r8d
 	movq	%rsi, %rcx
-	movq	%rbp, %rdx
+	callq	memcpy
+	leaq	160(%rsp), %rbp
+	movl	$4096, %r8d
+	movq	%rbp, %rcx
+	movq	%rsi, %rdx
 	callq	memcpy
 	movq	%r15, %rcx
-	movq	%rsi, %rdx
-	movq	136(%rsp), %r8
+	movq	%rbp, %rdx
+	movq	152(%rsp), %r8
 	callq	memcpy
-	movq	48(%rsp), %rbx
-	movq	56(%rsp), %r14
-.LBB73_27:
+	movq	64(%rsp), %r12
+	movq	136(%rsp), %rsi
+.LBB73_24:
 	testq	%r13, %r13
-	je	.LBB73_28
-.LBB73_15:
+	je	.LBB73_25
+.LBB73_12:
 	decq	%r13
-	leaq	10392(%rsp), %rcx
+	xorl	%ebp, %ebp
+	leaq	10408(%rsp), %rcx
 	movl	$2048, %r8d
 	xorl	%edx, %edx
 	vzeroupper
 	callq	memset
 	movl	$1, %eax
 	shlxq	%r13, %rax, %rax
-	movq	%r14, %rcx
-	movq	%rbx, %rdx
 	.p2align	4
-.LBB73_17:
-	movq	(%rcx), %r8
-	andq	%rdi, %r8
-	bswapq	%r8
-	testq	%rax, %r8
-	jne	.LBB73_18
-	addq	$10, %rcx
-	decq	%rdx
-	jne	.LBB73_17
-	jmp	.LBB73_27
-	.p2align	4
-.LBB73_18:
-	xorl	%esi, %esi
-	leaq	144(%rsp), %rcx
+.LBB73_13:
+	leaq	10(%rbp), %rcx
+	cmpq	%rcx, %r14
+	je	.LBB73_24
+	movq	(%r12,%rbp), %rdx
+	andq	%rdi, %rdx
+	bswapq	%rdx
+	movq	%rcx, %rbp
+	testq	%rax, %rdx
+	je	.LBB73_13
+	xorl	%ebp, %ebp
+	leaq	160(%rsp), %rcx
 	movl	$4096, %r8d
 	xorl	%edx, %edx
 	callq	memset
-	cmpq	$7, 128(%rsp)
-	jb	.LBB73_22
+	cmpq	$7, 144(%rsp)
+	jb	.LBB73_19
 	movl	$112, %eax
-	xorl	%esi, %esi
-	movq	112(%rsp), %rcx
+	xorl	%ebp, %ebp
+	movq	120(%rsp), %rcx
 	.p2align	4
-.LBB73_20:
+.LBB73_17:
 	vpbroadcastq	.LCPI73_1(%rip), %xmm0
 	vpxor	-112(%r15,%rax), %xmm0, %xmm1
-	vmovdqu	%xmm1, 32(%rsp,%rax)
-	vpxor	-96(%r15,%rax), %xmm0, %xmm1
 	vmovdqu	%xmm1, 48(%rsp,%rax)
-	vpxor	-80(%r15,%rax), %xmm0, %xmm1
+	vpxor	-96(%r15,%rax), %xmm0, %xmm1
 	vmovdqu	%xmm1, 64(%rsp,%rax)
-	vpxor	-64(%r15,%rax), %xmm0, %xmm1
+	vpxor	-80(%r15,%rax), %xmm0, %xmm1
 	vmovdqu	%xmm1, 80(%rsp,%rax)
-	vpxor	-48(%r15,%rax), %xmm0, %xmm1
+	vpxor	-64(%r15,%rax), %xmm0, %xmm1
 	vmovdqu	%xmm1, 96(%rsp,%rax)
-	vpxor	-32(%r15,%rax), %xmm0, %xmm1
+	vpxor	-48(%r15,%rax), %xmm0, %xmm1
 	vmovdqu	%xmm1, 112(%rsp,%rax)
-	vpxor	-16(%r15,%rax), %xmm0, %xmm1
+	vpxor	-32(%r15,%rax), %xmm0, %xmm1
 	vmovdqu	%xmm1, 128(%rsp,%rax)
+	vpxor	-16(%r15,%rax), %xmm0, %xmm1
+	vmovdqu	%xmm1, 144(%rsp,%rax)
 	vpxor	(%r15,%rax), %xmm0, %xmm0
-	vmovdqu	%xmm0, 144(%rsp,%rax)
-	addq	$8, %rsi
+	vmovdqu	%xmm0, 160(%rsp,%rax)
+	addq	$8, %rbp
 	subq	$-128, %rax
-	cmpq	%rsi, %rcx
-	jne	.LBB73_20
-	cmpq	$0, 120(%rsp)
-	je	.LBB73_24
-.LBB73_22:
-	shlq	$4, %rsi
-	leaq	(%rsp,%rsi), %rax
-	addq	$144, %rax
-	addq	%r15, %rsi
+	cmpq	%rbp, %rcx
+	jne	.LBB73_17
+	cmpq	$0, 128(%rsp)
+	je	.LBB73_21
+.LBB73_19:
+	shlq	$4, %rbp
+	leaq	(%rsp,%rbp), %rax
+	addq	$160, %rax
+	addq	%r15, %rbp
 	xorl	%ecx, %ecx
 	.p2align	4
-.LBB73_23:
-	vmovdqu	(%rsi,%rcx), %xmm0
+.LBB73_20:
+	vmovdqu	(%rbp,%rcx), %xmm0
 	vpxor	.LCPI73_0(%rip), %xmm0, %xmm0
 	vmovdqu	%xmm0, (%rax,%rcx)
 	addq	$16, %rcx
-	cmpq	%rcx, %r12
-	jne	.LBB73_23
-.LBB73_24:
-	leaq	144(%rsp), %rdx
+	cmpq	%rcx, %rsi
+	jne	.LBB73_20
+.LBB73_21:
+	leaq	160(%rsp), %rdx
 	movl	$4096, %r8d
-	leaq	6296(%rsp), %rsi
+	leaq	6312(%rsp), %rsi
 	movq	%rsi, %rcx
 	callq	memcpy
+	movq	56(%rsp), %rbx
 	movq	%rbx, 40(%rsp)
 	movq	%rsi, 32(%rsp)
-	leaq	10392(%rsp), %rbp
+	leaq	10408(%rsp), %rbp
 	movq	%rbp, %rcx
 	movq	72(%rsp), %rsi
 	movq	%rsi, %rdx
 	movq	%rbx, %r8
 	movl	%r13d, %r9d
 	callq	"des_payment::transaction_lists::next_halves::<#336421e3ca4bafb2>"
-	leaq	4240(%rsp), %rcx
+	leaq	4256(%rsp), %rcx
 	movl	$2048, %r8d
 	movq	%rbp, %rdx
 	callq	memcpy
@@ -21913,46 +21911,48 @@ cukvashe_wide_dukpt_transaction_keys:
 	movq	%rbx, %r8
 	movl	%r13d, %r9d
 	callq	"des_payment::transaction_lists::next_halves::<#336421e3ca4bafb2>"
-	leaq	12440(%rsp), %rcx
+	leaq	12456(%rsp), %rcx
 	movl	$2048, %r8d
 	movq	%rbp, %rdx
 	callq	memcpy
-	xorl	%esi, %esi
-	leaq	144(%rsp), %rcx
+	xorl	%ebp, %ebp
+	leaq	160(%rsp), %rcx
 	movl	$4096, %r8d
 	xorl	%edx, %edx
 	callq	memset
-	movq	%r14, %rax
+	movq	%r12, %rax
 	movq	%rbx, %rcx
 	.p2align	4
-.LBB73_25:
+.LBB73_22:
 	movq	(%rax), %rdx
 	andq	%rdi, %rdx
 	bswapq	%rdx
 	btq	%r13, %rdx
 	movl	$0, %edx
 	sbbl	%edx, %edx
-	movq	4240(%rsp,%rsi), %r8
+	movq	4256(%rsp,%rbp), %r8
 	movq	%r8, %r9
 	movq	%r8, %r10
 	movq	%r8, %r11
-	movq	%r8, %rbp
-	movl	%r8d, %r14d
-	movl	%r8d, %ebx
+	movq	%r8, %rbx
+	movl	%r8d, %esi
+	movq	%rdi, %r12
+	movl	%r8d, %edi
 	vmovd	%r8d, %xmm0
 	shrl	$8, %r8d
 	vpinsrb	$1, %r8d, %xmm0, %xmm0
-	shrl	$16, %ebx
-	vpinsrb	$2, %ebx, %xmm0, %xmm0
-	shrl	$24, %r14d
-	vpinsrb	$3, %r14d, %xmm0, %xmm0
-	shrq	$32, %rbp
-	vpinsrb	$4, %ebp, %xmm0, %xmm0
+	shrl	$16, %edi
+	vpinsrb	$2, %edi, %xmm0, %xmm0
+	movq	%r12, %rdi
+	shrl	$24, %esi
+	vpinsrb	$3, %esi, %xmm0, %xmm0
+	shrq	$32, %rbx
+	vpinsrb	$4, %ebx, %xmm0, %xmm0
 	shrq	$40, %r11
 	vpinsrb	$5, %r11d, %xmm0, %xmm0
 	shrq	$48, %r10
 	vpinsrb	$6, %r10d, %xmm0, %xmm0
-	movq	12440(%rsp,%rsi), %r8
+	movq	12456(%rsp,%rbp), %r8
 	shrq	$56, %r9
 	vpinsrb	$7, %r9d, %xmm0, %xmm0
 	movl	%r8d, %r9d
@@ -21977,19 +21977,19 @@ cukvashe_wide_dukpt_transaction_keys:
 	shrq	$56, %r8
 	vpinsrb	$15, %r8d, %xmm0, %xmm0
 	vmovd	%edx, %xmm1
-	vmovdqu	(%r15,%rsi,2), %xmm2
+	vmovdqu	(%r15,%rbp,2), %xmm2
 	vpbroadcastb	%xmm1, %xmm1
 	vpblendvb	%xmm1, %xmm0, %xmm2, %xmm0
-	vmovdqu	%xmm0, 144(%rsp,%rsi,2)
-	addq	$8, %rsi
+	vmovdqu	%xmm0, 160(%rsp,%rbp,2)
+	addq	$8, %rbp
 	addq	$10, %rax
 	decq	%rcx
-	jne	.LBB73_25
-	jmp	.LBB73_26
-.LBB73_2:
+	jne	.LBB73_22
+	jmp	.LBB73_23
+.LBB73_26:
 	xorl	%eax, %eax
-.LBB73_3:
-	addq	$14488, %rsp
+.LBB73_27:
+	addq	$14504, %rsp
 	popq	%rbx
 	popq	%rbp
 	popq	%rdi

@@ -21482,40 +21482,40 @@ cukvashe_wide_dukpt_transaction_keys:
 	movq	$0, (%rsp)
 	subq	$3072, %rsp
 	movq	$0, (%rsp)
-	subq	$2152, %rsp
-	movq	%rdx, %rbx
-	movq	%rdi, 40(%rsp)
-	movq	%rsi, (%rsp)
+	subq	$2168, %rsp
+	movq	%rdi, 48(%rsp)
+	movq	%rsi, 8(%rsp)
 	testq	%rsi, %rsi
 	sete	%dil
-	xorl	%edx, %edx
+	xorl	%r9d, %r9d
 	testq	%rcx, %rcx
 	sete	%sil
 	movl	$19, %eax
-	cmpq	%r8, %rbx
+	cmpq	%r8, %rdx
 	jne	.LBB73_3
-	testq	%rbx, %rbx
+	movq	%rdx, %rbx
+	testq	%rdx, %rdx
 	je	.LBB73_2
 	xorl	%r8d, %r8d
 	movb	%dil, %r8b
 	shll	$12, %r8d
-	movq	(%rsp), %rax
-	movq	%r8, 8(%rsp)
+	movq	8(%rsp), %rax
+	movq	%r8, 16(%rsp)
 	addq	%r8, %rax
-	movq	%rax, 64(%rsp)
-	movb	%sil, %dl
-	shll	$12, %edx
-	leaq	(%rcx,%rdx), %rax
-	movq	%rax, 48(%rsp)
-	leaq	(%rdx,%rcx), %rax
+	movq	%rax, 80(%rsp)
+	movb	%sil, %r9b
+	shll	$12, %r9d
+	leaq	(%rcx,%r9), %rax
+	movq	%rax, 56(%rsp)
+	leaq	(%r9,%rcx), %rax
 	addq	$8, %rax
-	movq	%rax, 32(%rsp)
+	movq	%rax, 40(%rsp)
 	xorl	%ebp, %ebp
-	movq	%rbx, 24(%rsp)
+	movq	%rbx, 32(%rsp)
 	jmp	.LBB73_5
 	.p2align	4
 .LBB73_12:
-	movq	16(%rsp), %rbp
+	movq	24(%rsp), %rbp
 	addq	%r15, %rbp
 	cmpq	%rbx, %rbp
 	jae	.LBB73_13
@@ -21525,13 +21525,13 @@ cukvashe_wide_dukpt_transaction_keys:
 	movl	$256, %r15d
 	cmovbq	%rbx, %r15
 	leaq	(%rbp,%rbp,4), %rax
-	movq	(%rsp), %rcx
-	movq	8(%rsp), %rdx
+	movq	8(%rsp), %rcx
+	movq	16(%rsp), %rdx
 	addq	%rdx, %rcx
 	leaq	(%rcx,%rax,2), %r14
-	movq	%rbp, 16(%rsp)
+	movq	%rbp, 24(%rsp)
 	shlq	$4, %rbp
-	leaq	8296(%rsp), %r13
+	leaq	8312(%rsp), %r13
 	xorl	%r12d, %r12d
 	movl	$2048, %edx
 	movq	%r13, %rdi
@@ -21539,38 +21539,38 @@ cukvashe_wide_dukpt_transaction_keys:
 	vzeroupper
 	callq	memset@PLT
 	movq	%r13, %rdi
-	movq	40(%rsp), %r13
+	movq	48(%rsp), %r13
 	movq	%r13, %rsi
 	movq	%r14, %rdx
 	movq	%r15, %rcx
 	callq	"des_payment::transaction_lists::initial_halves::<#336421e3ca4bafb2>"
-	leaq	96(%rsp), %rdi
+	leaq	112(%rsp), %rdi
 	movl	$2048, %edx
-	leaq	8296(%rsp), %rsi
+	leaq	8312(%rsp), %rsi
 	callq	memcpy@PLT
 	vmovdqu	(%r13), %xmm0
 	vpxor	.LCPI73_0(%rip), %xmm0, %xmm0
-	vmovdqa	%xmm0, 6240(%rsp)
-	leaq	6240(%rsp), %rsi
-	leaq	8296(%rsp), %rdi
+	vmovdqa	%xmm0, 6256(%rsp)
+	leaq	6256(%rsp), %rsi
+	leaq	8312(%rsp), %rdi
 	movq	%r14, %rdx
 	movq	%r15, %rcx
 	callq	"des_payment::transaction_lists::initial_halves::<#336421e3ca4bafb2>"
 	cmpq	$4, %rbx
 	jae	.LBB73_7
-	movq	24(%rsp), %rbx
+	movq	32(%rsp), %rbx
 	jmp	.LBB73_10
 	.p2align	4
 .LBB73_7:
-	movq	48(%rsp), %rax
+	movq	56(%rsp), %rax
 	addq	%rbp, %rax
 	movl	%r15d, %r12d
 	andl	$508, %r12d
 	xorl	%ecx, %ecx
 	.p2align	4
 .LBB73_8:
-	vmovdqu	96(%rsp,%rcx,8), %ymm0
-	vmovdqu	8296(%rsp,%rcx,8), %ymm1
+	vmovdqu	112(%rsp,%rcx,8), %ymm0
+	vmovdqu	8312(%rsp,%rcx,8), %ymm1
 	vpermq	$96, %ymm1, %ymm2
 	vpermq	$212, %ymm0, %ymm3
 	vpblendd	$204, %ymm2, %ymm3, %ymm2
@@ -21584,17 +21584,17 @@ cukvashe_wide_dukpt_transaction_keys:
 	cmpq	%rcx, %r12
 	jne	.LBB73_8
 	cmpq	%r12, %r15
-	movq	24(%rsp), %rbx
+	movq	32(%rsp), %rbx
 	je	.LBB73_12
 .LBB73_10:
 	movl	%r12d, %eax
 	shll	$4, %eax
-	addq	32(%rsp), %rbp
+	addq	40(%rsp), %rbp
 	addq	%rax, %rbp
 	.p2align	4
 .LBB73_11:
-	movq	96(%rsp,%r12,8), %rax
-	movq	8296(%rsp,%r12,8), %rcx
+	movq	112(%rsp,%r12,8), %rax
+	movq	8312(%rsp,%r12,8), %rcx
 	movq	%rax, -8(%rbp)
 	movq	%rcx, (%rbp)
 	incq	%r12
@@ -21604,199 +21604,206 @@ cukvashe_wide_dukpt_transaction_keys:
 	jmp	.LBB73_12
 .LBB73_13:
 	movabsq	$-247390116249600, %r15
-	movq	(%rsp), %rax
-	movq	8(%rsp), %rcx
+	movq	8(%rsp), %rax
+	movq	16(%rsp), %rcx
 	addq	%rcx, %rax
 	addq	$2, %rax
-	movq	%rax, 56(%rsp)
+	movq	%rax, 72(%rsp)
 	xorl	%r12d, %r12d
 	jmp	.LBB73_14
 	.p2align	4
-.LBB73_28:
-	movq	72(%rsp), %r12
-	addq	%r14, %r12
-	movq	24(%rsp), %rbx
+.LBB73_29:
+	movq	88(%rsp), %r12
+	addq	8(%rsp), %r12
+	movq	32(%rsp), %rbx
 	cmpq	%rbx, %r12
 	jae	.LBB73_2
 .LBB73_14:
-	movq	%rbx, %rax
-	subq	%r12, %rax
-	cmpq	$256, %rax
-	movl	$256, %r14d
-	cmovbq	%rax, %r14
+	subq	%r12, %rbx
+	cmpq	$256, %rbx
+	movl	$256, %ecx
+	cmovbq	%rbx, %rcx
 	leaq	(%r12,%r12), %rax
-	leaq	(%rax,%rax,4), %rcx
-	movq	64(%rsp), %rax
-	addq	%rcx, %rax
-	movq	%rax, 40(%rsp)
-	movq	%r12, 72(%rsp)
+	leaq	(%rax,%rax,4), %r14
+	movq	80(%rsp), %rax
+	addq	%r14, %rax
+	movq	%rax, 48(%rsp)
+	movq	%r12, 88(%rsp)
 	shlq	$4, %r12
-	addq	48(%rsp), %r12
-	movl	%r14d, %eax
+	addq	56(%rsp), %r12
+	movl	%ecx, %eax
 	shll	$4, %eax
-	movq	%rax, 8(%rsp)
-	leaq	-1(%r14), %rax
-	movq	%rax, 32(%rsp)
-	movl	%r14d, %r13d
-	andl	$7, %r13d
-	movl	%r14d, %eax
+	movq	%rax, 16(%rsp)
+	leaq	-1(%rcx), %rax
+	movq	%rax, 40(%rsp)
+	movl	%ecx, %edx
+	andl	$7, %edx
+	movl	%ecx, %eax
 	andl	$504, %eax
-	movq	%rax, 80(%rsp)
-	addq	56(%rsp), %rcx
-	movq	%rcx, 16(%rsp)
-	movq	%r13, 88(%rsp)
-	shll	$4, %r13d
+	movq	%rax, 96(%rsp)
+	addq	72(%rsp), %r14
+	movq	%rcx, 8(%rsp)
+	leaq	(%rcx,%rcx,4), %rax
+	leaq	10(,%rax,2), %rbx
+	movq	%rdx, 104(%rsp)
+	shll	$4, %edx
+	movq	%rdx, 64(%rsp)
 	movl	$21, %ebp
-	movq	%r14, (%rsp)
+	movq	%r14, 24(%rsp)
 	jmp	.LBB73_15
 	.p2align	4
-.LBB73_26:
-	leaq	8296(%rsp), %r14
-	leaq	96(%rsp), %rsi
+.LBB73_27:
+	leaq	8312(%rsp), %r14
+	leaq	112(%rsp), %rsi
 	movl	$4096, %edx
 	movq	%r14, %rdi
 	callq	memcpy@PLT
-	leaq	96(%rsp), %rbx
+	leaq	112(%rsp), %r13
 	movl	$4096, %edx
-	movq	%rbx, %rdi
+	movq	%r13, %rdi
 	movq	%r14, %rsi
 	callq	memcpy@PLT
 	movq	%r12, %rdi
-	movq	%rbx, %rsi
-	movq	8(%rsp), %rdx
+	movq	%r13, %rsi
+	movq	16(%rsp), %rdx
 	callq	memcpy@PLT
-	movq	(%rsp), %r14
-.LBB73_27:
+	movq	24(%rsp), %r14
+.LBB73_28:
 	testq	%rbp, %rbp
-	je	.LBB73_28
+	je	.LBB73_29
 .LBB73_15:
 	decq	%rbp
-	leaq	4192(%rsp), %rdi
+	leaq	4208(%rsp), %rdi
+	xorl	%r13d, %r13d
 	movl	$2048, %edx
 	xorl	%esi, %esi
 	vzeroupper
 	callq	memset@PLT
 	movl	$1, %eax
 	shlxq	%rbp, %rax, %rax
-	movq	16(%rsp), %rcx
-	movq	%r14, %rdx
 	.p2align	4
-.LBB73_17:
-	movq	(%rcx), %rsi
-	andq	%r15, %rsi
-	bswapq	%rsi
-	testq	%rax, %rsi
-	jne	.LBB73_18
-	addq	$10, %rcx
-	decq	%rdx
-	jne	.LBB73_17
-	jmp	.LBB73_27
-	.p2align	4
-.LBB73_18:
-	leaq	96(%rsp), %rdi
-	xorl	%ebx, %ebx
+.LBB73_16:
+	leaq	10(%r13), %rcx
+	cmpq	%rcx, %rbx
+	je	.LBB73_28
+	movq	(%r14,%r13), %rdx
+	andq	%r15, %rdx
+	bswapq	%rdx
+	movq	%rcx, %r13
+	testq	%rax, %rdx
+	je	.LBB73_16
+	leaq	112(%rsp), %rdi
+	xorl	%r13d, %r13d
 	movl	$4096, %edx
 	xorl	%esi, %esi
 	callq	memset@PLT
-	cmpq	$7, 32(%rsp)
-	jb	.LBB73_22
-	movl	$112, %eax
-	xorl	%ebx, %ebx
-	movq	80(%rsp), %rcx
+	cmpq	$7, 40(%rsp)
+	jae	.LBB73_20
+	movq	64(%rsp), %rdx
+	jmp	.LBB73_23
 	.p2align	4
 .LBB73_20:
+	movl	$112, %eax
+	xorl	%r13d, %r13d
+	movq	96(%rsp), %rcx
+	movq	64(%rsp), %rdx
+	.p2align	4
+.LBB73_21:
 	vpbroadcastq	.LCPI73_1(%rip), %xmm0
 	vpxor	-112(%r12,%rax), %xmm0, %xmm1
-	vmovdqu	%xmm1, -16(%rsp,%rax)
-	vpxor	-96(%r12,%rax), %xmm0, %xmm1
 	vmovdqu	%xmm1, (%rsp,%rax)
-	vpxor	-80(%r12,%rax), %xmm0, %xmm1
+	vpxor	-96(%r12,%rax), %xmm0, %xmm1
 	vmovdqu	%xmm1, 16(%rsp,%rax)
-	vpxor	-64(%r12,%rax), %xmm0, %xmm1
+	vpxor	-80(%r12,%rax), %xmm0, %xmm1
 	vmovdqu	%xmm1, 32(%rsp,%rax)
-	vpxor	-48(%r12,%rax), %xmm0, %xmm1
+	vpxor	-64(%r12,%rax), %xmm0, %xmm1
 	vmovdqu	%xmm1, 48(%rsp,%rax)
-	vpxor	-32(%r12,%rax), %xmm0, %xmm1
+	vpxor	-48(%r12,%rax), %xmm0, %xmm1
 	vmovdqu	%xmm1, 64(%rsp,%rax)
-	vpxor	-16(%r12,%rax), %xmm0, %xmm1
+	vpxor	-32(%r12,%rax), %xmm0, %xmm1
 	vmovdqu	%xmm1, 80(%rsp,%rax)
+	vpxor	-16(%r12,%rax), %xmm0, %xmm1
+	vmovdqu	%xmm1, 96(%rsp,%rax)
 	vpxor	(%r12,%rax), %xmm0, %xmm0
-	vmovdqu	%xmm0, 96(%rsp,%rax)
-	addq	$8, %rbx
+	vmovdqu	%xmm0, 112(%rsp,%rax)
+	addq	$8, %r13
 	subq	$-128, %rax
-	cmpq	%rbx, %rcx
-	jne	.LBB73_20
-	cmpq	$0, 88(%rsp)
-	je	.LBB73_24
-.LBB73_22:
-	shlq	$4, %rbx
-	leaq	(%rsp,%rbx), %rax
-	addq	$96, %rax
-	addq	%r12, %rbx
+	cmpq	%r13, %rcx
+	jne	.LBB73_21
+	cmpq	$0, 104(%rsp)
+	je	.LBB73_25
+.LBB73_23:
+	shlq	$4, %r13
+	leaq	(%rsp,%r13), %rax
+	addq	$112, %rax
+	addq	%r12, %r13
 	xorl	%ecx, %ecx
 	.p2align	4
-.LBB73_23:
-	vmovdqu	(%rbx,%rcx), %xmm0
+.LBB73_24:
+	vmovdqu	(%r13,%rcx), %xmm0
 	vpxor	.LCPI73_0(%rip), %xmm0, %xmm0
 	vmovdqu	%xmm0, (%rax,%rcx)
 	addq	$16, %rcx
-	cmpq	%rcx, %r13
-	jne	.LBB73_23
-.LBB73_24:
-	leaq	8296(%rsp), %rdi
-	leaq	96(%rsp), %rsi
+	cmpq	%rcx, %rdx
+	jne	.LBB73_24
+.LBB73_25:
+	leaq	8312(%rsp), %rdi
+	leaq	112(%rsp), %rsi
 	movl	$4096, %edx
 	callq	memcpy@PLT
-	leaq	4192(%rsp), %rdi
-	movq	40(%rsp), %rbx
-	movq	%rbx, %rsi
+	leaq	4208(%rsp), %rdi
+	movq	48(%rsp), %r13
+	movq	%r13, %rsi
+	movq	8(%rsp), %r14
 	movq	%r14, %rdx
 	movl	%ebp, %ecx
-	leaq	8296(%rsp), %r8
+	leaq	8312(%rsp), %r8
 	movq	%r14, %r9
 	callq	"des_payment::transaction_lists::next_halves::<#336421e3ca4bafb2>"
-	leaq	6240(%rsp), %rdi
+	leaq	6256(%rsp), %rdi
 	movl	$2048, %edx
-	leaq	4192(%rsp), %rsi
+	leaq	4208(%rsp), %rsi
 	callq	memcpy@PLT
-	leaq	4192(%rsp), %rdi
-	movq	%rbx, %rsi
+	leaq	4208(%rsp), %rdi
+	movq	%r13, %rsi
 	movq	%r14, %rdx
 	movl	%ebp, %ecx
 	movq	%r12, %r8
 	movq	%r14, %r9
 	callq	"des_payment::transaction_lists::next_halves::<#336421e3ca4bafb2>"
-	leaq	12392(%rsp), %rdi
+	leaq	12408(%rsp), %rdi
 	movl	$2048, %edx
-	leaq	4192(%rsp), %rsi
+	leaq	4208(%rsp), %rsi
 	callq	memcpy@PLT
-	leaq	96(%rsp), %rdi
-	xorl	%ebx, %ebx
+	leaq	112(%rsp), %rdi
+	xorl	%r13d, %r13d
 	movl	$4096, %edx
 	xorl	%esi, %esi
 	callq	memset@PLT
-	movq	16(%rsp), %rax
+	movq	24(%rsp), %rax
 	movq	%r14, %rcx
 	.p2align	4
-.LBB73_25:
+.LBB73_26:
 	movq	(%rax), %rdx
 	andq	%r15, %rdx
 	bswapq	%rdx
 	btq	%rbp, %rdx
 	movl	$0, %edx
 	sbbl	%edx, %edx
-	movq	6240(%rsp,%rbx), %rsi
+	movq	6256(%rsp,%r13), %rsi
 	movq	%rsi, %rdi
 	movq	%rsi, %r8
 	movq	%rsi, %r9
 	movq	%rsi, %r10
 	movl	%esi, %r11d
-	movl	%esi, %r14d
+	movq	%r15, %r14
+	movl	%esi, %r15d
 	vmovd	%esi, %xmm0
 	shrl	$8, %esi
 	vpinsrb	$1, %esi, %xmm0, %xmm0
-	shrl	$16, %r14d
-	vpinsrb	$2, %r14d, %xmm0, %xmm0
+	shrl	$16, %r15d
+	vpinsrb	$2, %r15d, %xmm0, %xmm0
+	movq	%r14, %r15
 	shrl	$24, %r11d
 	vpinsrb	$3, %r11d, %xmm0, %xmm0
 	shrq	$32, %r10
@@ -21805,7 +21812,7 @@ cukvashe_wide_dukpt_transaction_keys:
 	vpinsrb	$5, %r9d, %xmm0, %xmm0
 	shrq	$48, %r8
 	vpinsrb	$6, %r8d, %xmm0, %xmm0
-	movq	12392(%rsp,%rbx), %rsi
+	movq	12408(%rsp,%r13), %rsi
 	shrq	$56, %rdi
 	vpinsrb	$7, %edi, %xmm0, %xmm0
 	movl	%esi, %edi
@@ -21830,19 +21837,19 @@ cukvashe_wide_dukpt_transaction_keys:
 	shrq	$56, %rsi
 	vpinsrb	$15, %esi, %xmm0, %xmm0
 	vmovd	%edx, %xmm1
-	vmovdqu	(%r12,%rbx,2), %xmm2
+	vmovdqu	(%r12,%r13,2), %xmm2
 	vpbroadcastb	%xmm1, %xmm1
 	vpblendvb	%xmm1, %xmm0, %xmm2, %xmm0
-	vmovdqu	%xmm0, 96(%rsp,%rbx,2)
-	addq	$8, %rbx
+	vmovdqu	%xmm0, 112(%rsp,%r13,2)
+	addq	$8, %r13
 	addq	$10, %rax
 	decq	%rcx
-	jne	.LBB73_25
-	jmp	.LBB73_26
+	jne	.LBB73_26
+	jmp	.LBB73_27
 .LBB73_2:
 	xorl	%eax, %eax
 .LBB73_3:
-	addq	$14440, %rsp
+	addq	$14456, %rsp
 	popq	%rbx
 	popq	%r12
 	popq	%r13

@@ -21085,93 +21085,93 @@ _cukvashe_wide_dukpt_transaction_keys:
 	movq	$0, (%rsp)
 	subq	$3072, %rsp
 	movq	$0, (%rsp)
-	subq	$2152, %rsp
-	movq	%rdi, 32(%rsp)
-	movq	%rsi, (%rsp)
+	subq	$2168, %rsp
+	movq	%rdx, %r15
+	movq	%rdi, 24(%rsp)
+	movq	%rsi, 8(%rsp)
 	testq	%rsi, %rsi
 	sete	%dil
-	xorl	%r9d, %r9d
+	xorl	%edx, %edx
 	testq	%rcx, %rcx
 	sete	%sil
 	movl	$19, %eax
-	cmpq	%r8, %rdx
+	cmpq	%r8, %r15
 	jne	LBB73_3
-	testq	%rdx, %rdx
+	testq	%r15, %r15
 	je	LBB73_2
 	xorl	%r8d, %r8d
 	movb	%dil, %r8b
 	shll	$12, %r8d
-	movq	(%rsp), %rax
-	movq	%r8, 8(%rsp)
+	movq	8(%rsp), %rax
+	movq	%r8, 16(%rsp)
 	addq	%r8, %rax
-	movq	%rax, 56(%rsp)
-	movb	%sil, %r9b
-	shll	$12, %r9d
-	leaq	(%rcx,%r9), %rax
-	movq	%rax, 40(%rsp)
-	leaq	(%r9,%rcx), %rax
+	movq	%rax, 64(%rsp)
+	movb	%sil, %dl
+	shll	$12, %edx
+	leaq	(%rcx,%rdx), %rax
+	movq	%rax, 48(%rsp)
+	leaq	(%rdx,%rcx), %rax
 	addq	$8, %rax
-	movq	%rax, 24(%rsp)
+	movq	%rax, 40(%rsp)
 	xorl	%r14d, %r14d
-	movq	%rdx, 16(%rsp)
+	movq	%r15, 32(%rsp)
 	jmp	LBB73_5
 	.p2align	4
 LBB73_12:
 	addq	%r12, %r14
-	cmpq	%rdx, %r14
+	cmpq	%r15, %r14
 	jae	LBB73_13
 LBB73_5:
-	movq	%rdx, %r15
 	subq	%r14, %r15
 	cmpq	$256, %r15
 	movl	$256, %r12d
 	cmovbq	%r15, %r12
 	leaq	(%r14,%r14,4), %rax
-	movq	(%rsp), %rcx
-	movq	8(%rsp), %rdx
+	movq	8(%rsp), %rcx
+	movq	16(%rsp), %rdx
 	addq	%rdx, %rcx
 	leaq	(%rcx,%rax,2), %r13
 	movq	%r14, %rbp
 	shlq	$4, %rbp
-	leaq	8296(%rsp), %rbx
+	leaq	8312(%rsp), %rbx
 	movl	$2048, %esi
 	movq	%rbx, %rdi
 	vzeroupper
 	callq	___bzero
 	movq	%rbx, %rdi
-	movq	32(%rsp), %rbx
+	movq	24(%rsp), %rbx
 	movq	%rbx, %rsi
 	movq	%r13, %rdx
 	movq	%r12, %rcx
 	callq	"_des_payment::transaction_lists::initial_halves::<#336421e3ca4bafb2>"
-	leaq	96(%rsp), %rdi
+	leaq	112(%rsp), %rdi
 	movl	$2048, %edx
-	leaq	8296(%rsp), %rsi
+	leaq	8312(%rsp), %rsi
 	callq	_memcpy
 	vmovdqu	(%rbx), %xmm0
 	vpxor	LCPI73_0(%rip), %xmm0, %xmm0
-	vmovdqa	%xmm0, 6240(%rsp)
-	leaq	6240(%rsp), %rsi
-	leaq	8296(%rsp), %rdi
+	vmovdqa	%xmm0, 6256(%rsp)
+	leaq	6256(%rsp), %rsi
+	leaq	8312(%rsp), %rdi
 	movq	%r13, %rdx
 	movq	%r12, %rcx
 	callq	"_des_payment::transaction_lists::initial_halves::<#336421e3ca4bafb2>"
 	cmpq	$4, %r15
 	jae	LBB73_7
 	xorl	%eax, %eax
-	movq	16(%rsp), %rdx
+	movq	32(%rsp), %r15
 	jmp	LBB73_10
 	.p2align	4
 LBB73_7:
-	movq	40(%rsp), %rax
+	movq	48(%rsp), %rax
 	leaq	(%rax,%rbp), %rcx
 	movl	%r12d, %eax
 	andl	$508, %eax
 	xorl	%edx, %edx
 	.p2align	4
 LBB73_8:
-	vmovdqu	96(%rsp,%rdx,8), %ymm0
-	vmovdqu	8296(%rsp,%rdx,8), %ymm1
+	vmovdqu	112(%rsp,%rdx,8), %ymm0
+	vmovdqu	8312(%rsp,%rdx,8), %ymm1
 	vpermq	$96, %ymm1, %ymm2
 	vpermq	$212, %ymm0, %ymm3
 	vpblendd	$204, %ymm2, %ymm3, %ymm2
@@ -21185,118 +21185,119 @@ LBB73_8:
 	cmpq	%rdx, %rax
 	jne	LBB73_8
 	cmpq	%rax, %r12
-	movq	16(%rsp), %rdx
+	movq	32(%rsp), %r15
 	je	LBB73_12
 LBB73_10:
 	movl	%eax, %ecx
 	shll	$4, %ecx
-	addq	24(%rsp), %rbp
+	addq	40(%rsp), %rbp
 	addq	%rcx, %rbp
 	.p2align	4
 LBB73_11:
-	movq	96(%rsp,%rax,8), %rcx
-	movq	8296(%rsp,%rax,8), %rsi
+	movq	112(%rsp,%rax,8), %rcx
+	movq	8312(%rsp,%rax,8), %rdx
 	movq	%rcx, -8(%rbp)
-	movq	%rsi, (%rbp)
+	movq	%rdx, (%rbp)
 	incq	%rax
 	addq	$16, %rbp
 	cmpq	%rax, %r12
 	jne	LBB73_11
 	jmp	LBB73_12
 LBB73_13:
-	movabsq	$-247390116249600, %r15
-	movq	(%rsp), %rax
-	movq	8(%rsp), %rcx
+	movabsq	$-247390116249600, %r13
+	movq	8(%rsp), %rax
+	movq	16(%rsp), %rcx
 	addq	%rcx, %rax
 	addq	$2, %rax
-	movq	%rax, 48(%rsp)
+	movq	%rax, 56(%rsp)
 	xorl	%r12d, %r12d
 	jmp	LBB73_14
 	.p2align	4
 LBB73_29:
-	movq	64(%rsp), %r12
-	addq	%rbx, %r12
-	movq	16(%rsp), %rdx
-	cmpq	%rdx, %r12
+	movq	72(%rsp), %r12
+	addq	24(%rsp), %r12
+	movq	32(%rsp), %r15
+	cmpq	%r15, %r12
 	jae	LBB73_2
 LBB73_14:
-	movq	%rdx, %rax
-	subq	%r12, %rax
-	cmpq	$256, %rax
-	movl	$256, %ebx
-	cmovbq	%rax, %rbx
+	subq	%r12, %r15
+	cmpq	$256, %r15
+	movl	$256, %ecx
+	cmovbq	%r15, %rcx
 	leaq	(%r12,%r12), %rax
-	leaq	(%rax,%rax,4), %rcx
-	movq	56(%rsp), %rax
-	addq	%rcx, %rax
+	leaq	(%rax,%rax,4), %r15
+	movq	64(%rsp), %rax
+	addq	%r15, %rax
 	movq	%rax, 8(%rsp)
-	movq	%r12, 64(%rsp)
+	movq	%r12, 72(%rsp)
 	shlq	$4, %r12
-	addq	40(%rsp), %r12
-	movl	%ebx, %eax
+	addq	48(%rsp), %r12
+	movl	%ecx, %eax
 	shll	$4, %eax
-	movq	%rax, 24(%rsp)
-	leaq	-1(%rbx), %rax
-	movq	%rax, 88(%rsp)
-	movl	%ebx, %r13d
-	andl	$7, %r13d
-	movl	%ebx, %eax
+	movq	%rax, 40(%rsp)
+	leaq	-1(%rcx), %rax
+	movq	%rax, 104(%rsp)
+	movl	%ecx, %edx
+	andl	$7, %edx
+	movl	%ecx, %eax
 	andl	$504, %eax
-	movq	%rax, 72(%rsp)
-	addq	48(%rsp), %rcx
-	movq	%rcx, (%rsp)
-	movq	%r13, 80(%rsp)
-	shll	$4, %r13d
+	movq	%rax, 80(%rsp)
+	addq	56(%rsp), %r15
+	movq	%rcx, 24(%rsp)
+	leaq	(%rcx,%rcx,4), %rax
+	leaq	10(,%rax,2), %rbx
+	movq	%rdx, 88(%rsp)
+	movl	%edx, %r14d
+	shll	$4, %r14d
 	movl	$21, %ebp
-	movq	%rbx, 32(%rsp)
+	movq	%r15, 16(%rsp)
+	movq	%r14, 96(%rsp)
 	jmp	LBB73_15
 	.p2align	4
 LBB73_27:
-	leaq	8296(%rsp), %r14
-	leaq	96(%rsp), %rsi
+	leaq	8312(%rsp), %r14
+	leaq	112(%rsp), %rsi
 	movl	$4096, %edx
 	movq	%r14, %rdi
 	callq	_memcpy
-	leaq	96(%rsp), %rbx
+	leaq	112(%rsp), %r15
 	movl	$4096, %edx
-	movq	%rbx, %rdi
+	movq	%r15, %rdi
 	movq	%r14, %rsi
 	callq	_memcpy
 	movq	%r12, %rdi
-	movq	%rbx, %rsi
-	movq	24(%rsp), %rdx
+	movq	%r15, %rsi
+	movq	40(%rsp), %rdx
 	callq	_memcpy
-	movq	32(%rsp), %rbx
+	movq	16(%rsp), %r15
+	movq	96(%rsp), %r14
 LBB73_28:
 	testq	%rbp, %rbp
 	je	LBB73_29
 LBB73_15:
 	decq	%rbp
-	leaq	4192(%rsp), %rdi
+	leaq	4208(%rsp), %rdi
 	movl	$2048, %esi
 	vzeroupper
 	callq	___bzero
 	movl	$1, %eax
 	shlxq	%rbp, %rax, %rax
-	movq	(%rsp), %rcx
-	movq	%rbx, %rdx
+	xorl	%ecx, %ecx
 	.p2align	4
-LBB73_17:
-	movq	(%rcx), %rsi
-	andq	%r15, %rsi
+LBB73_16:
+	leaq	10(%rcx), %rdx
+	cmpq	%rdx, %rbx
+	je	LBB73_28
+	movq	(%r15,%rcx), %rsi
+	andq	%r13, %rsi
 	bswapq	%rsi
+	movq	%rdx, %rcx
 	testq	%rax, %rsi
-	jne	LBB73_18
-	addq	$10, %rcx
-	decq	%rdx
-	jne	LBB73_17
-	jmp	LBB73_28
-	.p2align	4
-LBB73_18:
-	leaq	96(%rsp), %rdi
+	je	LBB73_16
+	leaq	112(%rsp), %rdi
 	movl	$4096, %esi
 	callq	___bzero
-	cmpq	$7, 88(%rsp)
+	cmpq	$7, 104(%rsp)
 	jae	LBB73_20
 	xorl	%eax, %eax
 	jmp	LBB73_23
@@ -21304,36 +21305,36 @@ LBB73_18:
 LBB73_20:
 	movl	$112, %ecx
 	xorl	%eax, %eax
-	movq	72(%rsp), %rdx
+	movq	80(%rsp), %rdx
 	.p2align	4
 LBB73_21:
 	vpbroadcastq	LCPI73_1(%rip), %xmm0
 	vpxor	-112(%r12,%rcx), %xmm0, %xmm1
-	vmovdqu	%xmm1, -16(%rsp,%rcx)
-	vpxor	-96(%r12,%rcx), %xmm0, %xmm1
 	vmovdqu	%xmm1, (%rsp,%rcx)
-	vpxor	-80(%r12,%rcx), %xmm0, %xmm1
+	vpxor	-96(%r12,%rcx), %xmm0, %xmm1
 	vmovdqu	%xmm1, 16(%rsp,%rcx)
-	vpxor	-64(%r12,%rcx), %xmm0, %xmm1
+	vpxor	-80(%r12,%rcx), %xmm0, %xmm1
 	vmovdqu	%xmm1, 32(%rsp,%rcx)
-	vpxor	-48(%r12,%rcx), %xmm0, %xmm1
+	vpxor	-64(%r12,%rcx), %xmm0, %xmm1
 	vmovdqu	%xmm1, 48(%rsp,%rcx)
-	vpxor	-32(%r12,%rcx), %xmm0, %xmm1
+	vpxor	-48(%r12,%rcx), %xmm0, %xmm1
 	vmovdqu	%xmm1, 64(%rsp,%rcx)
-	vpxor	-16(%r12,%rcx), %xmm0, %xmm1
+	vpxor	-32(%r12,%rcx), %xmm0, %xmm1
 	vmovdqu	%xmm1, 80(%rsp,%rcx)
+	vpxor	-16(%r12,%rcx), %xmm0, %xmm1
+	vmovdqu	%xmm1, 96(%rsp,%rcx)
 	vpxor	(%r12,%rcx), %xmm0, %xmm0
-	vmovdqu	%xmm0, 96(%rsp,%rcx)
+	vmovdqu	%xmm0, 112(%rsp,%rcx)
 	addq	$8, %rax
 	subq	$-128, %rcx
 	cmpq	%rax, %rdx
 	jne	LBB73_21
-	cmpq	$0, 80(%rsp)
+	cmpq	$0, 88(%rsp)
 	je	LBB73_25
 LBB73_23:
 	shlq	$4, %rax
 	leaq	(%rsp,%rax), %rcx
-	addq	$96, %rcx
+	addq	$112, %rcx
 	addq	%r12, %rax
 	xorl	%edx, %edx
 	.p2align	4
@@ -21342,71 +21343,73 @@ LBB73_24:
 	vpxor	LCPI73_0(%rip), %xmm0, %xmm0
 	vmovdqu	%xmm0, (%rcx,%rdx)
 	addq	$16, %rdx
-	cmpq	%rdx, %r13
+	cmpq	%rdx, %r14
 	jne	LBB73_24
 LBB73_25:
-	leaq	8296(%rsp), %rdi
-	leaq	96(%rsp), %rsi
+	leaq	8312(%rsp), %rdi
+	leaq	112(%rsp), %rsi
 	movl	$4096, %edx
 	callq	_memcpy
-	leaq	4192(%rsp), %rdi
-	movq	8(%rsp), %r14
-	movq	%r14, %rsi
-	movq	%rbx, %rdx
+	leaq	4208(%rsp), %rdi
+	movq	8(%rsp), %rsi
+	movq	24(%rsp), %r14
+	movq	%r14, %rdx
 	movl	%ebp, %ecx
-	leaq	8296(%rsp), %r8
-	movq	%rbx, %r9
+	leaq	8312(%rsp), %r8
+	movq	%r14, %r9
 	callq	"_des_payment::transaction_lists::next_halves::<#336421e3ca4bafb2>"
-	leaq	6240(%rsp), %rdi
+	leaq	6256(%rsp), %rdi
 	movl	$2048, %edx
-	leaq	4192(%rsp), %rsi
+	leaq	4208(%rsp), %rsi
 	callq	_memcpy
-	leaq	4192(%rsp), %rdi
-	movq	%r14, %rsi
-	movq	%rbx, %rdx
+	leaq	4208(%rsp), %rdi
+	movq	8(%rsp), %rsi
+	movq	%r14, %rdx
 	movl	%ebp, %ecx
 	movq	%r12, %r8
-	movq	%rbx, %r9
+	movq	%r14, %r9
 	callq	"_des_payment::transaction_lists::next_halves::<#336421e3ca4bafb2>"
-	leaq	12392(%rsp), %rdi
+	leaq	12408(%rsp), %rdi
 	movl	$2048, %edx
-	leaq	4192(%rsp), %rsi
+	leaq	4208(%rsp), %rsi
 	callq	_memcpy
-	leaq	96(%rsp), %rdi
+	leaq	112(%rsp), %rdi
 	movl	$4096, %esi
 	callq	___bzero
 	xorl	%eax, %eax
-	movq	(%rsp), %rcx
-	movq	%rbx, %rdx
+	movq	%r15, %rcx
+	movq	%r14, %rdx
 	.p2align	4
 LBB73_26:
 	movq	(%rcx), %rsi
-	andq	%r15, %rsi
+	andq	%r13, %rsi
 	bswapq	%rsi
 	btq	%rbp, %rsi
 	movl	$0, %esi
 	sbbl	%esi, %esi
-	movq	6240(%rsp,%rax), %rdi
+	movq	6256(%rsp,%rax), %rdi
 	movq	%rdi, %r8
 	movq	%rdi, %r9
 	movq	%rdi, %r10
 	movq	%rdi, %r11
-	movl	%edi, %ebx
-	movl	%edi, %r14d
+	movq	%r13, %r14
+	movl	%edi, %r13d
+	movl	%edi, %r15d
 	vmovd	%edi, %xmm0
 	shrl	$8, %edi
 	vpinsrb	$1, %edi, %xmm0, %xmm0
-	shrl	$16, %r14d
-	vpinsrb	$2, %r14d, %xmm0, %xmm0
-	shrl	$24, %ebx
-	vpinsrb	$3, %ebx, %xmm0, %xmm0
+	shrl	$16, %r15d
+	vpinsrb	$2, %r15d, %xmm0, %xmm0
+	shrl	$24, %r13d
+	vpinsrb	$3, %r13d, %xmm0, %xmm0
+	movq	%r14, %r13
 	shrq	$32, %r11
 	vpinsrb	$4, %r11d, %xmm0, %xmm0
 	shrq	$40, %r10
 	vpinsrb	$5, %r10d, %xmm0, %xmm0
 	shrq	$48, %r9
 	vpinsrb	$6, %r9d, %xmm0, %xmm0
-	movq	12392(%rsp,%rax), %rdi
+	movq	12408(%rsp,%rax), %rdi
 	shrq	$56, %r8
 	vpinsrb	$7, %r8d, %xmm0, %xmm0
 	movl	%edi, %r8d
@@ -21434,7 +21437,7 @@ LBB73_26:
 	vmovdqu	(%r12,%rax,2), %xmm2
 	vpbroadcastb	%xmm1, %xmm1
 	vpblendvb	%xmm1, %xmm0, %xmm2, %xmm0
-	vmovdqu	%xmm0, 96(%rsp,%rax,2)
+	vmovdqu	%xmm0, 112(%rsp,%rax,2)
 	addq	$8, %rax
 	addq	$10, %rcx
 	decq	%rdx
@@ -21443,7 +21446,7 @@ LBB73_26:
 LBB73_2:
 	xorl	%eax, %eax
 LBB73_3:
-	addq	$14440, %rsp
+	addq	$14456, %rsp
 	popq	%rbx
 	popq	%r12
 	popq	%r13
