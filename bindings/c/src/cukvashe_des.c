@@ -41,7 +41,7 @@ static bool takes_wide(size_t count) { return count > MOST_NARROW && processor_i
 /* A call with a list of blocks beside another list. The exports compare the numbers of elements. */
 #define OF_BLOCKS(CALL) (length % CUKVASHE_BLOCK_SIZE != 0 ? CUKVASHE_ERR_BLOCKS : CALL)
 
-/* The same under a key for each block. The count is compared here, before it is multiplied by the size of a key, so that it can be. */
+/* Lists under a key for each block. The count is compared here, before it is multiplied by the size of a key, so that it can be. */
 #define OF_KEYS_AND_BLOCKS(CALL) OF_BLOCKS(count != BLOCKS ? CUKVASHE_ERR_COUNTS : CALL)
 
 /* Calls with a context. From a buffer to itself is the call in place: the exports of two buffers take two that do not overlap. */

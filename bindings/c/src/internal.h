@@ -82,7 +82,7 @@ int cukvashe_internal_dukpt_transaction_keys(const uint8_t base[16], const uint8
                                              uint8_t *keys, size_t keys_count);
 
 #if HAS_WIDE
-/* The same calls for x86-64-v3, which take 256 at a time: what bindings/widen and bindings/generate make of the same source. */
+/* Those calls for x86-64-v3, which take 256 at a time: what bindings/widen and bindings/generate make of the same source. */
 #define DECLARE_WIDE(CALL) extern __typeof__(cukvashe_internal_##CALL) cukvashe_wide_##CALL;
 DECLARE_WIDE(encrypt_ecb)
 DECLARE_WIDE(decrypt_ecb)

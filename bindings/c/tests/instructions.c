@@ -1,7 +1,7 @@
 /*
  * Under callgrind: how many instructions a call takes on right input, and on wrong. Each count is dumped under the name of its group, of
- * which `test` compares the least and the most. `instructions translation` translates PIN blocks, `key` opens key blocks, and `planted`
- * encrypts more for right input, which must be seen.
+ * which `test` compares the least and the most. `instructions translation` translates PIN blocks, `decode` decodes them, `key` opens key
+ * blocks, and `planted` encrypts more for right input, which must be seen.
  */
 #include "digits.h"
 #include <valgrind/callgrind.h>
@@ -29,18 +29,25 @@ static void spoil(int kind, uint8_t block[8]) {
   if (kind == FILL) block[7] ^= 0x08;
 }
 
-/* A PIN block of format 0, 1 or 3 of a PIN of so many digits, under a key. */
-static void make_block(int format, size_t digits, int kind, const uint8_t *key, size_t size, uint8_t block[8]) {
+/* A PIN block of a PIN of so many digits. */
+static void encode(int format, size_t digits, int kind, uint8_t block[8]) {
   static const char pin[] = "924681357024";
+  int status;
+  switch (format) {
+    case 0: status = cukvashe_pin_encode_0(pin, digits, TEXT(account), block); break;
+    case 1: status = cukvashe_pin_encode_1(pin, digits, fill, block); break;
+    case 2: status = cukvashe_pin_encode_2(pin, digits, block); break;
+    default: status = cukvashe_pin_encode_3(pin, digits, TEXT(account), fill, block); break;
+  }
+  CHECK(status == CUKVASHE_OK);
+  spoil(kind, block);
+}
+
+/* One of format 0, 1 or 3, under a key. */
+static void make_block(int format, size_t digits, int kind, const uint8_t *key, size_t size, uint8_t block[8]) {
   const struct cipher *cipher = &ciphers[size / 8 - 1];
   union context context;
-  if (format == 0)
-    CHECK(cukvashe_pin_encode_0(pin, digits, TEXT(account), block) == CUKVASHE_OK);
-  else if (format == 1)
-    CHECK(cukvashe_pin_encode_1(pin, digits, fill, block) == CUKVASHE_OK);
-  else
-    CHECK(cukvashe_pin_encode_3(pin, digits, TEXT(account), fill, block) == CUKVASHE_OK);
-  spoil(kind, block);
+  encode(format, digits, kind, block);
   CHECK(cipher->init(&context, key, size) == CUKVASHE_OK);
   CHECK(cipher->ways[PUBLIC_WAY].encrypt_ecb(&context, block, 8) == CUKVASHE_OK);
 }
@@ -64,6 +71,28 @@ static void translations(void) {
     for (size_t size = 8; size <= 24; size += 8)
       if (format != 1 || kind != FILL) translate(format, size, 4 + (size_t)(i / 3 % 9), kind);
   }
+}
+
+static int decode(int format, const uint8_t block[8], char pin[CUKVASHE_PIN_SIZE]) {
+  switch (format) {
+    case 0: return cukvashe_pin_decode_0(block, TEXT(account), pin);
+    case 1: return cukvashe_pin_decode_1(block, pin);
+    case 2: return cukvashe_pin_decode_2(block, pin);
+    default: return cukvashe_pin_decode_3(block, TEXT(account), pin);
+  }
+}
+
+/* A group for each format: of wrong blocks, whose faults are told when all digits were looked at. */
+static void decodings(void) {
+  static const int statuses[KINDS] = {0, CUKVASHE_ERR_PIN_DIGIT, CUKVASHE_ERR_FORMAT, CUKVASHE_ERR_PIN_LENGTH, CUKVASHE_ERR_FILL};
+  for (int format = 0; format < 4; format++)
+    for (int kind = DIGIT; kind < KINDS; kind++)
+      for (size_t digits = 4; digits <= 12 && (format != 1 || kind != FILL); digits++) {
+        char pin[CUKVASHE_PIN_SIZE];
+        uint8_t block[8];
+        encode(format, digits, kind, block);
+        COUNT(format, statuses[kind], decode(format, block, pin));
+      }
 }
 
 /* A group for each version. */
@@ -96,6 +125,8 @@ int main(int count, char **words) {
   CHECK(count == 2);
   if (strcmp(words[1], "translation") == 0) {
     translations();
+  } else if (strcmp(words[1], "decode") == 0) {
+    decodings();
   } else if (strcmp(words[1], "key") == 0) {
     open_blocks();
   } else {

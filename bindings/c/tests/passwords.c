@@ -74,7 +74,7 @@ static void answers_as_openssl_enc(void) {
   }
 }
 
-/* The same that it prints for `-nosalt`, in the place of the salt. */
+/* What it prints for `-nosalt`, in the place of the salt. */
 static const struct {
   int hash;
   const char *key_and_vector;

@@ -241,7 +241,7 @@ static void translates(void) {
   }
 }
 
-/* The same under a key of three parts, by the cipher of the library. */
+/* Under a key of three parts, by the cipher of the library. */
 static void translates_by_three_parts(void) {
   uint8_t block[8], translated[8];
   cukvashe_tdes_ede3 context;

@@ -2,7 +2,7 @@
  * Under valgrind, with keys, vectors and data marked undefined: memcheck reports where an index or a branch depends on them.
  * `secret_indexes calls` runs the calls that must give no report; each other word runs one that must give one: `short`, a list that
  * goes by tables, and `rest`, a list whose rest does, `chain` and `message`, of quick contexts, which all read them so; `pin`, which
- * branches on whether the characters of the PIN are digits; `translation`, on whether a PIN block is right; `block`, on whether a MAC is;
+ * branches on whether all characters of a PIN are digits; `translation`, on whether a PIN block is right; `block`, on whether a MAC is;
  * `key`, where it is right, on the length of the key too; `file`, on the padding of what is opened under a password; `verification`, on
  * whether a PIN is right; and `planted`, a lookup here.
  */
@@ -382,10 +382,25 @@ static void opened_file(void) {
   printf("no report but of the padding\n");
 }
 
+/* The reports of one encoding of a PIN of so many digits, all hidden. At that place, if the PIN has it, a letter stands. */
+static unsigned reports_of_pin(size_t digits, size_t letter) {
+  char pin[] = "924681357024";
+  if (letter < digits) pin[letter] = 'x';
+  (void)VALGRIND_MAKE_MEM_UNDEFINED(pin, digits);
+  const unsigned before = VALGRIND_COUNT_ERRORS;
+  const int status = cukvashe_pin_encode_2(pin, digits, data);
+  const unsigned reports = VALGRIND_COUNT_ERRORS - before;
+  CHECK(is_status(status, letter < digits ? CUKVASHE_ERR_PIN_DIGIT : CUKVASHE_OK));
+  return reports;
+}
+
+/* Whether a PIN has digits only decides a branch: as many reports for each length, and for a letter at each place. */
 static void pin_of_a_card(void) {
-  char digits[4] = {'1', '2', '3', '4'};
-  (void)VALGRIND_MAKE_MEM_UNDEFINED(digits, sizeof digits);
-  CHECK(is_status(cukvashe_pin_encode_2(digits, sizeof digits, data), CUKVASHE_OK));
+  const unsigned reports = reports_of_pin(4, 12);
+  CHECK(reports > 0);
+  for (size_t digits = 4; digits <= 12; digits++)
+    for (size_t letter = 0; letter <= digits; letter++) CHECK(reports_of_pin(digits, letter) == reports);
+  printf("no report of the place of a letter\n");
 }
 
 /* In `block` a PIN block of format 0, 1 or 3 under the key of 16 bytes at `key`: of a PIN of so many digits, or with a wrong first digit or
@@ -463,7 +478,7 @@ static unsigned reports_of_value(unsigned wrong) {
   return reports;
 }
 
-/* The same by an offset, of as many digits, with hidden validation data; here the PIN is wrong. */
+/* The reports of one verification by an offset, of a PIN of so many digits, with hidden validation data; here the PIN is wrong. */
 static unsigned reports_of_offset(size_t size, size_t digits, unsigned wrong) {
   char pin[] = "924681357024", offset[CUKVASHE_PIN_SIZE];
   cukvashe_decimal_table table;
@@ -483,13 +498,15 @@ static unsigned reports_of_offset(size_t size, size_t digits, unsigned wrong) {
   return reports;
 }
 
-/* As many reports as of a right PIN, whichever digits are wrong: one alone, or all from there on. */
+/* As many reports as of a right PIN, whichever digits are wrong: one alone, or all from there on. And as many for each number of digits:
+   what is computed of each decides no branch. */
 static void verifications(void) {
-  const unsigned of_value = reports_of_value(0);
+  const unsigned of_value = reports_of_value(0), of_offset = reports_of_offset(8, 4, 0);
   for (unsigned wrong = 1; wrong < 16; wrong++) CHECK(reports_of_value(wrong) == of_value);
   for (size_t size = 8; size <= 24; size += 8)
     for (size_t digits = 4; digits <= 12; digits++) {
-      const unsigned all = (1u << digits) - 1, of_offset = reports_of_offset(size, digits, 0);
+      const unsigned all = (1u << digits) - 1;
+      CHECK(reports_of_offset(size, digits, 0) == of_offset);
       for (size_t place = 0; place < digits; place++) {
         CHECK(reports_of_offset(size, digits, 1u << place) == of_offset);
         CHECK(reports_of_offset(size, digits, all >> place << place) == of_offset);

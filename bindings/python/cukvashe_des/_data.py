@@ -187,7 +187,7 @@ def lent(data: ReadableBuffer) -> Iterator[Tuple[Any, int]]:
 
 @contextlib.contextmanager
 def kept_apart(data: ReadableBuffer, written: memoryview) -> Iterator[Tuple[Any, int]]:
-    """The same of data of which none may be written by the call: where what it writes overlaps them they are copied, and
+    """The buffer of data of which none may be written by the call: where what it writes overlaps them they are copied, and
     the copy is wiped after it."""
     with lent(data) as (start, length), lent(written) as (place, size):
         if not length or not size or start + length <= place or place + size <= start:

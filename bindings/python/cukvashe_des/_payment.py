@@ -116,7 +116,7 @@ def pin_translate_to_0(
 
 
 def pin_translate_to_1(block: ReadableBuffer, *, incoming_key: ReadableBuffer, outgoing_key: ReadableBuffer) -> bytes:
-    """The same of a block of format 1 to format 1: its transaction digits stay, and it has no account number."""
+    """A block of format 1 under another key: its transaction digits stay, and it has no account number."""
     with key_of(incoming_key, *KEY_SIZES) as held, key_of(outgoing_key, *KEY_SIZES) as other, block_of(block) as given:
         return _encoded(_to_1, held, len(held), other, len(other), given)
 

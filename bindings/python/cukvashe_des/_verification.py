@@ -58,7 +58,7 @@ class DecimalTable:
 
     @classmethod
     def of_any_variety(cls, digits: _Text) -> DecimalTable:
-        """The same with any number of different digits, for old systems that have such a table."""
+        """Such a table with any number of different digits, for old systems that have one."""
         made, table = cls.__new__(cls), room(_TABLE_SIZE)
         with text_of(digits) as text:
             check(_init_any(table, *text))

@@ -118,12 +118,12 @@ def to_format_0(incoming, number, outgoing, account, block):
 
 
 def to_format_1(incoming, outgoing, block):
-    """The same of the call to format 1."""
+    """The call to format 1, with its two keys."""
     return cukvashe_des.pin_translate_to_1(block, incoming_key=incoming, outgoing_key=outgoing)
 
 
 def to_format_3(incoming, number, outgoing, account, fill, block):
-    """The same of the call to format 3."""
+    """The call to format 3, with its two keys."""
     return cukvashe_des.pin_translate_to_3(number, account, fill, block, incoming_key=incoming, outgoing_key=outgoing)
 
 

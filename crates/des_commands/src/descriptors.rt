@@ -149,7 +149,7 @@ fn value_of<'a>(text: &'a str, name: &str) -> Option<&'a str> {
         .map(|value| value.trim())
 }
 
-/// How a descriptor stands. The error is `NotFound` where it is closed, the system's, or
+/// How a descriptor stands: std opens files by name alone, and a name has no position. The error is `NotFound` where it is closed, the system's, or
 /// `InvalidData` where its text has no position or no flags.
 pub fn standing_of(rt: &HostRuntime, number: u64) -> io::Result<Standing> {
     let path = format!(in rt.alloc(); "/proc/self/fdinfo/{number}")?;

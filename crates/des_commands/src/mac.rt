@@ -55,7 +55,7 @@ fn tag_of_reader<M: Mac + Drop, R: Read>(
     Err(Kind::Read(Reason::Other))
 }
 
-// The same by a method over the cipher `C`.
+// The tag by a method over the cipher `C`.
 fn tag_over<C: KeyedCipher + Drop, R: Read>(
     method: Method,
     key: &[u8],

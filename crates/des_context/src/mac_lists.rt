@@ -47,7 +47,7 @@ fn chain_macs_by<C: OfContext + KeyForEach, S: Slice>(
     }
 }
 
-// The same, each under the key at its place.
+// CBC-MACs or CMACs of messages, each under the key at its place.
 #[inline(never)]
 fn chain_macs_each_by<C: OfContext + KeyForEach, S: Slice>(
     algorithm: u32,

@@ -62,7 +62,7 @@ fn extend<C: OfContext>(context: &[u64], message: &mut Message, bytes: &[u8])
     message.progress = mac.progress();
 }
 
-// The same by a cipher that reads tables, or by one that does not where the context is quiet.
+// Adds bytes by a cipher that reads tables or, where the context is quiet, by one that reads none.
 fn extend_by_context(context: &[u64], message: &mut Message, bytes: &[u8])
     requires made { (key : List ℕ) × IsContextOf context.now key }
     requires progress { HoldsOneBlock message.old.progress }
@@ -172,7 +172,7 @@ fn chain_tag<C: OfContext>(context: &[u64], algorithm: u32, message: &Message) -
     }
 }
 
-// The same by a cipher that reads tables or not, as the way has it.
+// The tag by a cipher that reads tables or not, as the way has it.
 fn chain_tag_by<W: Way>(context: &[u64], algorithm: u32, message: &Message) -> [u8; 8]
     requires made { (key : List ℕ) × IsContextOf context.now key }
     requires progress { HoldsOneBlock message.now.progress }

@@ -205,7 +205,7 @@ impl KeyedHalf {
         }
     }
 
-    // The same half block with another round key. The xor of the two keys waits for no lookup.
+    // This half block with another round key. The xor of the two keys waits for no lookup.
     fn with_key(self, round_key: RoundKey) -> KeyedHalf
         ensures half { keyed_half result ≡ keyed_half self }
         ensures key { result.round_key ≡ round_key }

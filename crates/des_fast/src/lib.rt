@@ -10,8 +10,8 @@
 //! use it. A block cipher hides nothing about repeated blocks and does not authenticate, and no
 //! claim is made on the time that a call takes: `encrypt_block`, `decrypt_block`, `encrypt_blocks`
 //! and `decrypt_blocks`, but for those of `quiet`, read tables at indexes that depend on the key and
-//! the blocks. `new` and the calls of `many`, at every length of a list, are written to read none
-//! so, but for those that are told that a list need not be `quiet`.
+//! the blocks. The source of `new` and of the calls of `many` has no such read, whatever the length
+//! of a list, unless the argument `quiet` allows it.
 #![tactic(auto)]
 
 mod boxes;

@@ -26,7 +26,7 @@ pub trait Groups: Copy {
     // The word of block b, from 0.
     ghost word: { ℕ → Self → ℕ };
 
-    /// The same word for each block.
+    /// One word, for each block.
     fn same(groups: u64) -> Self
         ensures { InEachBlock BLOCKS (λ b. word b result ≡ groups) };
 
@@ -219,7 +219,7 @@ pub(crate) fn after_rounds<G: Groups>(
     }
 }
 
-/// The same of the halves of one block.
+/// The halves of one block after the rounds, which go from the first round key or from the last.
 #[inline]
 pub(crate) fn halves_after_rounds(
     halves: Halves,

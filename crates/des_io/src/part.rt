@@ -69,7 +69,7 @@ fn is_at_end<R: Read>(reader: &mut R) -> Result<bool, StreamError>
 /// where it is `Zeros`, and there must be a block. The buffer has one block at least; what it holds
 /// afterwards, which can be plaintext, is not said. The writer is not flushed.
 ///
-/// The error is `Start` where there is no block, `Padding` where the padding is wrong, `Length` where
+/// The error is `Start` where there is no block, whatever the padding, `Padding` where the padding is wrong, `Length` where
 /// what was read is not whole blocks, and `Read` or `Write` where the reader or the writer failed.
 /// The writer then has a prefix of the part, without its last block or its padding, or with that
 /// block where more follows the part. The reader may have gone further.

@@ -1,5 +1,5 @@
--- The same MACs by a relation of blocks in place of a function, as DES and the triple ciphers are
--- defined: the relation takes a block to its encryption.
+-- The MACs by a relation of blocks in place of a function, as DES and the triple ciphers are defined:
+-- the relation takes a block to its encryption.
 use Rattle.std.specs.Prelude.{◌≡◌, ℕ, ◌/◌, List, length}
 use Rattle.std.specs.Simd.{first_chunks}
 use Rattle.des.specs.Cbc.{Chains, block_at}

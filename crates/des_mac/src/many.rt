@@ -172,8 +172,8 @@ pub fn cbc_macs_by<S: Slice, C: KeyForEach + Drop, P: Padding>(
     C::chain_ends_by::<S, PaddedMessages<P>>(key, tags, &lists)
 }
 
-/// The same, each message under the key at its place. Where the numbers of keys, messages and tags
-/// differ, the answer is `NotEqualError`, and the tags stay as they were.
+/// The tags of CBC-MAC of many messages, each under the key at its place. Where the numbers of keys,
+/// messages and tags differ, the answer is `NotEqualError`, and the tags stay as they were.
 pub fn cbc_macs_each_by<S: Slice, C: KeyForEach + Drop, P: Padding>(
     keys: &[C::Key],
     messages: &[&[u8]],

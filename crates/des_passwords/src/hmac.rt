@@ -39,7 +39,7 @@ impl<H: HashFunction> Hmac<H> {
         Hmac { inner, outer }
     }
 
-    /// The same message once more.
+    /// A copy, for another message that begins so.
     pub fn copy(&self) -> Hmac<H>
         ensures { result ≡ self.now }
     {

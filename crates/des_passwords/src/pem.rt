@@ -441,8 +441,9 @@ fn unmarked(text: &[u8]) -> &[u8]
 
 /// Reads the first private key in PEM that a text holds: PKCS #8 (`ENCRYPTED PRIVATE KEY`) or what
 /// OpenSSL calls traditional, with `Proc-Type` and `DEK-Info`. A line ends with LF or CRLF. A byte
-/// order mark is passed over, as are blanks around the value of a header. What stands before the key's first line and after its last is passed over. The error is the first
-/// fault: that no line ends the key comes before what is wrong between.
+/// order mark is passed over, as are blanks around the value of a header, and what stands before the
+/// key's first line and after its last. The error is the first fault: that no line ends the key
+/// comes before what is wrong between.
 #[tactic(auto, unfolding(crate::specs::Pem::pem_of))]
 pub fn read_pem(alloc: Global, text: &[u8]) -> Result<PemKey, PemError<'_>>
     ensures { GivesInMemory key_view result (pem_of text.now) }

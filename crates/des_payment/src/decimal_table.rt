@@ -85,8 +85,8 @@ impl DecimalTable {
         DecimalTable::of_variety(LEAST_VARIETY, text)
     }
 
-    /// The same with any number of different digits, for old systems that have such a table. Its
-    /// faults are `TableLength` and `TableDigit`.
+    /// Such a table with any number of different digits, for old systems that have one. Its faults
+    /// are `TableLength` and `TableDigit`.
     pub fn of_any_variety(text: &[u8]) -> Result<DecimalTable, VerificationError>
         ensures fault { result_err result ≡ table_fault 0 text.now }
         ensures table { IfOk result (λ table. table ≡ values text.now) }
@@ -108,7 +108,7 @@ impl DecimalTable {
     }
 }
 
-/// The same table. It takes no memory, and succeeds.
+/// A copy. It takes no memory, and succeeds.
 impl Clone for DecimalTable {
     ghost use Rattle.std.specs.Prelude.{⊤};
 

@@ -31,7 +31,8 @@ use std::marker::Model;
 // The characters of a header.
 const HEADER: usize = 16;
 
-// The most bytes of key data: a key's length, 24 bytes of key, and six of padding.
+// The most bytes of key data: a key's length, 24 bytes of key, and six of padding. So blocks of keys
+// of triple DES have one length, whatever the key's; a longer key of AES is refused.
 const MOST_DATA: usize = 32;
 
 /// A key out of a key block: 8, 16 or 24 bytes.

@@ -26,7 +26,8 @@ pub struct OptionalBlock<'a> {
 }
 
 // How many characters stand before the content of a block, and how many the block has, where two
-// zeros say that a length of four digits follows: after how long it is, in bytes or in digits.
+// zeros say that a length of four digits follows: after how long it is, in bytes or in digits. Writers
+// differ in that; here 02 is written, and both are read.
 fn long_extent(text: &[u8]) -> Option<(usize, usize)>
     requires there { 4 ≤ length text.now }
     requires zeros { codes "00" ≡ take 2 (drop 2 text.now) }

@@ -107,7 +107,7 @@ impl Pin {
     }
 }
 
-/// The same PIN. It takes no memory, and succeeds.
+/// A copy. It takes no memory, and succeeds.
 impl Clone for Pin {
     ghost use Rattle.std.specs.Prelude.{⊤};
 

@@ -81,7 +81,7 @@ pub fn encrypted_by_both<C: AnswersAlike + Drop>(
     (answer, other_answer)
 }
 
-/// The same by decryption.
+/// The decryptions of a block by both.
 pub fn decrypted_by_both<C: AnswersAlike + Drop>(
     key: &C::Key,
     block: &[u8; 8],

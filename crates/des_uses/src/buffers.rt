@@ -34,7 +34,7 @@ pub fn encrypt_into<C: BlockCipherEncrypt>(
     cipher.encrypt_blocks_b2b(blocks, output).is_ok()
 }
 
-/// The same by decryption.
+/// Decrypts into another buffer.
 pub fn decrypt_into<C: BlockCipherDecrypt>(
     cipher: &C,
     blocks: &[[u8; 8]],

@@ -32,7 +32,7 @@ pub fn encrypt_complements<C: Complementing + Drop>(
     Ok(())
 }
 
-/// The same by decryption.
+/// Decrypts the complement under the complement of the key.
 pub fn decrypt_complements<C: Complementing + Drop>(
     key: &mut [u8],
     block: &mut [u8; 8],

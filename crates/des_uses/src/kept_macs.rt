@@ -20,7 +20,7 @@ pub fn resumed_cbc_mac<C: KeyedCipher + Drop, P: Padding>(
     CbcMac::resume(cipher, &state.progress())
 }
 
-/// The same of the retail MAC, over ciphers of its two keys.
+/// The retail MAC goes on, over ciphers of its two keys.
 pub fn resumed_retail_mac<C: KeyedCipher + Drop, P: Padding>(
     first: C,
     second: C,
@@ -35,7 +35,7 @@ pub fn resumed_retail_mac<C: KeyedCipher + Drop, P: Padding>(
     RetailMac::resume(first, second, &state.progress())
 }
 
-/// The same of CMAC.
+/// CMAC goes on.
 pub fn resumed_cmac<C: KeyedCipher + Drop>(cipher: C, state: &Cmac<C>) -> Cmac<C>
     requires { (key : List ℕ) × (m : List ℕ) × ⟦<Cmac<C> as Mac>⟧.holds state.now key m }
     ensures { (key m : List ℕ) → C.is_made_from cipher key
@@ -62,7 +62,7 @@ pub fn cbc_mac_in_two_parts<C: KeyedCipher + Drop, P: Padding>(
     Ok(resumed.finalize())
 }
 
-/// The same by the retail MAC, under a key that is two keys, one after the other.
+/// The retail MAC of two parts, under a key that is two keys, one after the other.
 pub fn retail_mac_in_two_parts<C: KeyedCipher + Drop, P: Padding>(
     key: &[u8],
     head: &[u8],
@@ -82,7 +82,7 @@ pub fn retail_mac_in_two_parts<C: KeyedCipher + Drop, P: Padding>(
     Ok(resumed.finalize())
 }
 
-/// The same by CMAC.
+/// The CMAC of two parts.
 pub fn cmac_in_two_parts<C: KeyedCipher + Drop>(
     key: &[u8],
     head: &[u8],

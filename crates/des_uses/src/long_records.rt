@@ -42,7 +42,7 @@ pub fn encrypt_list<C: KeyedCipher + ManyBlocks + Drop>(
     Ok(())
 }
 
-/// The same by decryption.
+/// Decrypts a list.
 pub fn decrypt_list<C: KeyedCipher + ManyBlocks + Drop>(
     key: &[u8],
     blocks: &mut [[u8; 8]],

@@ -32,7 +32,7 @@ pub fn accept_cbc_macs<S: Slice, C: KeyForEach + Drop, P: Padding>(
     Ok(())
 }
 
-/// The same under one key.
+/// CBC-MACs under one key.
 pub fn accept_cbc_macs_of_key<S: Slice, C: KeyForEach + Drop, P: Padding>(
     key: &C::Key,
     messages: &[&[u8]],
@@ -72,7 +72,7 @@ pub fn accept_retail_macs<S: Slice, C: KeyForEach + Drop, P: Padding>(
     Ok(())
 }
 
-/// The same under one pair of keys.
+/// Retail MACs under one pair of keys.
 pub fn accept_retail_macs_of_keys<S: Slice, C: KeyForEach + ManyBlocks + Drop, P: Padding>(
     first: &C::Key,
     second: &C::Key,
@@ -112,7 +112,7 @@ pub fn accept_cmacs<S: Slice, C: KeyForEach + Drop>(
     Ok(())
 }
 
-/// The same under one key.
+/// CMACs under one key.
 pub fn accept_cmacs_of_key<S: Slice, C: KeyForEach + Drop>(
     key: &C::Key,
     messages: &[&[u8]],

@@ -23,7 +23,7 @@ pub fn encrypt_spread<S: Slice, C: KeyedCipher + SpreadOnce + Drop>(
     Ok(())
 }
 
-/// The same by decryption.
+/// Decrypts a list by spread keys.
 pub fn decrypt_spread<S: Slice, C: KeyedCipher + SpreadOnce + Drop>(
     key: &[u8],
     blocks: &mut [[u8; 8]],

@@ -95,7 +95,7 @@ impl DecimalTable {
         checked(status, DecimalTable { table })
     }
 
-    /// The same with any number of different digits, for old systems that have such a table. Its faults are `TableLength` and
+    /// Such a table with any number of different digits, for old systems that have one. Its faults are `TableLength` and
     /// `TableDigit`.
     pub fn of_any_variety(digits: &[u8]) -> Result<DecimalTable, VerificationError> {
         let mut table = ffi::DecimalTable { digits: [0; 16] };

@@ -31,7 +31,7 @@ fn electronic_codebook(cipher: &impl BlockCipher, plain: &[u8], answer: &[u8]) {
     assert_eq!(blocks, blocks_of(plain));
 }
 
-/// The same by each call for chains, whole and in pieces.
+/// Checks each call for chains so, whole and in pieces.
 fn chain(cipher: &impl BlockCipher, iv: &Block, plain: &[u8], answer: &[u8]) {
     let last = blocks_of(answer).last().copied().unwrap_or(*iv);
     for cut in [0, 8, plain.len() / 16 * 8, plain.len()].into_iter().filter(|&cut| cut <= plain.len()) {

@@ -173,7 +173,7 @@ pub extern "C" fn cukvashe_decimal_table_init(table: &mut TableText, text: &[u8]
     write_table(DecimalTable::new(text), text, table)
 }
 
-/// The same with any number of different digits. The status is `ERR_TABLE_LENGTH` or
+/// Such a table with any number of different digits. The status is `ERR_TABLE_LENGTH` or
 /// `ERR_TABLE_DIGIT`.
 #[unsafe(no_mangle)]
 pub extern "C" fn cukvashe_decimal_table_init_any(table: &mut TableText, text: &[u8]) -> i32

@@ -143,7 +143,7 @@ fn answer_each<S: Slice, C: KeyForEach>(keys: &[C::Key], blocks: &mut [[u8; 8]],
     }
 }
 
-// The same, where there are as many keys as blocks.
+// Does so where there are as many keys as blocks, and else changes nothing.
 fn answer_equal<S: Slice, C: KeyForEach>(
     keys: &[C::Key],
     blocks: &mut [[u8; 8]],

@@ -3,7 +3,9 @@
 //! either.
 //!
 //! An entry is a sum modulo 2 of terms, one for each choice among the last five bits of its group,
-//! where all bits of the choice are set.
+//! where all bits of the choice are set. That takes two operations for each entry, a selection three.
+//! A lookup by a shuffle would be one operation, but the default processor has none and would read
+//! memory.
 
 ghost use Rattle.std.specs.Prelude.{◌≡◌, ◌<◌, ◌≤◌, ◌+◌, ◌-◌, ◌*◌, ◌^◌, ◌++◌, ℕ, suc, List, length, slice_index, slice_index_or};
 ghost use Rattle.std.specs.Int.{w64, to_be_bytes};

@@ -21,7 +21,7 @@ const SECOND_BYTES_OF_16: [usize; 16] = [
     8, 24, 9, 25, 10, 26, 11, 27, 12, 28, 13, 29, 14, 30, 15, 31,
 ];
 
-// The same of words of eight bytes.
+// By turns a word of eight bytes of each.
 #[rattlefmt::skip]
 const FIRST_WORDS_OF_16: [usize; 16] = [
     0, 1, 2, 3, 4, 5, 6, 7, 16, 17, 18, 19, 20, 21, 22, 23,
@@ -46,7 +46,7 @@ const SECOND_BYTES_OF_32: [usize; 32] = [
     24, 56, 25, 57, 26, 58, 27, 59, 28, 60, 29, 61, 30, 62, 31, 63,
 ];
 
-// The same of words of eight bytes.
+// By turns a word of eight bytes of each.
 #[rattlefmt::skip]
 const FIRST_WORDS_OF_32: [usize; 32] = [
     0, 1, 2, 3, 4, 5, 6, 7, 32, 33, 34, 35, 36, 37, 38, 39,

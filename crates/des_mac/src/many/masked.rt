@@ -192,7 +192,7 @@ pub fn cmacs_by<S: Slice, C: KeyForEach + Drop>(
     C::chain_ends_by::<S, MaskedMessages>(key, tags, &lists)
 }
 
-/// The same, each message under the key at its place; groups of at most 256 are treated together.
+/// The tags of CMAC of many messages, each under the key at its place, at most 256 at a time.
 /// Where the numbers of keys, messages and tags differ, the answer is `NotEqualError`, and the tags
 /// stay as they were.
 pub fn cmacs_each_by<S: Slice, C: KeyForEach + Drop>(

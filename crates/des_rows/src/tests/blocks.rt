@@ -17,7 +17,7 @@ fn block_goes_there_and_back<C: BlockCipher>(cipher: &C, list: &List, answers: &
     [there, encrypted, back, place] == [answers[0], answers[0], list[0], list[0]]
 }
 
-// The same of the list.
+// Whether the whole list does.
 fn list_goes_there_and_back<C: BlockCipher>(cipher: &C, list: &List, answers: &List) -> bool {
     let (mut there, mut back, mut place) = ([[0xa5; 8]; 3], [[0xa5; 8]; 3], *list);
     let are_of_one_length = cipher.encrypt_blocks_b2b(list, &mut there).is_ok()
