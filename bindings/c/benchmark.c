@@ -1,28 +1,35 @@
 /*
- * Nanoseconds for a block of 8 bytes, beside OpenSSL's EVP and libgcrypt: DES and triple DES (EDE, three parts), each block
- * by itself (ECB) and chained (CBC), each way, in messages of 8 bytes to 1 MiB. Then, for lists of few blocks and of about a batch,
- * the nanoseconds of a whole call, beside those of each of the ways that it chooses from. Keys are set before the clock runs, which is
- * that of the process; the least of a hundred short runs counts (of ten for 1 MiB). An empty cell is a way that there is not.
+ * Nanoseconds for a block of 8 bytes of one call on a message, beside OpenSSL's EVP and libgcrypt: DES and triple DES (EDE, three parts),
+ * each block by itself (ECB) and chained (CBC). With the word `ways`, nanoseconds for a block of lists about as long as a batch, by each
+ * of the ways that the library chooses from. Keys are set before the clock runs, which is that of the process; the least of many short
+ * runs counts. An empty cell is a way that there is not.
+ *
+ *   benchmark [RUNS] [ways]
  */
 #include "benchmark.h"
 #include <openssl/evp.h>
 #include <openssl/provider.h>
+#include <string.h>
 #ifdef HAS_GCRYPT
 #include <gcrypt.h>
 #endif
 
-enum { MOST = 1 << 20 };
+enum { MOST = 8192 };
 
-static const size_t sizes[] = {8, 16, 64, 136, 256, 1024, 8192, MOST};
 static uint8_t message[MOST], key[24], iv[8];
 static bool is_v3;
 
-/* What a call of this library is: the names of its tables below, and the way that it goes. */
-struct ours {
-  int is_chained, encrypts, way;
+/* Which call is timed, and by which way. */
+struct mode {
+  int is_triple, is_chained, encrypts;
 };
 
-enum { PUBLIC, ONE_BY_ONE, NARROW, WIDE };
+enum way { PUBLIC, ONE_BY_ONE, NARROW, WIDE };
+
+struct ours {
+  struct mode mode;
+  enum way way;
+};
 
 /* Pieces that are too short for a batch. */
 enum { FEW = 8 * 18 };
@@ -36,17 +43,17 @@ enum { FEW = 8 * 18 };
   static int name##_ecb(const struct ours *by, uint8_t *data, size_t length) {                                 \
     const cukvashe_##name *c = &name##_context;                                                                \
     if (by->way == NARROW)                                                                                     \
-      return by->encrypts ? cukvashe_internal_encrypt_ecb(WORDS_OF(*c), DATA)                                  \
-                          : cukvashe_internal_decrypt_ecb(WORDS_OF(*c), DATA);                                 \
+      return by->mode.encrypts ? cukvashe_internal_encrypt_ecb(WORDS_OF(*c), DATA)                             \
+                               : cukvashe_internal_decrypt_ecb(WORDS_OF(*c), DATA);                            \
     if (by->way == WIDE)                                                                                       \
-      return by->encrypts ? cukvashe_wide_encrypt_ecb(WORDS_OF(*c), DATA)                                      \
-                          : cukvashe_wide_decrypt_ecb(WORDS_OF(*c), DATA);                                     \
-    return by->encrypts ? cukvashe_##name##_encrypt_ecb(c, data, length)                                       \
-                        : cukvashe_##name##_decrypt_ecb(c, data, length);                                      \
+      return by->mode.encrypts ? cukvashe_wide_encrypt_ecb(WORDS_OF(*c), DATA)                                 \
+                               : cukvashe_wide_decrypt_ecb(WORDS_OF(*c), DATA);                                \
+    return by->mode.encrypts ? cukvashe_##name##_encrypt_ecb(c, data, length)                                  \
+                             : cukvashe_##name##_decrypt_ecb(c, data, length);                                 \
   }                                                                                                            \
   static int name##_cbc(const struct ours *by, uint8_t *data, size_t length) {                                 \
     const cukvashe_##name *c = &name##_context;                                                                \
-    if (by->encrypts) return cukvashe_##name##_encrypt_cbc(c, iv, data, length);                               \
+    if (by->mode.encrypts) return cukvashe_##name##_encrypt_cbc(c, iv, data, length);                          \
     if (by->way == NARROW) return cukvashe_internal_decrypt_cbc(WORDS_OF(*c), iv, DATA);                       \
     if (by->way == WIDE) return cukvashe_wide_decrypt_cbc(WORDS_OF(*c), iv, DATA);                             \
     return cukvashe_##name##_decrypt_cbc(c, iv, data, length);                                                 \
@@ -56,7 +63,7 @@ enum { FEW = 8 * 18 };
     const size_t most = by->way == ONE_BY_ONE ? FEW : bytes;                                                   \
     for (size_t from = 0; from < bytes; from += most) {                                                        \
       size_t length = bytes - from < most ? bytes - from : most;                                               \
-      if ((by->is_chained ? name##_cbc : name##_ecb)(by, message + from, length)) fail(#name);                 \
+      if ((by->mode.is_chained ? name##_cbc : name##_ecb)(by, message + from, length)) fail(#name);            \
     }                                                                                                          \
   }
 
@@ -68,10 +75,11 @@ static void openssl_call(void *state, size_t bytes) {
   if (!EVP_CipherUpdate((EVP_CIPHER_CTX *)state, message, &count, message, (int)bytes)) fail("EVP_CipherUpdate");
 }
 
-static EVP_CIPHER_CTX *openssl_of(const char *name, int encrypts) {
-  EVP_CIPHER *cipher = EVP_CIPHER_fetch(NULL, name, NULL);
+static EVP_CIPHER_CTX *openssl_of(const struct mode *mode) {
+  static const char *names[2][2] = {{"DES-ECB", "DES-CBC"}, {"DES-EDE3", "DES-EDE3-CBC"}};
+  EVP_CIPHER *cipher = EVP_CIPHER_fetch(NULL, names[mode->is_triple][mode->is_chained], NULL);
   EVP_CIPHER_CTX *state = EVP_CIPHER_CTX_new();
-  if (!cipher || !state || !EVP_CipherInit_ex(state, cipher, NULL, key, iv, encrypts)) fail(name);
+  if (!cipher || !state || !EVP_CipherInit_ex(state, cipher, NULL, key, iv, mode->encrypts)) fail("EVP_CipherInit_ex");
   EVP_CIPHER_CTX_set_padding(state, 0);
   EVP_CIPHER_free(cipher);
   return state;
@@ -90,82 +98,75 @@ static void gcrypt_call(void *state, size_t bytes) {
     fail("gcry_cipher");
 }
 
-static struct gcrypt gcrypt_of(int is_triple, int is_chained, int encrypts) {
-  struct gcrypt made = {NULL, encrypts};
-  if (gcry_cipher_open(&made.handle, is_triple ? GCRY_CIPHER_3DES : GCRY_CIPHER_DES,
-                       is_chained ? GCRY_CIPHER_MODE_CBC : GCRY_CIPHER_MODE_ECB, 0) ||
-      gcry_cipher_setkey(made.handle, key, is_triple ? 24 : 8) ||
-      (is_chained && gcry_cipher_setiv(made.handle, iv, 8)))
+static struct gcrypt gcrypt_of(const struct mode *mode) {
+  struct gcrypt made = {NULL, mode->encrypts};
+  if (gcry_cipher_open(&made.handle, mode->is_triple ? GCRY_CIPHER_3DES : GCRY_CIPHER_DES,
+                       mode->is_chained ? GCRY_CIPHER_MODE_CBC : GCRY_CIPHER_MODE_ECB, 0) ||
+      gcry_cipher_setkey(made.handle, key, mode->is_triple ? 24 : 8) ||
+      (mode->is_chained && gcry_cipher_setiv(made.handle, iv, 8)))
     fail("gcry_cipher_open");
   return made;
 }
 #endif
 
-static void rows(int is_triple, int is_chained, int encrypts) {
-  static const char *names[2][2] = {{"DES-ECB", "DES-CBC"}, {"DES-EDE3", "DES-EDE3-CBC"}};
-  struct ours ours = {is_chained, encrypts, PUBLIC};
-  EVP_CIPHER_CTX *openssl = openssl_of(names[is_triple][is_chained], encrypts);
-  struct timed row[3] = {{is_triple ? tdes_ede3_call : des_call, &ours, 0}, {openssl_call, openssl, 0}, {NULL, NULL, 0}};
+/* Rows of messages of some lengths, by this library and its peers. */
+static void messages(const char *what, struct mode mode) {
+  static const size_t sizes[] = {1, 17, 32, 128, 1024};
+  struct ours ours = {mode, PUBLIC};
+  EVP_CIPHER_CTX *openssl = openssl_of(&mode);
+  struct timed timed[3] = {{"Cukvashe", mode.is_triple ? tdes_ede3_call : des_call, &ours, 0},
+                           {"OpenSSL", openssl_call, openssl, 0},
+                           {"libgcrypt", NULL, NULL, 0}};
 #ifdef HAS_GCRYPT
-  struct gcrypt gcrypt = gcrypt_of(is_triple, is_chained, encrypts);
-  row[2].call = gcrypt_call;
-  row[2].state = &gcrypt;
+  struct gcrypt gcrypt = gcrypt_of(&mode);
+  timed[2].call = gcrypt_call;
+  timed[2].state = &gcrypt;
 #endif
-  for (size_t i = 0; i < sizeof sizes / sizeof *sizes; i++) {
-    printf("| %s | %s | %s | %7zu |", is_triple ? "EDE3" : "DES ", is_chained ? "CBC" : "ECB", encrypts ? "encrypt" : "decrypt",
-           sizes[i]);
-    cells(row, 3, sizes[i], sizes[i] / 8);
-  }
+  rows_by_size(what, timed, 3, sizes, COUNT_OF(sizes));
   EVP_CIPHER_CTX_free(openssl);
 #ifdef HAS_GCRYPT
   gcry_cipher_close(gcrypt.handle);
 #endif
 }
 
-/* By tables up to some 300 blocks; a batch from 32 blocks on, since fewer go by tables. */
-static void ways(int is_triple, int is_chained, int encrypts) {
-  static const size_t counts[] = {2, 3, 4, 18, 30, 31, 32, 33, 34, 64, 127, 128, 129, 159, 160, 256, 257, 287, 288, 300};
-  for (size_t i = 0; i < sizeof counts / sizeof *counts; i++) {
-    struct ours ours[4];
-    struct timed row[4];
-    for (int way = PUBLIC; way <= WIDE; way++) {
-      const struct ours by = {is_chained, encrypts, way};
-      const bool is_none = (way == WIDE && !is_v3) || (way >= NARROW && counts[i] < 32);
-      ours[way] = by;
-      row[way].call = is_none ? NULL : is_triple ? tdes_ede3_call : des_call;
-      row[way].state = &ours[way];
-    }
-    printf("| %s | %s | %s | %7zu |", is_triple ? "EDE3" : "DES ", is_chained ? "CBC" : "ECB", encrypts ? "encrypt" : "decrypt",
-           counts[i]);
-    cells(row, 4, 8 * counts[i], 1);
-  }
+/* Rows of lists about as long as a batch, by each way. */
+static void ways(const char *what, struct mode mode) {
+  static const size_t sizes[] = {31, 32, 33, 64, 127, 128, 129, 159, 160, 256, 257, 287, 288, 300};
+  struct ours ours[] = {{mode, PUBLIC}, {mode, ONE_BY_ONE}, {mode, NARROW}, {mode, WIDE}};
+  call *const by = mode.is_triple ? tdes_ede3_call : des_call;
+  struct timed timed[] = {{"the call", by, &ours[PUBLIC], 0},
+                          {"few at a time, by tables", by, &ours[ONE_BY_ONE], 0},
+                          {"128 at a time", by, &ours[NARROW], 0},
+                          {"256 at a time", is_v3 ? by : NULL, &ours[WIDE], 0}};
+  rows_by_size(what, timed, COUNT_OF(timed), sizes, COUNT_OF(sizes));
 }
 
-int main(void) {
+int main(int count, char **words) {
   OSSL_PROVIDER *legacy = OSSL_PROVIDER_load(NULL, "legacy"), *usual = OSSL_PROVIDER_load(NULL, "default");
-  const struct processor words = cukvashe_internal_processor();
-  const char *gcrypt = "without libgcrypt";
-  is_v3 = cukvashe_internal_is_v3(&words);
+  const struct processor processor = cukvashe_internal_processor();
+  char **rest = words_after_runs(words);
+  (void)count;
+  is_v3 = cukvashe_internal_is_v3(&processor);
   if (!legacy || !usual) fail("OpenSSL's providers default and legacy");
-#ifdef HAS_GCRYPT
-  gcrypt = gcry_check_version(NULL);
-  gcry_control(GCRYCTL_INITIALIZATION_FINISHED, 0);
-#endif
   for (size_t i = 0; i < sizeof key; i++) key[i] = (uint8_t)(17 * i * i + 59 * i + 3);
   if (cukvashe_des_init(&des_context, key, 8) || cukvashe_tdes_ede3_init(&tdes_ede3_context, key, 24)) fail("init");
-  printf("Nanoseconds for a block; %s, libgcrypt %s\n\n", OpenSSL_version(OPENSSL_VERSION), gcrypt);
-  printf("| cipher | mode | direction | bytes | Cukvashe | OpenSSL | libgcrypt |\n");
-  printf("|---|---|---|---|---|---|---|\n");
-  for (int is_triple = 0; is_triple < 2; is_triple++)
-    for (int is_chained = 0; is_chained < 2; is_chained++)
-      for (int encrypts = 1; encrypts >= 0; encrypts--) rows(is_triple, is_chained, encrypts);
-  printf("\nNanoseconds for a list, by the call and by each way\n\n");
-  printf("| cipher | mode | direction | blocks | the call | one by one | 128 at a time | 256 at a time |\n");
-  printf("|---|---|---|---|---|---|---|---|\n");
-  for (int is_triple = 0; is_triple < 2; is_triple++) {
-    ways(is_triple, 0, 1);
-    ways(is_triple, 0, 0);
-    ways(is_triple, 1, 0);
+  if (rest[0] && strcmp(rest[0], "ways") == 0) {
+    begin_table("ways", "ns per block | | 31 blocks | 32 | 33 | 64 | 127 | 128 | 129 | 159 | 160 | 256 | 257 | 287 | 288 | 300");
+    ways("DES, ECB", (struct mode){0, 0, 1});
+    ways("DES, CBC decryption", (struct mode){0, 1, 0});
+    ways("triple DES, ECB", (struct mode){1, 0, 1});
+    ways("triple DES, CBC decryption", (struct mode){1, 1, 0});
+    return 0;
   }
+  printf("OpenSSL: %s\n", OpenSSL_version(OPENSSL_VERSION_STRING));
+#ifdef HAS_GCRYPT
+  printf("libgcrypt: %s\n", gcry_check_version(NULL));
+  gcry_control(GCRYCTL_INITIALIZATION_FINISHED, 0);
+#endif
+  begin_table("lengths", "ns per block | | 8 bytes | 136 | 256 | 1024 | 8192");
+  messages("DES, ECB", (struct mode){0, 0, 1});
+  messages("triple DES, ECB", (struct mode){1, 0, 1});
+  messages("triple DES, CBC encryption", (struct mode){1, 1, 1});
+  messages("triple DES, CBC decryption", (struct mode){1, 1, 0});
   return 0;
 }

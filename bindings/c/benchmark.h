@@ -1,4 +1,4 @@
-/* What the benchmarks share: the least of many short runs of each call of a row, in nanoseconds. */
+/* What the benchmarks share: the least of many short runs of each call, in nanoseconds, and rows of tables. */
 #ifndef BENCHMARK_H
 #define BENCHMARK_H
 
@@ -7,10 +7,13 @@
 #include <stdlib.h>
 #include <time.h>
 
-enum { RUNS = 100 };
+/* How many short runs of each call there are. The first argument of the program says it. */
+static int runs = 100;
 
 /* A context, as an export takes it. */
 #define WORDS_OF(CONTEXT) (CONTEXT).words, sizeof(CONTEXT).words / sizeof *(CONTEXT).words
+
+#define COUNT_OF(LIST) (sizeof(LIST) / sizeof *(LIST))
 
 static void fail(const char *what) {
   fprintf(stderr, "benchmark: %s\n", what);
@@ -26,8 +29,9 @@ static double now(void) {
   return (double)t.tv_sec * 1e9 + (double)t.tv_nsec;
 }
 
-/* A call with its state, and the least time that it took; none is an empty cell. */
+/* A call with its state and its name, and the least time that it took. There may be none. */
 struct timed {
+  const char *name;
   call *call;
   void *state;
   double least;
@@ -48,23 +52,44 @@ static double run_of(const struct timed *timed, size_t bytes) {
 
 /* The least time of each call. They run in turn, so that what slows the processor for a while, as another virtual machine on it,
    slows all of them. */
-static void time_all(struct timed *row, size_t count, size_t bytes) {
-  for (size_t n = 0; n < count; n++) row[n].least = 1e18;
-  for (int run = 0; run < (bytes > 65536 ? RUNS / 10 : RUNS); run++)
+static void time_all(struct timed *timed, size_t count, size_t bytes) {
+  for (size_t n = 0; n < count; n++) timed[n].least = 1e18;
+  for (int run = 0; run < runs; run++)
     for (size_t n = 0; n < count; n++) {
-      double time = row[n].call ? run_of(&row[n], bytes) : 0;
-      if (time < row[n].least) row[n].least = time;
+      double time = timed[n].call ? run_of(&timed[n], bytes) : 0;
+      if (time < timed[n].least) timed[n].least = time;
     }
 }
 
-/* The cells of a row, over a number of blocks. */
-static void cells(struct timed *row, size_t count, size_t bytes, size_t blocks) {
-  time_all(row, count, bytes);
-  for (size_t n = 0; n < count; n++)
-    if (row[n].call) printf(" %8.1f |", row[n].least / (double)blocks);
-    else printf("          |");
-  printf("\n");
+/* A table: its name, and the heads of its columns. */
+static void begin_table(const char *name, const char *heads) { printf("\n[%s]\n%s\n", name, heads); }
+
+static void cell(const struct timed *timed, size_t parts) {
+  if (timed->call) printf(" | %.2f", timed->least / (double)parts);
+  else printf(" |");
+}
+
+/* A row for each call, with a column for each size in blocks: nanoseconds for a block. */
+static void rows_by_size(const char *what, struct timed *timed, size_t count, const size_t *sizes, size_t sizes_count) {
+  struct timed found[16][8];
+  for (size_t i = 0; i < sizes_count; i++) {
+    time_all(timed, count, 8 * sizes[i]);
+    for (size_t n = 0; n < count; n++) found[i][n] = timed[n];
+  }
+  for (size_t n = 0; n < count; n++) {
+    printf("%s | %s", what, timed[n].name);
+    for (size_t i = 0; i < sizes_count; i++) cell(&found[i][n], sizes[i]);
+    printf("\n");
+  }
   fflush(stdout);
+}
+
+/* The words of the command line: a number of runs, if any, and then other words, which follow. */
+static char **words_after_runs(char **words) {
+  if (!words[1] || words[1][0] < '0' || words[1][0] > '9') return words + 1;
+  runs = atoi(words[1]);
+  if (runs < 1) fail("it takes a number of runs");
+  return words + 2;
 }
 
 #endif

@@ -1,8 +1,11 @@
 /*
  * Nanoseconds for a block, a message or a key of lists of short messages, 256 at once: by batches of 128, by those of 256 where the
  * processor has them, and by a peer one at a time. The peer is OpenSSL's own functions of DES, called with nothing around them, or,
- * where OpenSSL has no such call, this library's call of one. Then quiet contexts and lists of few blocks, beside OpenSSL and
- * libgcrypt, and threads, by the clock on the wall. The least of a hundred short runs counts; an empty cell is a way that there is not.
+ * where OpenSSL has no such call, this library's call of one. Then lists of few blocks, by quick and quiet contexts, beside OpenSSL and
+ * libgcrypt; threads, by the clock on the wall; and PBKDF2 beside OpenSSL's. The least of many short runs counts; an empty cell is a way
+ * that there is not.
+ *
+ *   benchmark_lists [RUNS]
  */
 #define OPENSSL_SUPPRESS_DEPRECATED
 #include "benchmark.h"
@@ -119,28 +122,25 @@ static void one_transaction(void *state, size_t bytes) {
   }
 }
 
-/* The cells of a row by both widths and a peer, for each of so many parts, and what the quicker width takes of the peer's time. */
+/* The cells of a row by both widths and a peer, for each of so many parts. */
 static void row_of(const char *what, call *by_batches, call *by_peer, bool is_triple, size_t parts) {
   struct of narrow = {is_triple, false}, wide = {is_triple, true};
-  struct timed row[3] = {{by_batches, &narrow, 0}, {is_v3 ? by_batches : NULL, &wide, 0}, {by_peer, &narrow, 0}};
-  time_all(row, 3, 0);
-  printf("| %s | %8.1f |", what, row[0].least / (double)parts);
-  if (is_v3) printf(" %8.1f |", row[1].least / (double)parts);
-  else printf("          |");
-  printf(" %8.1f | %5.3f |", row[2].least / (double)parts, row[0].least / row[2].least);
-  if (is_v3) printf(" %5.3f |\n", row[1].least / row[2].least);
-  else printf("       |\n");
+  struct timed timed[] = {{"", by_batches, &narrow, 0}, {"", is_v3 ? by_batches : NULL, &wide, 0}, {"", by_peer, &narrow, 0}};
+  time_all(timed, COUNT_OF(timed), 0);
+  printf("%s", what);
+  for (size_t n = 0; n < COUNT_OF(timed); n++) cell(&timed[n], parts);
+  printf("\n");
   fflush(stdout);
 }
 
 static void rows_of_messages(void) {
-  printf("| 256 at once | 128 together | 256 together | one at a time | 128 / one | 256 / one |\n|---|---|---|---|---|---|\n");
-  row_of("a key for each block, DES, beside OpenSSL", each_key, openssl_each_key, false, COUNT);
-  row_of("a key for each block, EDE3, beside OpenSSL", each_key, openssl_each_key, true, COUNT);
-  row_of("a block of records of 8 blocks, CBC encryption, DES, beside OpenSSL", records, openssl_records, false, COUNT * RECORD);
-  row_of("a block of records of 8 blocks, CBC encryption, EDE3, beside OpenSSL", records, openssl_records, true, COUNT * RECORD);
-  row_of("retail MAC of 64 bytes under a key of its own, beside one call each", retail_macs, one_retail_mac, false, COUNT);
-  row_of("keys of a transaction, beside two calls each", transactions, one_transaction, false, COUNT);
+  begin_table("many", "ns | 128 together | 256 together | one at a time");
+  row_of("a block and its key, DES", each_key, openssl_each_key, false, COUNT);
+  row_of("a block and its key, triple DES", each_key, openssl_each_key, true, COUNT);
+  row_of("a block of records of 8 blocks, CBC encryption, DES", records, openssl_records, false, COUNT * RECORD);
+  row_of("a block of records of 8 blocks, CBC encryption, triple DES", records, openssl_records, true, COUNT * RECORD);
+  row_of("a retail MAC of 64 bytes and its key", retail_macs, one_retail_mac, false, COUNT);
+  row_of("a transaction's key from the base key", transactions, one_transaction, false, COUNT);
 }
 
 /* Lists of few blocks, by contexts of one kind or the other, and by peers. */
@@ -198,21 +198,19 @@ static gcry_cipher_hd_t gcrypt_of(bool is_triple) {
 }
 #endif
 
-static void rows_of_few(bool is_triple) {
-  static const size_t sizes[] = {1, 2, 3, 4, 8, 9, 12, 16, 20, 24, 31, 32, 40};
-  struct timed row[5] = {{is_triple ? quick_ede3 : quick_des, NULL, 0},
-                         {is_triple ? quiet_ede3_list : quiet_des_list, NULL, 0},
-                         {is_triple ? blocks_one_by_one : des_one_by_one, NULL, 0},
-                         {is_triple ? openssl_ede3 : openssl_des, NULL, 0}};
+static void rows_of_few(const char *what, bool is_triple) {
+  static const size_t sizes[] = {1, 3, 8, 16, 31, 40};
+  struct timed timed[] = {{"quick", is_triple ? quick_ede3 : quick_des, NULL, 0},
+                          {"quiet", is_triple ? quiet_ede3_list : quiet_des_list, NULL, 0},
+                          {"quick, one call for each block", is_triple ? blocks_one_by_one : des_one_by_one, NULL, 0},
+                          {"OpenSSL's own functions", is_triple ? openssl_ede3 : openssl_des, NULL, 0},
+                          {"libgcrypt", NULL, NULL, 0}};
 #ifdef HAS_GCRYPT
   gcry_cipher_hd_t handle = gcrypt_of(is_triple);
-  row[4].call = gcrypt_call;
-  row[4].state = &handle;
+  timed[4].call = gcrypt_call;
+  timed[4].state = &handle;
 #endif
-  for (size_t i = 0; i < sizeof sizes / sizeof *sizes; i++) {
-    printf("| %s | %3zu |", is_triple ? "EDE3" : "DES ", sizes[i]);
-    cells(row, 5, 8 * sizes[i], sizes[i]);
-  }
+  rows_by_size(what, timed, COUNT_OF(timed), sizes, COUNT_OF(sizes));
 #ifdef HAS_GCRYPT
   gcry_cipher_close(handle);
 #endif
@@ -251,14 +249,14 @@ static double threads_take(size_t count) {
 
 static void rows_of_threads(void) {
   static const size_t threads[] = {1, 2, 4};
-  double least[3] = {1e18, 1e18, 1e18};
-  for (int run = 0; run < 4 * RUNS; run++)
-    for (size_t i = 0; i < 3; i++) {
+  double least[] = {1e18, 1e18, 1e18};
+  for (int run = 0; run < 4 * runs; run++)
+    for (size_t i = 0; i < COUNT_OF(threads); i++) {
       double time = threads_take(threads[i]);
       if (time < least[i]) least[i] = time;
     }
-  for (size_t i = 0; i < 3; i++)
-    printf("| %zu | %8.1f | %5.2f |\n", threads[i], least[i] / (MOST / 8), least[i] / least[0]);
+  begin_table("threads", "threads | of the time of one");
+  for (size_t i = 0; i < COUNT_OF(threads); i++) printf("%zu | %.3f\n", threads[i], least[i] / least[0]);
 }
 
 /* A key of 24 bytes by PBKDF2, of a password and a salt of eight bytes. */
@@ -280,9 +278,9 @@ static void openssl_pbkdf2(void *state, size_t bytes) {
 }
 
 static void row_of_pbkdf2(const char *name, int hash) {
-  struct timed row[2] = {{pbkdf2, &hash, 0}, {openssl_pbkdf2, &hash, 0}};
-  time_all(row, 2, 0);
-  printf("| %s | %8.1f | %8.1f | %5.2f |\n", name, row[0].least / ITERATIONS, row[1].least / ITERATIONS, row[0].least / row[1].least);
+  struct timed timed[] = {{"", pbkdf2, &hash, 0}, {"", openssl_pbkdf2, &hash, 0}};
+  time_all(timed, COUNT_OF(timed), 0);
+  printf("%s | %.3f\n", name, timed[0].least / timed[1].least);
 }
 
 static void prepare(void) {
@@ -302,23 +300,22 @@ static void prepare(void) {
   check(cukvashe_tdes_ede3_init_quiet(&quiet_ede3, keys, 24));
 }
 
-int main(void) {
-  const struct processor words = cukvashe_internal_processor();
-  is_v3 = cukvashe_internal_is_v3(&words);
+int main(int count, char **words) {
+  const struct processor processor = cukvashe_internal_processor();
+  (void)count;
+  words_after_runs(words);
+  is_v3 = cukvashe_internal_is_v3(&processor);
 #ifdef HAS_GCRYPT
   gcry_check_version(NULL);
   gcry_control(GCRYCTL_INITIALIZATION_FINISHED, 0);
 #endif
   prepare();
-  printf("\nNanoseconds of one of 256, and how long it takes as a part of what it takes alone\n\n");
+  begin_table("short-lists", "ns per block, CBC decryption | | 1 block | 3 | 8 | 16 | 31 | 40");
+  rows_of_few("DES", false);
+  rows_of_few("triple DES", true);
   rows_of_messages();
-  printf("\nNanoseconds for a block of a list of few, CBC decryption\n\n");
-  printf("| cipher | blocks | quick | quiet | one by one | OpenSSL | libgcrypt |\n|---|---|---|---|---|---|---|\n");
-  rows_of_few(false);
-  rows_of_few(true);
-  printf("\nNanoseconds for a block of 1 MiB, EDE3, by threads\n\n| threads | time | of one |\n|---|---|---|\n");
   rows_of_threads();
-  printf("\nNanoseconds for an iteration of PBKDF2, for a key of 24 bytes\n\n| hash | time | OpenSSL | of OpenSSL |\n|---|---|---|---|\n");
+  begin_table("pbkdf2", "PBKDF2, a key of 24 bytes | of the time of OpenSSL's");
   row_of_pbkdf2("SHA-1", CUKVASHE_SHA1);
   row_of_pbkdf2("SHA-256", CUKVASHE_SHA256);
   return 0;

@@ -27,7 +27,7 @@ struct provider {
   char build_info[64];
 };
 
-/* Off the way of most calls, which are short: there, what the compiler saves for the other ways is felt. */
+/* Kept out of short calls, which are most: the registers that it saves would slow them. */
 #define NOT_INLINED __attribute__((noinline))
 
 /* An error of OpenSSL's own providers (PROV_R_..), with a text or NULL. Always 0, for `return`. */

@@ -47,8 +47,8 @@ static void take_calls(struct provider *provider, const OSSL_DISPATCH *in) {
 }
 
 /*
- * Whether the configuration sets a switch. A word that is neither yes nor no counts as the careful one of the two: to refuse
- * the module for it would leave the program to OpenSSL's own ciphers without a word.
+ * Whether the configuration sets a switch. Another word than yes or no counts as the careful one: if the module failed for
+ * it, the program would silently take OpenSSL's own ciphers.
  */
 static bool is_set(const struct provider *provider, const char *name, bool careful) {
   static const char *const words[][2] = {{"yes", "no"}, {"1", "0"}, {"true", "false"}, {"on", "off"}};
@@ -149,7 +149,7 @@ static const OSSL_PARAM *gettable_params(void *provider) {
 static int get_params(void *given, OSSL_PARAM params[]) {
   static const struct number numbers[] = {{OSSL_PROV_PARAM_STATUS, 1}};
   const struct provider *provider = given;
-  const char *const texts[][2] = {{OSSL_PROV_PARAM_NAME, "Cukvashe: DES and triple DES, proved"},
+  const char *const texts[][2] = {{OSSL_PROV_PARAM_NAME, "Cukvashe: DES and triple DES"},
                                   {OSSL_PROV_PARAM_VERSION, CUKVASHE_VERSION},
                                   {OSSL_PROV_PARAM_BUILDINFO, provider->build_info}};
   for (OSSL_PARAM *param = params; param != NULL && param->key != NULL; param++)

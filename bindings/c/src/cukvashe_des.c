@@ -1,7 +1,6 @@
 /*
- * What of the library is C: calls of the header over the proved exports that are there once for all ciphers and MACs, in the header's
- * order of arguments; which of two exports is taken, by the length of a list and the processor; lists of blocks by their length in bytes;
- * texts; and wiping.
+ * The C of the library: calls of the header over proved exports, which serve all ciphers and MACs and take arguments in another order;
+ * the choice between two exports, by the length of a list and the processor; lengths of lists in bytes; texts; and wiping.
  */
 #include "internal.h"
 #include <string.h>
@@ -41,7 +40,7 @@ static bool takes_wide(size_t count) { return count > MOST_NARROW && processor_i
 /* A call with a list of blocks beside another list. The exports compare the numbers of elements. */
 #define OF_BLOCKS(CALL) (length % CUKVASHE_BLOCK_SIZE != 0 ? CUKVASHE_ERR_BLOCKS : CALL)
 
-/* Lists under a key for each block. The count is compared here, before it is multiplied by the size of a key, so that it can be. */
+/* Lists under a key for each block. The count is compared here first: multiplied by the size of a key it could overflow. */
 #define OF_KEYS_AND_BLOCKS(CALL) OF_BLOCKS(count != BLOCKS ? CUKVASHE_ERR_COUNTS : CALL)
 
 /* Calls with a context. From a buffer to itself is the call in place: the exports of two buffers take two that do not overlap. */

@@ -1,6 +1,6 @@
 /*
  * Nanoseconds of processor time beside OpenSSL's own, in turns, the least of many: an update of a length in bytes in a
- * message that goes on, and a whole message from its key on.
+ * message that goes on, and a whole message from its key on. At last the table of docs/reference/figures.txt.
  *
  *   benchmark FOLDER CONFIGURATION TURNS
  */
@@ -104,6 +104,32 @@ static void print_row(const struct row *row) {
          row->least[THEIRS], times_of(row));
 }
 
+static double times_of_update(const char *name, int encrypts, int length) {
+  for (size_t i = 0; i < count_of_rows; i++) {
+    const struct row *row = &rows[i];
+    if (row->run == update && row->encrypts == encrypts && row->length == length && strcmp(row->name, name) == 0)
+      return times_of(row);
+  }
+  CHECK(!"a row of the table was not timed");
+  return 0;
+}
+
+static void print_table(void) {
+  static const int lengths[] = {8, 16, 64, 256, 1024, 2048, 8192, MOST};
+  static const struct {
+    const char *name;
+    int encrypts;
+  } chosen[] = {{"DES-EDE3-CBC", 0}, {"DES-EDE3-CBC", 1}, {"DES-EDE3-ECB", 0}, {"DES-CBC", 0}};
+  printf("\nOpenSSL: %s\n\n[openssl]\ntimes as fast as OpenSSL's own", OpenSSL_version(OPENSSL_VERSION_STRING));
+  printf(" | 8 bytes | 16 | 64 | 256 | 1024 | 2048 | 8192 | 1 MiB\n");
+  for (size_t i = 0; i < COUNT(chosen); i++) {
+    printf("%s, %s", chosen[i].name, chosen[i].encrypts ? "encryption" : "decryption");
+    for (size_t k = 0; k < COUNT(lengths); k++)
+      printf(" | %.3f", times_of_update(chosen[i].name, chosen[i].encrypts, lengths[k]));
+    printf("\n");
+  }
+}
+
 static bool is_long_decryption(const struct row *row) {
   return row->length == 8192 && !row->encrypts && strncmp(row->name, "DES-EDE3", 8) == 0;
 }
@@ -123,9 +149,10 @@ int main(int count, char **words) {
     print_row(&rows[i]);
     if (rows[i].run == update && times_of(&rows[i]) < slowest) slowest = times_of(&rows[i]);
     if (is_long_decryption(&rows[i]) && times_of(&rows[i]) < at_8_KiB) at_8_KiB = times_of(&rows[i]);
-    EACH(who) EVP_CIPHER_CTX_free(rows[i].context[who]);
   }
   printf("updates: at least %.2f times as fast; decryption of EDE3 at 8 KiB: at least %.1f times\n", slowest, at_8_KiB);
+  print_table();
+  for (size_t i = 0; i < count_of_rows; i++) EACH(who) EVP_CIPHER_CTX_free(rows[i].context[who]);
   drop_libraries(libraries[OURS], libraries[THEIRS]);
   return 0;
 }

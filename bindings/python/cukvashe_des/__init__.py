@@ -1,4 +1,4 @@
-"""DES and triple DES (FIPS 46-3), proved, over the shared library `libcukvashe_des.so`.
+"""DES and triple DES (FIPS 46-3), over `libcukvashe_des.so`, whose exports are proved; this wrapper is tested.
 
     import cukvashe_des
     cipher = cukvashe_des.TdesEde3(key)            # 24 bytes
@@ -15,11 +15,10 @@ Messages are authenticated by objects as those of `hmac`, with `update`, `digest
 
     mac = cukvashe_des.CmacTdesEde3(key)
     mac.update(message)
-    mac.verify(tag)                                # TagMismatch, a ValueError, if it is not the tag
+    mac.verify(tag)                                # TagMismatch, a ValueError, if it is not the whole tag
 
-`TdesEde3(key, quiet=True)`, and so each cipher and MAC, reads no tables at addresses that depend on the key or the data, which
-other programs on the processor could learn; single blocks, CBC encryption and MACs then take about three times as long. That is
-tested on x86-64; on aarch64 nothing is claimed of addresses.
+`TdesEde3(key, quiet=True)`, and so each cipher and MAC, makes the library read no tables at addresses that depend on the key or
+the data, which other programs on the processor could learn. That is tested of the library on x86-64, not of this package.
 
 `check_value` and `combine` make check values and keys of components, the calls named `dukpt_` the keys of a transaction, and
 `DukptTerminal` those of a terminal's transactions. The calls named `pin_` make PIN blocks, which are not encrypted, those named
@@ -48,8 +47,8 @@ The key of a transaction encrypts nothing itself, so each is made the PIN key of
 `decrypt_cbc_records(cipher, vectors, counts, blocks)` and its inverse take a column of records, `macs` and `macs_each` many
 messages, and `wrong_tags` gives the places of the tags that came and are not those that these made.
 
-A fault is a ValueError of its own name, an argument of the wrong type a TypeError. The texts of both tell lengths, and no other
-value that was given.
+A fault is a ValueError of its own name, which the call's text names, an argument of the wrong type a TypeError. Their texts tell
+lengths, and no other value that was given.
 
 A class that you derive from one of the ciphers or MACs is the same cipher or MAC, whatever attributes it has.
 

@@ -14,8 +14,8 @@ if TYPE_CHECKING:
 
 
 class Cipher(Keyed):
-    """A block cipher under one key. Nothing writes it once it is made, so threads may share it. A quiet one reads no tables at
-    addresses that depend on the key or the data. A single block and CBC encryption then take about three times as long."""
+    """A block cipher under one key, which threads may share. A quiet one reads no tables at addresses that depend on the key or the
+    data, and takes up to four times as long. KeyLength."""
 
     __slots__ = ()
 
@@ -27,37 +27,38 @@ class Cipher(Keyed):
         self._context = class_of(type(self)).context_of(key, quiet)
 
     def encrypt_ecb(self, data: ReadableBuffer) -> bytes:
-        """The data, each block of 8 bytes encrypted by itself."""
+        """The data, each block of 8 bytes encrypted by itself. BlockLength where they are not whole blocks."""
         return self._answer("encrypt_ecb_to", data)
 
     def decrypt_ecb(self, data: ReadableBuffer) -> bytes:
-        """The data, each block of 8 bytes decrypted by itself."""
+        """The data, each block of 8 bytes decrypted by itself. BlockLength."""
         return self._answer("decrypt_ecb_to", data)
 
     def encrypt_cbc(self, iv: ReadableBuffer, data: ReadableBuffer) -> bytes:
-        """The data, whole blocks, encrypted by cipher block chaining from an initialization vector of 8 bytes."""
+        """The data, encrypted by cipher block chaining from an initialization vector of 8 bytes. VectorLength, BlockLength."""
         return self._answer("encrypt_cbc_to", data, vector_of(iv))
 
     def decrypt_cbc(self, iv: ReadableBuffer, data: ReadableBuffer) -> bytes:
-        """The data, whole blocks, decrypted by cipher block chaining from an initialization vector. Padding stays."""
+        """The data, decrypted by cipher block chaining from an initialization vector. Padding stays. VectorLength, BlockLength."""
         return self._answer("decrypt_cbc_to", data, vector_of(iv))
 
     def encrypt_ecb_into(self, data: WriteableBuffer) -> None:
-        """Encrypts in place, in a bytearray or the like."""
+        """Encrypts in place, in a bytearray or the like. BlockLength; TypeError where the data are not writable in one piece."""
         self._change("encrypt_ecb", data)
 
     def decrypt_ecb_into(self, data: WriteableBuffer) -> None:
-        """Decrypts in place."""
+        """Decrypts in place. Errors as of encrypt_ecb_into."""
         self._change("decrypt_ecb", data)
 
     def encrypt_cbc_into(self, iv: ReadableBuffer, data: WriteableBuffer) -> bytes:
-        """Encrypts in place by cipher block chaining; returns the vector of the next piece."""
+        """Encrypts in place by cipher block chaining; returns the vector of the next piece. VectorLength, and the errors of
+        encrypt_ecb_into."""
         vector = vector_of(iv)
         self._change("encrypt_cbc", data, vector)
         return bytes(vector)
 
     def decrypt_cbc_into(self, iv: ReadableBuffer, data: WriteableBuffer) -> bytes:
-        """Decrypts in place what cipher block chaining encrypted; returns the vector of the next piece."""
+        """Decrypts in place by cipher block chaining; returns the vector of the next piece. Errors as of encrypt_cbc_into."""
         vector = vector_of(iv)
         self._change("decrypt_cbc", data, vector)
         return bytes(vector)
@@ -93,21 +94,21 @@ def class_of(cipher: Type[Cipher]) -> Kind:
 
 
 class Des(Cipher):
-    """DES, under a key of 8 bytes."""
+    """DES, under a key of 8 bytes. KeyLength."""
 
     __slots__ = ()
     name, key_size = "des", 8
 
 
 class TdesEde2(Cipher):
-    """Triple DES: encryption, decryption, encryption, under the two parts of a key of 16 bytes and the first again."""
+    """Triple DES (encrypt, decrypt, encrypt), under the two parts of a key of 16 bytes and the first again. KeyLength."""
 
     __slots__ = ()
     name, key_size = "tdes_ede2", 16
 
 
 class TdesEde3(Cipher):
-    """Triple DES: encryption, decryption, encryption, under the three parts of a key of 24 bytes."""
+    """Triple DES (encrypt, decrypt, encrypt), under the three parts of a key of 24 bytes. KeyLength."""
 
     __slots__ = ()
     name, key_size = "tdes_ede3", 24

@@ -38,30 +38,31 @@ def _made_by(option: Callable[..., Any], issuer: ReadableBuffer, account: _Text,
 
 def emv_card_key(issuer: ReadableBuffer, account: _Text, sequence: _Text) -> bytes:
     """The key of a card (option A), with odd parity, from the issuer's key, an account number of 8 to 19 digits and a sequence
-    number of two, as str or bytes of digits: "00" where the card has none. Most issuers take option A."""
+    number of two, as str or bytes of digits: "00" where the card has none. KeyLength, AccountLength, AccountDigit, SequenceLength,
+    SequenceDigit."""
     return _made_by(_card_key, issuer, account, sequence)
 
 
 def emv_card_key_b(issuer: ReadableBuffer, account: _Text, sequence: _Text) -> bytes:
-    """The key of a card by option B, from the same. It differs where the account number has more than sixteen digits: take it for
-    these where the card scheme asks for it."""
+    """The key of a card by option B, which differs where the account number has more than sixteen digits: take it if the card scheme
+    asks for it. Errors as of emv_card_key."""
     return _made_by(_card_key_b, issuer, account, sequence)
 
 
 def emv_session_key(card: ReadableBuffer, block: ReadableBuffer) -> bytes:
     """The session key of a card's key, from eight bytes that are different for each session: for secure messaging the
-    application cryptogram. The third of them plays no part."""
+    application cryptogram. The third of them plays no part. KeyLength, BlockLength."""
     return made_of_key(_session_key, card, data_of(block, BLOCK_SIZE, "the block of a session has", BlockLength))
 
 
 def emv_application_key(card: ReadableBuffer, counter: ReadableBuffer) -> bytes:
-    """The session key for application cryptograms, by the application transaction counter, two bytes."""
+    """The session key for application cryptograms, by the application transaction counter, two bytes. KeyLength, DataLength."""
     return made_of_key(_application_key, card, data_of(counter, 2, "a transaction counter has", DataLength))
 
 
 def emv_application_cryptogram(session: ReadableBuffer, data: ReadableBuffer) -> bytes:
     """The application cryptogram of data under a session key, 8 bytes. To check one that a card sent call
-    RetailMacDes(session, 2, data).verify(cryptogram), and do not compare by ==."""
+    RetailMacDes(session, 2, data).verify(cryptogram), and do not compare by ==. KeyLength."""
     cryptogram, taken = room(BLOCK_SIZE), bytes_of(data)
     with key_of(session, 16) as held:
         _cryptogram(held, taken, len(taken), cryptogram)
@@ -69,7 +70,8 @@ def emv_application_cryptogram(session: ReadableBuffer, data: ReadableBuffer) ->
 
 
 def emv_response_1(session: ReadableBuffer, cryptogram: ReadableBuffer, code: ReadableBuffer) -> bytes:
-    """The issuer's response by method 1 to an application cryptogram, 8 bytes, with a response code of two bytes, as b"00"."""
+    """The issuer's response by method 1 to an application cryptogram, 8 bytes, with a response code of two bytes, as b"00".
+    KeyLength; BlockLength for another cryptogram, DataLength for another code."""
     request, word = _cryptogram_of(cryptogram), data_of(code, 2, "a response code has", DataLength)
     response = room(BLOCK_SIZE)
     with key_of(session, 16) as held:
@@ -80,7 +82,8 @@ def emv_response_1(session: ReadableBuffer, cryptogram: ReadableBuffer, code: Re
 def emv_response_2(
     session: ReadableBuffer, cryptogram: ReadableBuffer, status: ReadableBuffer, data: ReadableBuffer = b""
 ) -> bytes:
-    """The issuer's response by method 2, 4 bytes, with a card status update of four bytes and at most eight of the issuer's."""
+    """The issuer's response by method 2, 4 bytes, with a card status update of four bytes and at most eight of the issuer's.
+    KeyLength; BlockLength for another cryptogram, DataLength for another status or more data."""
     request, word = _cryptogram_of(cryptogram), data_of(status, 4, "a card status update has", DataLength)
     response, taken = room(4), bytes_of(data)
     with key_of(session, 16) as held:

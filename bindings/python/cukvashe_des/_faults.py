@@ -48,7 +48,7 @@ class WeakKey(ValueError):
 
 
 class TagMismatch(ValueError):
-    """A tag is not that of the message, or has fewer than 4 or more than 8 bytes."""
+    """A tag is not that of the message, or does not have a length that the call takes."""
 
 
 class Closed(ValueError):

@@ -42,8 +42,8 @@ class KeyBlockHeader:
     """What a key is for, and who may have it, in the characters of the standard. KeyBlockHeader(version="B", usage="P0",
     algorithm="T", mode="E", key_version="00", exportability="E") is that of a key of triple DES that encrypts PIN blocks, and does
     nothing else, in a block of version B. A key version "00" means that there are no versions, "c" and a character that the value is
-    a component of a key and not the key; else it is the version. The exportability is "E", "N" or "S". No call compares a header
-    with the key's length.
+    a component of a key and not the key; else it is the version. Exportability "E": exportable under a KEK in a form that complies
+    with X9.24; "N": not exportable; "S": sensitive, exportable in other forms too. No call compares a header with the key's length.
 
     A header has no optional blocks. To wrap the key of a block b again pass
     `optional=[x for x in key_block_optional_blocks(b) if x[0] != "PB"]`, and for version A also
@@ -112,8 +112,8 @@ def _optional_of(optional: _OptionalBlocks) -> bytes:
 
 def unwrap_key_block(protection: ReadableBuffer, block: _Text) -> Tuple[KeyBlockHeader, bytes]:
     """The header and the key, 8, 16 or 24 bytes, of a key block of version A, B or C, as str or bytes, under a protection key of 16 or
-    24 bytes. KeyBlockMac if the block was changed, or is under another key. The header says what the key may be used for: look at
-    it before you use the key."""
+    24 bytes. Look at the header before you use the key. ProtectionKeyLength, KeyBlockLength, KeyBlockVersion, KeyBlockField,
+    OptionalBlock, KeyDataLength, KeyBlockDigit, KeyLength; KeyBlockMac if the block was changed, or is under another key."""
     text, fields, key, length = _block_of(block), room(_FIELDS_SIZE), room(_KEY_SIZE), SIZE()
     with secret_of(protection) as held:
         check(_unwrap(*held, text, len(text), fields, key, ctypes.byref(length)))
@@ -130,8 +130,9 @@ def wrap_key_block(
 ) -> str:
     """The key block of a key of 8, 16 or 24 bytes under a protection key of 16 or 24 bytes, of version B or C. Optional blocks are
     pairs of a name of two letters or digits and its content, printable ASCII without a length. A block PB is added where they do not
-    end at a multiple of eight characters, and taken only as the last, where with it they do: OptionalBlock. The padding is random
-    bytes that hide how long the key is, or those that are given: 6, 14 or 22, with the key at most 30."""
+    end at a multiple of eight characters; one of yours is taken only as the last, where with it they do. The padding is random bytes
+    that hide how long the key is, or those that are given: 6, 14 or 22, with the key at most 30. KeyBlockVersion, OptionalBlock,
+    ProtectionKeyLength, KeyBlockField, KeyLength, PaddingLength, KeyBlockLength."""
     fields, more = _fields_of(header), _optional_of(optional)
     block, length = room(len(more) + _MORE), SIZE()
     with secret_of(protection) as held, secret_of(key) as bare:
@@ -141,7 +142,8 @@ def wrap_key_block(
 
 
 def key_block_header(block: _Text) -> KeyBlockHeader:
-    """The header of a key block, read with no key. Nothing of it is authenticated."""
+    """The header of a key block, read with no key. Nothing of it is authenticated. KeyBlockLength, KeyBlockVersion, KeyBlockField,
+    OptionalBlock, KeyDataLength; KeyBlockDigit for characters that are not ASCII."""
     text, fields = _block_of(block), room(_FIELDS_SIZE)
     check(_header(text, len(text), fields))
     return _header_from(fields)
@@ -149,14 +151,15 @@ def key_block_header(block: _Text) -> KeyBlockHeader:
 
 def key_block_context(block: _Text) -> str:
     """Where the key of a key block may be, read with no key: "0" in storage and exchange, as wrap_key_block writes it, "1" in storage
-    only, "2" in exchange only. Nothing of it is authenticated: unwrap_key_block does that."""
+    only, "2" in exchange only. Nothing of it is authenticated. Errors as of key_block_header."""
     text, context = _block_of(block), room(1)
     check(_context(text, len(text), context))
     return bytes(context).decode("ascii")
 
 
 def key_block_optional_blocks(block: _Text) -> List[Tuple[str, str]]:
-    """The optional blocks of a key block, pairs of a name and its content, read with no key. Nothing of them is authenticated."""
+    """The optional blocks of a key block, pairs of a name and its content, read with no key. Nothing of them is authenticated.
+    Errors as of key_block_header."""
     text, found = _block_of(block), []
     name, offset, length = room(3), SIZE(), SIZE()
     while True:

@@ -33,7 +33,7 @@ _is_usable = function("dukpt_is_usable", BOOL, POINTER)
 
 
 def is_weak_key(key: ReadableBuffer) -> bool:
-    """Whether a key of 8, 16 or 24 bytes is weak: a part of it has few different round keys, or two parts are one key."""
+    """Whether a key of 8, 16 or 24 bytes is weak: a part has few different round keys, or two parts are one key. KeyLength."""
     with key_of(key, *KEY_SIZES) as held:
         status = _weak_key_test(held, len(held))
     if status != WEAK_KEY:
@@ -42,20 +42,20 @@ def is_weak_key(key: ReadableBuffer) -> bool:
 
 
 def with_odd_parity(key: ReadableBuffer) -> bytes:
-    """The key of 8, 16 or 24 bytes with its parity bits, the lowest of each byte, set to odd parity."""
+    """The key of 8, 16 or 24 bytes with its parity bits, the lowest of each byte, set to odd parity. KeyLength."""
     with key_of(key, *KEY_SIZES) as held:
         _set_odd_parity(held, len(held))
         return bytes(held)
 
 
 def equal_but_parity(first: ReadableBuffer, second: ReadableBuffer) -> bool:
-    """Whether two keys of one length, 8, 16 or 24 bytes, agree in all but their parity bits, and so are one key."""
+    """Whether two keys of one length, 8, 16 or 24 bytes, agree in all but their parity bits, and so are one key. KeyLength."""
     with key_of(first, *KEY_SIZES) as one, key_of(second, len(one)) as other:
         return bool(_equal_but_parity(one, other, len(one)))
 
 
 def check_value(cipher: Type[Cipher], key: ReadableBuffer) -> bytes:
-    """The check value of a key, three bytes: the first of the block of zeros encrypted. `cipher` is a class, as TdesEde2."""
+    """The check value of a key: three bytes, the first of the encrypted block of zeros. `cipher` is a class, as Des. KeyLength."""
     value, kind = room(3), class_of(cipher)
     with key_of(key, kind.key_size) as held:
         check(kind.calls["check_value"](held, len(held), value))
@@ -71,17 +71,17 @@ def _value_by_length(call: Callable[..., Any], size: int, key: ReadableBuffer) -
 
 
 def key_check_value(key: ReadableBuffer) -> bytes:
-    """The check value of a key of 8, 16 or 24 bytes, or of a component of one, by its length: by DES, or by triple DES (EDE)."""
+    """The check value of a key or component of 8, 16 or 24 bytes, by DES or, where it is longer, triple DES (EDE). KeyLength."""
     return _value_by_length(_key_check_value, 3, key)
 
 
 def short_key_check_value(key: ReadableBuffer) -> bytes:
-    """The first two bytes of key_check_value, which some systems show in its place."""
+    """The first two bytes of key_check_value, which some systems show. KeyLength."""
     return _value_by_length(_short_key_check_value, 2, key)
 
 
 def combine(first: ReadableBuffer, second: ReadableBuffer, *others: ReadableBuffer) -> bytes:
-    """The key that two or more components of 8, 16 or 24 bytes make: their xor, with odd parity. A weak one is WeakKey."""
+    """The key that two or more components of 8, 16 or 24 bytes make: their xor, with odd parity. KeyLength, WeakKey."""
     with key_of(first, *KEY_SIZES) as one, key_of(second, len(one)) as other:
         size = len(one)
         key = room(size)
@@ -120,39 +120,40 @@ def _response(is_response: bool) -> bool:
 
 
 def dukpt_initial_key(base: ReadableBuffer, serial: ReadableBuffer) -> bytes:
-    """The initial key of a terminal, from the base derivation key and a key serial number (ANSI X9.24-1:2009)."""
+    """The initial key of a terminal, from the base derivation key, 16 bytes, and a key serial number, ten (ANSI X9.24-1:2009).
+    KeyLength, SerialLength."""
     return made_of_key(_initial_key, base, serial_of(serial))
 
 
 def dukpt_transaction_key(initial: ReadableBuffer, serial: ReadableBuffer) -> bytes:
-    """The key of a transaction, from the terminal's initial key and the transaction's key serial number. Every counter is
-    taken; that of 0 gives the initial key itself: ask dukpt_is_usable first."""
+    """The key of a transaction, from the terminal's initial key and the transaction's key serial number. It takes every counter,
+    and for 0 gives the initial key itself: ask dukpt_is_usable first. KeyLength, SerialLength."""
     return made_of_key(_transaction_key, initial, serial_of(serial))
 
 
 def dukpt_pin_key(transaction: ReadableBuffer) -> bytes:
-    """The key that encrypts PIN blocks, from the transaction's key."""
+    """The key that encrypts PIN blocks, from the transaction's key. KeyLength."""
     return made_of_key(_pin_key, transaction)
 
 
 def dukpt_mac_key(transaction: ReadableBuffer, is_response: bool = False) -> bytes:
-    """The key that authenticates the request, or the response, from the transaction's key."""
+    """The key that authenticates the request, or the response, from the transaction's key. KeyLength."""
     return made_of_key(_mac_key, transaction, _response(is_response))
 
 
 def dukpt_data_key(transaction: ReadableBuffer, is_response: bool = False) -> bytes:
-    """The key that encrypts the data of the request, or of the response, from the transaction's key."""
+    """The key that encrypts the data of the request, or of the response, from the transaction's key. KeyLength."""
     return made_of_key(_data_key, transaction, _response(is_response))
 
 
 def dukpt_data_variant(transaction: ReadableBuffer, is_response: bool = False) -> bytes:
-    """The key that dukpt_data_key makes, without its last step: some terminals encrypt data under it. Whoever has it has the
-    transaction's other keys."""
+    """The key of dukpt_data_key without its last step: some terminals encrypt data under it. It reveals the transaction's other
+    keys. KeyLength."""
     return made_of_key(_data_variant, transaction, _response(is_response))
 
 
 def dukpt_next_serial(serial: ReadableBuffer) -> Optional[bytes]:
-    """The next key serial number with at most ten one bits in its counter, or None where there is none."""
+    """The next key serial number whose counter is usable, or None where there is none. SerialLength."""
     following = room(10)
     status = _next_serial(serial_of(serial), following)
     if status == NO_SERIAL:
@@ -162,5 +163,5 @@ def dukpt_next_serial(serial: ReadableBuffer) -> Optional[bytes]:
 
 
 def dukpt_is_usable(serial: ReadableBuffer) -> bool:
-    """Whether a transaction has this key serial number: its counter is not 0 and has at most ten one bits."""
+    """Whether the counter of a key serial number is usable: it is not 0, and has at most ten one bits. SerialLength."""
     return bool(_is_usable(serial_of(serial)))

@@ -105,24 +105,23 @@ def encrypt_each(cipher: Type[Cipher], keys: ReadableBuffer, blocks: ReadableBuf
 
     KeyLength and BlockLength where there are no whole keys or blocks, or rows of another size; CountMismatch where the
     numbers of keys and blocks differ; TypeError for arrays of words whose most significant byte is not the first, as of
-    uint64. A long list is much faster than its blocks one by one: 128 or 256 go together."""
+    uint64. A long list is much faster than its blocks one by one."""
     return _answered_each("encrypt_each", cipher, keys, blocks)
 
 
 def decrypt_each(cipher: Type[Cipher], keys: ReadableBuffer, blocks: ReadableBuffer) -> bytes:
-    """The blocks, each decrypted under the key at its place, as `encrypt_each` encrypts it. The errors are its own."""
+    """The blocks, each decrypted under the key at its place. Errors as of `encrypt_each`."""
     return _answered_each("decrypt_each", cipher, keys, blocks)
 
 
 def encrypt_each_into(cipher: Type[Cipher], keys: ReadableBuffer, blocks: WriteableBuffer) -> None:
-    """Encrypts each block in place, in a bytearray or the like, under the key at its place. The errors are those of
-    `encrypt_each`, and the blocks then stay."""
+    """Encrypts each block in place, in a bytearray or the like, under the key at its place. Errors as of `encrypt_each`, after
+    which the blocks stay; TypeError where they are not writable in one piece."""
     _change_each("encrypt_each", cipher, keys, blocks)
 
 
 def decrypt_each_into(cipher: Type[Cipher], keys: ReadableBuffer, blocks: WriteableBuffer) -> None:
-    """Decrypts each block in place under the key at its place. The errors are those of `encrypt_each`, and the blocks
-    then stay."""
+    """Decrypts each block in place under the key at its place. Errors as of `encrypt_each_into`."""
     _change_each("decrypt_each", cipher, keys, blocks)
 
 
@@ -199,8 +198,7 @@ def encrypt_cbc_records(
 def decrypt_cbc_records(
     cipher: Cipher, vectors: ReadableBuffer, counts: Iterable[int], blocks: ReadableBuffer
 ) -> bytes:
-    """Records, each decrypted by cipher block chaining, as `encrypt_cbc_records` encrypts them. The errors are its own.
-    Padding stays."""
+    """Records, each decrypted by cipher block chaining. Padding stays. Arguments and errors as of `encrypt_cbc_records`."""
     return _recorded("decrypt_cbc_records", cipher, vectors, counts, blocks)
 
 
@@ -252,8 +250,8 @@ def macs(
     """The tags, of 8 bytes each, of messages under one key: message k has lengths[k] of the bytes, one after the other.
     `kind` is a class, as RetailMacDes; the padding method is 1 or 2, of CMAC None.
 
-    128 or 256 messages are worked on together, until the longest has ended; so sort messages of very different lengths.
-    KeyLength, PaddingMethod; CountMismatch where the lengths do not add up to the bytes."""
+    For speed, sort messages of very different lengths. KeyLength, PaddingMethod; CountMismatch where the lengths do not add up
+    to the bytes."""
     made = _mac_of(kind, padding)
     with key_of(key, made.key_size) as held, _lent_bytes(messages) as (start, length):
         pairs = _messages_of(start or 0, length, lengths)
@@ -280,8 +278,7 @@ def macs_each(
 
 def wrong_tags(tags: ReadableBuffer, expected: ReadableBuffer) -> List[int]:
     """The places of the tags, of 8 bytes each, that are not the one at their place in `expected`, the tags that `macs` or
-    `macs_each` made: an empty list, which is false in an `if`, where all are right. Every byte is compared, wherever two
-    tags differ.
+    `macs_each` made: an empty list, which is false in an `if`, where all are right. Every byte is compared.
 
     CountMismatch where there are no whole tags, rows of another size, or the numbers of tags differ."""
     with _list_of(tags, TAG_SIZE, CountMismatch, "tags") as (start, count):

@@ -53,12 +53,13 @@ class Mac(Keyed):
         return self.digest().hex()
 
     def verify(self, tag: ReadableBuffer) -> None:
-        """Accepts the tag of the message so far, 8 bytes; TagMismatch is raised for anything else."""
+        """Accepts the whole tag of the message so far, 8 bytes; TagMismatch for anything else. verify_truncated_left takes cut
+        tags; the call for C of this name takes both."""
         self._accept(tag, TAG_SIZE)
 
     def verify_truncated_left(self, tag: ReadableBuffer) -> None:
-        """Accepts the first 4 to 8 bytes of the tag; TagMismatch is raised for anything else. Whoever may send 4 bytes has one
-        chance in 2^32: test len(tag) too if somebody else chose it."""
+        """Accepts the first 4 to 8 bytes of the tag; TagMismatch for anything else. Of 4 bytes one guess in 2^32 is right: test
+        len(tag) too if somebody else chose it."""
         self._accept(tag, LEAST_TAG_SIZE)
 
     def _accept(self, tag: ReadableBuffer, least: int) -> None:
@@ -116,42 +117,45 @@ class Cmac(Mac):
 
 
 class CbcMacDes(PaddedMac):
-    """CBC-MAC over DES, under a key of 8 bytes. It is safe only where every message has one length."""
+    """CBC-MAC over DES, under a key of 8 bytes, by padding method 1 or 2. It is safe only where every message has one length.
+    KeyLength, PaddingMethod."""
 
     __slots__ = ()
     name, key_size = "cbc_mac_des", 8
 
 
 class CbcMacTdesEde2(PaddedMac):
-    """CBC-MAC over triple DES, under a key of 16 bytes. It is safe only where every message has one length."""
+    """CBC-MAC over triple DES, under a key of 16 bytes, by padding method 1 or 2. It is safe only where every message has one length.
+    KeyLength, PaddingMethod."""
 
     __slots__ = ()
     name, key_size = "cbc_mac_tdes_ede2", 16
 
 
 class CbcMacTdesEde3(PaddedMac):
-    """CBC-MAC over triple DES, under a key of 24 bytes. It is safe only where every message has one length."""
+    """CBC-MAC over triple DES, under a key of 24 bytes, by padding method 1 or 2. It is safe only where every message has one length.
+    KeyLength, PaddingMethod."""
 
     __slots__ = ()
     name, key_size = "cbc_mac_tdes_ede3", 24
 
 
 class RetailMacDes(PaddedMac):
-    """The retail MAC over DES, under a key of 16 bytes, two keys."""
+    """The retail MAC over DES, under a key of 16 bytes, two keys, by padding method 1 or 2. KeyLength, PaddingMethod."""
 
     __slots__ = ()
     name, key_size = "retail_mac_des", 16
 
 
 class CmacTdesEde2(Cmac):
-    """CMAC over triple DES, under a key of 16 bytes."""
+    """CMAC over triple DES, under a key of 16 bytes. KeyLength."""
 
     __slots__ = ()
     name, key_size = "cmac_tdes_ede2", 16
 
 
 class CmacTdesEde3(Cmac):
-    """CMAC over triple DES, under a key of 24 bytes."""
+    """CMAC over triple DES, under a key of 24 bytes. KeyLength."""
 
     __slots__ = ()
     name, key_size = "cmac_tdes_ede3", 24

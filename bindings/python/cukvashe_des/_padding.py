@@ -31,7 +31,7 @@ def _method_of(method: str) -> int:
 
 def pad(data: ReadableBuffer, method: str) -> bytes:
     """The data with 1 to 8 bytes after them that make whole blocks: by "pkcs7" (RFC 5652, section 6.3) each the number of
-    these bytes, by "iso7816" (ISO/IEC 7816-4) 80 in hexadecimal digits and then zeros."""
+    these bytes, by "iso7816" (ISO/IEC 7816-4) 80 in hexadecimal digits and then zeros. PaddingMethod for another name."""
     number, given, length = _method_of(method), bytes_of(data), SIZE()
     buffer = bytearray(given) + bytes(BLOCK_SIZE)
     check(_pad(pointer_to(buffer), len(given), len(buffer), number, ctypes.byref(length)))
@@ -39,8 +39,8 @@ def pad(data: ReadableBuffer, method: str) -> bytes:
 
 
 def unpad(data: ReadableBuffer, method: str) -> bytes:
-    """The data before the padding. PaddingMismatch where they do not end with it: whoever can send you data and learns which
-    of them raise it, by a message or by the time that it takes, can decrypt. Verify a MAC first."""
+    """The data before the padding. PaddingMethod, BlockLength; PaddingMismatch where they do not end with it. An attacker who
+    sends you data and learns which raise it, by a message or by the time taken, can decrypt: verify a MAC first."""
     number, given, length = _method_of(method), bytes_of(data), SIZE()
     status = _unpad(given, len(given), number, ctypes.byref(length))
     if status == BLOCKS:

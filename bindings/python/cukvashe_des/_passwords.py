@@ -59,7 +59,8 @@ def _length_of(number: int) -> int:
 
 
 def pbkdf2(hash_name: str, password: ReadableBuffer, salt: ReadableBuffer, iterations: int, length: int) -> bytes:
-    """The key, `length` bytes, that PBKDF2 with HMAC over "sha1" or "sha256" makes of a password and a salt."""
+    """The key, `length` bytes, that PBKDF2 with HMAC over "sha1" or "sha256" makes of a password and a salt. HashName,
+    IterationCount, KeyLength."""
     number, count, key, grains = _hash_of(hash_name), _iterations_of(iterations), room(_length_of(length)), bytes_of(salt)
     with secret_of(password) as held:
         check(_pbkdf2(number, *held, grains, len(grains), count, key, len(key)))
@@ -70,8 +71,8 @@ def bytes_to_key(hash_name: str, password: ReadableBuffer, salt: ReadableBuffer,
     """The key, and after it the vector, together `length` bytes, that OpenSSL's EVP_BytesToKey makes of a password and a salt with
     one iteration over "md5", "sha1" or "sha256". A password is quick to guess by it: take it to read what others wrote.
 
-    The password stands before the salt, as of pbkdf2; EVP_BytesToKey takes the salt first, and then the password, its data. The salt
-    has 8 bytes, without Salted__ before them, or none (-nosalt): SaltLength, since EVP_BytesToKey reads 8 bytes of any salt."""
+    The password stands before the salt, unlike in EVP_BytesToKey. The salt has 8 bytes, without Salted__, or none (-nosalt).
+    HashName, KeyLength, SaltLength."""
     number, key, grains = _hash_of(hash_name), room(_length_of(length)), bytes_of(salt)
     with secret_of(password) as held:
         status = _bytes_to_key(number, *held, grains, len(grains), key, len(key))
@@ -90,10 +91,10 @@ def open_salted(
     iterations: Optional[int] = None,
 ) -> bytes:
     """The plaintext of a file that `openssl enc` encrypted under a password: by -des-cbc, -des-ede-cbc or -des3, as `cipher` is the
-    class Des, TdesEde2 or TdesEde3. The data are the whole file, and no Base64 (-a). The hash function is that of -md, "sha256" by
-    default, "md5" before OpenSSL 1.1.0. The iterations are those of -iter; 10000 where -pbkdf2 was given alone; None, and not 1,
-    where neither was. A wrong password, hash function or number of iterations is PaddingMismatch, but for one in 256, which returns
-    wrong bytes: nothing here authenticates."""
+    class Des, TdesEde2 or TdesEde3. The data are the whole file, not Base64 (-a). The hash function is that of -md, "sha256" by
+    default, "md5" before OpenSSL 1.1.0. The iterations are those of -iter; 10000 if only -pbkdf2 was given; None, not 1, if neither
+    was. HashName, NotSalted, SaltLength, IterationCount, BlockLength, PaddingMismatch. A wrong password, hash function or number of
+    iterations is PaddingMismatch, but for one in 256, which returns wrong bytes: nothing here authenticates."""
     call, number = _open_salted[class_of(cipher).name], _hash_of(hash_name)
     count = 0 if iterations is None else _iterations_of(iterations)
     given, length = bytes_of(data), SIZE()

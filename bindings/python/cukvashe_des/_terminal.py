@@ -28,7 +28,7 @@ _Self = TypeVar("_Self", bound="DukptTerminal")
 
 class DukptTerminal(Keyed):
     """The keys of a terminal's transactions to come, made of the initial key, 16 bytes, and any of the terminal's key serial
-    numbers, whose counter plays no part. Threads may share one: its calls take turns."""
+    numbers, whose counter plays no part. Threads may share one: its calls take turns. KeyLength, SerialLength."""
 
     # Another name than a MAC's: so Python refuses to make the one an object of the other's class, whose context is longer.
     __slots__ = ("_turns",)
@@ -43,9 +43,8 @@ class DukptTerminal(Keyed):
         self._context, self._turns = state, threading.Lock()
 
     def next_key(self) -> Tuple[bytes, bytes]:
-        """The key serial number and the key of the next transaction, that of dukpt_transaction_key; the terminal no longer has the
-        key then. NoSerial after the last transaction, the 1,048,575th. Store `state()` before you use the key, or a key is used
-        twice."""
+        """The key serial number and the key of the next transaction, that of dukpt_transaction_key, which the terminal then forgets.
+        Store `state()` before you use the key, or a key is used twice. NoSerial after the last transaction, the 1,048,575th."""
         serial, key = room(_SERIAL_SIZE), room(16)
         with self._turns:
             status = _next_key(self._open(), serial, key)
@@ -55,13 +54,13 @@ class DukptTerminal(Keyed):
         return bytes(serial), bytes_from(key)
 
     def state(self) -> bytes:
-        """The state, 346 bytes, from which `from_state` goes on. Whoever has it has the keys of all transactions to come."""
+        """The state, 346 bytes, from which `from_state` goes on. It is secret: it has the keys of all transactions to come."""
         with self._turns:
             return bytes(self._open())
 
     @classmethod
     def from_state(cls: Type[_Self], state: ReadableBuffer) -> _Self:
-        """The terminal of a state."""
+        """The terminal of a state. StateLength."""
         made = cls.__new__(cls)
         with secret_of(state) as (held, length):
             if length != _STATE_SIZE:

@@ -3,9 +3,9 @@
 import unittest
 
 import cukvashe_des
-from cukvashe_des import CmacTdesEde2, CmacTdesEde3, KeyLength, PaddingMethod, TagMismatch
+from cukvashe_des import CmacTdesEde2, CmacTdesEde3, KeyLength, PaddingMethod, RetailMacDes, TagMismatch
 
-from .values import CMACS, COUNTS, KEY, LENGTHS, PADDED_MACS, TEXT, known_macs
+from .values import CMACS, COUNTS, KEY, LENGTHS, PADDED_MACS, PAIR, TEXT, known_macs
 
 # The examples of CMAC over triple DES that go with NIST SP 800-38B: the length of the message, the tags under three keys and two.
 THREE = bytes.fromhex("8aa83bf8cbda10620bc1bf19fbb6cd58bc313d4a371ca8b5")
@@ -70,6 +70,11 @@ class Tags(unittest.TestCase):
         for length, three, two in CMAC:
             self.answers(CmacTdesEde3, (THREE,), MESSAGE[:length], bytes.fromhex(three))
             self.answers(CmacTdesEde2, (TWO,), MESSAGE[:length], bytes.fromhex(two))
+
+    def test_whole_blocks(self):
+        """A message of three blocks, to which the padding adds one. The tag is by three runs of `openssl enc`."""
+        message, tag = "38413d4ba2325cf1141f707471ac2ced57db530f0123b5ac", "cbedb61c18323675"
+        self.answers(RetailMacDes, (PAIR, 2), bytes.fromhex(message), bytes.fromhex(tag))
 
     def test_long(self):
         """A message longer than 16 bits count, at once and in pieces."""

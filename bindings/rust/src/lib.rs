@@ -1,4 +1,4 @@
-//! DES and triple DES (FIPS 46-3), proved: safe types over the library `libcukvashe_des`.
+//! DES and triple DES (FIPS 46-3): safe types, tested, over the library `libcukvashe_des`, whose exports are proved.
 //!
 //! ```
 //! use cukvashe_des::{BlockCipher, TdesEde3};
@@ -17,8 +17,8 @@
 //! and PIN verification, key blocks, card cryptograms and card verification values. [`KeyForEach`] takes lists in which each block
 //! has a key of its own, and [`passwords`] opens files of `openssl enc`.
 //!
-//! `new_quiet` of each cipher and MAC makes one whose calls read no table at an index that depends on the key or the data, which
-//! other programs on the processor could learn. That is tested on x86-64; on aarch64 nothing is claimed of indexes.
+//! `new_quiet` of each cipher and MAC makes one under which the library reads no table at an index that depends on the key or the
+//! data, which other programs on the processor could learn. That is tested of the library on x86-64, not of this crate.
 //!
 //! The crate needs no `std` and allocates no memory. Ciphers, MACs and PINs can be shared by threads, and are wiped when they
 //! are dropped. A move may leave a copy behind that is not wiped. A value in a `Box` stays where it is as long as you use it by
@@ -106,7 +106,7 @@ pub trait BlockCipher: Clone + fmt::Debug {
         blocks: &mut [Block],
     ) -> Result<(), CountsDiffer>;
 
-    /// Decrypts records in place, as `encrypt_cbc_records` encrypts them. The error is as of that call.
+    /// Decrypts records in place, with the arguments and the error of `encrypt_cbc_records`.
     fn decrypt_cbc_records(
         &self,
         vectors: &mut [Block],

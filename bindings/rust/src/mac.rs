@@ -3,8 +3,7 @@
 //!
 //! CBC-MAC is safe only where every message under a key has one length. Padding method 1 hides zeros at the end of a message.
 //! The calls of one message read tables at indexes that depend on key and message, except where `new_quiet` made the MAC. `macs` and
-//! `macs_each`, of many messages, read none, and work on 128 or 256 together, until the longest has ended; so sort messages of
-//! very different lengths.
+//! `macs_each`, of many messages, read none: for speed, sort messages of very different lengths.
 //!
 //! ```
 //! use cukvashe_des::mac::{Mac, MacError, Method2, RetailMacDes};
@@ -94,7 +93,8 @@ pub trait Mac: Clone + fmt::Debug {
     /// as many as were sent: a forger sends 4.
     fn verify_tag_truncated_left(&self, tag: &[u8]) -> Result<(), MacError>;
 
-    /// Accepts the tag of the message so far, and no other.
+    /// Accepts the whole tag of the message so far, and nothing else. `verify_tag_truncated_left` takes cut tags; in C, `verify`
+    /// takes both.
     fn verify_tag(&self, tag: &[u8; 8]) -> Result<(), MacError> {
         self.verify_tag_truncated_left(tag)
     }

@@ -1,7 +1,7 @@
 //! Padding of data to whole blocks, and back.
 //!
-//! Whoever can send you data and learns which of them [`unpad`] refuses, by an answer or by the time that it takes, can
-//! decrypt without the key: verify a MAC first.
+//! An attacker who sends you data and learns which [`unpad`] refuses, by an answer or by the time taken, can decrypt without
+//! the key: verify a MAC first.
 //!
 //! ```
 //! use cukvashe_des::padding::{pad, unpad, Method};

@@ -91,11 +91,10 @@ impl Derivation {
         }
     }
 
-    /// Writes key and vector, one after the other and together as long as the list that you give. After an error the list stays as it
-    /// was.
+    /// Fills the list with the key, and after it the vector. After an error the list stays as it was.
     ///
-    /// The password stands before the salt: `EVP_BytesToKey` takes the salt first, and then the password, its data. The salt is without
-    /// `Salted__`. With no PBKDF2 it has 8 bytes, or none (`-nosalt`).
+    /// The password stands before the salt, unlike in `EVP_BytesToKey`. The salt is without `Salted__`; with no PBKDF2 it has 8 bytes,
+    /// or none (`-nosalt`).
     pub fn write_bytes(self, password: &[u8], salt: &[u8], bytes: &mut [u8]) -> Result<(), DeriveError> {
         let (hash, count) = self.numbers();
         let (secret, secret_length, grains, grains_length) =
@@ -134,7 +133,7 @@ macro_rules! open_salted {
             ///
             /// Writes the plaintext without its padding to the front of `plain`, and gives how many bytes it has;
             /// `file.len() - 16` bytes are always room enough. `file` is all that was written: `Salted__`, the salt and the
-            /// ciphertext, and no Base64 (`-a`). After an error `plain` stays as it was. Nothing is authenticated.
+            /// ciphertext, not Base64 (`-a`). After an error `plain` stays as it was. Nothing is authenticated.
             pub fn open_salted(
                 derivation: Derivation,
                 password: &[u8],

@@ -94,8 +94,7 @@ check_value!(
     TdesEde3: cukvashe_tdes_ede3_check_value, cukvashe_tdes_ede3_check_values;
 );
 
-/// The check value of a key of 8, 16 or 24 bytes, or of a component of one, by its length: by DES, or by triple DES in the EDE
-/// form.
+/// The check value of a key or component of 8, 16 or 24 bytes: by DES or, where it is longer, triple DES (EDE).
 pub fn key_check_value(key: &[u8]) -> Result<[u8; 3], InvalidLength> {
     let mut value = [0; 3];
     // SAFETY: the pointers are of references, good for their lengths, and don't overlap.
@@ -105,7 +104,7 @@ pub fn key_check_value(key: &[u8]) -> Result<[u8; 3], InvalidLength> {
     }
 }
 
-/// The first two bytes of that check value, which some systems show in its place.
+/// The first two bytes of [`key_check_value`], which some systems show.
 pub fn short_key_check_value(key: &[u8]) -> Result<[u8; 2], InvalidLength> {
     let mut value = [0; 2];
     // SAFETY: as of `key_check_value`.
@@ -148,8 +147,8 @@ pub fn initial_key(base: &[u8; 16], serial: &[u8; 10]) -> [u8; 16] {
     key
 }
 
-/// The key of a transaction, from the terminal's initial key and the transaction's key serial number. Every counter is taken;
-/// that of 0 gives the initial key itself: ask [`is_usable`] first.
+/// The key of a transaction, from the terminal's initial key and the transaction's key serial number. It takes every counter,
+/// and for 0 gives the initial key itself: ask [`is_usable`] first.
 pub fn transaction_key(initial: &[u8; 16], serial: &[u8; 10]) -> [u8; 16] {
     let mut key = [0; 16];
     unsafe { ffi::cukvashe_dukpt_transaction_key(initial, serial, &mut key) };
@@ -157,9 +156,8 @@ pub fn transaction_key(initial: &[u8; 16], serial: &[u8; 10]) -> [u8; 16] {
 }
 
 /// Writes the key of the transaction of each key serial number at its place, from the base derivation key: what
-/// [`transaction_key`] makes of [`initial_key`], 128 or 256 at a time, with no table at an index that depends on a key. The
-/// terminals may be different ones. Where serial numbers and keys differ in number, the keys stay. Every counter is taken: ask
-/// [`is_usable`] first. Such a key encrypts nothing itself: take [`pin_key`], [`mac_key`] or [`data_key`] of it.
+/// [`transaction_key`] makes of [`initial_key`]. Where serial numbers and keys differ in number, the keys stay. It takes every
+/// counter: ask [`is_usable`] first. Such a key encrypts nothing itself: take [`pin_key`], [`mac_key`] or [`data_key`] of it.
 pub fn transaction_keys(base: &[u8; 16], serials: &[[u8; 10]], keys: &mut [[u8; 16]]) -> Result<(), CountsDiffer> {
     let count = count_of_both(serials, keys)?;
     let (serials, keys) = (serials.as_flattened(), keys.as_flattened_mut());
@@ -189,7 +187,7 @@ pub fn data_key(transaction: &[u8; 16], message: Message) -> [u8; 16] {
 }
 
 /// The data variant of the transaction's key for a message: the key that [`data_key`] makes, without its last step. Some terminals
-/// encrypt data under it; whoever has it has the transaction's other keys.
+/// encrypt data under it; it reveals the transaction's other keys.
 pub fn data_variant(transaction: &[u8; 16], message: Message) -> [u8; 16] {
     let mut key = [0; 16];
     unsafe { ffi::cukvashe_dukpt_data_variant(transaction, message == Message::Response, &mut key) };

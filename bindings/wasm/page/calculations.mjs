@@ -102,7 +102,8 @@ const MODES = [
   ["C", "make and verify MACs"], ["X", "derive keys"], ["N", "no restriction"],
 ];
 const EXPORTABILITIES = [
-  ["E", "whoever has a key that protects key blocks"], ["N", "nobody else"], ["S", "also under keys of other forms"],
+  ["E", "exportable in a form that complies with X9.24"], ["N", "not exportable"],
+  ["S", "sensitive, exportable in other forms too"],
 ];
 const CONTEXTS = [["0", "storage and exchange"], ["1", "storage only"], ["2", "exchange only"]];
 const VERSIONS = [["B", "derived keys"], ["C", "variants of the protection key"], ["A", "variants, deprecated"]];

@@ -136,6 +136,7 @@ is(new library.CmacTdesEde3(THREE).digest(), "b7a688e122ffaf95");
 is(new library.CmacTdesEde3(THREE, unhex("6bc1bee22e409f96")).digest(), "8e8f293136283797");
 is(new library.RetailMacDes(PAIR, 1, Buffer.from("Now is the time for all ")).digest(), "a1c72e74ea3fa9b6");
 is(new library.RetailMacDes(PAIR, 2, Buffer.from("Now is the time for all ")).digest(), "e9086230ca3be796");
+is(new library.RetailMacDes(PAIR, 2, unhex("38413d4ba2325cf1141f707471ac2ced57db530f0123b5ac")).digest(), "cbedb61c18323675");
 is(new library.CbcMacDes(PAIR.subarray(0, 8), 1, Buffer.from("Now is the time for it")).digest(), "e45b3ad2b7cc0856");
 
 const TAGS = unhex(rows.map(({ tag }) => tag).join(""));

@@ -181,7 +181,7 @@ EXAMPLES = {
     "check": {"Check value (KCV)": "08D7B4", "Parity": "odd in every byte", "Weak key test": "passed"},
     "components": {"Key": f"{BASE} KCV 08D7B4"},
     "unwrap": {"Key": "E8BC63E5479455E26577F715D587FE68 KCV 9A4212", "Usage": "B0: base derivation key (BDK)", "Algorithm": "T: triple DES",
-               "Mode of use": "X: derive keys", "Exportability": "S: also under keys of other forms", "Version of the key": "12",
+               "Mode of use": "X: derive keys", "Exportability": "S: sensitive, exportable in other forms too", "Version of the key": "12",
                "Version of the block": "B: derived keys", "Optional block KS": "00604B120F9292800000"},
     "wrap": {"Key block": PUBLISHED, "Padding": "as given", "Usage": "P0: encryption of PIN blocks"},
     "blocks": {"Ciphertext": "A826FD8CE53B855FCCE21C8112256FE668D5C05DD9B6B900"},

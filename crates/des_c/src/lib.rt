@@ -7,7 +7,9 @@
 //! or serve all ciphers or MACs, and are told by the number of a context's words, the size of a key
 //! or a number of a standard which one is meant. The library hides them. The header's calls
 //! are lines of C over them, in `bindings/c/src/cukvashe_des.c`, and `bindings/c/src/internal.h`
-//! declares them. Every other export is a call of the header, with its arguments.
+//! declares them. Every other export has the name and the arguments of a call of the header. Of those
+//! that take or give a secret the library changes the name: `bindings/c/src/stack.c` has the header's
+//! call, which calls them and wipes the stack.
 //!
 //! The exports of `lists`, and no others, depend on the width of vectors. The library has them
 //! twice, from this one text: as they stand here, and for vectors of 256 bits.

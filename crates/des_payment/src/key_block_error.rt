@@ -32,7 +32,7 @@ pub enum KeyBlockError {
     Mac,
     /// The key does not have 8, 16 or 24 bytes.
     KeyLength,
-    /// The padding does not fill the last eight bytes, or has more than 32 bytes with the key.
+    /// The padding does not fill the last eight bytes, or has more than 30 bytes with the key.
     PaddingLength,
 }
 

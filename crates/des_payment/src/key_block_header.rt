@@ -102,11 +102,11 @@ pub enum Mode {
 /// Who may have the key of a block.
 #[derive(Clone, Copy, Debug, PartialEq, Eq)]
 pub enum Exportability {
-    /// Whoever has a key that protects key blocks (`E`).
+    /// Under a trusted key (`E`).
     Exportable,
-    /// Nobody else (`N`).
+    /// Not at all (`N`).
     NonExportable,
-    /// Also whoever has a key that encrypts keys in another form (`S`).
+    /// Also in other forms (`S`).
     Sensitive,
     /// Another rule, by its character.
     OtherRule(u8),

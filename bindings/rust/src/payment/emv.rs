@@ -60,8 +60,7 @@ fn checked<T>(status: i32, made: T) -> Result<T, EmvError> {
 // is written.
 
 /// The key of a card (A1.4.1, option A), from the issuer's key, the account number, a text of 8 to 19 digits with the check digit,
-/// and the sequence number of the card, a text of two digits: `00` where the card has none. Each byte has odd parity. Most issuers
-/// take this option.
+/// and the sequence number of the card, a text of two digits: `00` where the card has none. Each byte has odd parity.
 pub fn card_key(issuer: &[u8; 16], account: &[u8], sequence: &[u8]) -> Result<[u8; 16], EmvError> {
     let mut key = [0; 16];
     let (account, length) = (account.as_ptr().cast(), account.len());
@@ -70,8 +69,8 @@ pub fn card_key(issuer: &[u8; 16], account: &[u8], sequence: &[u8]) -> Result<[u
     checked(status, key)
 }
 
-/// The key of a card by option B (A1.4.2), from the same. It differs where the account number has more than sixteen digits: take it
-/// for these where the card scheme asks for it.
+/// The key of a card by option B (A1.4.2), which differs where the account number has more than sixteen digits: take it if the card
+/// scheme asks for it.
 pub fn card_key_b(issuer: &[u8; 16], account: &[u8], sequence: &[u8]) -> Result<[u8; 16], EmvError> {
     let mut key = [0; 16];
     let (account, length) = (account.as_ptr().cast(), account.len());

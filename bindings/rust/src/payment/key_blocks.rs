@@ -101,7 +101,8 @@ pub struct Header {
     pub mode: u8,
     /// `00`: no versions; `c` and a character: the value is a component of a key, not the key; else the version.
     pub key_version: [u8; 2],
-    /// Who may have the key: `E`, `N` or `S`.
+    /// `E`: exportable under a KEK in a form that complies with X9.24; `N`: not exportable; `S`: sensitive, exportable in other
+    /// forms too.
     pub exportability: u8,
 }
 
@@ -189,16 +190,15 @@ pub fn unwrap(protection: &[u8], block: &[u8]) -> Result<(Header, BlockKey), Key
     checked(status, (Header::from(&fields), key))
 }
 
-/// The fields of a block's header, or the block's first fault, as far as it has one that shows without a key. Nothing of it is
-/// authenticated.
+/// The fields of a block's header, read with no key: nothing of it is authenticated. Its errors are `Length` to `DataLength`.
 pub fn header(block: &[u8]) -> Result<Header, KeyBlockError> {
     let mut fields = ffi::KeyBlockFields::empty();
     let status = unsafe { ffi::cukvashe_key_block_header(block.as_ptr().cast(), block.len(), &mut fields) };
     checked(status, Header::from(&fields))
 }
 
-/// Where the key of a block may be, or the block's first fault, as far as it has one that shows without a key: `0` in storage and
-/// exchange, as [`wrap`] writes it, `1` in storage only, `2` in exchange only. Nothing of it is authenticated: [`unwrap`] does that.
+/// Where the key of a block may be: `0` in storage and exchange, as [`wrap`] writes it, `1` in storage only, `2` in exchange only.
+/// Nothing of it is authenticated. Its errors are those of [`header`].
 pub fn key_context(block: &[u8]) -> Result<u8, KeyBlockError> {
     let mut context = [0];
     let written: *mut [u8; 1] = &mut context;
@@ -256,7 +256,7 @@ fn write_blocks(blocks: &[OptionalBlock<'_>], text: &mut [u8; MOST_OPTIONAL]) ->
 /// The padding stands after two bytes of length and the key, and ends at a multiple of eight bytes: 22, 14 or 6 bytes of it hide how
 /// long a key of 8, 16 or 24 bytes is. They have to be random: take them from the system. An optional block has a name of letters and
 /// digits, and a content of printable ASCII, from space to `~`. Where they do not end at a multiple of eight characters, a block `PB` of
-/// zeros is added. A `PB` of yours is taken only as the last, where with it they end at one.
+/// zeros is added; a `PB` of yours is taken only as the last, where with it they end at one.
 ///
 /// The first fault is reported, in this order: `OptionalBlock`, where there are more than 99; `Version`, where it is neither `B` nor
 /// `C`; `ProtectionKeyLength`; `Header`, where a field has other characters than letters and digits; `KeyLength`; `PaddingLength`;

@@ -9,7 +9,7 @@ use core::fmt;
 
 /// Why a PIN block is not made, or a block holds no PIN. The first of them is reported: where a block is made, of the PIN,
 /// then of the account number, then of the fill digits; where one is read, of the account number, then in the order of the
-/// block's digits. The faults of a block that is read tell of its PIN: show no one which it was.
+/// block's digits. The fault of a block that is read reveals something of its PIN: show it to nobody.
 #[derive(Clone, Copy, Debug, PartialEq, Eq)]
 pub enum PinError {
     /// The block's first digit is not that of the format.
@@ -22,7 +22,7 @@ pub enum PinError {
     AccountLength,
     /// A character of the account number is not a digit.
     AccountDigit,
-    /// A fill digit is none of those of the format.
+    /// A fill digit is not one that the format allows.
     Fill,
 }
 
@@ -49,7 +49,7 @@ fn checked<T>(status: i32, made: T) -> Result<T, PinError> {
 }
 
 /// A personal identification number (PIN): a text of 4 to 12 digits, which is wiped when it is dropped. It has no equality:
-/// whoever compares PINs chooses how, by their texts.
+/// compare PINs by their texts.
 ///
 /// ```
 /// # let pin = cukvashe_des::payment::Pin::new(b"1234").unwrap();
@@ -67,7 +67,7 @@ pub struct Pin {
 }
 
 impl Pin {
-    /// The PIN of these ASCII digits: `PinLength` where there are not 4 to 12 of them, `PinDigit` where one is none.
+    /// The PIN of these ASCII digits: `PinLength` where there are not 4 to 12 of them, `PinDigit` where one is not a digit.
     pub fn new(text: &[u8]) -> Result<Pin, PinError> {
         // The library tests a PIN where it makes a block of it, and every PIN has one of format 1.
         let mut block = encode_1(text, &[0; 10])?;
@@ -125,7 +125,7 @@ pub fn encode_format_1(pin: &Pin, transaction: &[u8; 10]) -> Result<Block, PinEr
     encode_1(pin.text(), transaction)
 }
 
-/// The block of format 2 of a PIN, for a card, to which it goes as it is.
+/// The block of format 2 of a PIN, which goes to a card in clear.
 pub fn encode_format_2(pin: &Pin) -> Block {
     let (pin, mut block) = (pin.text(), [0; 8]);
     // There is no fault, since the text is that of a PIN.

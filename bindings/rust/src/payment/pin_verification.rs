@@ -1,5 +1,5 @@
 //! PIN verification: the PIN verification value (PVV), and the method of the IBM 3624 with natural PINs and offsets. Count wrong
-//! PINs: whoever may ask often enough finds the right one.
+//! PINs: unlimited guesses find the right one.
 //!
 //! ```
 //! use cukvashe_des::payment::pin_verification::{verify_offset, verify_pvv, DecimalTable, VerificationError};
@@ -86,8 +86,7 @@ pub struct DecimalTable {
 
 impl DecimalTable {
     /// The table of sixteen ASCII digits, those that stand for 0 to 15 in this order. Its faults are `TableLength`, `TableDigit`,
-    /// and `TableVariety` where there are fewer than eight different ones: then many PINs are right, and who chooses the table
-    /// finds a PIN out.
+    /// and `TableVariety` where there are fewer than eight different ones. An attacker who chooses the table finds PINs out.
     pub fn new(digits: &[u8]) -> Result<DecimalTable, VerificationError> {
         let mut table = ffi::DecimalTable { digits: [0; 16] };
         // SAFETY: the pointers are of references, that of the text good for its length, and don't overlap.
@@ -95,8 +94,7 @@ impl DecimalTable {
         checked(status, DecimalTable { table })
     }
 
-    /// Such a table with any number of different digits, for old systems that have one. Its faults are `TableLength` and
-    /// `TableDigit`.
+    /// A table of any variety, for old systems that have one. Its faults are `TableLength` and `TableDigit`.
     pub fn of_any_variety(digits: &[u8]) -> Result<DecimalTable, VerificationError> {
         let mut table = ffi::DecimalTable { digits: [0; 16] };
         // SAFETY: as of `new`.
@@ -127,8 +125,8 @@ pub fn pvv(key: &[u8; 16], account: &[u8], index: u8, pin: &Pin) -> Result<[u8; 
     checked(status, [first, second, third, fourth])
 }
 
-/// Accepts the PIN verification value that [`pvv`] gives and no other: its faults, and then `WrongPin` where the four characters are
-/// others. Every character is looked at, wherever the two differ.
+/// Accepts the PIN verification value that [`pvv`] gives: its faults, and then `WrongPin` for any other value. Every character is
+/// compared.
 pub fn verify_pvv(
     key: &[u8; 16],
     account: &[u8],
@@ -186,7 +184,7 @@ pub fn pin_offset(key: &[u8], table: &DecimalTable, validation: &[u8; 8], pin: &
 }
 
 /// Accepts the PIN that is the sum of an offset and the natural PIN of as many digits, digit by digit, modulo ten, and no other:
-/// `KeyLength`, and then `WrongPin` where it is another, or has another length. Every digit is looked at, wherever the two differ.
+/// `KeyLength`, and then `WrongPin` where it is another, or has another length. Every digit is compared.
 pub fn verify_offset(
     key: &[u8],
     table: &DecimalTable,

@@ -40,9 +40,9 @@ impl Terminal {
         Terminal { state: ffi::DukptTerminal { serial: [0; 10], keys: [[0; 16]; 21] } }
     }
 
-    /// The key serial number and the key of the next transaction, that of [`transaction_key`](super::transaction_key); the
-    /// terminal no longer has the key then. `None` after the last transaction, the 1,048,575th. Store the state before you use
-    /// the key, or a key is used twice.
+    /// The key serial number and the key of the next transaction, that of [`transaction_key`](super::transaction_key), which the
+    /// terminal then forgets. Store the state before you use the key, or a key is used twice. `None` after the last transaction,
+    /// the 1,048,575th.
     pub fn next_key(&mut self) -> Option<([u8; 10], [u8; 16])> {
         let (mut serial, mut key) = ([0; 10], [0; 16]);
         // SAFETY: the pointers are of references, and don't overlap.
@@ -55,7 +55,7 @@ impl Terminal {
         &self.state.serial
     }
 
-    /// The state, from which `from_state` goes on. Whoever has it has the keys of all transactions to come.
+    /// The state, from which `from_state` goes on. It is secret: it has the keys of all transactions to come.
     pub fn state(&self) -> [u8; Self::STATE_SIZE] {
         let mut state = [0; Self::STATE_SIZE];
         let (serial, keys) = state.split_at_mut(10);

@@ -31,8 +31,8 @@ pub enum Format {
     Format3 = 3,
 }
 
-/// Why a PIN block is not translated. The first of them is reported, in this order. All that can be wrong with the block itself is
-/// one error: whoever could tell its faults apart would learn PINs.
+/// Why a PIN block is not translated. The first of them is reported, in this order. Whatever is wrong with the block itself is
+/// one error, since its faults would reveal PINs.
 #[derive(Clone, Copy, Debug, PartialEq, Eq)]
 pub enum TranslationError {
     /// One of the keys does not have 8, 16 or 24 bytes.

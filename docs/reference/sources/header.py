@@ -1,0 +1,233 @@
+"""c.md: the header's sections, with each call's declaration, its statuses and constants, and the proved export behind each call."""
+
+import re
+
+from .c_code import Code, without_comments
+from .documents import contents
+from .rattle import Crate
+from .text import Refused, filled, listed, read, table
+
+HEADER = "bindings/c/cukvashe_des.h"
+KEPT_WORDS = {"ECB", "CBC", "MAC", "MACs", "DES", "DUKPT", "PIN", "EMV", "ISO"}
+
+# Lines of code that are for the compiler alone.
+OF_COMPILER = re.compile(r"#(if|ifdef|ifndef|endif|else|include|pragma)\b|#define CUKVASHE_(DES_H|CHECK|VERSION)\b|extern \"C\" \{|\}$")
+DECLARES = re.compile(r"(int|void|bool|const char \*) ?cukvashe_")
+
+
+def blocks(text):
+    """The header in blocks: ("comment", text) and ("code", text), one after the other."""
+    at = 0
+    while at < len(text):
+        found = re.compile(r"/\*(.*?)\*/[ \t]*\n", re.DOTALL).match(text, at)
+        if found:
+            yield "comment", "\n".join(re.sub(r"^ ?\* ?", "", line).rstrip() for line in found[1].strip("\n").split("\n"))
+            at = found.end()
+            continue
+        end = re.compile(r"^/\*", re.MULTILINE).search(text, at)
+        end = end.start() if end else len(text)
+        yield "code", text[at:end]
+        at = end
+
+
+def constants(code):
+    """The constants of a piece of code: name, value, and the comment beside it."""
+    for name, value, comment in re.findall(r"^#define CUKVASHE_(\w+) +(\d+)[ \t]*(?:/\*(.*?)\*/)?$", code, re.DOTALL | re.MULTILINE):
+        yield f"CUKVASHE_{name}", value, " ".join(comment.split())
+
+
+def declarations(code):
+    """What a piece of code declares: types as they stand, and each call in a line, wrapped."""
+    lines = [line for line in code.split("\n") if line and (line.startswith("} cukvashe_") or not OF_COMPILER.match(line))]
+    shown, at = [], 0
+    while at < len(lines):
+        if lines[at].startswith("typedef struct {"):
+            end = next(place for place in range(at, len(lines)) if lines[place].startswith("}"))
+            shown += lines[at : end + 1]
+            at = end + 1
+            continue
+        call = lines[at]
+        while not call.endswith(";"):
+            at += 1
+            call += f" {lines[at].strip()}"
+        at += 1
+        call = call.removeprefix("CUKVASHE_CHECK ")
+        if not DECLARES.match(call):
+            raise Refused(f"{HEADER}: this line declares no call: {call}")
+        # A line is broken after a comma, and within no parameter.
+        shown += [line.replace("\0", " ") for line in filled(re.sub("(?<!,) ", "\0", call), "    ", 120).split("\n")]
+    return shown
+
+
+def heading_of(line):
+    """The text of a heading, which stands in capitals in the header; None of another line."""
+    if not re.fullmatch(r"[A-Z][A-Z0-9 ,()-]+", line):
+        return None
+    words = re.sub(r"\w+", lambda word: word[0] if word[0] in KEPT_WORDS else word[0].lower(), line)
+    return words[0].upper() + words[1:]
+
+
+def marked(text):
+    """A text in which names of the library's stand as code."""
+    parts = re.split(r"(`[^`]*`)", text)
+    name = re.compile(r"\b(?:cukvashe|CUKVASHE)_\w+(?:\.\.\.)?|(?<![\w`])_[A-Z][A-Z0-9_]*|\bSIZE_MAX\b")
+    section = re.compile(r"(?<=see )[A-Z][A-Z ]+[A-Z]")
+
+    def shown(part):
+        part = name.sub(lambda found: f"`{found[0]}`", part.replace("*", "\\*").replace("<", "\\<"))
+        return section.sub(lambda found: f"[{heading_of(found[0])}](#{heading_of(found[0]).lower().replace(' ', '-')})", part)
+
+    return "".join(part if part.startswith("`") else shown(part) for part in parts)
+
+
+def comment_lines(comment):
+    """The lines of a comment: headings, paragraphs, and what stands as it is."""
+    paragraph, verbatim = [], []
+
+    def ended():
+        if paragraph:
+            yield from [*filled(marked(" ".join(paragraph))).split("\n"), ""]
+        while verbatim and not verbatim[-1]:
+            verbatim.pop()
+        if verbatim:
+            yield from ["```c" if DECLARES.match(verbatim[0]) else "```", *verbatim, "```", ""]
+        paragraph.clear()
+        verbatim.clear()
+
+    for line in comment.split("\n"):
+        heading = heading_of(line)
+        is_verbatim = line.startswith(" ") or DECLARES.match(line)
+        if heading:
+            yield from ended()
+            yield from [f"## {heading}", ""]
+        elif line == "" and verbatim:
+            verbatim.append("")
+        elif line == "":
+            yield from ended()
+        elif is_verbatim:
+            if not verbatim:
+                yield from ended()
+            verbatim.append(re.sub("^    ", "", line) if not DECLARES.match(verbatim[0] if verbatim else line) else line)
+        else:
+            if verbatim:
+                yield from ended()
+            paragraph.append(line)
+    yield from ended()
+
+
+def sections(text):
+    """The lines of the header's sections."""
+    after = ""
+    for kind, block in blocks(text):
+        if kind == "comment":
+            after = block
+            if "\n" in block:
+                yield from comment_lines(block.strip("\n"))
+            continue
+        found = list(constants(block))
+        if any(name.startswith("CUKVASHE_ERR_") for name, _, _ in found):
+            yield from ["## Statuses by their numbers", "", marked(after.strip()), ""]
+            yield from table(["Number", "Status", "What it says"], ((number, f"`{name}`", said) for name, number, said in found))
+            yield ""
+        elif found:
+            if after.strip().startswith("Sizes"):
+                yield from ["## Sizes and other numbers", ""]
+            yield from [filled(marked(after.strip())), ""]
+            yield from table(["Name", "Value", "What it is"], ((f"`{name}`", number, said) for name, number, said in found))
+            yield ""
+        elif shown := declarations(block):
+            yield from ["```c", *shown, "```", ""]
+
+
+# ---- which export carries each call
+
+
+def names(text):
+    """The calls that the header declares, in its order."""
+    return list(dict.fromkeys(re.findall(r"\b(cukvashe_\w+) ?\(", re.sub(r"(?m)^#.*", "", without_comments(text)))))
+
+
+def exports():
+    """The proved exports of des_c: of each the names of its clauses."""
+    crate = Crate("des_c")
+    found = {}
+    for module in crate.modules.values():
+        for item in module.items:
+            if item.kind == "fn" and item.is_public:
+                found[item.name] = [clause.name for clause in item.clauses if clause.kind == "ensures"]
+    return found
+
+
+def carriers(text):
+    """For each call of the header: the proved exports behind it, and what C adds to them."""
+    proved = exports()
+    code = Code("cukvashe_des.c", "stack.c", "processor.c")
+    for name in names(text):
+        if name not in code.functions:
+            if name not in proved:
+                raise Refused(f"{HEADER}: no export and no C is {name}")
+            yield name, [name], []
+            continue
+        called, statuses = code.calls(name)
+        behind, adds = {}, []
+        for it in called:
+            export = it.replace("cukvashe_wide_", "cukvashe_internal_").replace("cukvashe_unwiped_", "cukvashe_")
+            if export in proved and it not in code.functions:
+                behind[export] = None
+            elif it.startswith(("cukvashe_internal_", "cukvashe_wide_", "cukvashe_unwiped_")) and it not in code.functions:
+                raise Refused(f"{HEADER}: {name} calls {it}, which is no proved export")
+        if behind and not any(it.startswith("cukvashe_unwiped_") for it in called):
+            adds.append("arguments")
+        if any(it.startswith("cukvashe_wide_") for it in called):
+            adds.append("width")
+        adds += [f"`{status}`" for status in statuses if behind]
+        if "cukvashe_internal_wipe_stack" in called:
+            adds.append("wiping")
+        yield name, list(behind), adds
+
+
+def carrier_rows(text):
+    proved, rows = exports(), {}
+    for name, behind, adds in carriers(text):
+        rows.setdefault((tuple(behind), tuple(adds)), []).append(name)
+    for (behind, adds), calls in rows.items():
+        clauses = {it: tuple(proved[it]) for it in behind}
+        said = {listed(filter(None, each)) or "unnamed" for each in clauses.values()}
+        if len(said) > 1:
+            raise Refused(f"{HEADER}: {calls[0]} goes on to exports with different clauses")
+        own = list(behind) == calls
+        carried = "" if not behind else "the export of this name" if own or behind[0] in calls else f"C over {listed(behind)}"
+        yield listed(calls), carried or "**C alone, not proved**", "".join(said), ", ".join(adds)
+
+
+def made():
+    """The lines of c.md."""
+    text = read(HEADER)
+    body = list(sections(text))
+    ending = [
+        "## Which export carries each call",
+        "",
+        filled(
+            "A proved export is a call of the crate `des_c`, with clauses that stand in [the list of clauses](proved.md#des_c). `C over` names the "
+            "exports that a few lines of C hand on to; those lines are not proved. An export with `internal` in its name is hidden: it serves "
+            "several calls, or takes other arguments. Where C adds the width, there is a second one, made and proved of the same source, for batches "
+            "of 256 blocks."
+        ),
+        "",
+        "What C adds to the export:",
+        "",
+        "- arguments: their order, the cipher or the MAC, and numbers that follow from others, as of blocks from bytes",
+        "- width: which of two exports is taken, by the length of the list and the processor",
+        "- a status: C refuses by it before the export is called",
+        "- wiping: zeros over the part of the stack that the export took",
+        "",
+    ]
+    rows = list(table(["Call", "Carried by", "Clauses", "C adds"], carrier_rows(text)))
+    body = [*body, *ending, *rows]
+    yield "# The calls of C"
+    yield ""
+    yield "Made of `bindings/c/cukvashe_des.h`, the library's C and `crates/des_c` by `docs/reference/fill`. [C](../C.md) shows how to use them."
+    yield ""
+    yield from contents("c.md", "\n".join(body))
+    yield ""
+    yield from body
