@@ -177,7 +177,10 @@ declare abstract class Mac extends Keyed {
   /** The tag of the message so far; the message may go on. To check a tag call verify. */
   digest(): Uint8Array;
   digest(encoding: "hex"): string;
-  /** True for the whole tag; TagMismatch is thrown for anything else, so there is no answer false. */
+  /**
+   * True for the whole tag; TagMismatch is thrown for anything else, so there is no answer false. verifyTruncatedLeft takes
+   * cut tags; in C, verify takes both.
+   */
   verify(tag: Uint8Array): true;
   /** True for the first 4 to 8 bytes of the tag; TagMismatch is thrown for anything else. */
   verifyTruncatedLeft(tag: Uint8Array): true;
@@ -281,13 +284,13 @@ export function pinEncode0(pin: Digits, account: Digits): Uint8Array;
 export function pinEncode1(pin: Digits, transaction: Uint8Array): Uint8Array;
 /** `fill` is ten random bytes from 10 to 15. */
 export function pinEncode3(pin: Digits, account: Digits, fill: Uint8Array): Uint8Array;
-/** Which error is thrown tells of the PIN: show no one. */
+/** The error reveals something of the PIN: show it to nobody. */
 export function pinDecode0(block: Uint8Array, account: Digits): string;
 export function pinDecode1(block: Uint8Array): string;
 export function pinDecode3(block: Uint8Array, account: Digits): string;
 export function pinEncode2(pin: Digits): Uint8Array;
 export function pinDecode2(block: Uint8Array): string;
-/** The keys of a translation, by name, so that none stands in the other's place. */
+/** The keys of a translation, by name. */
 export interface TranslationKeys {
   incomingKey: Uint8Array;
   outgoingKey: Uint8Array;
@@ -341,6 +344,7 @@ interface KeyBlockHeader {
   algorithm: string;
   mode: string;
   keyVersion: string;
+  /** "E": exportable under a KEK in a form that complies with X9.24; "N": not; "S": sensitive, in other forms too. */
   exportability: string;
 }
 /**
@@ -352,7 +356,7 @@ export function unwrapKeyBlock(
 ): { header: KeyBlockHeader; key: Uint8Array };
 /**
  * The padding is random where it is not given; an option of another name is a TypeError. The content of an optional block
- * is printable ASCII. A block PB is added where one is needed, and taken only as the last that fills them. KeyBlockVersion,
+ * is printable ASCII. A block PB is added where one is needed; yours is taken only as the last. KeyBlockVersion,
  * OptionalBlock, ProtectionKeyLength, KeyBlockField, KeyLength, PaddingLength, KeyBlockLength.
  */
 export function wrapKeyBlock(
@@ -372,8 +376,8 @@ export function pbkdf2(
   hashName: "sha1" | "sha256", password: Uint8Array, salt: Uint8Array, iterations: number, length: number,
 ): Uint8Array;
 /**
- * The password stands before the salt, as of pbkdf2; EVP_BytesToKey takes the salt first. `salt` has 8 bytes, without
- * Salted__ before them, or none. SaltLength.
+ * The password stands before the salt, unlike in EVP_BytesToKey. `salt` has 8 bytes, without Salted__, or none.
+ * SaltLength.
  */
 export function bytesToKey(
   hashName: "md5" | "sha1" | "sha256", password: Uint8Array, salt: Uint8Array, length: number,
@@ -416,5 +420,5 @@ export function macsEach(
 /** The places of wrong tags. Ask `length`: an array without elements is true in an `if`. */
 export function wrongTags(tags: Uint8Array, expected: Uint8Array): number[];
 
-// What is not marked `export` above is a type of what is, and not there at run time.
+// What is not marked `export` above is a type, and not there at run time.
 export {};

@@ -1,4 +1,5 @@
-// DES and triple DES (FIPS 46-3), proved, as WebAssembly, for browsers and Node:
+// DES and triple DES (FIPS 46-3), for browsers and Node, over a WebAssembly module whose exports are proved; this wrapper
+// is tested:
 //
 //     import { load, TdesEde3 } from "./cukvashe_des.mjs";
 //     await load();
@@ -739,14 +740,17 @@ class Mac extends Keyed {
     return encoding === "hex" ? hexOf(tag) : tag;
   }
 
-  /** True for the tag of the message so far, 8 bytes; TagMismatch is thrown for anything else. */
+  /**
+   * True for the whole tag of the message so far, 8 bytes; TagMismatch is thrown for anything else. verifyTruncatedLeft
+   * takes cut tags; in C, verify takes both.
+   */
   verify(tag) {
     return accepted(this, tag, TAG_SIZE);
   }
 
   /**
-   * True for the first 4 to 8 bytes of the tag; TagMismatch is thrown for anything else. Whoever may send 4 bytes has
-   * one chance in 2^32: test the length too if somebody else chose it.
+   * True for the first 4 to 8 bytes of the tag; TagMismatch is thrown for anything else. Of 4 bytes one guess in 2^32 is
+   * right: test the length too if somebody else chose it.
    */
   verifyTruncatedLeft(tag) {
     return accepted(this, tag, LEAST_TAG_SIZE);
@@ -867,8 +871,8 @@ export function pad(data, method) {
 }
 
 /**
- * The data before the padding. PaddingMismatch where they do not end with it: whoever can send you data and learns
- * which of them throw it, by a message or by the time that it takes, can decrypt. Verify a MAC first.
+ * The data before the padding. PaddingMismatch where they do not end with it: an attacker who sends you data and learns
+ * which throw it, by a message or by the time taken, can decrypt. Verify a MAC first.
  */
 export function unpad(data, method) {
   const number = methodOf(method);
@@ -921,13 +925,13 @@ export function checkValue(cipher, key) {
   return written(CHECK_VALUE_SIZE, "internal_check_value", (memory) => [BigInt(keySize), ...memory.list(bytes)]);
 }
 
-/** The check value of a key of 8, 16 or 24 bytes, or of a component, by its length: by DES, or by triple DES (EDE). */
+/** The check value of a key or component of 8, 16 or 24 bytes, by DES or, where it is longer, triple DES (EDE). */
 export function keyCheckValue(key) {
   const bytes = keyOf(key, ...SIZES);
   return written(CHECK_VALUE_SIZE, "key_check_value", (memory) => memory.list(bytes));
 }
 
-/** The first two bytes of keyCheckValue, which some systems show in its place. */
+/** The first two bytes of keyCheckValue, which some systems show. */
 export function shortKeyCheckValue(key) {
   const bytes = keyOf(key, ...SIZES);
   return written(2, "short_key_check_value", (memory) => memory.list(bytes));
@@ -969,8 +973,8 @@ export function dukptInitialKey(base, serial) {
 }
 
 /**
- * The key of a transaction, from the terminal's initial key and the transaction's key serial number. Every counter is
- * taken; that of 0 gives the initial key itself: ask dukptIsUsable first.
+ * The key of a transaction, from the terminal's initial key and the transaction's key serial number. It takes every
+ * counter, and for 0 gives the initial key itself: ask dukptIsUsable first.
  */
 export function dukptTransactionKey(initial, serial) {
   const number = serialOf(serial);
@@ -995,8 +999,8 @@ export function dukptDataKey(transaction, isResponse = false) {
 }
 
 /**
- * The key that dukptDataKey makes, without its last step: some terminals encrypt data under it. Whoever has it has the
- * transaction's other keys.
+ * The key of dukptDataKey without its last step: some terminals encrypt data under it. It reveals the transaction's
+ * other keys.
  */
 export function dukptDataVariant(transaction, isResponse = false) {
   const word = responseOf(isResponse);
@@ -1045,9 +1049,9 @@ export class DukptTerminal extends Keyed {
   }
 
   /**
-   * The key serial number, `serial`, and the key, `key`, of the next transaction, that of dukptTransactionKey; the
-   * terminal no longer has the key then. NoSerial after the last transaction, the 1,048,575th. Store `state()` before
-   * you use the key, or a key is used twice.
+   * The key serial number, `serial`, and the key, `key`, of the next transaction, that of dukptTransactionKey, which the
+   * terminal then forgets. Store `state()` before you use the key, or a key is used twice. NoSerial after the last
+   * transaction, the 1,048,575th.
    */
   nextKey() {
     const { context } = stateOf(this, DukptTerminal);
@@ -1062,7 +1066,7 @@ export class DukptTerminal extends Keyed {
     });
   }
 
-  /** The state, 346 bytes, from which `fromState` goes on. Whoever has it has the keys of all transactions to come. */
+  /** The state, 346 bytes, from which `fromState` goes on. It is secret: it has the keys of all transactions to come. */
   state() {
     return stateOf(this, DukptTerminal).context.slice();
   }
@@ -1091,7 +1095,7 @@ export function pinEncode1(pin, transaction) {
   return written(BLOCK_SIZE, "pin_encode_1", (memory) => [...memory.list(digits), memory.put(fill)]);
 }
 
-/** The PIN block of format 2 of a PIN, which goes to a card as it is. */
+/** The PIN block of format 2 of a PIN, which goes to a card in clear. */
 export function pinEncode2(pin) {
   const digits = textOf(pin, "a PIN");
   return written(BLOCK_SIZE, "pin_encode_2", (memory) => memory.list(digits));
@@ -1107,7 +1111,7 @@ export function pinEncode3(pin, account, fill) {
   return written(BLOCK_SIZE, "pin_encode_3", lay);
 }
 
-/** The PIN of a block of format 0 and an account number. Which error is thrown tells of the PIN: show no one. */
+/** The PIN of a block of format 0 and an account number. The error reveals something of the PIN: show it to nobody. */
 export function pinDecode0(block, account) {
   const [number, bytes] = [textOf(account, "an account number"), blockOf(block)];
   return writtenText(PIN_SIZE, "pin_decode_0", (memory) => [memory.put(bytes), ...memory.list(number)]);
@@ -1132,15 +1136,15 @@ export function pinDecode3(block, account) {
 }
 
 /**
- * The PIN block of format 0 under the outgoing key, of the PIN of a block of format 0, 1 or 3 under the incoming key.
- * Keys are `{ incomingKey, outgoingKey }`, by name so that none stands in the other's place, and have 8, 16 or 24 bytes.
- * The account number is that of both blocks. Whatever is wrong with the block is PinBlock. The PIN does not come out.
+ * Translates a block of format 0, 1 or 3 under the incoming key into the block of format 0 of its PIN under the outgoing
+ * key. The PIN does not come out. Keys are `{ incomingKey, outgoingKey }`, of 8, 16 or 24 bytes. The account number is
+ * that of both blocks. Whatever is wrong with the block is PinBlock.
  */
 export function pinTranslateTo0(incomingFormat, account, block, keys) {
   return written(BLOCK_SIZE, "pin_translate_to_0", translated(incomingFormat, account, [], block, keys));
 }
 
-/** The same of a block of format 1 to format 1: its transaction digits stay, and it has no account number. */
+/** A block of format 1 under another key; its transaction digits stay. */
 export function pinTranslateTo1(block, keys) {
   const [laid, bytes] = [keysOf(keys), blockOf(block)];
   const lay = (memory) => [...laid.flatMap((key) => memory.list(key)), memory.put(bytes)];
@@ -1182,8 +1186,8 @@ export function pvv(key, account, index, pin) {
 }
 
 /**
- * True for the PIN whose PIN verification value this is; WrongPin is thrown for any other. Count these: whoever may ask
- * often enough finds the PIN.
+ * True for the PIN whose PIN verification value this is; WrongPin is thrown for any other. Count these: unlimited guesses
+ * find the PIN.
  */
 export function pvvVerify(key, account, index, pin, value) {
   const lay = valueOf(key, account, index, pin);
@@ -1205,15 +1209,15 @@ const TABLE_SIZE = 16;
 const tables = new WeakMap();
 
 /**
- * A decimalization table of sixteen decimal digits, those that stand for 0 to 15 in this order. With fewer than eight
- * different ones it is TableVariety: then many PINs are right, and who chooses the table finds a PIN out.
+ * A decimalization table of sixteen decimal digits, those that stand for 0 to 15 in this order; TableVariety for fewer
+ * than eight different ones. An attacker who chooses the table finds PINs out.
  */
 export class DecimalTable {
   constructor(digits) {
     tables.set(this, tableOf("decimal_table_init", digits));
   }
 
-  /** The same with any number of different digits, for old systems that have such a table. */
+  /** A table of any variety, for old systems that have one. */
   static ofAnyVariety(digits) {
     const table = Object.create(this.prototype);
     tables.set(table, tableOf("decimal_table_init_any", digits));
@@ -1281,15 +1285,15 @@ function cardKeyBy(name, issuer, account, sequence) {
 
 /**
  * The key of a card (option A), with odd parity, from the issuer's key, an account number of 8 to 19 digits and a
- * sequence number of two: "00" where the card has none. Most issuers take option A.
+ * sequence number of two: "00" where the card has none.
  */
 export function emvCardKey(issuer, account, sequence) {
   return cardKeyBy("emv_card_key", issuer, account, sequence);
 }
 
 /**
- * The key of a card by option B, from the same. It differs where the account number has more than sixteen digits: take
- * it for these where the card scheme asks for it.
+ * The key of a card by option B, which differs where the account number has more than sixteen digits: take it if the
+ * card scheme asks for it.
  */
 export function emvCardKeyB(issuer, account, sequence) {
   return cardKeyBy("emv_card_key_b", issuer, account, sequence);
@@ -1418,8 +1422,8 @@ function optionalOf(optional) {
 
 /**
  * The header and the key, 8, 16 or 24 bytes, of a key block of version A, B or C, a string, under a protection key of 16
- * or 24 bytes. KeyBlockMac where the block was changed, or is under another key. The header says what the key may be
- * used for: look at it before you use the key.
+ * or 24 bytes. KeyBlockMac where the block was changed, or is under another key. Look at the header before you use the
+ * key.
  */
 export function unwrapKeyBlock(protection, block) {
   const held = bytesOf(protection, "a protection key");
@@ -1463,7 +1467,7 @@ export function keyBlockHeader(block) {
 
 /**
  * Where the key of a key block may be, read with no key: "0" in storage and exchange, as wrapKeyBlock writes it, "1" in
- * storage only, "2" in exchange only. Nothing of it is authenticated: unwrapKeyBlock does that.
+ * storage only, "2" in exchange only. Nothing of it is authenticated.
  */
 export function keyBlockContext(block) {
   const text = keyBlockOf(block);
@@ -1543,10 +1547,10 @@ export function bytesToKey(hashName, password, salt, length) {
 
 /**
  * The plaintext of a file that `openssl enc` encrypted under a password, as bytes: by -des-cbc, -des-ede-cbc or -des3, as
- * `cipher` is the class Des, TdesEde2 or TdesEde3. The data are the whole file, and no Base64 (-a). Options are
- * `hashName`, that of -md, "sha256" where it is not given and "md5" before OpenSSL 1.1.0; and `iterations`, those of
- * -iter, 10000 where -pbkdf2 was given alone, and left out, not 1, where neither was. An option of another name is a
- * TypeError. A wrong password is PaddingMismatch, but for one in 256, which gives wrong bytes: nothing here authenticates.
+ * `cipher` is the class Des, TdesEde2 or TdesEde3. The data are the whole file, not Base64 (-a). Options are `hashName`,
+ * that of -md, "sha256" by default, "md5" before OpenSSL 1.1.0; and `iterations`, those of -iter: 10000 if only -pbkdf2
+ * was given, and left out, not 1, if neither was. An option of another name is a TypeError. A wrong password is
+ * PaddingMismatch, but for one in 256, which gives wrong bytes: nothing here authenticates.
  */
 export function openSalted(cipher, password, data, options = {}) {
   const { hashName = "sha256", iterations } = optionsOf(options, "hashName", "iterations");
@@ -1570,7 +1574,7 @@ export function encryptEach(cipher, keys, blocks) {
   return answeredEach("internal_encrypt_each", cipher, keys, blocks);
 }
 
-/** The blocks, each decrypted under the key at its place, as `encryptEach` encrypts it. */
+/** The blocks, each decrypted under the key at its place. */
 export function decryptEach(cipher, keys, blocks) {
   return answeredEach("internal_decrypt_each", cipher, keys, blocks);
 }
@@ -1602,8 +1606,8 @@ export function checkValues(cipher, keys) {
 
 /**
  * The keys of transactions, of 16 bytes each, from the base derivation key and key serial numbers of ten bytes: what
- * dukptTransactionKey makes of dukptInitialKey, for each. The terminals may be different ones. Such a key encrypts
- * nothing itself: take dukptPinKey, dukptMacKey or dukptDataKey of it.
+ * dukptTransactionKey makes of dukptInitialKey, for each. Such a key encrypts nothing itself: take dukptPinKey,
+ * dukptMacKey or dukptDataKey of it.
  */
 export function dukptTransactionKeys(base, serials) {
   const key = keyOf(base, TRANSACTION_KEY_SIZE);
@@ -1625,7 +1629,7 @@ export function encryptCbcRecords(cipher, vectors, counts, blocks) {
   return recorded("internal_encrypt_cbc_records", cipher, vectors, counts, blocks);
 }
 
-/** Records, each decrypted by cipher block chaining, as `encryptCbcRecords` encrypts them. Padding stays. */
+/** Records, each decrypted by cipher block chaining. Padding stays. Arguments as of `encryptCbcRecords`. */
 export function decryptCbcRecords(cipher, vectors, counts, blocks) {
   return recorded("internal_decrypt_cbc_records", cipher, vectors, counts, blocks);
 }
@@ -1707,7 +1711,7 @@ export function macsEach(mac, keys, padding, lengths, messages) {
 
 /**
  * The places of the tags, of 8 bytes each, that are not the one at their place in `expected`, the tags that `macs` or
- * `macsEach` made: an array without elements where all are right. Every byte is compared, wherever two tags differ.
+ * `macsEach` made: an array without elements where all are right. Every byte is compared.
  */
 export function wrongTags(tags, expected) {
   const [given, wanted] = [tags, expected].map((list) => listOf(list, TAG_SIZE, CountMismatch, "tags"));
