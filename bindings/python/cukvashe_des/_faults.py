@@ -144,7 +144,7 @@ class ProtectionKeyLength(ValueError):
 
 
 class KeyBlockLength(ValueError):
-    """A key block does not have as many characters as its header says, or more than a key block can have."""
+    """A key block has another length than its header says, or more characters than a key block can have."""
 
 
 class KeyBlockVersion(ValueError):

@@ -1,5 +1,5 @@
-// random_calls.mjs FOLDER SEED COUNT: writes a line for each of so many random calls of the wrapper: what was called
-// with what, and what came back or was thrown. beside_native.py reads them.
+// random_calls.mjs FOLDER SEED COUNT: makes COUNT random calls of the wrapper, and writes a line for each: the call, its
+// arguments, and what came back or was thrown. beside_native.py reads them.
 import { once } from "node:events";
 import { hex, library } from "./common.mjs";
 

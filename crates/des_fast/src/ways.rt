@@ -18,7 +18,7 @@ pub trait Way: Copy {
     /// The blocks that go side by side in a list.
     type Groups: Groups;
 
-    /// The last blocks of a list go one by one if they are at most so many: that is quicker.
+    /// The last blocks of a list go one by one up to this number: that is quicker.
     const ONE_BY_ONE: usize;
 
     /// The halves of one block after the sixteen rounds of a pass, with the round keys in their order

@@ -19,10 +19,10 @@ pub trait ChainKeys {
     // Whether the key of each chain encrypts a block so.
     ghost encrypt: { Self → (ℕ → List ℕ → List ℕ) → Type 0 };
 
-    // Whether these are the keys of so many chains.
+    // Whether there is a key for each chain, by the number of chains.
     ghost are_for: { Self → ℕ → Type 0 };
 
-    /// Whether these are the keys of so many chains.
+    /// Whether there is a key for each of `count` chains.
     fn are_for(&self, count: usize) -> bool
         ensures { IsTrue result ↔ are_for self.now count };
 

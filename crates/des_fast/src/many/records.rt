@@ -62,7 +62,7 @@ impl Sizes for Equal {
     }
 }
 
-/// Whether the records have so many blocks together.
+/// Whether the records have this number of blocks in all.
 pub(super) fn add_up_to<Z: Sizes>(sizes: Z, blocks: usize) -> bool
     ensures { IsTrue result ↔ (sum (Z.list sizes) ≡ blocks) }
 {
