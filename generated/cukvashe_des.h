@@ -632,7 +632,7 @@ CUKVASHE_CHECK int cukvashe_dukpt_terminal_next_key(cukvashe_dukpt_terminal *ter
  * the check digit.
  *
  * `transaction` and `fill` are ten digits, one in a byte: 0 to 15 in `transaction`, 10 to 15 in `fill`. All ten are
- * checked; the block takes as many of the first as fill it.
+ * checked; the block uses those it has room for, in order.
  *
  * encode writes the block. Errors: CUKVASHE_ERR_PIN_LENGTH, _PIN_DIGIT, _ACCOUNT_LENGTH, _ACCOUNT_DIGIT, _FILL.
  *

@@ -102,7 +102,7 @@ export class SequenceDigit extends CukvasheError {}
 export class DataLength extends CukvasheError {}
 /** A protection key of key blocks does not have 16 or 24 bytes. */
 export class ProtectionKeyLength extends CukvasheError {}
-/** A key block does not have as many characters as its header says, or more than a key block can have. */
+/** A key block has another length than its header says, or more characters than a key block can have. */
 export class KeyBlockLength extends CukvasheError {}
 /** The version of a key block is none of A, B and C, or one is to be made of another than B and C. */
 export class KeyBlockVersion extends CukvasheError {}

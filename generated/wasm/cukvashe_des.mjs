@@ -406,7 +406,7 @@ class Workspace {
     return answer;
   }
 
-  /** Room for so many bytes, at an address that is good for anything. */
+  /** Room for a number of bytes, at an address that is good for anything. */
   room(size) {
     const at = this.#end;
     const end = Math.ceil((at + size) / 16) * 16;
@@ -1519,7 +1519,7 @@ function derivedLengthOf(number) {
   throw new KeyLength("a key that is derived has one byte at least, and less than 2^32");
 }
 
-/** The key of so many bytes that a call derives. */
+/** The key of `length` bytes that a call derives. */
 function derived(name, hash, password, salt, words, length) {
   const [secret, grains] = [bytesOf(password, "a password"), bytesOf(salt, "a salt")];
   return inside((memory) => {
@@ -1532,13 +1532,13 @@ function derived(name, hash, password, salt, words, length) {
   });
 }
 
-/** The key of so many bytes of a password, as bytes, and a salt by PBKDF2 with HMAC over "sha1" or "sha256". */
+/** The key of `length` bytes of a password, as bytes, and a salt by PBKDF2 with HMAC over "sha1" or "sha256". */
 export function pbkdf2(hashName, password, salt, iterations, length) {
   return derived("pbkdf2", hashOf(hashName), password, salt, [iterationsOf(iterations)], derivedLengthOf(length));
 }
 
 /**
- * The key, and after it the vector, of so many bytes together that OpenSSL's EVP_BytesToKey makes of a password and a
+ * The key, and after it the vector, of `length` bytes together, that OpenSSL's EVP_BytesToKey makes of a password and a
  * salt of 8 bytes, or of none, with one iteration. A password is quick to guess by it: take it to read what others wrote.
  */
 export function bytesToKey(hashName, password, salt, length) {
