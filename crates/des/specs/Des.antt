@@ -9,6 +9,10 @@ use Rattle.des.specs.Enciphering.{Enciphers}
 use Rattle.des.specs.RoundKeyWords.{HoldRoundKeys, round_keys_of}
 use Rattle.des.specs.Rounds.{answer_by}
 
+-- the sixteen words that the cipher holds, with a round key in each
+abbrev pub round_key_words : Des → List ℕ
+round_key_words cipher = cipher.round_keys
+
 -- the cipher is a DES of the key of eight bytes: it holds the key's sixteen round keys
 abbrev pub IsDesOf : Des → List ℕ → Type 0
 IsDesOf cipher key = IsKey 8 key × HoldRoundKeys cipher.round_keys (bits_of_bytes key)

@@ -82,7 +82,7 @@ pub struct Des {
 
 impl Des {
     ghost use Rattle.std.specs.Prelude.{◌↔◌, ◌≤◌};
-    ghost use Rattle.des.specs.Des.{IsDesOf};
+    ghost use Rattle.des.specs.Des.{IsDesOf, round_key_words};
     ghost use Rattle.des.specs.RoundKeyWords.{HoldRoundKeys};
     ghost use Rattle.des.specs.KeyHalves.{HalvesRepeat, HasListedHalves};
 
@@ -90,7 +90,7 @@ impl Des {
     /// bits of its word, with zeros after them (FIPS 46-3, key schedule). They do not tell the
     /// parity bits of the key; whoever has them has all its other bits.
     pub fn round_keys(&self) -> &[u64; 16]
-        ensures words { result.now ≡ self.now.round_keys }
+        ensures words { result.now ≡ round_key_words self.now }
         ensures held { (key : List ℕ) → IsDesOf self.now key
             → HoldRoundKeys result.now (bits_of_bytes key) }
     {
@@ -104,7 +104,7 @@ impl Des {
     /// where each, rotated left by two, is itself or its complement; and at most 4 where both
     /// repeat every four bits.
     pub fn distinct_round_keys(&self) -> u8
-        ensures count { result ≡ distinct_count nat_eq self.now.round_keys }
+        ensures count { result ≡ distinct_count nat_eq (round_key_words self.now) }
         ensures one { (key : List ℕ) → IsDesOf self.now key → (result ≡ 1) ↔ HalvesRepeat 1 key }
         ensures two { (key : List ℕ) → IsDesOf self.now key
             → HalvesRepeat 2 key → ¬ (HalvesRepeat 1 key) → result ≡ 2 }
