@@ -198,8 +198,11 @@ pub trait ParBlocksSizeUser: BlockSizeUser {
     ghost par_blocks_is_positive: { 1 ≤ PAR_BLOCKS };
 }
 
-/// A cipher that treats its blocks, of 8 bytes, one at a time.
-pub trait OneBlockAtATime {}
+/// A cipher of blocks of 8 bytes that asks for no number of them: `PAR_BLOCKS` is 1, though a list
+/// call may treat some blocks side by side.
+pub trait OneBlockAtATime: ParBlocksSizeUser {
+    ghost par_blocks_is_one: { Self.PAR_BLOCKS ≡ 1 };
+}
 
 impl<C: OneBlockAtATime> BlockSizeUser for C {
     ghost use Rattle.std.specs.Prelude.{refl};

@@ -147,7 +147,11 @@ impl KeyInit for Des {
     }
 }
 
-impl OneBlockAtATime for Des {}
+impl OneBlockAtATime for Des {
+    ghost use Rattle.std.specs.Prelude.{refl};
+
+    ghost par_blocks_is_one = { refl };
+}
 
 impl AlgorithmName for Des {
     const NAME: &'static str = "Des";
