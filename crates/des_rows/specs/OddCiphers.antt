@@ -6,8 +6,13 @@ use Rattle.std.specs.Int.Bits.{xor_self, xor_assoc, xor_zero_r}
 use Rattle.std.proofs.lemmas.Nat.{xor_lt, from_be_bytes-to_be_bytes_8}
 use Rattle.std.proofs.lemmas.List.{length-reverse, get_or-reverse}
 use Rattle.std.proofs.lemmas.List.Elements.{All-from_get_or}
+use Rattle.des_rows.specs.declared.odd_ciphers.xor_key.XorKey.{XorKey}
 use Rattle.des.specs.Blocks.{IsBlock}
 use Rattle.des.specs.Laws.BlockBits.{IsBlock-to_be_bytes, from_be_bytes-lt, to_be_bytes-from_be_bytes}
+
+-- the bytes of the key of an `XorKey`
+abbrev pub key_of : XorKey → List ℕ
+key_of cipher = cipher.key
 
 -- the block whose word is that of a block xor that of a key. In a law a key may be any list of
 -- numbers, so the lowest 64 bits of what it writes are taken

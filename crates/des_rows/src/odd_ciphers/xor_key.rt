@@ -1,7 +1,7 @@
 //! The cipher `XorKey`.
 
 ghost use Rattle.std.specs.Prelude.{◌≡◌, refl};
-ghost use Rattle.des_rows.specs.OddCiphers.{xored, IsBlock-xored, xored-xored};
+ghost use Rattle.des_rows.specs.OddCiphers.{key_of, xored, IsBlock-xored, xored-xored};
 
 use des::cipher::{
     BlockCipher, BlockCipherDecrypt, BlockCipherEncrypt, BlockSizeUser, KeyInit, KeySizeUser,
@@ -35,7 +35,7 @@ impl KeySizeUser for XorKey {
 }
 
 impl KeyInit for XorKey {
-    ghost is_made_from = { λ cipher key. cipher.key ≡ key };
+    ghost is_made_from = { λ cipher key. key_of cipher ≡ key };
 
     /// The cipher of a key of 8 bytes.
     fn new(key: &[u8; 8]) -> XorKey {
@@ -52,7 +52,7 @@ impl BlockSizeUser for XorKey {
 }
 
 impl BlockCipherEncrypt for XorKey {
-    ghost encrypted = { λ cipher. xored cipher.key };
+    ghost encrypted = { λ cipher. xored (key_of cipher) };
 
     fn encrypt_block(&self, block: &mut [u8; 8]) {
         self.answer(block);
@@ -60,7 +60,7 @@ impl BlockCipherEncrypt for XorKey {
 }
 
 impl BlockCipherDecrypt for XorKey {
-    ghost decrypted = { λ cipher. xored cipher.key };
+    ghost decrypted = { λ cipher. xored (key_of cipher) };
 
     fn decrypt_block(&self, block: &mut [u8; 8]) {
         self.answer(block);
