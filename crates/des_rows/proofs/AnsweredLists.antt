@@ -1,5 +1,5 @@
 -- Lists of blocks that a function answers block by block, and that another one brings back.
-use Rattle.std.proofs.Common.{◌≡◌, ℕ, List, [], ◌∷◌, map, refl, ◌∙◌}
+use Rattle.std.proofs.Common.{◌≡◌, ℕ, List, [], ◌∷◌, map, refl, ◌∙◌, Result, Ok, Err, OnOk}
 use Rattle.std.specs.List.{All}
 use Rattle.std.proofs.lemmas.Simd.{map-map}
 use Rattle.std.proofs.lemmas.List.Folds.{map_fixed}
@@ -17,3 +17,8 @@ pub map-undone : (f g : List ℕ → List ℕ) (blocks : List (List ℕ))
     → All IsBlock blocks → map g (map f blocks) ≡ blocks
 map-undone f g blocks undoes are_blocks =
     map-map g f blocks ∙ map_fixed (λ block. g (f block)) blocks (λ i d within. undoes _ (are_blocks i d within))
+
+-- what follows where a call succeeds
+pub OnOk-more : {T E P Q : Type 0} (r : Result T E) → (P → Q) → OnOk r P → OnOk r Q
+OnOk-more (Ok x) more holds = more holds
+OnOk-more (Err e) more holds = tt

@@ -4,7 +4,9 @@
 
 pub mod chaining;
 pub mod lists;
+pub mod names;
 pub mod odd_ciphers;
+pub mod related_lists;
 #[cfg(test)]
 mod tests;
 

@@ -21,7 +21,6 @@ pub mod own_des;
 pub mod partners;
 pub mod payment;
 pub mod records;
-pub mod related_lists;
 pub mod round_keys;
 pub mod sizes;
 pub mod spread_lists;

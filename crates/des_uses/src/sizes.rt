@@ -1,9 +1,9 @@
-//! Keys as arrays, and blocks by their size: what the laws of `KeyBytes`, `BlockSizeUser` and
-//! `ParBlocksSizeUser` give to a caller.
+//! Keys as arrays, and blocks by their size: what the laws of `KeyBytes`, `BlockSizeUser`,
+//! `ParBlocksSizeUser` and `OneBlockAtATime` give to a caller.
 
 ghost use Rattle.std.specs.Prelude.{◌≡◌, ◌/◌, length, Some};
 
-use des::cipher::{KeyBytes, ParBlocksSizeUser};
+use des::cipher::{KeyBytes, OneBlockAtATime, ParBlocksSizeUser};
 
 /// The key that the bytes of a key make: the key itself.
 pub fn remade<K: KeyBytes>(key: &K) -> Option<K>
@@ -18,4 +18,11 @@ pub fn whole_batches<C: ParBlocksSizeUser>(bytes: &[u8]) -> usize
     ensures { result ≡ length bytes.now / 8 / C.PAR_BLOCKS }
 {
     bytes.len() / C::BLOCK_SIZE / C::PAR_BLOCKS
+}
+
+/// The same where a cipher asks for no number of blocks: how many whole blocks there are.
+pub fn whole_blocks<C: OneBlockAtATime>(bytes: &[u8]) -> usize
+    ensures { result ≡ length bytes.now / 8 }
+{
+    whole_batches::<C>(bytes)
 }
