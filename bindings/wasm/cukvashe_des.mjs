@@ -8,9 +8,10 @@
 // Bytes come in and go out as Uint8Array, texts as strings of digits; names are those of the package for Python, and so
 // are the errors, each a CukvasheError of its own name. A wrong type is a TypeError. cukvashe_des.d.mts has the types.
 //
-// Each call lays its arguments down in the module's memory, calls, copies the answer out, and wipes both and the
-// module's stack. The module asks for no memory and keeps no state: ciphers and MACs keep their contexts here, as
-// bytes.
+// Each call reads its arguments in this order: classes, options, and numbers of an iterator, which may run code of the
+// caller's; then bytes; then, in `inside`, what an object keeps. So it answers as if that code had run before it. Inside it
+// lays all down in the module's memory, calls, copies the answer out, and wipes both and the module's stack. The module
+// asks for no memory and keeps no state: ciphers and MACs keep their contexts here, as bytes.
 
 /** The version of this file, which is that of the module. */
 export const version = "@VERSION@";
@@ -183,6 +184,7 @@ const SENTENCES = [
 // The error of each status that is one by itself.
 const FAULTS = new Map([
   [KEY_LENGTH, KeyLength],
+  [BLOCKS, BlockLength],
   [PADDING_METHOD, PaddingMethod],
   [TAG, TagMismatch],
   [FORMAT, Format],
@@ -196,6 +198,7 @@ const FAULTS = new Map([
   [SERVICE_LENGTH, ServiceLength],
   [SERVICE_DIGIT, ServiceDigit],
   [PADDING, PaddingMismatch],
+  [COUNTS, CountMismatch],
   [KEY_INDEX, KeyIndex],
   [TABLE_LENGTH, TableLength],
   [TABLE_DIGIT, TableDigit],
@@ -235,7 +238,7 @@ function faultOf(status) {
   return new Fault(SENTENCES[status] + (TAKEN.get(status) ?? ""));
 }
 
-/** Throws the error of a status of the payment calls. */
+/** Throws the error of a status. */
 function check(status) {
   if (status !== OK) throw faultOf(status);
 }
@@ -243,12 +246,21 @@ function check(status) {
 // ---- Arguments: each is tested, and taken once, before anything is laid down ----------------------------------------
 
 // What every typed array has: a class that a caller derives may say otherwise.
-const typedArray = (name) => Object.getOwnPropertyDescriptor(Object.getPrototypeOf(Uint8Array.prototype), name).get;
-const [typedArrayName, bufferOf, offsetOf, lengthOf] = [Symbol.toStringTag, "buffer", "byteOffset", "length"].map(typedArray);
+const typedArray = Object.getPrototypeOf(Uint8Array.prototype);
+const getterOf = (name) => Object.getOwnPropertyDescriptor(typedArray, name).get;
+const [typedArrayName, bufferOf, offsetOf, lengthOf] = [Symbol.toStringTag, "buffer", "byteOffset", "length"].map(getterOf);
+const { at: elementAt } = typedArray;
 
 /** The bytes of a Uint8Array, as Buffer is one, from whatever window it came. */
 function bytesOf(data, what) {
   if (typedArrayName.call(data) !== "Uint8Array") throw new TypeError(`${what}: a Uint8Array is needed`);
+  try {
+    // An array that lies outside its buffer has the length 0, and would pass for an empty one.
+    elementAt.call(data, 0);
+  } catch (error) {
+    if (!(error instanceof TypeError)) throw error;
+    throw new TypeError(`${what}: the buffer of the array was detached, or shrunk to less than the array`);
+  }
   return new Uint8Array(bufferOf.call(data), offsetOf.call(data), lengthOf.call(data));
 }
 
@@ -399,11 +411,17 @@ class Workspace {
     }
   }
 
-  call(name, ...words) {
+  /** What a call answers: a status, a word for true or false, or nothing. */
+  ask(name, ...words) {
     this.#isInCall = true;
     const answer = this.#calls[`cukvashe_${name}`](...words);
     this.#isInCall = false;
     return answer;
+  }
+
+  /** Makes a call, and throws the error of its status. */
+  call(name, ...words) {
+    check(this.ask(name, ...words) ?? OK);
   }
 
   /** Room for a number of bytes, at an address that is good for anything. */
@@ -426,6 +444,20 @@ class Workspace {
   /** Lays bytes down in room that was made. */
   lay(at, bytes) {
     this.#bytes(Number(at), bytes.length).set(bytes);
+  }
+
+  /** What an object of a class keeps. A call sees it here alone, after the last code of the caller's has run. */
+  state(object, Base, what = "the object") {
+    const state = states.get(object);
+    if (state?.Base !== Base) {
+      const example = Base === Cipher ? "a cipher, such as new TdesEde2(key)," : "one that its class has made";
+      throw new TypeError(`${what}: ${example} is needed`);
+    }
+    if (state.context === null) throw new Closed("the object was closed");
+    if (state.maker !== this && state.maker.isSpoiled) {
+      throw new Closed("the object was closed by a call that did not end: make it anew");
+    }
+    return state;
   }
 
   /** Where the elements of a list are laid down, and how many there are. */
@@ -498,12 +530,12 @@ function renew() {
   workspace = new Workspace(new WebAssembly.Instance(compiled, {}).exports);
 }
 
-/** What a call writes to room of a size, after its other arguments; a status of it is looked at. */
+/** What a call writes to room of a size, after its other arguments. */
 function written(size, name, lay) {
   return inside((memory) => {
     const words = lay(memory);
     const at = memory.room(size);
-    check(memory.call(name, ...words, at) ?? OK);
+    memory.call(name, ...words, at);
     return memory.taken(at, size);
   });
 }
@@ -572,12 +604,16 @@ function contextAt({ words, algorithm }, at) {
   return algorithm === undefined ? [at, count] : [algorithm, at, count, at + 8n * count];
 }
 
-// Of each cipher, MAC and terminal its kind, its context, which is null once it was closed, and the instance that made it. No
+// Of each cipher, MAC, terminal and decimalization table its class, its kind, its context, which is null once it was
+// closed, and the instance that made it: of an instance in which a call did not end nobody knows what it had written. No
 // text of an object shows them.
 const states = new WeakMap();
 
-/** Keeps what the instance in use made of a key. */
-const keep = (object, kind, context) => states.set(object, { kind, context, maker: workspace });
+/** Keeps what the instance in use made, and gives the object. */
+function keep(object, Base, kind, context) {
+  states.set(object, { Base, kind, context, maker: workspace });
+  return object;
+}
 
 /** The kind of a class, which may be one that a caller made of ours. */
 function kindOf(Class, Base, what) {
@@ -587,34 +623,8 @@ function kindOf(Class, Base, what) {
   throw new TypeError(`${what}: a class is needed, such as ${Base === Cipher ? "TdesEde2" : "RetailMacDes"}`);
 }
 
-/** Refuses what an instance made in which a call did not end: nobody knows what such a one had written. */
-function refuseOfSpoiled({ maker }) {
-  if (maker?.isSpoiled) throw new Closed("the object was closed by a call that did not end: make it anew");
-}
-
-/** The kind and the context of a cipher or MAC. */
-function stateOf(object, Base) {
-  if (!(object instanceof Base) || !states.has(object)) {
-    const example = Base === Cipher ? "a cipher, such as new TdesEde2(key)" : "one that its class has made";
-    throw new TypeError(`the object: ${example}, is needed`);
-  }
-  const state = states.get(object);
-  if (state.context === null) throw new Closed("the object was closed");
-  refuseOfSpoiled(state);
-  return state;
-}
-
 // The last word of the calls that make a context, of one that is not quiet.
 const QUICK = 0;
-
-/** The context that a call makes of a key; null where a padding method is refused. */
-function contextOf(call, kind, size, key, ...padding) {
-  return inside((memory) => {
-    const at = memory.room(size);
-    const status = memory.call(call, ...contextAt(kind, at), ...memory.list(key), ...padding, QUICK);
-    return status === OK ? memory.taken(at, size) : null;
-  });
-}
 
 /** A cipher or MAC under one key. */
 class Keyed {
@@ -639,7 +649,14 @@ class Cipher extends Keyed {
     super();
     refuseMore(more, "a cipher takes a key alone, and neither a vector nor options");
     const kind = kindOf(new.target, Cipher, "a cipher");
-    keep(this, kind, contextOf("internal_init", kind, 8 * kind.words, keyOf(key, kind.keySize)));
+    const held = keyOf(key, kind.keySize);
+    const size = 8 * kind.words;
+    const context = inside((memory) => {
+      const at = memory.room(size);
+      memory.call("internal_init", ...contextAt(kind, at), ...memory.list(held), QUICK);
+      return memory.taken(at, size);
+    });
+    keep(this, Cipher, kind, context);
   }
 
   /** The data, each block of 8 bytes encrypted by itself. */
@@ -675,12 +692,12 @@ function cbc(cipher, call, iv, data, more) {
 
 /** What a call makes of data, in place, with or without a vector. */
 function answered(cipher, call, data, vectors) {
-  const { kind, context } = stateOf(cipher, Cipher);
   const bytes = bytesOf(data, "data");
   return inside((memory) => {
+    const { kind, context } = memory.state(cipher, Cipher);
     const [at, length] = memory.list(bytes);
     const laid = [...contextAt(kind, memory.put(context)), ...vectors.map((vector) => memory.put(vector))];
-    if (memory.call(call, ...laid, at, length / BigInt(BLOCK_SIZE), length) !== OK) {
+    if (memory.ask(call, ...laid, at, length / BigInt(BLOCK_SIZE), length) !== OK) {
       throw new BlockLength(`${bytes.length} bytes are not whole blocks of ${BLOCK_SIZE}`);
     }
     return memory.taken(at, bytes.length);
@@ -720,9 +737,9 @@ class Mac extends Keyed {
   /** Adds bytes to the message. */
   update(data, ...more) {
     refuseMore(more, "update takes data alone");
-    const { kind, context } = stateOf(this, Mac);
     const bytes = bytesOf(data, "data");
     inside((memory) => {
+      const { kind, context } = memory.state(this, Mac);
       const at = memory.put(context);
       memory.call("internal_mac_update", ...contextAt(kind, at), ...memory.list(bytes));
       memory.take(at, context);
@@ -735,8 +752,10 @@ class Mac extends Keyed {
    */
   digest(encoding) {
     if (encoding !== undefined && encoding !== "hex") throw new TypeError('digest takes no argument but "hex"');
-    const { kind, context } = stateOf(this, Mac);
-    const tag = written(TAG_SIZE, "internal_mac_final", (memory) => contextAt(kind, memory.put(context)));
+    const tag = written(TAG_SIZE, "internal_mac_final", (memory) => {
+      const { kind, context } = memory.state(this, Mac);
+      return contextAt(kind, memory.put(context));
+    });
     return encoding === "hex" ? hexOf(tag) : tag;
   }
 
@@ -758,25 +777,33 @@ class Mac extends Keyed {
 
   /** A MAC that goes on from here by itself. */
   copy() {
-    const { kind, context } = stateOf(this, Mac);
-    const other = Object.create(Object.getPrototypeOf(this));
-    keep(other, kind, context.slice());
-    return other;
+    return inside((memory) => {
+      const { kind, context } = memory.state(this, Mac);
+      return keep(Object.create(Object.getPrototypeOf(this)), Mac, kind, context.slice());
+    });
   }
 }
 
 function accepted(mac, tag, least) {
-  const { kind, context } = stateOf(mac, Mac);
   const bytes = bytesOf(tag, "a tag");
-  const lay = (memory) => [...contextAt(kind, memory.put(context)), ...memory.list(bytes)];
-  const status = inside((memory) => memory.call("internal_mac_verify", ...lay(memory)));
+  const status = inside((memory) => {
+    const { kind, context } = memory.state(mac, Mac);
+    return memory.ask("internal_mac_verify", ...contextAt(kind, memory.put(context)), ...memory.list(bytes));
+  });
   if (status !== OK || bytes.length < least) throw faultOf(TAG);
   return true;
 }
 
-/** The context of a MAC of no bytes, or null. */
-const macContextOf = (kind, key, padding) =>
-  contextOf("internal_mac_init", kind, 8 * (kind.words + MESSAGE_WORDS), key, padding);
+/** The context of a MAC under a key, of a message that begins with these bytes. */
+function macContextOf(kind, key, padding, bytes) {
+  const size = 8 * (kind.words + MESSAGE_WORDS);
+  return inside((memory) => {
+    const at = memory.room(size);
+    memory.call("internal_mac_init", ...contextAt(kind, at), ...memory.list(key), padding, QUICK);
+    memory.call("internal_mac_update", ...contextAt(kind, at), ...memory.list(bytes));
+    return memory.taken(at, size);
+  });
+}
 
 /** A MAC with a padding method of ISO/IEC 9797-1: 1, zeros, or 2, a one bit and zeros. */
 class PaddedMac extends Mac {
@@ -785,14 +812,12 @@ class PaddedMac extends Mac {
     refuseMore(more, "a MAC takes a key, a padding method and data alone");
     const kind = kindOf(new.target, PaddedMac, "a MAC");
     const [held, method, bytes] = [keyOf(key, kind.keySize), paddingOf(padding), bytesOf(data, "data")];
-    const context = macContextOf(kind, held, method);
-    if (context === null) throw faultOf(PADDING_METHOD);
-    keep(this, kind, context);
-    this.update(bytes);
+    keep(this, Mac, kind, macContextOf(kind, held, method, bytes));
   }
 }
 
-// The padding of CMAC, which takes no other.
+// The number of CMAC, and its padding, since it takes no other.
+const CMAC = 5;
 const CMAC_PADDING = 2;
 
 /** CMAC, which needs no padding method. */
@@ -802,8 +827,7 @@ class Cmac extends Mac {
     refuseMore(more, "CMAC takes a key and data alone");
     const kind = kindOf(new.target, Cmac, "a MAC");
     const [held, bytes] = [keyOf(key, kind.keySize), bytesOf(data, "data")];
-    keep(this, kind, macContextOf(kind, held, CMAC_PADDING));
-    this.update(bytes);
+    keep(this, Mac, kind, macContextOf(kind, held, CMAC_PADDING, bytes));
   }
 }
 
@@ -841,8 +865,8 @@ kinds.set(CbcMacDes, { algorithm: 1, keySize: 8, words: 17 });
 kinds.set(CbcMacTdesEde2, { algorithm: 1, keySize: 16, words: 33 });
 kinds.set(CbcMacTdesEde3, { algorithm: 1, keySize: 24, words: 49 });
 kinds.set(RetailMacDes, { algorithm: 3, keySize: 16, words: 34 });
-kinds.set(CmacTdesEde2, { algorithm: 5, keySize: 16, words: 33 });
-kinds.set(CmacTdesEde3, { algorithm: 5, keySize: 24, words: 49 });
+kinds.set(CmacTdesEde2, { algorithm: CMAC, keySize: 16, words: 33 });
+kinds.set(CmacTdesEde3, { algorithm: CMAC, keySize: 24, words: 49 });
 
 // ---- Padding --------------------------------------------------------------------------------------------------------
 
@@ -880,7 +904,7 @@ export function unpad(data, method) {
   return inside((memory) => {
     const [at, size] = memory.list(bytes);
     const length = memory.room(8);
-    const status = memory.call("unpad", at, size, number, length);
+    const status = memory.ask("unpad", at, size, number, length);
     if (status === BLOCKS) throw new BlockLength(`${bytes.length} bytes are not whole blocks of ${BLOCK_SIZE}`);
     check(status);
     return memory.taken(at, memory.word(length));
@@ -894,7 +918,7 @@ const SIZES = [8, 16, 24];
 /** Whether a key of 8, 16 or 24 bytes is weak: a part of it has few different round keys, or two parts are one key. */
 export function isWeakKey(key) {
   const bytes = keyOf(key, ...SIZES);
-  return inside((memory) => memory.call("weak_key_test", ...memory.list(bytes))) === WEAK_KEY;
+  return inside((memory) => memory.ask("weak_key_test", ...memory.list(bytes))) === WEAK_KEY;
 }
 
 /** The key of 8, 16 or 24 bytes with its parity bits, the lowest of each byte, set to odd parity. */
@@ -911,7 +935,7 @@ export function withOddParity(key) {
 export function equalButParity(first, second) {
   const one = keyOf(first, ...SIZES);
   const other = keyOf(second, one.length);
-  return inside((memory) => memory.call("internal_equal_but_parity", ...memory.list(one), ...memory.list(other))) !== 0;
+  return inside((memory) => memory.ask("internal_equal_but_parity", ...memory.list(one), ...memory.list(other))) !== 0;
 }
 
 const CHECK_VALUE_SIZE = 3;
@@ -948,7 +972,7 @@ export function combine(first, second, ...others) {
     const rest = memory.room(size * more.length);
     more.forEach((component, place) => memory.lay(rest + BigInt(size * place), component));
     const at = memory.room(size);
-    if (memory.call("internal_combine", ...laid, rest, BigInt(size * more.length), at, BigInt(size)) !== OK) {
+    if (memory.ask("internal_combine", ...laid, rest, BigInt(size * more.length), at, BigInt(size)) !== OK) {
       throw new WeakKey("the weak key test refuses the key that the components make");
     }
     return memory.taken(at, size);
@@ -1012,14 +1036,14 @@ export function dukptNextSerial(serial) {
   const number = serialOf(serial);
   return inside((memory) => {
     const [at, next] = [memory.put(number), memory.room(SERIAL_SIZE)];
-    return memory.call("dukpt_next_serial", at, next) === OK ? memory.taken(next, SERIAL_SIZE) : null;
+    return memory.ask("dukpt_next_serial", at, next) === OK ? memory.taken(next, SERIAL_SIZE) : null;
   });
 }
 
 /** Whether a transaction has this key serial number: its counter is not 0 and has at most ten one bits. */
 export function dukptIsUsable(serial) {
   const number = serialOf(serial);
-  return inside((memory) => memory.call("dukpt_is_usable", memory.put(number))) !== 0;
+  return inside((memory) => memory.ask("dukpt_is_usable", memory.put(number))) !== 0;
 }
 
 const STATE_SIZE = 346;
@@ -1037,15 +1061,15 @@ export class DukptTerminal extends Keyed {
       memory.call("dukpt_terminal_init", at, memory.put(key), memory.put(number));
       return memory.taken(at, STATE_SIZE);
     });
-    keep(this, null, context);
+    keep(this, DukptTerminal, null, context);
   }
 
   /** The terminal of a state. */
   static fromState(state) {
-    const context = dataOf(state, STATE_SIZE, "the state of a terminal", "has", StateLength).slice();
-    const terminal = Object.create(this.prototype);
-    keep(terminal, null, context);
-    return terminal;
+    const { prototype } = this;
+    const bytes = dataOf(state, STATE_SIZE, "the state of a terminal", "has", StateLength);
+    const context = inside((memory) => memory.taken(memory.put(bytes), STATE_SIZE));
+    return keep(Object.create(prototype), DukptTerminal, null, context);
   }
 
   /**
@@ -1054,11 +1078,11 @@ export class DukptTerminal extends Keyed {
    * transaction, the 1,048,575th.
    */
   nextKey() {
-    const { context } = stateOf(this, DukptTerminal);
     return inside((memory) => {
+      const { context } = memory.state(this, DukptTerminal);
       const at = memory.put(context);
       const [serial, key] = [memory.room(SERIAL_SIZE), memory.room(TRANSACTION_KEY_SIZE)];
-      if (memory.call("dukpt_terminal_next_key", at, serial, key) !== OK) {
+      if (memory.ask("dukpt_terminal_next_key", at, serial, key) !== OK) {
         throw new NoSerial("the terminal has had its last transaction");
       }
       memory.take(at, context);
@@ -1068,7 +1092,7 @@ export class DukptTerminal extends Keyed {
 
   /** The state, 346 bytes, from which `fromState` goes on. It is secret: it has the keys of all transactions to come. */
   state() {
-    return stateOf(this, DukptTerminal).context.slice();
+    return inside((memory) => memory.state(this, DukptTerminal).context.slice());
   }
 }
 
@@ -1146,8 +1170,9 @@ export function pinTranslateTo0(incomingFormat, account, block, keys) {
 
 /** A block of format 1 under another key; its transaction digits stay. */
 export function pinTranslateTo1(block, keys) {
-  const [laid, bytes] = [keysOf(keys), blockOf(block)];
-  const lay = (memory) => [...laid.flatMap((key) => memory.list(key)), memory.put(bytes)];
+  const { incomingKey, outgoingKey } = translationOf(keys);
+  const [incoming, outgoing, bytes] = [keyOf(incomingKey, ...SIZES), keyOf(outgoingKey, ...SIZES), blockOf(block)];
+  const lay = (memory) => [...memory.list(incoming), ...memory.list(outgoing), memory.put(bytes)];
   return written(BLOCK_SIZE, "pin_translate_to_1", lay);
 }
 
@@ -1156,16 +1181,14 @@ export function pinTranslateTo3(incomingFormat, account, fill, block, keys) {
   return written(BLOCK_SIZE, "pin_translate_to_3", translated(incomingFormat, account, [fill], block, keys));
 }
 
-/** The incoming key and the outgoing one. */
-function keysOf(keys) {
-  const { incomingKey, outgoingKey } = optionsOf(keys, "incomingKey", "outgoingKey");
-  return [keyOf(incomingKey, ...SIZES), keyOf(outgoingKey, ...SIZES)];
-}
+/** The keys of a translation, by their names. */
+const translationOf = (keys) => optionsOf(keys, "incomingKey", "outgoingKey");
 
 /** What a translation takes, laid down. */
 function translated(incomingFormat, account, fills, block, keys) {
+  const { incomingKey, outgoingKey } = translationOf(keys);
   const [format, digits] = [numberOf(incomingFormat, 0, 3, "the incoming format"), fills.map(fillOf)];
-  const [incoming, outgoing] = keysOf(keys);
+  const [incoming, outgoing] = [keyOf(incomingKey, ...SIZES), keyOf(outgoingKey, ...SIZES)];
   const [number, bytes] = [textOf(account, "an account number"), blockOf(block)];
   return (memory) => [
     ...memory.list(incoming), format, ...memory.list(outgoing), ...memory.list(number),
@@ -1192,7 +1215,7 @@ export function pvv(key, account, index, pin) {
 export function pvvVerify(key, account, index, pin, value) {
   const lay = valueOf(key, account, index, pin);
   const kept = textOf(value, "a PIN verification value");
-  inside((memory) => check(memory.call("pvv_verify", ...lay(memory), ...memory.list(kept))));
+  inside((memory) => memory.call("pvv_verify", ...lay(memory), ...memory.list(kept)));
   return true;
 }
 
@@ -1205,45 +1228,40 @@ function valueOf(key, account, index, pin) {
 
 const TABLE_SIZE = 16;
 
-// Of each decimalization table its digits, and the instance that made it. No text of one shows them.
-const tables = new WeakMap();
-
 /**
  * A decimalization table of sixteen decimal digits, those that stand for 0 to 15 in this order; TableVariety for fewer
  * than eight different ones. An attacker who chooses the table finds PINs out.
  */
 export class DecimalTable {
   constructor(digits) {
-    tables.set(this, tableOf("decimal_table_init", digits));
+    keep(this, DecimalTable, null, tableOf("decimal_table_init", digits));
   }
 
   /** A table of any variety, for old systems that have one. */
   static ofAnyVariety(digits) {
-    const table = Object.create(this.prototype);
-    tables.set(table, tableOf("decimal_table_init_any", digits));
-    return table;
+    const { prototype } = this;
+    return keep(Object.create(prototype), DecimalTable, null, tableOf("decimal_table_init_any", digits));
   }
 }
 
 /** The table that a call makes of digits. */
 function tableOf(call, digits) {
   const text = textOf(digits, "a decimalization table");
-  const taken = inside((memory) => {
+  return inside((memory) => {
     const at = memory.room(TABLE_SIZE);
-    check(memory.call(call, at, ...memory.list(text)));
+    memory.call(call, at, ...memory.list(text));
     return memory.taken(at, TABLE_SIZE);
   });
-  return { taken, maker: workspace };
 }
 
 /** A key, a decimalization table and validation data, sixteen digits in 8 bytes, as the calls below take them. */
 function naturalOf(key, table, validation) {
   const data = dataOf(validation, BLOCK_SIZE, "validation data", "have", BlockLength);
   const held = keyOf(key, ...SIZES);
-  if (!tables.has(table)) throw new TypeError("the decimalization table: a DecimalTable is needed");
-  const made = tables.get(table);
-  refuseOfSpoiled(made);
-  return (memory) => [...memory.list(held), memory.put(made.taken), memory.put(data)];
+  return (memory) => {
+    const { context } = memory.state(table, DecimalTable, "the decimalization table");
+    return [...memory.list(held), memory.put(context), memory.put(data)];
+  };
 }
 
 /**
@@ -1268,7 +1286,7 @@ export function pinOffsetVerify(key, table, validation, pin, offset) {
   const lay = naturalOf(key, table, validation);
   const texts = [textOf(pin, "a PIN"), textOf(offset, "an offset")];
   inside((memory) => {
-    check(memory.call("pin_offset_verify", ...lay(memory), ...texts.flatMap((text) => memory.list(text))));
+    memory.call("pin_offset_verify", ...lay(memory), ...texts.flatMap((text) => memory.list(text)));
   });
   return true;
 }
@@ -1402,11 +1420,12 @@ function fieldsOf(header) {
 
 /** An optional block. The library tests its characters, and writes it in its shortest form. */
 function optionalText(pair) {
-  if (!Array.isArray(pair) || pair.length !== 2 || pair.some((part) => typeof part !== "string")) {
+  const parts = Array.isArray(pair) ? [...pair] : [];
+  if (parts.length !== 2 || parts.some((part) => typeof part !== "string")) {
     throw new TypeError("an optional block: a pair of its name and its content, two strings, is needed");
   }
   // A character that is not ASCII becomes one that the library refuses.
-  const [name, content] = pair.map((text) => text.replace(/[^\0-\x7f]/g, "\x7f"));
+  const [name, content] = parts.map((text) => text.replace(/[^\0-\x7f]/g, "\x7f"));
   if (name.length !== 2) throw new OptionalBlock("the name of an optional block has two characters, letters or digits");
   if (content.length > TOO_MANY_CHARACTERS) throw new KeyBlockLength("a key block has at most 9999 characters");
   return `${name}0002${(content.length + 10).toString(16).toUpperCase().padStart(4, "0")}${content}`;
@@ -1431,7 +1450,7 @@ export function unwrapKeyBlock(protection, block) {
   return inside((memory) => {
     const laid = [...memory.list(held), ...memory.list(text)];
     const [fields, key, length] = [FIELDS_SIZE, 24, 8].map((size) => memory.room(size));
-    check(memory.call("key_block_unwrap", ...laid, fields, key, length));
+    memory.call("key_block_unwrap", ...laid, fields, key, length);
     return { header: headerFrom(memory.taken(fields, FIELDS_SIZE)), key: memory.taken(key, memory.word(length)) };
   });
 }
@@ -1446,15 +1465,15 @@ export function unwrapKeyBlock(protection, block) {
  */
 export function wrapKeyBlock(protection, header, key, options = {}) {
   const { optional = [], padding } = optionsOf(options, "optional", "padding");
-  const [held, bare] = [bytesOf(protection, "a protection key"), bytesOf(key, "a key")];
-  const given = padding === undefined ? null : bytesOf(padding, "the padding");
   const [fields, more] = [fieldsOf(header), optionalOf(optional)];
-  const hiding = given ?? crypto.getRandomValues(new Uint8Array(Math.max(0, KEY_DATA_SIZE - 2 - bare.length)));
+  const random = padding === undefined ? crypto.getRandomValues(new Uint8Array(KEY_DATA_SIZE - 2)) : null;
+  const [held, bare] = [bytesOf(protection, "a protection key"), bytesOf(key, "a key")];
+  const hiding = random?.subarray(bare.length) ?? bytesOf(padding, "the padding");
   return inside((memory) => {
     const laid = [...memory.list(held), memory.put(fields), ...[more, bare, hiding].flatMap((bytes) => memory.list(bytes))];
     const room = more.length + MORE_CHARACTERS;
     const [at, length] = [memory.room(room), memory.room(8)];
-    check(memory.call("key_block_wrap", ...laid, at, BigInt(room), length));
+    memory.call("key_block_wrap", ...laid, at, BigInt(room), length);
     return charactersOf(memory.taken(at, memory.word(length)));
   });
 }
@@ -1482,12 +1501,11 @@ export function keyBlockOptionalBlocks(block) {
     const [at, size] = memory.list(text);
     const [name, offset, length] = [memory.room(3), memory.room(8), memory.room(8)];
     for (;;) {
-      const status = memory.call("key_block_optional_block", at, size, BigInt(found.length), name, offset, length);
+      const status = memory.ask("key_block_optional_block", at, size, BigInt(found.length), name, offset, length);
       if (status === NO_OPTIONAL_BLOCK) return found;
       check(status);
-      const start = memory.word(offset);
-      const characters = text.subarray(start, start + memory.word(length));
-      found.push([charactersOf(memory.taken(name, 2)), charactersOf(characters)]);
+      const content = memory.taken(at + BigInt(memory.word(offset)), memory.word(length));
+      found.push([charactersOf(memory.taken(name, 2)), charactersOf(content)]);
     }
   });
 }
@@ -1525,7 +1543,7 @@ function derived(name, hash, password, salt, words, length) {
   return inside((memory) => {
     const at = memory.room(length);
     const laid = [...memory.list(secret), ...memory.list(grains), ...words, at, BigInt(length)];
-    const status = memory.call(name, hash, ...laid);
+    const status = memory.ask(name, hash, ...laid);
     if (status === SALT_LENGTH) throw new SaltLength(`the salt of bytesToKey has 0 or 8 bytes, not ${grains.length}`);
     check(status);
     return memory.taken(at, length);
@@ -1560,7 +1578,7 @@ export function openSalted(cipher, password, data, options = {}) {
   return inside((memory) => {
     const [plain, length] = [memory.room(bytes.length), memory.room(8)];
     const laid = [...memory.list(secret), ...memory.list(bytes), plain, BigInt(bytes.length), length];
-    const status = memory.call("internal_open_salted", BigInt(keySize), hash, count, ...laid);
+    const status = memory.ask("internal_open_salted", BigInt(keySize), hash, count, ...laid);
     if (status === BLOCKS) throw new BlockLength(`${bytes.length} bytes are not whole blocks of ${BLOCK_SIZE}`);
     check(status);
     return memory.taken(plain, memory.word(length));
@@ -1580,12 +1598,12 @@ export function decryptEach(cipher, keys, blocks) {
 }
 
 function answeredEach(call, cipher, keys, blocks) {
-  const given = listOf(blocks, BLOCK_SIZE, BlockLength, "blocks");
   const { keySize } = cipherOf(cipher);
+  const given = listOf(blocks, BLOCK_SIZE, BlockLength, "blocks");
   const held = listOf(keys, keySize, KeyLength, "keys");
   return inside((memory) => {
     const [at, count] = memory.list(given, BLOCK_SIZE);
-    if (memory.call(call, BigInt(keySize), ...memory.list(held), at, count) !== OK) {
+    if (memory.ask(call, BigInt(keySize), ...memory.list(held), at, count) !== OK) {
       throw new CountMismatch("the numbers of keys and blocks differ");
     }
     return memory.taken(at, given.length);
@@ -1635,15 +1653,15 @@ export function decryptCbcRecords(cipher, vectors, counts, blocks) {
 }
 
 function recorded(call, cipher, vectors, counts, blocks) {
-  const { kind, context } = stateOf(cipher, Cipher);
   const sizes = numbersOf(counts, "counts");
   const chains = listOf(vectors, BLOCK_SIZE, VectorLength, "vectors");
   const given = listOf(blocks, BLOCK_SIZE, BlockLength, "blocks");
   if (chains.length / BLOCK_SIZE !== sizes.length) throw new CountMismatch("the numbers of vectors and counts differ");
   return inside((memory) => {
+    const { kind, context } = memory.state(cipher, Cipher);
     const [at, count] = memory.list(given, BLOCK_SIZE);
     const laid = [...contextAt(kind, memory.put(context)), ...memory.list(chains, BLOCK_SIZE)];
-    if (memory.call(call, ...laid, memory.words(sizes), BigInt(sizes.length), at, count) !== OK) {
+    if (memory.ask(call, ...laid, memory.words(sizes), BigInt(sizes.length), at, count) !== OK) {
       throw new CountMismatch("the counts do not add up to the number of blocks");
     }
     return memory.taken(at, given.length);
@@ -1653,7 +1671,7 @@ function recorded(call, cipher, vectors, counts, blocks) {
 /** The kind of a class of MACs, with the number of its padding method. */
 function macsOf(Class, padding) {
   const kind = kindOf(Class, Mac, "the first argument");
-  if (Class.prototype instanceof Cmac) {
+  if (kind.algorithm === CMAC) {
     if (padding !== null) throw new TypeError("the padding method: CMAC takes none, so give null");
     return { ...kind, method: CMAC_PADDING };
   }
@@ -1678,14 +1696,11 @@ function tagsOf(call, { algorithm, method }, lay, lengths, bytes) {
   });
 }
 
-/** The lengths of messages that stand one after the other, and their bytes. */
-function messagesOf(lengths, messages) {
+/** The bytes of messages of these lengths, which stand one after the other. */
+function messagesOf(messages, lengths) {
   const bytes = bytesOf(messages, "messages");
-  const numbers = numbersOf(lengths, "lengths");
-  if (numbers.reduce((sum, length) => sum + length, 0) !== bytes.length) {
-    throw new CountMismatch("the lengths do not add up to the messages");
-  }
-  return [numbers, bytes];
+  if (lengths.reduce((sum, length) => sum + length, 0) === bytes.length) return bytes;
+  throw new CountMismatch("the lengths do not add up to the messages");
 }
 
 /**
@@ -1694,16 +1709,18 @@ function messagesOf(lengths, messages) {
  */
 export function macs(mac, key, padding, lengths, messages) {
   const kind = macsOf(mac, padding);
+  const numbers = numbersOf(lengths, "lengths");
   const held = keyOf(key, kind.keySize);
-  const [numbers, bytes] = messagesOf(lengths, messages);
+  const bytes = messagesOf(messages, numbers);
   return tagsOf("internal_macs", kind, (memory) => memory.list(held), numbers, bytes);
 }
 
 /** The tags of messages, each under the key at its place, as `macs` makes them under one. */
 export function macsEach(mac, keys, padding, lengths, messages) {
   const kind = macsOf(mac, padding);
+  const numbers = numbersOf(lengths, "lengths");
   const held = listOf(keys, kind.keySize, KeyLength, "keys");
-  const [numbers, bytes] = messagesOf(lengths, messages);
+  const bytes = messagesOf(messages, numbers);
   if (held.length / kind.keySize !== numbers.length) throw new CountMismatch("the numbers of keys and messages differ");
   const lay = (memory) => [BigInt(kind.keySize), ...memory.list(held)];
   return tagsOf("internal_macs_each", kind, lay, numbers, bytes);

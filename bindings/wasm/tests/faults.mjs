@@ -4,15 +4,9 @@ import assert from "node:assert/strict";
 import { readFileSync } from "node:fs";
 import { runInNewContext } from "node:vm";
 import { exportsOf, folder, hex, is, library, unhex } from "./common.mjs";
+import { ACCOUNT, BLOCK, FILL, IV, KEY, KEYS, MESSAGE, ONE, OTHER, PAIR, PROTECTION } from "./calls.mjs";
+import { SALTED, SECRET, SENT, SERIAL, TEXT, allCalls } from "./calls.mjs";
 
-const KEY = unhex("0123456789abcdef23456789abcdef01456789abcdef0123");
-const PAIR = unhex("0123456789abcdeffedcba9876543210");
-const IV = unhex("1234567890abcdef");
-const SERIAL = unhex("ffff9876543210e00001");
-const ACCOUNT = "4012345678909";
-const FILL = Uint8Array.of(10, 11, 12, 13, 14, 15, 10, 11, 12, 13);
-const MESSAGE = unhex("6bc1bee22e409f96e93d7e117393172aae2d8a571e03ac9c");
-const TEXT = /^[a-z0-9":,()^'_ .-]+$/i;
 
 let faults = 0;
 
@@ -42,6 +36,7 @@ const throwsType = (run, what) => {
 
 throwsFault(() => new library.Des(KEY.subarray(0, 8)), "NotLoaded");
 throwsFault(() => library.dukptIsUsable(SERIAL), "NotLoaded");
+throwsFault(() => library.DukptTerminal.fromState(new Uint8Array(346)), "NotLoaded");
 const module = readFileSync(`${folder}/cukvashe_des.wasm`);
 
 async function refuses(name, ...words) {
@@ -307,9 +302,6 @@ for (const [block, name] of Object.entries(BLOCKS)) throwsFault(() => library.pi
 throwsFault(() => library.pinDecode1(unhex("041234fe09a51234")), "Format", "the first digit of the PIN block is not that of the format");
 throwsFault(() => library.pinDecode3(unhex("341274b9f9b9d359"), ACCOUNT), "Fill");
 const TABLE = new library.DecimalTable("0123456789012345");
-const OTHER = unhex("89e88cf7931444f334bd7547fc3f380c");
-const SENT = unhex("c03d21cdbcb0c58b");
-const ONE = unhex("646855a2370347d8");
 const TABLES = {
   TableLength: ["the decimalization table does not have sixteen digits", "", "0".repeat(15), "0123456701234567" + "8"],
   TableDigit: ["a character of the decimalization table is not a digit", "012345678901234:", "\uff10" + "1".repeat(15)],
@@ -335,7 +327,6 @@ for (const pin of ["123", "123/"]) {
   throwsFault(() => library.pinOffsetVerify(PAIR, TABLE, IV, pin, "1234"), pin === "123" ? "PinLength" : "PinDigit");
 }
 throwsFault(() => library.pinOffsetVerify(PAIR, TABLE, IV, "12345", "0000"), "WrongPin", "the PIN is not the one");
-const KEYS = { incomingKey: PAIR, outgoingKey: OTHER };
 for (const format of [2, 4, -1, 0.5, 2 ** 32, 2 ** 32 + 3]) {
   const text = "there is no translation of PIN blocks from this format, only from 0, 1 and 3";
   throwsFault(() => library.pinTranslateTo0(format, "", SENT, KEYS), "Formats", text);
@@ -387,8 +378,6 @@ for (const length of LENGTHS) {
 }
 // ---- Key blocks
 
-const PROTECTION = unhex("dd7515f2bfc17f85ce48f3ca25cb21f6");
-const BLOCK = "B0080P0TE00E000094B420079CC80BA3461F86FE26EFC4A3B8E4FA4C5F5341176EED7B727B8A248E";
 const HEADER = library.keyBlockHeader(BLOCK);
 const changed = (place, character) => BLOCK.slice(0, place) + character + BLOCK.slice(place + 1);
 const BLOCK_CALLS = [
@@ -479,8 +468,6 @@ for (const wrong of [null, "1c2965473ce2", 6, [1, 2, 3, 4, 5, 6]]) throwsType(()
 
 // ---- Keys from passwords
 
-const SALTED = unhex("53616c7465645f5fe927a7d874ff28cd93ad37243eb1e04e969de009cb5daeb794437e9ef739ae56dc0b84dd9380ace766ec9187d68c226b");
-const SECRET = Buffer.from("secret");
 const opens = (data, options = {}) => library.openSalted(library.TdesEde3, SECRET, data, options);
 is(opens(SALTED), hex(Buffer.from("Now is the time for all good men")));
 for (let cut = 0; cut < SALTED.length; cut += 1) {
@@ -680,7 +667,14 @@ await library.load();
 const last = new Uint8Array(346);
 last.set(unhex("ffff9876543210fff800"));
 throwsFault(() => library.DukptTerminal.fromState(last).nextKey(), "NoSerial", "the terminal has had its last transaction");
+// A state that is given, or was taken, is the caller's.
 const terminal = new library.DukptTerminal(PAIR, SERIAL);
+const state = terminal.state();
+const digits = hex(state);
+const other = library.DukptTerminal.fromState(state);
+state.fill(0);
+other.state().fill(0);
+is(other.state(), digits);
 terminal.close();
 for (const call of ["nextKey", "state"]) throwsFault(() => terminal[call](), "Closed", "the object was closed");
 
@@ -696,84 +690,22 @@ for (const [expiry, service, name, text] of CARDS) {
 
 // ---- Wrong types: each of these in the place of each argument
 
+/** Arrays that lie outside their buffer, which was shrunk, or taken away by another thread: nothing of them is there. */
+function outside() {
+  const buffer = new ArrayBuffer(16, { maxByteLength: 16 });
+  const shrunk = [new Uint8Array(buffer, 8, 8), new Uint8Array(buffer, 8), new Uint8Array(buffer, 16)];
+  buffer.resize(4);
+  const sent = new Uint8Array(8);
+  structuredClone(sent, { transfer: [sent.buffer] });
+  return [...shrunk, sent];
+}
+
 const WRONG = [
   ...[undefined, null, 5, 5n, true, "0123456789abcdef", [1, 2, 3], {}, { length: 8 }, Symbol("key"), () => KEY],
   ...[new ArrayBuffer(8), new DataView(new ArrayBuffer(8)), new Uint16Array(8), new Uint8ClampedArray(8)],
+  ...outside(),
 ];
-const isText = (it) => typeof it === "string";
-const isNumbers = (it) => Array.isArray(it) || it instanceof Uint16Array || it instanceof Uint8ClampedArray;
-const isFive = (it) => it === 5;
-const isOptions = (it) => it === undefined || (Object.prototype.toString.call(it) === "[object Object]" && Object.keys(it).length === 0);
-const BYTES = () => false;
-const cipher = new library.TdesEde3(KEY);
-const CALLS = [
-  ["Des", [KEY.subarray(0, 8)], [BYTES]],
-  ["TdesEde2", [PAIR], [BYTES]],
-  ["TdesEde3", [KEY], [BYTES]],
-  ["RetailMacDes", [PAIR, 2, IV], [BYTES, (it) => it === 5, (it) => it === undefined]],
-  ["CmacTdesEde2", [PAIR, IV], [BYTES, (it) => it === undefined]],
-  ["pad", [IV, "pkcs7"], [BYTES, isText]],
-  ["unpad", [library.pad(IV, "pkcs7"), "pkcs7"], [BYTES, isText]],
-  ["isWeakKey", [KEY], [BYTES]],
-  ["withOddParity", [KEY], [BYTES]],
-  ["equalButParity", [KEY, KEY], [BYTES, BYTES]],
-  ["checkValue", [library.TdesEde3, KEY], [BYTES, BYTES]],
-  ["combine", [PAIR, KEY.slice(0, 16), MESSAGE.slice(0, 16)], [BYTES, BYTES, BYTES]],
-  ["dukptInitialKey", [PAIR, SERIAL], [BYTES, BYTES]],
-  ["dukptTransactionKey", [PAIR, SERIAL], [BYTES, BYTES]],
-  ["dukptPinKey", [PAIR], [BYTES]],
-  ["dukptMacKey", [PAIR, true], [BYTES, (it) => it === undefined || it === true]],
-  ["dukptDataKey", [PAIR, true], [BYTES, (it) => it === undefined || it === true]],
-  ["dukptNextSerial", [SERIAL], [BYTES]],
-  ["dukptIsUsable", [SERIAL], [BYTES]],
-  ["pinEncode0", ["1234", ACCOUNT], [isText, isText]],
-  ["pinEncode1", ["1234", FILL], [isText, BYTES]],
-  ["pinEncode3", ["1234", ACCOUNT, FILL], [isText, isText, BYTES]],
-  ["pinDecode0", [unhex("041274edcba9876f"), ACCOUNT], [BYTES, isText]],
-  ["pinDecode1", [unhex("141234fe09a51234")], [BYTES]],
-  ["pinDecode3", [unhex("341274b9f9b9d35d"), ACCOUNT], [BYTES, isText]],
-  ["cvv", [PAIR, ACCOUNT, "8701", "101"], [BYTES, isText, isText, isText]],
-  ["keyCheckValue", [PAIR], [BYTES]],
-  ["shortKeyCheckValue", [PAIR], [BYTES]],
-  ["dukptDataVariant", [PAIR, true], [BYTES, (it) => it === undefined || it === true]],
-  ["DukptTerminal", [PAIR, SERIAL], [BYTES, BYTES]],
-  ["pinEncode2", ["1234"], [isText]],
-  ["pinDecode2", [unhex("241234ffffffffff")], [BYTES]],
-  ["pinTranslateTo0", [0, ACCOUNT, SENT, KEYS], [isFive, isText, BYTES, BYTES]],
-  ["pinTranslateTo1", [ONE, KEYS], [BYTES, BYTES]],
-  ["pinTranslateTo3", [0, ACCOUNT, FILL, SENT, KEYS], [isFive, isText, BYTES, BYTES, BYTES]],
-  ["pvv", [PAIR, ACCOUNT, 1, "1234"], [BYTES, isText, isFive, isText]],
-  ["pvvVerify", [PAIR, "4123456789012345", 1, "1234", "1894"], [BYTES, isText, isFive, isText, isText]],
-  ["DecimalTable", ["0123456789012345"], [isText]],
-  ["naturalPin", [PAIR, TABLE, IV, 4], [BYTES, BYTES, BYTES, isFive]],
-  ["pinOffset", [PAIR, TABLE, IV, "1234"], [BYTES, BYTES, BYTES, isText]],
-  ["pinOffsetVerify", [PAIR, TABLE, unhex("4123456789012345"), "9519", "9999"], [BYTES, BYTES, BYTES, isText, isText]],
-  ["emvCardKey", [PAIR, ACCOUNT, "45"], [BYTES, isText, isText]],
-  ["emvCardKeyB", [PAIR, ACCOUNT, "45"], [BYTES, isText, isText]],
-  ["emvSessionKey", [PAIR, IV], [BYTES, BYTES]],
-  ["emvApplicationKey", [PAIR, of(2)], [BYTES, BYTES]],
-  ["emvApplicationCryptogram", [PAIR, MESSAGE], [BYTES, BYTES]],
-  ["emvResponse1", [PAIR, IV, of(2)], [BYTES, BYTES, BYTES]],
-  ["emvResponse2", [PAIR, IV, of(4), of(8)], [BYTES, BYTES, BYTES, (it) => it === undefined]],
-  ["unwrapKeyBlock", [PROTECTION, BLOCK], [BYTES, isText]],
-  ["wrapKeyBlock", [PROTECTION, HEADER, PAIR, {}], [BYTES, BYTES, BYTES, isOptions]],
-  ["keyBlockHeader", [BLOCK], [isText]],
-  ["keyBlockContext", [BLOCK], [isText]],
-  ["keyBlockOptionalBlocks", [BLOCK], [isText]],
-  ["pbkdf2", ["sha1", SECRET, IV, 1, 24], [isText, BYTES, BYTES, isFive, isFive]],
-  ["bytesToKey", ["md5", SECRET, IV, 24], [isText, BYTES, BYTES, isFive]],
-  ["openSalted", [library.TdesEde3, SECRET, SALTED, {}], [BYTES, BYTES, BYTES, isOptions]],
-  ["encryptEach", [library.TdesEde3, KEY, IV], [BYTES, BYTES, BYTES]],
-  ["decryptEach", [library.TdesEde3, KEY, IV], [BYTES, BYTES, BYTES]],
-  ["checkValues", [library.TdesEde3, KEY], [BYTES, BYTES]],
-  ["dukptTransactionKeys", [PAIR, SERIAL], [BYTES, BYTES]],
-  ["encryptCbcRecords", [cipher, IV, [1], IV], [BYTES, BYTES, isNumbers, BYTES]],
-  ["decryptCbcRecords", [cipher, IV, [1], IV], [BYTES, BYTES, isNumbers, BYTES]],
-  ["macs", [library.RetailMacDes, PAIR, 2, [24], MESSAGE], [BYTES, BYTES, (it) => it === 5, isNumbers, BYTES]],
-  ["macsEach", [library.RetailMacDes, PAIR, 2, [24], MESSAGE], [BYTES, BYTES, (it) => it === 5, isNumbers, BYTES]],
-  ["wrongTags", [IV, IV], [BYTES, BYTES]],
-];
-for (const [name, words, allowed] of CALLS) {
+for (const [name, words, allowed] of allCalls()) {
   const call = (...given) => (/^[A-Z]/.test(name) ? new library[name](...given) : library[name](...given));
   const seen = () => words.map((word) => (word instanceof Uint8Array ? hex(word) : word));
   const before = seen();
@@ -786,6 +718,7 @@ for (const [name, words, allowed] of CALLS) {
   });
   throwsType(() => call(), `${name} without arguments`);
 }
+const cipher = new library.TdesEde3(KEY);
 const mac = new library.CmacTdesEde3(KEY);
 for (const wrong of WRONG) {
   throwsType(() => mac.update(wrong), "update");
