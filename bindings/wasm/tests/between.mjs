@@ -85,7 +85,7 @@ const getters = (object, names, act) => Object.defineProperties(object, Object.f
   return [name, { get, enumerable: true, configurable: true }];
 })));
 
-/** Forms of a word that run code where they are read; the last of a loop too. */
+/** Forms of a word that run code where they are read. */
 function hooked(word, act) {
   if (word instanceof Uint8Array) {
     return [getters(word, ["length", "byteLength", "byteOffset", "buffer", "constructor", Symbol.iterator, Symbol.toStringTag, "slice"], act)];
@@ -114,7 +114,7 @@ function hooked(word, act) {
 
 // ---- What the code does
 
-const CLOSED = (word) => isKept(word) && word.close !== undefined;
+const canClose = (word) => isKept(word) && word.close !== undefined;
 const right = hex(cipher().encryptEcb(MESSAGE));
 const rightTags = hex(library.macs(library.CmacTdesEde3, KEY, null, [24], MESSAGE));
 const DEEDS = {
@@ -123,7 +123,7 @@ const DEEDS = {
     assert.equal(hex(library.macs(library.CmacTdesEde3, KEY, null, [24], MESSAGE)), rightTags);
     assert.throws(() => library.pinEncode0("12", "4"), library.PinLength);
   },
-  closes: (words) => within(words, CLOSED).forEach((word) => word.close()),
+  closes: (words) => within(words, canClose).forEach((word) => word.close()),
   changes: (words) => bytesIn(words).forEach((bytes) => bytes.fill(0x31)),
   shrinks: (words) => bytesIn(words).forEach(({ buffer }) => buffer.resize(Math.max(0, buffer.byteLength - 8))),
   empties: (words) => bytesIn(words).forEach(({ buffer }) => buffer.resize(0)),
@@ -148,45 +148,49 @@ function written(answer) {
   return answer;
 }
 
+/** What comes of a call with its argument at a place in one of the forms, and whether the deed was done in it; null after the last form. */
+function withDeed(call, words, at, form, does) {
+  const given = fresh(words);
+  const before = [...given];
+  let [isReading, isDone] = [false, false];
+  const act = () => {
+    if (!isReading || isDone) return;
+    isDone = true;
+    does(before);
+  };
+  const forms = hooked(given[at], act);
+  if (form === forms.length) return null;
+  isReading = true;
+  const came = outcome(call, given.with(at, forms[form]));
+  return { came, isDone };
+}
+
 let runs = 0;
 let compared = 0;
 for (const [name, call, words] of CALLS) {
   const asItIs = outcome(call, fresh(words));
   for (const [deed, does] of Object.entries(DEEDS)) {
-    const after = fresh(words);
-    does(after);
-    const afterwards = outcome(call, after);
-    const formsOf = (given, at, act) => hooked(given[at], act);
-    const countOf = (at) => formsOf(fresh(words), at, () => {}).length;
-    for (let at = 0; at < words.length; at += 1) {
-      for (let form = 0; form < countOf(at); form += 1) {
-        const given = fresh(words);
-        const was = [...given];
-        let isReading = false;
-        let isDone = false;
-        const act = () => {
-          if (!isReading || isDone) return;
-          isDone = true;
-          does(was);
-        };
-        const hookedWords = given.with(at, formsOf(given, at, act)[form]);
-        isReading = true;
-        const came = outcome(call, hookedWords);
-        isReading = false;
+    const given = fresh(words);
+    does(given);
+    const afterwards = outcome(call, given);
+    for (const at of words.keys()) {
+      for (let form = 0, it; (it = withDeed(call, words, at, form, does)) !== null; form += 1) {
         const what = `${name}, argument ${at + 1} in form ${form + 1}, whose code ${deed}`;
-        assert.deepEqual(came, isDone ? afterwards : asItIs, what);
+        assert.deepEqual(it.came, it.isDone ? afterwards : asItIs, what);
         runs += 1;
-        compared += isDone;
+        compared += it.isDone;
       }
     }
   }
 }
+assert(compared > 300, `code of the caller's ran in ${compared} calls alone`);
+
 // A class that says it is another when it is asked again has the method of neither.
-for (const [Class, Other, padding] of [[library.CmacTdesEde2, library.RetailMacDes, 1], [library.RetailMacDes, library.CmacTdesEde2, null]]) {
+const [Cmac, Retail] = [library.CmacTdesEde2, library.RetailMacDes];
+for (const [Class, Other, padding] of [[Cmac, Retail, 1], [Retail, Cmac, null]]) {
   let asked = 0;
   const get = () => ((asked += 1) > 1 ? Other.prototype : Class.prototype);
   const changes = Object.defineProperty(Object.setPrototypeOf(() => {}, Class), "prototype", { get });
   assert.throws(() => library.macs(changes, PAIR, padding, [24], MESSAGE), TypeError);
 }
-assert(compared > 300, `code of the caller's ran in ${compared} calls alone`);
 console.log(`JavaScript: ${compared} of ${runs} calls, within which code of the caller's ran`);

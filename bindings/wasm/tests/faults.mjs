@@ -703,6 +703,7 @@ function outside() {
 const WRONG = [
   ...[undefined, null, 5, 5n, true, "0123456789abcdef", [1, 2, 3], {}, { length: 8 }, Symbol("key"), () => KEY],
   ...[new ArrayBuffer(8), new DataView(new ArrayBuffer(8)), new Uint16Array(8), new Uint8ClampedArray(8)],
+  ...[{ [Symbol.toPrimitive]: () => assert.fail("a value of an object is asked for") }, new Proxy(KEY, {})],
   ...outside(),
 ];
 for (const [name, words, allowed] of allCalls()) {
