@@ -61,6 +61,14 @@ await refuses("NoMemory64", module);
 WebAssembly.validate = validate;
 assert.equal(library.isSupported(), true);
 
+// Where the engine's stack ends while an array is looked at, that is not a wrong type.
+const typedArray = Object.getPrototypeOf(Uint8Array.prototype);
+const { at: elementAt } = typedArray;
+typedArray.at = () => { throw new RangeError("Maximum call stack size exceeded"); };
+const atItsEnd = await import(new URL(`${folder}/cukvashe_des.mjs?at_its_end`, "file:///"));
+typedArray.at = elementAt;
+await assert.rejects(atItsEnd.load(module), RangeError);
+
 // A module that is changed while it is loaded is not the changed one.
 const changing = Uint8Array.from(module);
 const loading = library.load(changing);
