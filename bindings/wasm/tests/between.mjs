@@ -2,7 +2,7 @@
 // what the call is given or by calls of its own, the call answers as if the code had run before it.
 import assert from "node:assert/strict";
 import { hex, library } from "./common.mjs";
-import { IV, KEY, MESSAGE, PAIR, SERIAL, allCalls } from "./calls.mjs";
+import { BLOCK, IV, KEY, MESSAGE, PAIR, SERIAL, allCalls } from "./calls.mjs";
 
 await library.load();
 
@@ -193,4 +193,9 @@ for (const [Class, Other, padding] of [[Cmac, Retail, 1], [Retail, Cmac, null]])
   const changes = Object.defineProperty(Object.setPrototypeOf(() => {}, Class), "prototype", { get });
   assert.throws(() => library.macs(changes, PAIR, padding, [24], MESSAGE), TypeError);
 }
+// A pair whose content is another each time is the one that was tested.
+let reads = 0;
+const pair = Object.defineProperty(["KS", ""], 1, { get: () => "01".repeat(reads += 1) });
+const block = library.wrapKeyBlock(PAIR, library.keyBlockHeader(BLOCK), PAIR, { optional: [pair] });
+assert.deepEqual(library.keyBlockOptionalBlocks(block)[0], ["KS", "01"]);
 console.log(`JavaScript: ${compared} of ${runs} calls, within which code of the caller's ran`);
