@@ -8,10 +8,10 @@
 // Bytes come in and go out as Uint8Array, texts as strings of digits; names are those of the package for Python, and so
 // are the errors, each a CukvasheError of its own name. A wrong type is a TypeError. cukvashe_des.d.mts has the types.
 //
-// Each call reads its arguments in this order: classes, options, and numbers of an iterator, which may run code of the
-// caller's; then bytes; then, in `inside`, what an object keeps. So it answers as if that code had run before it. Inside it
-// lays all down in the module's memory, calls, copies the answer out, and wipes both and the module's stack. The module
-// asks for no memory and keeps no state: ciphers and MACs keep their contexts here, as bytes.
+// Each call reads first what may run code of the caller's: classes, options, and numbers that an iterator gives. Then it
+// takes views of bytes, and then, in `inside`, where no such code runs, what an object keeps. So it answers as if that code
+// had run before it. It lays all down in the module's memory, calls, copies the answer out, and wipes both and the module's
+// stack. The module asks for no memory and keeps no state: ciphers and MACs keep their contexts here, as bytes.
 
 /** The version of this file, which is that of the module. */
 export const version = "@VERSION@";
