@@ -45,7 +45,7 @@ async function refuses(name, ...words) {
   throwsFault(() => library.dukptIsUsable(SERIAL), "NotLoaded");
 }
 
-for (const wrong of [null, "cukvashe_des.wasm", 5, {}, [], new Uint16Array(8)]) await refuses("TypeError", wrong);
+for (const wrong of [null, "cukvashe_des.wasm", 5, {}, [], new Uint16Array(8), ...outside()]) await refuses("TypeError", wrong);
 await refuses("ModuleMismatch", new Uint8Array());
 await refuses("ModuleMismatch", module.subarray(0, module.length - 1));
 // One bit of each 512th byte, and each bit of the first and last bytes.
