@@ -5,9 +5,11 @@ import copy
 import ctypes
 import gc
 import pickle
+import struct
 import sys
 import threading
 import unittest
+import weakref
 from unittest import mock
 
 from cukvashe_des import (
@@ -22,6 +24,7 @@ from cukvashe_des import (
     _ciphers,
     _data,
     _statuses,
+    _terminal,
     combine,
     open_salted,
     pbkdf2,
@@ -51,6 +54,26 @@ from .values import (
 )
 
 
+_view_of = ctypes.pythonapi.PyMemoryView_FromBuffer
+_view_of.argtypes, _view_of.restype = (ctypes.POINTER(_data._Buffer),), ctypes.py_object
+
+
+def view_by(form, shape, strides, size, value):
+    """A writable view of a copy of bytes by any format, shape and strides, as NumPy's arrays have them: items of a size."""
+    memory, numbers = ctypes.create_string_buffer(value, len(value)), ctypes.c_ssize_t * len(shape)
+    held = (memory, ctypes.c_char_p(form.encode()), numbers(*shape), numbers(*strides))
+    places = (ctypes.cast(kept, ctypes.c_void_p).value for kept in held[1:])
+    view = _view_of(_data._Buffer(ctypes.addressof(memory), None, len(value), size, 0, len(shape), *places))
+    weakref.finalize(view, id, held)
+    return view
+
+
+def by_columns(value, rows):
+    """The bytes in rows that stand column by column: in one piece, but not in their order."""
+    row = len(value) // rows
+    return view_by("B", (rows, row), (1, rows), 1, b"".join(value[at::row] for at in range(row)))
+
+
 def views(value):
     """The same bytes as data of other kinds: in the middle of others, of every second byte, turned round, in rows, in words whose
     most significant byte comes first."""
@@ -65,6 +88,7 @@ def views(value):
     yield array.array("b", value)
     if value and len(value) % 2 == 0:
         yield memoryview(value).cast("B", (2, len(value) // 2))
+        yield by_columns(value, 2)
         yield (ctypes.c_uint16.__ctype_be__ * (len(value) // 2)).from_buffer_copy(value)
     if len(value) % 8 == 0:
         yield (ctypes.c_uint64.__ctype_be__ * (len(value) // 8)).from_buffer_copy(value)
@@ -73,6 +97,8 @@ def views(value):
 def words(value):
     """The same bytes as words in the machine's order, and as other items, of which the bytes are not those of a text."""
     yield memoryview(bytearray(value)).cast("?")
+    if len(value) % 8 == 0:
+        yield view_by("=Q", (len(value) // 8,), (8,), 8, value)
     for kind in (ctypes.c_uint16, ctypes.c_int32, ctypes.c_uint64, ctypes.c_double, ctypes.c_double.__ctype_be__):
         if len(value) % ctypes.sizeof(kind) == 0:
             yield (kind * (len(value) // ctypes.sizeof(kind))).from_buffer_copy(value)
@@ -124,6 +150,25 @@ class Kinds(unittest.TestCase):
                 for view in words(value):
                     self.assertRaises(TypeError, call, *arguments[:at], view, *arguments[at + 1 :])
 
+    def test_formats(self):
+        """Of the formats of single items those alone are taken by which the most significant byte is the first, and of bytes those that
+        are numbers or characters; and none of several items."""
+        taken = set()
+        for form in (order + letter for order in ("", *"@=<>!") for letter in "xcbB?hHiIlLqQnNefdspP"):
+            try:
+                size = struct.calcsize(form)
+            except struct.error:
+                continue
+            is_number = form[-1] in "hHiIlLqQnN" and struct.pack(form, 1) == (1).to_bytes(size, "big")
+            if is_number or form[-1] in "cbB":
+                self.assertEqual(_data.bytes_of(view_by(form, (16 // size,), (size,), size, TEXT[:16])), TEXT[:16], form)
+                taken.add(form)
+            else:
+                self.assertRaises(TypeError, _data.bytes_of, view_by(form, (16 // size,), (size,), size, TEXT[:16]))
+        self.assertEqual(len(taken), 34)
+        for form in ("BB", "1B", "16B", "B\n", " B", ">2Q", ">Q>Q", "Zf", "(2)B", "T{B:a:}", ">", "O", "&B", "^Q", "w", "u"):
+            self.assertRaises(TypeError, _data.bytes_of, view_by(form, (16,), (1,), 1, TEXT[:16]))
+
     def test_other_types(self):
         """What has no buffer is a TypeError in each place for data."""
         for call, arguments in CALLS + OBJECTS:
@@ -162,9 +207,11 @@ class InPlace(unittest.TestCase):
         for call, _ in self.calls():
             spread = bytearray(byte for pair in zip(TEXT, TEXT) for byte in pair)
             data = bytearray(TEXT)
-            for view in (TEXT, memoryview(TEXT), memoryview(data).toreadonly(), memoryview(spread)[::2], memoryview(data)[::-1]):
-                self.assertRaises(TypeError, call, view)
-            self.assertEqual((data, spread[::2], spread[1::2]), (TEXT, TEXT, TEXT))
+            columns = by_columns(TEXT, 3)
+            for view in (TEXT, memoryview(TEXT), memoryview(data).toreadonly(), memoryview(spread)[::2], memoryview(data)[::-1], columns):
+                with self.assertRaisesRegex(TypeError, "needs writable data in one piece"):
+                    call(view)
+            self.assertEqual((data, spread[::2], spread[1::2], columns.tobytes()), (TEXT, TEXT, TEXT, TEXT))
             for view in words(TEXT):
                 self.assertRaises(TypeError, call, view)
                 self.assertEqual(memoryview(view).tobytes(), TEXT)
@@ -290,6 +337,29 @@ class OnceAlone(unittest.TestCase):
         return answer.digest() if hasattr(answer, "digest") else answer
 
 
+class SeenLock:
+    """In the place of an object's lock: whether it is held, whether the object was open at each turn's begin and end, and whether it was
+    held at each call that is noted."""
+
+    def __init__(self, made):
+        self.made, self.is_held, self.seen, self.noted = made, False, [], []
+
+    def __enter__(self):
+        self.is_held = True
+        self.seen.append(self.made._context is not None)
+
+    def __exit__(self, *_):
+        self.is_held = False
+        self.seen.append(self.made._context is not None)
+
+    def noting(self, call):
+        def noted(*arguments):
+            self.noted.append(self.is_held)
+            return call(*arguments)
+
+        return noted
+
+
 class Threads(unittest.TestCase):
     """ctypes lets other threads run while a call works."""
 
@@ -339,30 +409,54 @@ class Threads(unittest.TestCase):
             self.together(4, work)
             self.assertEqual(mac.digest(), kind(KEY[: kind.key_size], *method, piece * 40).digest())
 
+    def turn(self, made, lock, call, *arguments):
+        """Whether the object is open when a call of it takes the lock, and when it gives it back: once, and not in its own turn."""
+        self.assertFalse(lock.is_held)
+        lock.seen.clear()
+        call(*arguments)
+        self.assertFalse(lock.is_held)
+        return lock.seen
+
     def test_turns(self):
-        """Each call of a MAC has the lock while the library works on the context, and gives it back."""
+        """Each call of a MAC has the lock from before it takes the context until the library is done with it, and so has `close`."""
         for kind, arguments in OBJECTS[len(ANSWERS) :]:
-            mac, held = kind(*arguments), []
+            mac, known = kind(*arguments), KINDS[kind]
+            self.assertIsInstance(mac._lock, type(threading.Lock()))
+            lock, tag = SeenLock(mac), mac.digest()
+            mac._lock = lock
+            noted = {name: lock.noting(known.calls[name]) for name in ("update", "final", "verify")}
+            copied = lock.noting(known.context.from_buffer_copy)
+            opened = lock.noting(kind._open)
+            with mock.patch.dict(known.calls, noted), mock.patch.object(known.context, "from_buffer_copy", copied), \
+                    mock.patch.object(_data.Keyed, "_open", opened):
+                for call, *given in ((mac.update, b""), (mac.digest,), (mac.verify, tag), (mac.verify_truncated_left, tag[:4]), (mac.copy,)):
+                    self.assertEqual(self.turn(mac, lock, call, *given), [True, True])
+                    self.assertEqual(lock.noted, [True, True])
+                    lock.noted.clear()
+                self.assertEqual(self.turn(mac, lock, self.assertRaises, TagMismatch, mac.verify, b""), [True, True])
+            self.assertEqual(self.turn(mac, lock, mac.close), [True, False])
+            self.assertEqual(self.turn(mac, lock, self.assertRaises, Closed, mac.update, b""), [False, False])
 
-            def noting(call):
-                def noted(*given):
-                    held.append(mac._lock.locked())
-                    return call(*given)
+    def test_turns_of_a_terminal(self):
+        """The same of a terminal, which gives no key twice."""
+        terminal = DukptTerminal(KEY[:16], SERIAL)
+        self.assertIsInstance(terminal._turns, type(threading.Lock()))
+        lock = terminal._turns = SeenLock(terminal)
+        state = type(terminal._context)
 
-                return noted
+        def read(data):
+            return lock.noting(bytes)(data) if isinstance(data, state) else bytes(data)
 
-            noted = {name: noting(KINDS[kind].calls[name]) for name in ("update", "final", "verify")}
-            copied = noting(KINDS[kind].context.from_buffer_copy)
-            with mock.patch.dict(KINDS[kind].calls, noted), mock.patch.object(KINDS[kind].context, "from_buffer_copy", copied):
-                mac.update(b"")
-                mac.verify(mac.digest())
-                mac.copy()
-                self.assertRaises(TagMismatch, mac.verify, b"")
-                mac.verify_truncated_left(mac.digest()[:4])
-            self.assertEqual((held, mac._lock.locked()), ([True] * 7, False))
-            mac.close()
-            self.assertRaises(Closed, mac.update, b"")
-            self.assertFalse(mac._lock.locked())
+        with mock.patch.object(_terminal, "_next_key", lock.noting(_terminal._next_key)), \
+                mock.patch.object(_terminal, "bytes", read, create=True), \
+                mock.patch.object(_data.Keyed, "_open", lock.noting(_data.Keyed._open)):
+            for call in (terminal.next_key, terminal.state):
+                self.assertEqual(self.turn(terminal, lock, call), [True, True])
+                self.assertEqual(lock.noted, [True, True])
+                lock.noted.clear()
+        self.assertEqual(self.turn(terminal, lock, terminal.close), [True, False])
+        for call in (terminal.next_key, terminal.state):
+            self.assertEqual(self.turn(terminal, lock, self.assertRaises, Closed, call), [False, False])
 
     def test_closing(self):
         """A cipher that another thread closes answers right, or not at all."""

@@ -18,6 +18,7 @@ from cukvashe_des import (
     TdesEde3,
     VectorLength,
     _data,
+    _lists,
     check_value,
     check_values,
     decrypt_each,
@@ -29,7 +30,7 @@ from cukvashe_des import (
     encrypt_each_into,
 )
 
-from .test_data import WatchesWiping, views, words
+from .test_data import WatchesWiping, by_columns, views, words
 from .values import ANSWERS, CMACS, COUNTS, ELEMENTS, KEY, LISTS, PADDED_MACS, PAIR, SERIALS, TEXT
 
 try:
@@ -189,6 +190,7 @@ def views_of_list(value, size):
     yield (ctypes.c_char * len(value)).from_buffer_copy(value)
     yield memoryview(value).cast("B", (count, size))
     yield memoryview(value).cast("c", (1, count, size))
+    yield by_columns(value, count)
     yield memoryview(b"".join(reversed(parts(value, size)))).cast("B", (count, size))[::-1]
     yield (ctypes.c_uint16.__ctype_be__ * (len(value) // 2)).from_buffer_copy(value)
     yield (ctypes.c_uint16.__ctype_be__ * (size // 2) * count).from_buffer_copy(value)
@@ -272,7 +274,10 @@ class Kinds(unittest.TestCase):
                 for other in (None, 3, [1, 2, 3], "text", object) if isinstance(value, (bytes, type)) else ():
                     self.assertRaises(TypeError, call, *arguments[:at], other, *arguments[at + 1 :])
         for call in (encrypt_each_into, decrypt_each_into):
-            for other in (TEXT, memoryview(TEXT), memoryview(bytearray(TEXT * 2))[::2], None, "text"):
+            for other in (TEXT, memoryview(TEXT), memoryview(bytearray(TEXT * 2))[::2], by_columns(TEXT, 3)):
+                with self.assertRaisesRegex(TypeError, "needs writable blocks in one piece"):
+                    call(TdesEde3, KEY * 3, other)
+            for other in (None, "text"):
                 self.assertRaises(TypeError, call, TdesEde3, KEY * 3, other)
 
     def test_rows(self):
@@ -321,6 +326,28 @@ class Kinds(unittest.TestCase):
             self.assertEqual(cukvashe_des.encrypt_cbc_records(cipher, TEXT[:16], numpy.array(counts, kind), TEXT), answer)
         for other in (numpy.array(counts, float), numpy.array([counts])):
             self.assertRaises(TypeError, cukvashe_des.encrypt_cbc_records, cipher, TEXT[:16], other, TEXT)
+
+    def test_apart(self):
+        """Keys and blocks of one memory at every distance: where a byte of the keys would be written over, the call has a copy of them, and
+        else the keys themselves."""
+        for kind in ANSWERS:
+            size, given = 2 * kind.key_size, []
+            memory = bytearray(some(size + 16 + size))
+            begin = ctypes.addressof(ctypes.c_uint8.from_buffer(memory))
+
+            def noting(keys, _, blocks, __):
+                given.append((keys, ctypes.addressof(blocks._obj), ctypes.string_at(keys, size)))
+                return _lists.OK
+
+            for call in (encrypt_each_into, decrypt_each_into):
+                with mock.patch.dict(_lists._EACH, {(kind.name, call.__name__[: -len("_into")]): noting}):
+                    for at in range(size + 17):
+                        call(kind, memoryview(memory)[at : at + size], memoryview(memory)[size : size + 16])
+                        keys, blocks, taken = given.pop()
+                        self.assertEqual((blocks, taken), (begin + size, memory[at : at + size]))
+                        is_apart = at + size <= size or size + 16 <= at
+                        self.assertEqual(keys == begin + at, is_apart)
+                        self.assertTrue(keys + size <= blocks or blocks + 16 <= keys)
 
     def test_overlap(self):
         """Keys that are written over meanwhile are taken as they were."""
