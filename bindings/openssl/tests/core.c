@@ -1,6 +1,7 @@
 /*
  * The provider under a core of the test's own, which sees what libcrypto hides: memory that is refused, and what is given
- * back and wiped; errors; lengths and rooms that EVP never gives; and words of the configuration. No libcrypto is linked.
+ * back and wiped; errors; lengths and rooms that EVP never gives; and words of the configuration. And over a library that
+ * is wrong in one call, since the linker takes the calls here for those that the provider tests. No libcrypto is linked.
  */
 #include "../internal.h"
 #include <openssl/err.h>
@@ -202,6 +203,90 @@ static void tells_of_itself(void) {
   params[0] = (OSSL_PARAM)OSSL_PARAM_DEFN(OSSL_PROV_PARAM_STATUS, OSSL_PARAM_INTEGER, narrow, sizeof narrow);
   CHECK(get(provider, params) == 0);
   CHECK(((OSSL_FUNC_provider_self_test_fn *)function_of(calls, OSSL_FUNC_PROVIDER_SELF_TEST))(provider) == 1);
+}
+
+/* ---- A wrong library ---- */
+
+enum call { NONE, INIT, INIT_QUIET, ENCRYPT, DECRYPT, MAC_INIT, MAC_INIT_QUIET, MAC_FINAL };
+
+enum { STATUS = -1 };
+
+/* The call that is wrong: in its status alone, or in the byte at a place of its answer, if the answer has one there. */
+static struct {
+  enum call call;
+  int place;
+} wrong;
+
+static int status_of(enum call call, int status) {
+  return wrong.call == call && wrong.place == STATUS ? CUKVASHE_ERR_KEY_LENGTH : status;
+}
+
+static void spoil(enum call call, uint8_t *answer, size_t length) {
+  if (wrong.call == call && wrong.place != STATUS && (size_t)wrong.place < length) answer[wrong.place] ^= 1;
+}
+
+#define WRAP(RESULT, NAME, ...)                                                                                       \
+  RESULT __real_cukvashe_##NAME(__VA_ARGS__);                                                                         \
+  RESULT __wrap_cukvashe_##NAME(__VA_ARGS__);                                                                         \
+  RESULT __wrap_cukvashe_##NAME(__VA_ARGS__)
+#define WRAP_INIT(NAME, CALL)                                                                                         \
+  WRAP(int, NAME, cukvashe_tdes_ede3 *context, const uint8_t *key, size_t length) {                                   \
+    return status_of(CALL, __real_cukvashe_##NAME(context, key, length));                                             \
+  }
+#define WRAP_ECB(NAME, CALL)                                                                                          \
+  WRAP(int, NAME, const cukvashe_tdes_ede3 *context, uint8_t *data, size_t length) {                                  \
+    const int status = __real_cukvashe_##NAME(context, data, length);                                                 \
+    spoil(CALL, data, length);                                                                                        \
+    return status_of(CALL, status);                                                                                   \
+  }
+#define WRAP_MAC_INIT(NAME, CALL)                                                                                     \
+  WRAP(int, NAME, cukvashe_retail_mac_des *context, const uint8_t *key, size_t length, int method) {                  \
+    return status_of(CALL, __real_cukvashe_##NAME(context, key, length, method));                                     \
+  }
+
+WRAP_INIT(tdes_ede3_init, INIT)
+WRAP_INIT(tdes_ede3_init_quiet, INIT_QUIET)
+WRAP_ECB(tdes_ede3_encrypt_ecb, ENCRYPT)
+WRAP_ECB(tdes_ede3_decrypt_ecb, DECRYPT)
+WRAP_MAC_INIT(retail_mac_des_init, MAC_INIT)
+WRAP_MAC_INIT(retail_mac_des_init_quiet, MAC_INIT_QUIET)
+
+WRAP(void, retail_mac_des_final, const cukvashe_retail_mac_des *context, uint8_t tag[8]) {
+  __real_cukvashe_retail_mac_des_final(context, tag);
+  spoil(MAC_FINAL, tag, CUKVASHE_TAG_SIZE);
+}
+
+/* Whether the provider does not serve over a library that is wrong so, and its test of itself fails where it served before. */
+static bool is_seen(enum call call, int place) {
+  CHECK(load(whole_core) == 1);
+  OSSL_FUNC_provider_self_test_fn *self_test =
+      (OSSL_FUNC_provider_self_test_fn *)function_of(calls, OSSL_FUNC_PROVIDER_SELF_TEST);
+  wrong.call = call;
+  wrong.place = place;
+  const bool is_well = self_test(provider);
+  unload();
+  const bool is_loaded = load(whole_core);
+  wrong.call = NONE;
+  if (is_loaded) unload();
+  CHECK(is_loaded == is_well && is_loaded != was_refused(PROV_R_SELF_TEST_KAT_FAILURE, ""));
+  return !is_loaded;
+}
+
+/* The list has more than 128 blocks, since there the library takes vectors of 256 bits, but for `small-stack`, which never does. */
+static void tests_itself(void) {
+  enum { NARROW = 128 * BLOCK };
+  for (int set = 0; set < 4; set++) {
+    const bool is_quiet = set & 1, is_small = set & 2;
+    no_tables = is_quiet ? "yes" : NULL;
+    small_stack = is_small ? "yes" : NULL;
+    CHECK(is_seen(INIT, STATUS) == !is_quiet && is_seen(INIT_QUIET, STATUS) == is_quiet);
+    CHECK(is_seen(MAC_INIT, STATUS) == !is_quiet && is_seen(MAC_INIT_QUIET, STATUS) == is_quiet);
+    CHECK(is_seen(ENCRYPT, STATUS) && is_seen(DECRYPT, STATUS));
+    for (int place = 0; place < BLOCK; place++) CHECK(is_seen(ENCRYPT, place) && is_seen(MAC_FINAL, place));
+    for (int place = 0; place < NARROW; place++) CHECK(is_seen(DECRYPT, place));
+    for (int place = NARROW; place < NARROW + BLOCK; place++) CHECK(is_seen(DECRYPT, place) == !is_small);
+  }
+  no_tables = small_stack = NULL;
 }
 
 /* ---- Ciphers ---- */
@@ -452,6 +537,7 @@ static void try_mac(void) {
 int main(void) {
   loads_only_over_what_it_needs();
   takes_its_configuration();
+  tests_itself();
   try_ciphers();
   try_mac();
   answers_alike_in_pieces();

@@ -1,6 +1,6 @@
 /*
  * A fault in what one call of the library answers, for a module that no one should use: a program whose answers change had
- * it, and a provider that tests itself refuses to be loaded. CBC, ECB or MAC names the call, for which the linker takes this.
+ * it, and a provider that tests itself refuses to be loaded. CBC or ECB names the call, for which the linker takes this.
  */
 #include <cukvashe_des.h>
 
@@ -28,15 +28,5 @@ int WRAP(ECB)(const cukvashe_tdes_ede3 *context, uint8_t *data, size_t length) {
   const int status = REAL(ECB)(context, data, length);
   if (length != 0) data[length - 1] ^= 1;
   return status;
-}
-#endif
-
-#ifdef MAC
-void REAL(MAC)(const cukvashe_retail_mac_des *context, uint8_t tag[8]);
-void WRAP(MAC)(const cukvashe_retail_mac_des *context, uint8_t tag[8]);
-
-void WRAP(MAC)(const cukvashe_retail_mac_des *context, uint8_t tag[8]) {
-  REAL(MAC)(context, tag);
-  tag[7] ^= 1;
 }
 #endif
