@@ -434,6 +434,7 @@ class Threads(unittest.TestCase):
                     self.assertEqual(lock.noted, [True, True])
                     lock.noted.clear()
                 self.assertEqual(self.turn(mac, lock, self.assertRaises, TagMismatch, mac.verify, b""), [True, True])
+            self.assertIsInstance(mac.copy()._lock, type(threading.Lock()))
             self.assertEqual(self.turn(mac, lock, mac.close), [True, False])
             self.assertEqual(self.turn(mac, lock, self.assertRaises, Closed, mac.update, b""), [False, False])
 
