@@ -356,7 +356,7 @@ static void hands_on_count(size_t count) {
 }
 
 /* Lists of blocks: a length that is not whole blocks goes no further. Nor does a count of keys that is not that of the blocks, since it
-   is multiplied; one of records goes on as it is. */
+   is multiplied, also where eight times as much is the length in 64 bits; one of records goes on as it is. */
 static void hands_on_blocks(size_t count, size_t length) {
   if (length % 8 != 0) {
     des_refuses_records(count, length);
@@ -380,7 +380,8 @@ static void hands_on_blocks(size_t count, size_t length) {
 }
 
 static void hands_on_any_blocks(size_t length) {
-  const size_t counts[] = {length / 8, length / 8 + 1, length, 8 * length, 0, MOST_NARROW, MOST_NARROW + 1, SIZE_MAX};
+  const size_t counts[] = {length / 8, length / 8 + 1, length / 8 + ((size_t)1 << 61), length, 8 * length, 0, MOST_NARROW,
+                           MOST_NARROW + 1, SIZE_MAX};
   for (size_t i = 0; i < sizeof counts / sizeof *counts; i++) hands_on_blocks(counts[i], length);
 }
 
