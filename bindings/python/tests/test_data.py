@@ -596,6 +596,13 @@ class Wiped(WatchesWiping):
             self.assertRaisesRegex(StateLength, f"^the state of a terminal has 346 bytes, not {length}$", DukptTerminal.from_state, bytes(length))
         self.assertEqual(self.wiped[1:], [345, 347])
 
+    def test_next_key(self):
+        """The memory in which the library made a transaction's key is wiped."""
+        terminal = DukptTerminal(KEY[:16], SERIAL)
+        self.wiped.clear()
+        _, key = terminal.next_key()
+        self.assertEqual((self.wiped, self.held), ([16], key))
+
     def test_no_other_copies(self):
         """Of the memory that a call wrote the bytes of the answer are made, and no more, which could not be wiped; of a text none."""
         short, made = wrap_key_block(PROTECTION, BLOCK_HEADER, KEY[:8]), []
