@@ -360,8 +360,10 @@ static void refuses_room(OSSL_FUNC_cipher_encrypt_init_fn *init) {
     CHECK(update(context, output, &made, made_at_once, input, length) == 1 && made == made_at_once);
     CHECK(memcmp(output, wanted, sizeof output) == 0);
     if (init == encrypt_init) {
-      CHECK(final(context, output, &last, 7) == 0 && was_refused(PROV_R_OUTPUT_BUFFER_TOO_SMALL, ""));
-      CHECK(final(context, output, &last, 8) == 1 && last == 8);
+      for (size_t room = 0; room < BLOCK; room++)
+        CHECK(final(context, output, &last, room) == 0 && was_refused(PROV_R_OUTPUT_BUFFER_TOO_SMALL, ""));
+      CHECK(final(context, output, &last, BLOCK) == 1 && last == BLOCK);
+      CHECK(final(other, wanted, &last, BLOCK) == 1 && memcmp(output, wanted, sizeof output) == 0);
     }
     CHECK(run_alone(context, output, &made, 15, input, 16) == 0 && was_refused(PROV_R_OUTPUT_BUFFER_TOO_SMALL, ""));
     free_context(context);
