@@ -153,7 +153,8 @@ class Messages(unittest.TestCase):
                 for words in (array.array("H", b"ab"), (ctypes.c_uint64 * 1)()):
                     with self.assertRaisesRegex(TypeError, "most significant byte first"):
                         call(kind, keys, right, [1, memoryview(words).nbytes - 1], words)
-            self.assertRaises(CountMismatch, cukvashe_des.macs_each, kind, key, right, [1, 2], b"abc")
+            for keys in (b"", key, key * 3):
+                self.assertRaises(CountMismatch, cukvashe_des.macs_each, kind, keys, right, [1, 2], b"abc")
 
 
 class Tags(unittest.TestCase):
