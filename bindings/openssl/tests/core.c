@@ -256,6 +256,16 @@ WRAP(void, retail_mac_des_final, const cukvashe_retail_mac_des *context, uint8_t
   spoil(MAC_FINAL, tag, CUKVASHE_TAG_SIZE);
 }
 
+/* What was wiped last, by the library's call for it, as far as a tag is long. */
+static uint8_t wiped[CUKVASHE_TAG_SIZE];
+static size_t wiped_size;
+
+WRAP(void, wipe, void *pointer, size_t size) {
+  memcpy(wiped, pointer, size < sizeof wiped ? size : sizeof wiped);
+  wiped_size = size;
+  __real_cukvashe_wipe(pointer, size);
+}
+
 /* Whether the provider does not serve over a library that is wrong so, and its test of itself fails where it served before. */
 static bool is_seen(enum call call, int place) {
   CHECK(load(whole_core) == 1);
@@ -529,6 +539,7 @@ static void try_mac(void) {
   refused_request = SIZE_MAX;
   other = copy_mac(context);
   CHECK(other != NULL && end(context, tag, &length, sizeof tag) == 1 && length == sizeof tag);
+  CHECK(wiped_size == sizeof tag && memcmp(wiped, tag, sizeof tag) == 0);
   free_mac(context);
   CHECK(end(other, other_tag, &length, sizeof tag) == 1 && memcmp(tag, other_tag, sizeof tag) == 0);
   free_mac(other);
