@@ -3,7 +3,6 @@
 import array
 import ctypes
 import threading
-import time
 import unittest
 from unittest import mock
 
@@ -390,26 +389,6 @@ class Refused(unittest.TestCase):
 
 
 class Threads(unittest.TestCase):
-    def test_runs_beside(self):
-        """While the library works on a list, another thread runs: a call gives up the lock of the interpreter."""
-        count = 200_000
-        serials, ticks, done = some(10 * count), [], threading.Event()
-
-        def tick():
-            while not done.is_set():
-                ticks.append(time.perf_counter())
-                time.sleep(0.001)
-
-        other = threading.Thread(target=tick)
-        other.start()
-        begin = time.perf_counter()
-        dukpt_transaction_keys(PAIR, serials)
-        end = time.perf_counter()
-        done.set()
-        other.join()
-        between = [at for at in ticks if begin + (end - begin) / 10 < at < end - (end - begin) / 10]
-        self.assertGreater(len(between), 3)
-
     def test_two_threads(self):
         """Two threads, each on its half of one list of keys and blocks, in place."""
         count = 20_000

@@ -48,7 +48,8 @@ class Package(unittest.TestCase):
         self.assertEqual([strerror(number).decode() for number in range(len(statuses))], list(_statuses.SENTENCES))
 
     def test_calls(self):
-        """Each call of the header is declared as it is there, but for strerror; and contexts have the size that is there."""
+        """Each call of the header is declared as it is there, but for strerror, and lets other threads run; and contexts have the size that is
+        there."""
         header = re.sub(r"/\*.*?\*/", "", read("bindings", "c", "cukvashe_des.h"), flags=re.S)
         declared = re.findall(r"^(?:CUKVASHE_CHECK )?([\w *]+?)\bcukvashe_(\w+)\(([^)]*)\)", header, flags=re.M)
         self.assertGreater(len(declared), 95)
@@ -58,6 +59,7 @@ class Package(unittest.TestCase):
                 self.assertIsNone(call)
                 continue
             self.assertIsNotNone(call, name)
+            self.assertFalse(call._flags_ & ctypes._FUNCFLAG_PYTHONAPI, name)
             expected = [] if arguments == "void" else [c_type(argument) for argument in arguments.split(",")]
             self.assertEqual(list(call.argtypes or ()), expected, name)
             self.assertIs(call.restype, ctypes.c_char_p if name == "version" else c_type(result), name)
