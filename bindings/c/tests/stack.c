@@ -157,7 +157,7 @@ static void of_record(const struct work *work) {
   }
 }
 
-enum { OF_TEXT = 21, OF_BLOCK = 5, OF_PASSWORD = 5 };
+enum { OF_TEXT = 21, OF_BLOCK = 5, OF_PASSWORD = 2 + 2 * CIPHERS };
 
 static void of_text(const struct work *work) {
   static const char *const account = "4012345678909";
@@ -217,29 +217,34 @@ static void of_block(const struct work *work) {
   }
 }
 
-/* Passwords that are longer than a block of the hash functions, and a file whose end is no padding, or, of the last cipher, is. */
-static void of_password(const struct work *work) {
-  static uint8_t file[8 * LIST], plain[8 * LIST];
+/* Opens a file by a cipher. */
+static int opened(int cipher) {
+  static uint8_t file[8 * LIST] = "Salted__", plain[8 * LIST];
   static size_t length;
   const size_t size = sizeof file;
-  memcpy(file, "Salted__", 8);
+  switch (cipher) {
+    case 0: return cukvashe_des_open_salted(CUKVASHE_SHA1, 1, others, 100, file, size, plain, size, &length);
+    case 1: return cukvashe_tdes_ede2_open_salted(CUKVASHE_MD5, 0, others, 100, file, size, plain, size, &length);
+    default: return cukvashe_tdes_ede3_open_salted(CUKVASHE_SHA256, 0, others, 100, file, size, plain, size, &length);
+  }
+}
+
+/* Passwords that are longer than a block of the hash functions, and by each cipher a file whose end is no padding, and one whose end is:
+   one password in 256 fits. */
+static void of_password(const struct work *work) {
+  const int cipher = (work->call - 2) % CIPHERS, wanted = work->call < 2 + CIPHERS ? CUKVASHE_ERR_PADDING : CUKVASHE_OK;
   switch (work->call) {
     case 0: returned = cukvashe_pbkdf2(CUKVASHE_SHA256, others, 100, blocks, 100, 2, key, 24); break;
-    case 1:
-      returned = cukvashe_bytes_to_key(CUKVASHE_SHA256, others, 100, blocks, 8, key, 24);
-      CHECK(returned == CUKVASHE_OK);
-      break;
-    case 2: returned = cukvashe_des_open_salted(CUKVASHE_SHA1, 1, others, 100, file, size, plain, size, &length); break;
-    case 3: returned = cukvashe_tdes_ede2_open_salted(CUKVASHE_MD5, 0, others, 100, file, size, plain, size, &length); break;
+    case 1: returned = cukvashe_bytes_to_key(CUKVASHE_SHA256, others, 100, blocks, 8, key, 24); break;
     default:
-      /* One password in 256 fits. */
       do {
         others[0]++;
         others[1] += others[0] == 0;
-        returned = cukvashe_tdes_ede3_open_salted(CUKVASHE_SHA256, 0, others, 100, file, size, plain, size, &length);
-      } while (returned != CUKVASHE_OK);
-      break;
+        returned = opened(cipher);
+      } while (returned != wanted);
+      return;
   }
+  CHECK(returned == CUKVASHE_OK);
 }
 
 /* Whether a call must leave no key: one that takes a context may, and one that takes no key has none. */
