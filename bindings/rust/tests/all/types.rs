@@ -138,23 +138,28 @@ fn terminals_are_no_different() {
     is_shown_as(&DecimalTable::new(b"0123456789012345").unwrap(), "DecimalTable");
 }
 
-/// A key out of a key block has no clone either. No byte of it is left when it is dropped.
+/// A key out of a key block has no clone either. No byte of it is left when it is dropped, also of the longest.
 #[test]
 fn keys_of_blocks_are_no_different() {
     fn shared<T: Send + Sync>(_: &T) {}
     let protection = 0xdd7515f2bfc17f85ce48f3ca25cb21f6u128.to_be_bytes();
     let block = b"B0080P0TE00E000094B420079CC80BA3461F86FE26EFC4A3B8E4FA4C5F5341176EED7B727B8A248E";
-    let (_, key) = key_blocks::unwrap(&protection, block).unwrap();
-    shared(&key);
-    is_shown_as(&key, "BlockKey");
-    let bytes = key.bytes().to_vec();
-    let mut place = MaybeUninit::new(key);
-    // SAFETY: as of `is_wiped`; what is read is made of bytes and of a number, with nothing between them.
-    let left = unsafe {
-        place.assume_init_drop();
-        slice::from_raw_parts(place.as_ptr().cast::<u8>(), size_of::<BlockKey>())
-    };
-    assert!(left.windows(2).all(|pair| !bytes.windows(2).any(|given| given == pair)));
+    let mut other = [0; 200];
+    let header = key_blocks::header(block).unwrap();
+    let size = key_blocks::wrap(&protection, &header, &[], &KEY, &[7; 6], &mut other).unwrap();
+    for block in [&block[..], &other[..size]] {
+        let (_, key) = key_blocks::unwrap(&protection, block).unwrap();
+        shared(&key);
+        is_shown_as(&key, "BlockKey");
+        let bytes = key.bytes().to_vec();
+        let mut place = MaybeUninit::new(key);
+        // SAFETY: as of `is_wiped`; what is read is made of bytes and of a number, with nothing between them.
+        let left = unsafe {
+            place.assume_init_drop();
+            slice::from_raw_parts(place.as_ptr().cast::<u8>(), size_of::<BlockKey>())
+        };
+        assert!(left.windows(2).all(|pair| !bytes.windows(2).any(|given| given == pair)));
+    }
 }
 
 /// Without an equality or a hash no one compares secrets byte by byte, without `Display` no one prints them, and no conversion
