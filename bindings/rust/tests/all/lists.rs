@@ -134,6 +134,10 @@ fn macs_answer<M: Mac, const SIZE: usize>(each: EachOf<SIZE>, one: OneOf<SIZE>) 
         assert_eq!(tags, wanted);
         let mut more = some::<8>(count + 1, 5);
         assert_eq!(each(&keys, &messages, &mut more), Err(CountsDiffer));
+        let mut stays = vec![[3; 8]; count];
+        assert_eq!(each(&some::<SIZE>(count + 1, 1), &messages, &mut stays), Err(CountsDiffer));
+        assert!(count == 0 || each(&keys[1..], &messages, &mut stays) == Err(CountsDiffer));
+        assert_eq!(stays, vec![[3; 8]; count]);
         assert_eq!(more, some::<8>(count + 1, 5));
         let Some(key) = keys.first() else { continue };
         assert_eq!(one(key, &messages, &mut tags), Ok(()));
