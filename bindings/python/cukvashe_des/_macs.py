@@ -21,7 +21,7 @@ _Self = TypeVar("_Self", bound="Mac")
 
 class Mac(Keyed):
     """A message authentication code of a message that comes in pieces. Threads may share one: its calls take turns. A quiet one
-    reads no tables at addresses that depend on the key or the message, and takes about three times as long."""
+    reads no tables at addresses that depend on the key or the message, and takes two to two and a half times as long."""
 
     __slots__ = ("_lock",)
 

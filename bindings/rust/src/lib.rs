@@ -186,7 +186,8 @@ macro_rules! cipher {
             }
 
             /// The quiet cipher of a key, which answers as that of `new`: no call of it, or of a clone, reads a table at an
-            /// index that depends on the key or the data. A single block and CBC encryption take about three times as long.
+            /// index that depends on the key or the data. A single block and CBC encryption take two to two and a
+            /// half times as long.
             pub fn new_quiet(key: &[u8; $key_size]) -> Self {
                 let mut cipher = $name { context: ffi::$name::empty() };
                 // SAFETY: as of `new`.

@@ -136,7 +136,7 @@ macro_rules! mac {
 
         impl$(<$padding: Padding>)? $name$(<$padding>)? {
             /// The quiet state of the message of no bytes under a key: no call of it, or of a clone, reads a table at an
-            /// index that depends on the key or the message. It takes about three times as long.
+            /// index that depends on the key or the message. It takes two to two and a half times as long.
             pub fn new_quiet(key: &[u8; $key_size]) -> Self {
                 let mut mac = $name { context: ffi::$name::empty(), padding: PhantomData };
                 // SAFETY: the pointers are of references, good for their lengths, and don't overlap. The status is 0, since
