@@ -18,9 +18,9 @@ use des::cbc::next_vector;
 use des_fast::many::{ManyBlocks, Slice};
 use des_fast::ways::Tables;
 
-// Encrypts each block by itself.
+// Encrypts each block by itself, by a cipher.
 #[inline(never)]
-fn encrypt<C: OfContext + ManyBlocks, S: Slice>(context: &[u64], blocks: &mut [[u8; 8]])
+fn encrypt_by<C: OfContext + ManyBlocks, S: Slice>(context: &[u64], blocks: &mut [[u8; 8]])
     requires form { HasForm C.FORM context.now }
     requires made { (key : List ℕ) × IsContextOf context.now key }
     ensures { (key : List ℕ) → IsContextOf context.now key
@@ -29,9 +29,18 @@ fn encrypt<C: OfContext + ManyBlocks, S: Slice>(context: &[u64], blocks: &mut [[
     C::of(context).encrypt_list_by::<S>(is_quiet(context), blocks);
 }
 
-// Decrypts each block by itself.
+// Encrypts each block by itself.
+fn encrypt<S: Slice>(context: &[u64], blocks: &mut [[u8; 8]])
+    requires { (key : List ℕ) × IsContextOf context.now key }
+    ensures { (key : List ℕ) → IsContextOf context.now key
+        → IsTheOne (λ answers. AnswersEach (relation_of key) blocks.old answers) blocks.new }
+{
+    by_form!(encrypt_by::<Tables, S>(context, blocks));
+}
+
+// Decrypts each block by itself, by a cipher.
 #[inline(never)]
-fn decrypt<C: OfContext + ManyBlocks, S: Slice>(context: &[u64], blocks: &mut [[u8; 8]])
+fn decrypt_by<C: OfContext + ManyBlocks, S: Slice>(context: &[u64], blocks: &mut [[u8; 8]])
     requires form { HasForm C.FORM context.now }
     requires made { (key : List ℕ) × IsContextOf context.now key }
     ensures { (key : List ℕ) → IsContextOf context.now key
@@ -40,9 +49,18 @@ fn decrypt<C: OfContext + ManyBlocks, S: Slice>(context: &[u64], blocks: &mut [[
     C::of(context).decrypt_list_by::<S>(is_quiet(context), blocks);
 }
 
-// Encrypts blocks by CBC from the vector, which becomes the last ciphertext block.
+// Decrypts each block by itself.
+fn decrypt<S: Slice>(context: &[u64], blocks: &mut [[u8; 8]])
+    requires { (key : List ℕ) × IsContextOf context.now key }
+    ensures { (key : List ℕ) → IsContextOf context.now key
+        → IsTheOne (λ answers. AnswersEach (relation_of key) answers blocks.old) blocks.new }
+{
+    by_form!(decrypt_by::<Tables, S>(context, blocks));
+}
+
+// Encrypts blocks by CBC from the vector, which becomes the last ciphertext block, by a cipher.
 #[inline(never)]
-fn chain<C: OfContext + ManyBlocks>(context: &[u64], iv: &mut [u8; 8], blocks: &mut [[u8; 8]])
+fn chain_by<C: OfContext + ManyBlocks>(context: &[u64], iv: &mut [u8; 8], blocks: &mut [[u8; 8]])
     requires form { HasForm C.FORM context.now }
     requires made { (key : List ℕ) × IsContextOf context.now key }
     ensures chained { (key : List ℕ) → IsContextOf context.now key
@@ -53,7 +71,17 @@ fn chain<C: OfContext + ManyBlocks>(context: &[u64], iv: &mut [u8; 8], blocks: &
     *iv = next_vector(iv, blocks);
 }
 
-// Decrypts blocks that CBC chained from the vector.
+// Encrypts blocks by CBC from the vector, which becomes the last ciphertext block.
+fn chain(context: &[u64], iv: &mut [u8; 8], blocks: &mut [[u8; 8]])
+    requires { (key : List ℕ) × IsContextOf context.now key }
+    ensures chained { (key : List ℕ) → IsContextOf context.now key
+        → Chains (relation_of key) iv.old blocks.old blocks.new }
+    ensures goes_on { iv.new ≡ next_vector iv.old blocks.new }
+{
+    by_form!(chain_by::<Tables>(context, iv, blocks));
+}
+
+// Decrypts blocks that CBC chained from the vector, by a cipher.
 #[inline(never)]
 fn unchain_by<C: OfContext + ManyBlocks, S: Slice>(
     context: &[u64],
@@ -97,7 +125,7 @@ pub fn encrypt_ecb<S: Slice>(context: &[u64], blocks: &mut [[u8; 8]], size: usiz
     if !are_bytes_of(blocks, size) {
         return ERR_BLOCKS;
     }
-    by_form!(encrypt::<Tables, S>(context, blocks));
+    encrypt::<S>(context, blocks);
     OK
 }
 
@@ -113,7 +141,7 @@ pub fn decrypt_ecb<S: Slice>(context: &[u64], blocks: &mut [[u8; 8]], size: usiz
     if !are_bytes_of(blocks, size) {
         return ERR_BLOCKS;
     }
-    by_form!(decrypt::<Tables, S>(context, blocks));
+    decrypt::<S>(context, blocks);
     OK
 }
 
@@ -132,7 +160,7 @@ pub fn encrypt_cbc(context: &[u64], iv: &mut [u8; 8], blocks: &mut [[u8; 8]], si
     if !are_bytes_of(blocks, size) {
         return ERR_BLOCKS;
     }
-    by_form!(chain::<Tables>(context, iv, blocks));
+    chain(context, iv, blocks);
     OK
 }
 

@@ -1,5 +1,5 @@
 use Rattle.des.proofs.ChainedBlocks.{Chains-weaker}
-use Rattle.des_context.proofs.calls.chain.Goals as goal
+use Rattle.des_context.proofs.calls.chain_by.Goals as goal
 
 pub returns-clause-chained : goal.returns-clause-chained
 returns-clause-chained g c key context =
