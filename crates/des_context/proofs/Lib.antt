@@ -1,3 +1,4 @@
+mod FormOfWords
 mod JoinedParts
 mod KeysOfBytes
 mod MacCases
