@@ -62,6 +62,18 @@ fn extend<C: OfContext>(context: &[u64], message: &mut Message, bytes: &[u8])
     message.progress = mac.progress();
 }
 
+// Adds bytes by a cipher that reads tables or not, as the way has it.
+fn extend_by<W: Way>(context: &[u64], message: &mut Message, bytes: &[u8])
+    requires made { (key : List ℕ) × IsContextOf context.now key }
+    requires progress { HoldsOneBlock message.old.progress }
+    ensures progress { (key m : List ℕ) → IsContextOf context.now key
+        → IsProgressOf (encryption_of key) message.old.progress m
+        → IsProgressOf (encryption_of key) message.new.progress (m ++ bytes.now) }
+    ensures padding { message.new.padding ≡ message.old.padding }
+{
+    by_form!(extend::<W>(context, message, bytes));
+}
+
 // Adds bytes by a cipher that reads tables or, where the context is quiet, by one that reads none.
 fn extend_by_context(context: &[u64], message: &mut Message, bytes: &[u8])
     requires made { (key : List ℕ) × IsContextOf context.now key }
@@ -72,9 +84,9 @@ fn extend_by_context(context: &[u64], message: &mut Message, bytes: &[u8])
     ensures padding { message.new.padding ≡ message.old.padding }
 {
     if is_quiet(context) {
-        by_form!(extend::<Quiet>(context, message, bytes));
+        extend_by::<Quiet>(context, message, bytes);
     } else {
-        by_form!(extend::<Tables>(context, message, bytes));
+        extend_by::<Tables>(context, message, bytes);
     }
 }
 
