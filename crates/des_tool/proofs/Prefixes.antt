@@ -2,8 +2,8 @@
 use Rattle.std.proofs.Common.{◌≡◌, ℕ, ◌+◌, min, List, ◌++◌, length, take, Option, sym, ◌∙◌, subst, arith}
 use Rattle.std.proofs.Math.Seq.{take-append-add}
 use Rattle.std.proofs.lemmas.List.{take_min, take-append-le}
-use Rattle.std.specs.Io.KnownBytes.{Appends, Keeps}
-use Rattle.std.proofs.KnownBytes.{Appends-trans, Appends-kept}
+use Rattle.std.specs.Io.KnownBytes.{Appends}
+use Rattle.std.proofs.KnownBytes.{Appends-trans}
 use Rattle.des_tool.specs.Status.{AppendsPrefix}
 
 -- a prefix of the first text
@@ -22,8 +22,3 @@ AppendsPrefix-second a b c first second whole part =
     let same : first ++ take part.0 second ≡ take (length first + part.0) (first ++ second) =
     sym (take-append-add first second part.0) in
     (length first + part.0, subst (Appends a c) same (Appends-trans a b c _ _ whole part.1))
-
--- and then no more
-pub AppendsPrefix-kept : (a b c : Option (List ℕ)) (text : List ℕ) → AppendsPrefix a b text → Keeps b c
-    → AppendsPrefix a c text
-AppendsPrefix-kept a b c text part kept = (part.0, Appends-kept a b c _ part.1 kept)

@@ -10,5 +10,5 @@ mod status;
 
 pub use answers::answer;
 pub use fault::Fault;
-pub use process::{run, run_on};
-pub use status::{finish, show};
+pub use process::run;
+pub use status::show;

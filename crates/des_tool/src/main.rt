@@ -4,8 +4,14 @@
 
 mod command;
 
+use std::env;
 use std::process::ExitCode;
 
 fn main(rt: HostRuntime) -> ExitCode {
-    command::run(&rt, &mut rt.stdout(), &mut rt.stderr())
+    command::run(
+        rt.alloc(),
+        env::args(&rt),
+        &mut rt.stdout(),
+        &mut rt.stderr(),
+    )
 }

@@ -1,73 +1,52 @@
-//! The process: its arguments are fetched and answered, and the answer is written.
+//! The process: its arguments are answered as they were read, and the answer is shown.
 
-ghost use Rattle.std.specs.Prelude.{◌≡◌, ◌≢◌, ℕ, List, Result, Ok, IfOk, OnErr};
+ghost use Rattle.std.specs.Prelude.{◌≡◌, ◌⊎◌, ℕ, List, Result, Err};
 ghost use Rattle.std.specs.IoError.{error_kind};
 ghost use Rattle.std.specs.Process.{exit_status};
-ghost use Rattle.des_tool.specs.Request.{texts};
-ghost use Rattle.des_tool.specs.Run.{IsRun};
+ghost use Rattle.des_tool.specs.Run.{texts_of_args, fault_of_kind, IsAnswered, IsReadAs, IsRun};
 
 use super::answers::answer;
 use super::fault::Fault;
-use super::status::finish;
+use super::status::show;
 use std::alloc::Global;
-use std::env::Env;
-use std::io::{ErrorKind, Write};
+use std::env::Args;
+use std::io::{self, ErrorKind, Write};
 use std::process::ExitCode;
-use std::{env, io};
 
-/// Answers the arguments of a command line, without the program's own name, writes what `show`
-/// writes, and gives its status as the exit status.
-pub fn run_on<W: Write, E: Write>(
+/// Answers the arguments of the process, as `env::args` reads them, writes what `show` writes, and
+/// gives its status as the exit status.
+///
+/// The first argument is the program's own name. Arguments that are not text are at fault, as those
+/// that have no shape that is known.
+pub fn run<W: Write, E: Write>(
     alloc: Global,
-    arguments: &[&str],
+    arguments: io::Result<Args>,
     out: &mut W,
     err: &mut E,
 ) -> ExitCode
-    ensures { IsRun W.contents E.contents (Ok (texts arguments.now)) (exit_status result)
-        out.old out.new err.old err.new }
+    ensures { (read : Result (List (List ℕ)) Fault) × IsReadAs arguments read
+        × IsRun W.contents E.contents read (exit_status result) out.old out.new err.old err.new }
 {
-    finish(&answer(alloc, arguments), out, err)
-}
-
-/// Runs on the arguments of the process, as `run_on` does. Arguments that are not text are at
-/// fault, as those that have no shape that is known.
-pub fn run<R: Env + AllocGlobal, W: Write, E: Write>(rt: &R, out: &mut W, err: &mut E) -> ExitCode
-    // No contract says which arguments the process has.
-    ensures { (arguments : Result (List (List ℕ)) Fault)
-        × IsRun W.contents E.contents arguments (exit_status result)
-        out.old out.new err.old err.new }
-{
-    match run_on_arguments(rt, out, err) {
-        Ok(code) => code,
-        Err(fault) => finish(&Err(fault), out, err),
+    match arguments {
+        Ok(args) => ExitCode::from(show(&answer_args(alloc, args), out, err)),
+        Err(error) => ExitCode::from(show(&Err(fault_of_error(error)), out, err)),
     }
 }
 
-// The first argument of the process is the program's own name.
-fn run_on_arguments<R: Env + AllocGlobal, W: Write, E: Write>(
-    rt: &R,
-    out: &mut W,
-    err: &mut E,
-) -> Result<ExitCode, Fault>
-    ensures ran { IfOk result (λ code. (arguments : List (List ℕ))
-        × IsRun W.contents E.contents (Ok arguments) (exit_status code)
-        out.old out.new err.old err.new) }
-    ensures out { OnErr result (out.new ≡ out.old) }
-    ensures err { OnErr result (err.new ≡ err.old) }
+fn answer_args(alloc: Global, args: Args) -> Result<Vec<u8>, Fault>
+    ensures { (result ≡ Err Fault.Memory) ⊎ IsAnswered (texts_of_args args) result }
 {
-    let arguments = env::args(rt).map_err(fault_of_arguments)?;
-    let arguments: Vec<String> = arguments.skip(1).collect(rt.alloc())?;
+    let arguments: Vec<String> = args.skip(1).collect(alloc)?;
     let arguments: Vec<&str> = arguments
         .iter()
         .map(|argument| argument.as_str())
-        .collect(rt.alloc())?;
-    Ok(run_on(rt.alloc(), arguments.as_slice(), out, err))
+        .collect(alloc)?;
+    answer(alloc, arguments.as_slice())
 }
 
 // Arguments that are not text have no shape that is known.
-fn fault_of_arguments(error: io::Error) -> Fault
-    ensures memory { error_kind error ≡ ErrorKind.OutOfMemory → result ≡ Fault.Memory }
-    ensures usage { error_kind error ≢ ErrorKind.OutOfMemory → result ≡ Fault.Usage }
+fn fault_of_error(error: io::Error) -> Fault
+    ensures { result ≡ fault_of_kind (error_kind error) }
 {
     match error.kind() {
         ErrorKind::OutOfMemory => Fault::Memory,

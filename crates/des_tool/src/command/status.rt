@@ -2,13 +2,11 @@
 
 ghost use Rattle.std.specs.Prelude.{OnOk};
 ghost use Rattle.std.specs.Io.KnownBytes.{Appends};
-ghost use Rattle.std.specs.Process.{exit_status};
 ghost use Rattle.des_tool.specs.Fault.{line_of};
 ghost use Rattle.des_tool.specs.Status.{AppendsPrefix, IsShown};
 
 use super::fault::Fault;
 use std::io::{self, Error, ErrorKind, Write};
-use std::process::ExitCode;
 
 // The statuses that the program ends with.
 const ANSWER_WRITTEN: u8 = 0;
@@ -47,7 +45,7 @@ pub fn show<W: Write, E: Write>(answer: &Result<Vec<u8>, Fault>, out: &mut W, er
     ensures { IsShown W.contents E.contents answer.now result out.old out.new err.old err.new }
 {
     match answer {
-        Ok(text) => match send(out, text.as_slice()) {
+        Ok(text) => match write_whole(out, text.as_slice()) {
             Ok(()) => ANSWER_WRITTEN,
             Err(_) => ANSWER_NOT_WRITTEN,
         },
@@ -58,8 +56,8 @@ pub fn show<W: Write, E: Write>(answer: &Result<Vec<u8>, Fault>, out: &mut W, er
     }
 }
 
-// Writes the bytes. Where that fails, a prefix of them is written. A write that was interrupted is
-// tried again.
+// Writes the bytes and flushes. Where that fails, a prefix of them is written. A write that was
+// interrupted is tried again.
 fn write_whole<W: Write>(out: &mut W, bytes: &[u8]) -> io::Result<()>
     ensures part { AppendsPrefix (W.contents out.old) (W.contents out.new) bytes.now }
     ensures whole { OnOk result (Appends (W.contents out.old) (W.contents out.new) bytes.now) }
@@ -67,7 +65,7 @@ fn write_whole<W: Write>(out: &mut W, bytes: &[u8]) -> io::Result<()>
     let mut at = 0;
     for _ in 0..u64::MAX {
         if at >= bytes.len() {
-            return Ok(());
+            return out.flush();
         }
         match out.write(&bytes[at..]) {
             Ok(0) => return Err(Error::from(ErrorKind::WriteZero)),
@@ -83,32 +81,11 @@ fn write_whole<W: Write>(out: &mut W, bytes: &[u8]) -> io::Result<()>
     Err(Error::from(ErrorKind::TimedOut))
 }
 
-fn send<W: Write>(out: &mut W, text: &[u8]) -> io::Result<()>
-    ensures part { AppendsPrefix (W.contents out.old) (W.contents out.new) text.now }
-    ensures whole { OnOk result (Appends (W.contents out.old) (W.contents out.new) text.now) }
-{
-    write_whole(out, text)?;
-    out.flush()
-}
-
 fn report<E: Write>(fault: Fault, err: &mut E) -> io::Result<()>
     ensures part { AppendsPrefix (E.contents err.old) (E.contents err.new) (line_of fault) }
     ensures whole { OnOk result
         (Appends (E.contents err.old) (E.contents err.new) (line_of fault)) }
 {
     write_whole(err, fault.name().as_bytes())?;
-    write_whole(err, b"\n")?;
-    err.flush()
-}
-
-/// Writes what `show` writes, and gives its status as the exit status.
-pub fn finish<W: Write, E: Write>(
-    answer: &Result<Vec<u8>, Fault>,
-    out: &mut W,
-    err: &mut E,
-) -> ExitCode
-    ensures { IsShown W.contents E.contents answer.now (exit_status result)
-        out.old out.new err.old err.new }
-{
-    ExitCode::from(show(answer, out, err))
+    write_whole(err, b"\n")
 }
