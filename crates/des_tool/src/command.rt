@@ -7,6 +7,8 @@ mod fault;
 mod process;
 mod request;
 mod status;
+#[cfg(test)]
+mod tests;
 
 pub use answers::answer;
 pub use fault::Fault;
