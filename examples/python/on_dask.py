@@ -10,7 +10,7 @@ import os
 import sys
 
 import cukvashe_des
-from dask.distributed import Client
+from dask.distributed import Client, LocalCluster
 
 
 def decrypted(key_file, vectors, counts, blocks):
@@ -35,7 +35,7 @@ def main(key_file, table):
     vectors = bytes.fromhex("".join(row["vector"] for row in rows))
     blocks = bytes.fromhex("".join(row["ciphertext"] for row in rows))
     column = vectors, [len(row["ciphertext"]) // 16 for row in rows], blocks
-    with Client(n_workers=2, threads_per_worker=1, dashboard_address=None) as client:
+    with LocalCluster(n_workers=2, threads_per_worker=1, dashboard_address=None) as cluster, Client(cluster) as client:
         key_file = os.path.abspath(key_file)  # where each worker has it
         parts = [client.submit(decrypted, key_file, *part) for part in partitions(*column, size=9_999)]
         plain = b"".join(client.gather(parts))
