@@ -7,14 +7,20 @@
 #
 # CFLAGS and LDFLAGS are for the programs alone.
 PREFIX = /usr/local
-CFLAGS = -O2
+CFLAGS = -O2 -fPIE
+LDFLAGS ?= -pie
 machine := $(shell $(CC) -dumpmachine)
 processor := $(firstword $(subst -, ,$(machine)))
 target := $(if $(findstring apple,$(machine)),macos,$(if $(findstring mingw,$(machine)),windows,$(filter-out x86_64,$(processor))))
+shared_macos := 2.dylib
+shared_windows := dll.a
 text := generated/$(or $(target),x86_64)
-library := bindings/out/$(target:%=%/)lib/libcukvashe_des.a
+shared := $(or $(shared_$(target)),so.2)
+library := $(addprefix bindings/out/$(target:%=%/)lib/libcukvashe_des.,a $(shared))
 programs := $(if $(findstring linux,$(machine)),$(notdir $(basename $(wildcard $(text)/des_tool.s $(text)/cukvashe.s))))
-to = $(target:%=--target %) $(if $(programs),--programs) --prefix '$(PREFIX)' $(if $(DESTDIR),--destdir '$(DESTDIR)')
+# A word for the shell, whatever characters are in it.
+quoted = '$(subst ','\'',$(1))'
+to = $(target:%=--target %) $(if $(programs),--programs) --prefix $(call quoted,$(PREFIX)) $(if $(DESTDIR),--destdir $(call quoted,$(DESTDIR)))
 
 .PHONY: all check check-library check-programs install uninstall clean always
 # The tests of the library and of the programs run at once, and take what is built before.
@@ -22,20 +28,25 @@ MAKEFLAGS += --jobs=2
 all: $(library) $(programs)
 
 # Changes with the compiler and its words, and with it what they made.
+made_by = $(call quoted,$(CC) $(machine) $(CFLAGS) $(LDFLAGS))
 out/made_by: always
 	@mkdir -p out
-	@echo '$(CC) $(machine) $(CFLAGS) $(LDFLAGS)' | cmp -s - $@ || echo '$(CC) $(machine) $(CFLAGS) $(LDFLAGS)' >$@
+	@echo $(made_by) | cmp -s - $@ || echo $(made_by) >$@
 
-$(library): out/made_by VERSION bindings/build bindings/c/cukvashe_des.h generated/cukvashe_des.h $(wildcard bindings/c/src/* $(text)/*/library*.s $(text)/library*.s)
-	@CC='$(CC)' bindings/build --generated $(target:%=--target %)
+# One recipe makes both libraries, which makes before 4.3 take of patterns alone.
+%/libcukvashe_des.a %/libcukvashe_des.$(shared): out/made_by VERSION bindings/build bindings/c/cukvashe_des.h generated/cukvashe_des.h \
+  $(wildcard bindings/c/src/* $(text)/*/library*.s $(text)/library*.s)
+	@CC=$(call quoted,$(CC)) bindings/build --generated $(target:%=--target %)
 
+# A program has its name once it is whole.
 $(programs): %: $(text)/%.s bindings/programs/system.c out/made_by
-	$(CC) $(CFLAGS) $(LDFLAGS) -o $@ $(text)/$@.s bindings/programs/system.c
+	$(CC) $(CFLAGS) $(LDFLAGS) -Wl,-z,relro,-z,now -o out/$@ $(text)/$@.s bindings/programs/system.c
+	@mv out/$@ $@
 
 check: check-library check-programs
 
 # The tests call make themselves, with the words that it was called with, and take none of its jobs.
-tests = MAKEFLAGS='-- $(MAKEOVERRIDES)' CC='$(CC)'
+tests = MAKEFLAGS=$(call quoted,-- $(MAKEOVERRIDES)) CC=$(call quoted,$(CC))
 
 check-library: $(library)
 	$(if $(target),@echo 'the tests of C are left out: here they are for x86-64 with Linux',$(tests) bindings/c/test --leave-out)
@@ -51,4 +62,4 @@ uninstall:
 
 clean:
 	rm -rf $(programs) out/made_by
-	cd bindings && rm -rf $(foreach folder,out out/aarch64 out/riscv64 out/windows out/macos,$(addprefix $(folder)/,bin include lib objects share tests))
+	cd bindings && rm -rf $(foreach folder,out out/aarch64 out/riscv64 out/windows out/macos,$(addprefix $(folder)/,bin include lib objects share tests unfinished.*))
