@@ -62,7 +62,7 @@ class Browser:
         request = urllib.request.Request(f"http://127.0.0.1:{self.port}{self.place or ''}{path}", data,
                                          {"Content-Type": "application/json"}, method=method)
         try:
-            with urllib.request.urlopen(request, timeout=60) as answer:
+            with urllib.request.urlopen(request, timeout=600) as answer:
                 return json.load(answer)["value"]
         except urllib.error.HTTPError as error:
             raise SystemExit(f"chromedriver refuses {method} {path}: {error.read().decode()[:600]}") from error
@@ -87,7 +87,7 @@ class Browser:
 
     def open(self, page):
         self.ask("POST", "/url", {"url": pathlib.Path(page).resolve().as_uri()})
-        for _ in range(200):
+        for _ in range(1200):
             state = self.run("return document.getElementById('state').textContent")
             if not state.startswith("This page computes by JavaScript"):
                 return state
@@ -116,17 +116,21 @@ def same(got, wanted, what):
     count += 1
 
 
+def becomes(browser, code, wanted, what, *arguments):
+    """Compares what a page has come to, for which a busy machine may take a while: a minute at most."""
+    end = time.monotonic() + 60
+    while (got := browser.run(code, *arguments)) != wanted and time.monotonic() < end:
+        time.sleep(0.02)
+    same(got, wanted, what)
+
+
 # ---- What a person does
 
 def choose(browser, calculation):
     """Chooses a calculation by its link; its title then has the focus."""
     browser.run("document.querySelector(`nav a[href='#${arguments[0]}']`).click()", calculation)
-    for _ in range(40):
-        if browser.run("return document.activeElement.id") == f"{calculation}-title":
-            break
-        time.sleep(0.025)
-    same(browser.run("return [document.activeElement.id, [...document.querySelectorAll('section:not([hidden])')].map(it => it.id)]"),
-         [f"{calculation}-title", [calculation]], f"the focus after {calculation}")
+    becomes(browser, "return [document.activeElement.id, [...document.querySelectorAll('section:not([hidden])')].map(it => it.id)]",
+            [f"{calculation}-title", [calculation]], f"the focus after {calculation}")
 
 
 def fill(browser, calculation, **texts):
@@ -544,8 +548,7 @@ def by_keyboard(page):
     # To the last calculation, and a choice by its first letter.
     browser.run("document.querySelector('nav li:last-child a').focus()")
     browser.press(ENTER)
-    time.sleep(0.2)
-    same(browser.run("return document.activeElement.id"), "blocks-title", "the title after a choice by keyboard")
+    becomes(browser, "return document.activeElement.id", "blocks-title", "the title after a choice by keyboard")
     browser.press(TAB + "D" + TAB + TAB + "133457799bbcdff1" + TAB + "85e813540f0ab405")
     browser.press(TAB + ENTER)
     same(answers(browser, "blocks")["Plaintext"], "0123456789ABCDEF", "decryption by keyboard")
@@ -563,11 +566,15 @@ def copies(browser, page):
         browser.command("Browser.grantPermissions", permissions=["clipboardReadWrite", "clipboardSanitizedWrite"])
         buttons = browser.run("return [...document.querySelectorAll('#dukpt .copy')].map((it) => it.getAttribute('aria-label'))")
         same(len(buttons), 10, "the buttons")
-        browser.run("document.querySelector(\"#dukpt [aria-label='Copy PIN key']\").focus()")
+        # The button says it for two seconds.
+        browser.run("""
+          const button = document.querySelector("#dukpt [aria-label='Copy PIN key']");
+          button.focus();
+          window.said = [];
+          new MutationObserver(() => window.said.push(button.textContent)).observe(button, { childList: true });""")
         browser.press(ENTER)
-        time.sleep(0.2)
-        same(browser.run("return [document.activeElement.textContent, document.getElementById('said').textContent]"),
-             ["Copied", "Copied: PIN key"], f"what is said of a copy, allowed: {is_allowed}")
+        becomes(browser, "return [window.said[0], document.getElementById('said').textContent]",
+                ["Copied", "Copied: PIN key"], f"what is said of a copy, allowed: {is_allowed}")
         same(browser.run("return navigator.clipboard.readText()"), EXAMPLES["dukpt"]["PIN key"], f"the clipboard, allowed: {is_allowed}")
 
 
@@ -596,10 +603,9 @@ def is_kept_clean(browser, page):
     for calculation in EXAMPLES:
         browser.run("document.querySelectorAll(`#${arguments[0]} .buttons button`)[1].click()", calculation)
     browser.run("document.getElementById('clear').click()")
-    time.sleep(0.1)
-    same(browser.run("return [...document.querySelectorAll('input, textarea')].filter((it) => it.value !== '').length + document.querySelectorAll('dl').length"),
-         0, "what is left after clearing")
-    same(browser.run("return document.getElementById('state').textContent"), "Every field is empty.", "what is said after clearing")
+    becomes(browser, "return [...document.querySelectorAll('input, textarea')].filter((it) => it.value !== '').length + document.querySelectorAll('dl').length",
+            0, "what is left after clearing")
+    becomes(browser, "return document.getElementById('state').textContent", "Every field is empty.", "what is said after clearing")
     address = pathlib.Path(page).resolve().as_uri()
     messages = [json.loads(entry["message"])["message"] for entry in browser.log("performance")]
     requests = [it["params"] for it in messages if it["method"] == "Network.requestWillBeSent"]
@@ -608,15 +614,14 @@ def is_kept_clean(browser, page):
     same(sent, {address}, "the requests")
     same([entry["message"] for entry in browser.log("browser")], [], "the console")
     same(browser.run("return [localStorage.length, sessionStorage.length, document.cookie]"), [0, 0, ""], "what is kept")
-    refused = browser.run("""
-      const said = [], wait = [];
-      document.addEventListener("securitypolicyviolation", (event) => said.push(event.effectiveDirective));
+    browser.run("""
+      window.refused = [];
+      document.addEventListener("securitypolicyviolation", (event) => window.refused.push(event.effectiveDirective));
       fetch(arguments[0]).catch(() => 0);
       new Image().src = arguments[0];
       document.body.append(Object.assign(document.createElement("script"), { textContent: "document.title = 'run'" }));
-      document.body.append(Object.assign(document.createElement("iframe"), { src: arguments[0] }));
-      return new Promise((end) => setTimeout(() => end(said.sort()), 500));""", f"http://127.0.0.1:{browser.port}/status")
-    same(refused, ["connect-src", "frame-src", "img-src", "script-src-elem"], "what the policy refuses")
+      document.body.append(Object.assign(document.createElement("iframe"), { src: arguments[0] }));""", f"http://127.0.0.1:{browser.port}/status")
+    becomes(browser, "return window.refused.sort()", ["connect-src", "frame-src", "img-src", "script-src-elem"], "what the policy refuses")
 
 
 def looks(page):
