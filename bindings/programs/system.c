@@ -8,6 +8,9 @@
 #include <stdint.h>
 #include <stdlib.h>
 #include <string.h>
+#include <sys/resource.h>
+#include <sys/uio.h>
+#include <unistd.h>
 
 /* Whether there is memory, and where. If there is none, the pointer is not null, and nothing may be read or written there. */
 struct tried {
@@ -31,10 +34,36 @@ extern char **environ;
 static int count;
 static char **arguments;
 
+/* More than the programs take of the stack, beside their arguments and environment, which lie there too. */
+enum { STACK_BYTES = 128 << 10 };
+
+/* What a list of texts takes of the stack. */
+static size_t size_of(char **texts) {
+  size_t size = 0;
+  for (; *texts != NULL; texts++) size += sizeof *texts + strlen(*texts) + 1;
+  return size;
+}
+
+/* Whether the stack may be so large. */
+static bool has_stack(void) {
+  struct rlimit limit;
+  if (getrlimit(RLIMIT_STACK, &limit) != 0 || limit.rlim_cur == RLIM_INFINITY) return true;
+  return limit.rlim_cur >= STACK_BYTES + size_of(arguments) + size_of(environ);
+}
+
+/* Tells that there is too little stack, in the form of a fault of cukvashe, and returns its status. */
+static int refuse_stack(void) {
+  static char words[] = ": Memory: the stack may have less than 128 KiB (see ulimit -s)\n", none[] = "";
+  char *path = count > 0 ? arguments[0] : none, *slash = strrchr(path, '/'), *name = slash != NULL ? slash + 1 : path;
+  const struct iovec line[] = {{name, strlen(name)}, {words, sizeof words - 1}};
+  (void)!writev(STDERR_FILENO, line, 2);
+  return 3;
+}
+
 int main(int argument_count, char **argument_list) {
   count = argument_count;
   arguments = argument_list;
-  return cukvashe_main();
+  return has_stack() ? cukvashe_main() : refuse_stack();
 }
 
 static struct tried tried(void *memory) {
@@ -94,8 +123,6 @@ ptrdiff_t rattle_env_at(size_t place, unsigned char *buffer, size_t room) {
 #endif
 #endif
 #ifndef HAS_ALL
-#include <unistd.h>
-
 ssize_t __write(int descriptor, const void *bytes, size_t size);
 ssize_t __write(int descriptor, const void *bytes, size_t size) { return write(descriptor, bytes, size); }
 
