@@ -1,6 +1,6 @@
 //! What is written of a result or a fault, and the status that the program ends with.
 
-ghost use Rattle.std.specs.Prelude.{◌≡◌, map, OnOk, IfErr};
+ghost use Rattle.std.specs.Prelude.{◌≡◌, map, take, Some, OnOk, IfErr};
 ghost use Rattle.std.specs.Char.{is_ascii_control};
 ghost use Rattle.std.specs.List.{flat_map, list_any};
 ghost use Rattle.std.specs.Io.KnownBytes.{Appends};
@@ -11,7 +11,42 @@ use crate::fault::{Fault, Kind, Reason};
 use crate::sentences::Sentences;
 use des_io::StreamError;
 use des_io::pieces::write_whole;
-use std::io::Write;
+use std::io::{self, Write};
+
+// As much as a pipe takes at once, so that lines of programs that write beside each other stay whole.
+const LINE_AT_MOST: usize = 4096;
+
+// A line that is gathered to be written at once. It takes no memory, whose want is told by a line too.
+#[derive(Drop)]
+struct Line {
+    bytes: [u8; LINE_AT_MOST],
+    length: usize,
+}
+
+impl Line {
+    // The bytes that were gathered.
+    fn gathered(&self) -> &[u8]
+        ensures { result.now ≡ take self.now.length self.now.bytes }
+    {
+        &self.bytes[..self.length.min(LINE_AT_MOST)]
+    }
+}
+
+impl Write for Line {
+    ghost contents = { λ line. Some (take line.length line.bytes) };
+
+    fn write(&mut self, buf: &[u8]) -> io::Result<usize> {
+        let start = self.length.min(LINE_AT_MOST);
+        let count = buf.len().min(LINE_AT_MOST - start);
+        self.bytes[start..start + count].copy_from_slice(&buf[..count]);
+        self.length = start + count;
+        Ok(count)
+    }
+
+    fn flush(&mut self) -> io::Result<()> {
+        Ok(())
+    }
+}
 
 /// Writes the bytes and flushes. Where that fails, a prefix of them is written, and the fault is
 /// `Write`.
@@ -74,9 +109,27 @@ fn write_texts<W: Write>(out: &mut W, texts: &[&str]) -> Result<(), StreamError>
     Ok(())
 }
 
+// Writes what a line has, part by part.
+fn write_parts<W: Write>(
+    out: &mut W,
+    name: &'static str,
+    about: &str,
+    words: &'static str,
+) -> Result<(), StreamError>
+    ensures part { AppendsPrefix (W.contents out.old) (W.contents out.new)
+        (line_with name.now about.now words.now) }
+    ensures whole { OnOk result (Appends (W.contents out.old) (W.contents out.new)
+        (line_with name.now about.now words.now)) }
+{
+    write_texts(out, &["cukvashe: ", name, ": "])?;
+    write_shown(out, about.as_bytes())?;
+    write_texts(out, &[separator(about), words, "\n"])
+}
+
 /// Writes a line of a fault or a notice: its name, what it is about, where that is not empty, and
 /// its words. Name and words are of the program's own text, so neither can be a secret. Control
-/// characters of what it is about are shown as question marks.
+/// characters of what it is about are shown as question marks. One write takes the whole line, unless
+/// it is longer than `LINE_AT_MOST`.
 pub fn write_line<E: Write>(
     name: &'static str,
     about: &str,
@@ -88,9 +141,14 @@ pub fn write_line<E: Write>(
     ensures whole { OnOk result (Appends (E.contents err.old) (E.contents err.new)
         (line_with name.now about.now words.now)) }
 {
-    write_texts(err, &["cukvashe: ", name, ": "])?;
-    write_shown(err, about.as_bytes())?;
-    write_texts(err, &[separator(about), words, "\n"])?;
+    let mut line = Line {
+        bytes: [0; LINE_AT_MOST],
+        length: 0,
+    };
+    match write_parts(&mut line, name, about, words) {
+        Ok(()) => write_whole(err, line.gathered())?,
+        Err(_) => write_parts(err, name, about, words)?,
+    }
     err.flush().map_err(StreamError::Write)
 }
 

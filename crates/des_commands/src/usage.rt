@@ -3,7 +3,7 @@
 
 use crate::arguments::{names_of, parse};
 use crate::fault::{Fault, Kind, Misuse};
-use crate::report::{show, tell};
+use crate::report::{send, show, tell};
 use crate::sentences::English;
 use clap::error::ErrorKind;
 use std::alloc::AllocError;
@@ -35,6 +35,11 @@ fn usage_of(rt: &HostRuntime, words: &[&str]) -> Result<String, AllocError> {
     }
 }
 
+// Writes a text to standard error. A text that can't be written changes no status.
+fn tell_text(rt: &HostRuntime, text: &str) {
+    let _ = send(&mut rt.stderr(), text.as_bytes());
+}
+
 // What stands in a message after the last of one text, up to another.
 fn between<'a>(message: &'a str, start: &str, end: &str) -> Option<&'a str> {
     let (_, rest) = message.rsplit_once(start)?;
@@ -59,34 +64,40 @@ fn tell_hidden(
         kind: Kind::Usage(Misuse::Arguments),
         about: about.unwrap_or(""),
     };
-    let status = tell::<English, _>(fault, &mut rt.stderr());
     // The words that the argument takes, where it takes some words alone.
     let taken = between(message, "\n  [possible values: ", "]");
-    if let (ErrorKind::InvalidValue, Some(taken)) = (kind, taken) {
-        let _ = eprint!(rt; "  [possible values: {taken}]\n");
-    }
-    let _ = eprint!(rt; "\n{usage}");
+    let text = match (kind, taken) {
+        (ErrorKind::InvalidValue, Some(taken)) => {
+            format!(in rt.alloc(); "  [possible values: {taken}]\n\n{usage}")?
+        }
+        _ => format!(in rt.alloc(); "\n{usage}")?,
+    };
+    let status = tell::<English, _>(fault, &mut rt.stderr());
+    tell_text(rt, text.as_str());
     Ok(status)
-}
-
-// The whole message, or the help of a command that is given no words.
-fn tell_text(rt: &HostRuntime, start: &str, text: &str) -> u8 {
-    let _ = eprint!(rt; "{start}{text}");
-    USAGE
 }
 
 fn show_by_kind(rt: &HostRuntime, error: &clap::Error, words: &[&str]) -> Result<u8, AllocError> {
     let text = format!(in rt.alloc(); "{error}")?;
     match error.kind() {
         ErrorKind::DisplayHelp | ErrorKind::DisplayVersion => Ok(show_help(rt, text)),
-        ErrorKind::DisplayHelpOnMissingArgumentOrSubcommand => Ok(tell_text(rt, "", text.as_str())),
+        // The help of a command that is given no words.
+        ErrorKind::DisplayHelpOnMissingArgumentOrSubcommand => {
+            tell_text(rt, text.as_str());
+            Ok(USAGE)
+        }
         ErrorKind::OutOfMemory => Err(AllocError),
         // These have no word of the command line but options' names.
         ErrorKind::ArgumentConflict
         | ErrorKind::MissingRequiredArgument
         | ErrorKind::MissingSubcommand => {
-            let message = text.as_str().strip_prefix("error: ");
-            Ok(tell_text(rt, "cukvashe: Usage: ", message.unwrap_or(text.as_str())))
+            let message = text
+                .as_str()
+                .strip_prefix("error: ")
+                .unwrap_or(text.as_str());
+            let whole = format!(in rt.alloc(); "cukvashe: Usage: {message}")?;
+            tell_text(rt, whole.as_str());
+            Ok(USAGE)
         }
         kind => tell_hidden(rt, kind, text.as_str(), words),
     }
