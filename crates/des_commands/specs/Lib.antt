@@ -6,6 +6,7 @@ pub mod EmvLines
 pub mod Lines
 pub mod Macs
 pub mod Sources
+pub mod Descriptors
 pub mod Keys
 pub mod Notices
 pub mod CheckDigits

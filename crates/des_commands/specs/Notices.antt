@@ -8,7 +8,7 @@ use Rattle.des_commands.specs.declared.fault.Kind.TheVariants.{WeakKey as Refuse
 use Rattle.des_commands.specs.declared.keys.Verdict.{Verdict}
 use Rattle.des_commands.specs.declared.keys.Verdict.TheVariants.{DoubleLength as TwoParts, Weak}
 use Rattle.des_commands.specs.declared.notices.Notice.{Notice}
-use Rattle.des_commands.specs.declared.notices.Notice.TheVariants.{WeakKey, DoubleLength, Limit}
+use Rattle.des_commands.specs.declared.notices.Notice.TheVariants.{WeakKey, DoubleLength, Limit, Permissions}
 use Rattle.des_commands.specs.declared.stream_request.WeakKeys.{WeakKeys}
 use Rattle.des_commands.specs.declared.stream_request.WeakKeys.TheVariants.{Refuse, Warn}
 use Rattle.des_commands.specs.Faults.{line_with}
@@ -26,6 +26,9 @@ notice_line DoubleLength about =
 notice_line Limit about =
     line_with (codes "Limit") about
     (codes "more than 2^20 blocks (8 MiB) are encrypted under one key (NIST SP 800-67)")
+notice_line Permissions about =
+    line_with (codes "Permissions") about
+    (codes "the new file is its owner's alone, since no access list is kept")
 
 -- ---- keys
 

@@ -1,5 +1,10 @@
 //! Descriptors of the process under the names that the system gives them.
 
+ghost use Rattle.std.specs.Prelude.{◌≡◌, ◌≢◌, Some, Ok, Err, IfOk, IfErr};
+ghost use Rattle.std.specs.List.{list_any};
+ghost use Rattle.std.specs.IoError.{error_kind};
+ghost use Rattle.des_commands.specs.Descriptors.{is_shared as is_shared_by};
+
 use std::fs::{self, Metadata, OpenOptions};
 use std::io::{self, ErrorKind};
 use std::os::fd::{AsRawFd, IntoRawFd};
@@ -42,9 +47,8 @@ pub enum Followed {
     Descriptor(u64),
     /// A descriptor under another name, or one of another process.
     OtherDescriptor,
-    /// A path that is no link. It is shared where a link on the way stands in a folder where
-    /// everyone may write, as `/tmp`.
-    Path { name: String, is_shared: bool },
+    /// A path that is no link, and the modes of the folders where the links on the way stand.
+    Path { name: String, folders: Vec<u32> },
 }
 
 /// Holds each of the descriptors 0 to 2 that is closed, so that no file that is opened later is
@@ -103,38 +107,67 @@ pub fn folder_of(path: &str) -> &str {
     }
 }
 
-// Whether a path stands in a folder where everyone may write.
-fn is_in_shared(rt: &HostRuntime, path: &str) -> bool {
-    fs::metadata(rt, folder_of(path)).is_ok_and(|folder| folder.permissions().mode() & SHARED
-        == SHARED)
+/// What is known of a file, or that there is none. The system may tell neither: that is an error, and
+/// never the answer that there is none.
+pub fn if_there(known: io::Result<Metadata>) -> io::Result<Option<Metadata>>
+    ensures there { IfOk known (λ metadata. result ≡ Ok (Some metadata)) }
+    ensures untold { IfErr known (λ error. error_kind error ≢ ErrorKind.NotFound → result ≡ Err error) }
+{
+    match known {
+        Ok(metadata) => Ok(Some(metadata)),
+        Err(error) if error.kind() == ErrorKind::NotFound => Ok(None),
+        Err(error) => Err(error),
+    }
+}
+
+/// The mode of the folder of a path.
+pub fn folder_mode(rt: &HostRuntime, path: &str) -> io::Result<u32> {
+    Ok(fs::metadata(rt, folder_of(path))?.permissions().mode())
+}
+
+// Whether everyone may write in a folder of a mode, and remove only their own files, as in `/tmp`.
+fn is_shared(mode: u32) -> bool
+    ensures { result ≡ is_shared_by mode }
+{
+    mode & SHARED == SHARED
+}
+
+/// Whether one of some folders, by their modes, is one where everyone may write, as `/tmp`.
+pub fn has_shared(modes: &[u32]) -> bool
+    ensures { result ≡ list_any is_shared_by modes.now }
+{
+    modes.iter().any(|mode| is_shared(*mode))
 }
 
 // Whether a link is one of the system to a descriptor's file: it is in the system's folder of
 // processes, and its name is a number.
-fn is_of_descriptor(rt: &HostRuntime, path: &str, link: &Metadata) -> bool {
+fn is_of_descriptor(rt: &HostRuntime, path: &str, link: &Metadata) -> io::Result<bool> {
     let name = path.rsplit_once("/").map_or(path, |(_, name)| name);
-    name.parse::<u64>().is_ok()
-        && fs::metadata(rt, DESCRIPTORS).is_ok_and(|folder| folder.dev() == link.dev())
+    if name.parse::<u64>().is_err() {
+        return Ok(false);
+    }
+    let folder = if_there(fs::metadata(rt, DESCRIPTORS))?;
+    Ok(folder.is_some_and(|folder| folder.dev() == link.dev()))
 }
 
 /// Follows the symbolic links at the end of a path, up to a descriptor. The error is `InvalidFilename`
 /// where one leads to a name that is no text, that the links don't end, or the system's.
 pub fn follow(rt: &HostRuntime, path: &str) -> io::Result<Followed> {
     let mut name = String::from_str(rt.alloc(), path)?;
-    let mut is_shared = false;
+    let mut folders = Vec::new(rt.alloc());
     for _ in 0..=LINKS_AT_MOST {
         if let Some(number) = descriptor_of(name.as_str()) {
             return Ok(Followed::Descriptor(number));
         }
-        match fs::symlink_metadata(rt, name.as_str()) {
-            Ok(link) if link.is_symlink() => {
-                if is_of_descriptor(rt, name.as_str(), &link) {
+        match if_there(fs::symlink_metadata(rt, name.as_str()))? {
+            Some(link) if link.is_symlink() => {
+                if is_of_descriptor(rt, name.as_str(), &link)? {
                     return Ok(Followed::OtherDescriptor);
                 }
             }
-            _ => return Ok(Followed::Path { name, is_shared }),
+            _ => return Ok(Followed::Path { name, folders }),
         }
-        is_shared = is_shared || is_in_shared(rt, name.as_str());
+        folders.push(folder_mode(rt, name.as_str())?)?;
         name = linked(rt, name.as_str())?;
     }
     Err(io::Error::from(ErrorKind::FilesystemLoop))

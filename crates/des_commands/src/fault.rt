@@ -32,6 +32,7 @@ pub enum Reason {
     IsInput,
     IsSecret,
     Reopened,
+    Changed,
     Descriptor,
     Folder,
     Busy,

@@ -22,6 +22,8 @@ pub enum Notice {
     DoubleLength,
     /// More blocks are encrypted under one key than NIST SP 800-67 Rev. 2, 3.4, allows.
     Limit,
+    /// A file is replaced that others could read or write.
+    Permissions,
 }
 
 // The blocks that NIST SP 800-67 Rev. 2, 3.4, allows under one key of three parts.
@@ -46,6 +48,12 @@ pub fn tell<E: Write>(notice: Notice, about: &str, err: &mut E) -> Result<(), St
             "Limit",
             about,
             "more than 2^20 blocks (8 MiB) are encrypted under one key (NIST SP 800-67)",
+            err,
+        ),
+        Notice::Permissions => write_line(
+            "Permissions",
+            about,
+            "the new file is its owner's alone, since no access list is kept",
             err,
         ),
     }

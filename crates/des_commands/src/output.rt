@@ -2,7 +2,9 @@
 
 ghost use Rattle.std.specs.Prelude.{◌≡◌, ◌⊎◌};
 
-use crate::descriptors::{Followed, folder_of, follow, standing_of};
+use crate::descriptors::{
+    Followed, folder_mode, folder_of, follow, has_shared, if_there, standing_of,
+};
 use crate::fault::{Fault, Kind, Misuse, Reason};
 use crate::inputs::system_random;
 use crate::source::{Source, shown};
@@ -15,12 +17,18 @@ use std::path::Path;
 // The name of the file that standard output is.
 const STANDARD_OUTPUT: &str = "/proc/self/fd/1";
 
-// Who may read, write and run a file, of the bits of its mode: all, the owner, and others.
+// Who may read, write and run a file, of the bits of its mode: all, and the owner.
 const PERMISSION_BITS: u32 = 0o777;
 
 const OWNER_BITS: u32 = 0o700;
 
-const OTHERS_BITS: u32 = 0o007;
+// The bit of the mode of a folder where only a file's owner may remove it.
+const STICKY: u32 = 0o1000;
+
+// The mode of a file that is made where one is to be opened. No other file has it.
+const MODE_OF_NONE: u32 = 0o1000;
+
+const MODE_BITS: u32 = 0o7777;
 
 // A file is its owner's alone while it is written.
 const MODE_IN_WRITING: u32 = 0o600;
@@ -39,6 +47,8 @@ pub struct PrivateFile {
     // The permissions that it gets at its end, and the group, where a file is replaced.
     mode: u32,
     group: Option<u32>,
+    /// Others than the owner had rights to the file that it replaces, and have none to it.
+    pub narrows: bool,
     /// Where the bytes go.
     pub file: File,
 }
@@ -46,8 +56,9 @@ pub struct PrivateFile {
 /// Who may read what is written to a file.
 #[derive(Clone, Copy, PartialEq, Eq)]
 pub enum Readers {
-    /// Who may read the file that it replaces, or a new file of the folder where there is none.
-    AsBefore,
+    /// Who may read a new file of the folder. Where a file is replaced, its owner alone: what others
+    /// could do may stand in an access list, which std neither tells of nor sets.
+    OfFolder,
     /// Its owner alone.
     Owner,
 }
@@ -108,7 +119,9 @@ pub fn open(
     match follow(rt, path).map_err(write_fault)? {
         Followed::Descriptor(number) => open_descriptor(rt, number),
         Followed::OtherDescriptor => Err(Kind::Write(Reason::Descriptor)),
-        Followed::Path { name, is_shared } => open_path(rt, path, name, is_shared, readers),
+        Followed::Path { name, folders } => {
+            open_path(rt, path, name, has_shared(folders.as_slice()), readers)
+        }
     }
 }
 
@@ -122,21 +135,45 @@ fn open_path(
     is_shared: bool,
     readers: Readers,
 ) -> Result<Target, Kind> {
-    match fs::metadata(rt, path) {
-        Ok(old) => open_old(rt, name, &old, readers),
-        Err(error) if error.kind() == ErrorKind::NotFound && is_shared => {
-            Err(Kind::Write(Reason::Permission))
-        }
-        Err(error) if error.kind() == ErrorKind::NotFound => open_new(rt, name, readers),
-        Err(error) => Err(write_fault(error)),
+    match if_there(fs::metadata(rt, path)).map_err(write_fault)? {
+        Some(old) => open_old(rt, name, &old, readers),
+        None if is_shared => Err(Kind::Write(Reason::Permission)),
+        None => open_new(rt, name, readers),
     }
 }
 
+// The fault of a file that was there, and can't be opened.
+fn open_fault(error: io::Error) -> Kind {
+    match error.kind() {
+        ErrorKind::NotFound => Kind::Write(Reason::Changed),
+        _ => write_fault(error),
+    }
+}
+
+// Opens the file that was looked up, under a name that is no link. In a folder where only owners remove
+// files it is opened as a shell opens it, by `create` too: so the system may refuse a file or a pipe
+// that another user has put there. One that is made so is none that was looked up, and is removed.
+fn open_looked_up(rt: &HostRuntime, name: &str, old: &Metadata) -> Result<File, Kind> {
+    let creates = folder_mode(rt, name).map_err(open_fault)? & STICKY != 0;
+    let file = OpenOptions::new()
+        .write(true)
+        .create(creates)
+        .mode(MODE_OF_NONE)
+        .open(rt, name)
+        .map_err(open_fault)?;
+    let found = file.metadata().map_err(write_fault)?;
+    let named = fs::symlink_metadata(rt, name).map_err(open_fault)?;
+    if are_same(&found, old) && are_same(&named, old) {
+        return Ok(file);
+    }
+    if creates && found.permissions().mode() & MODE_BITS == MODE_OF_NONE {
+        let _ = fs::remove_file(rt, name);
+    }
+    Err(Kind::Write(Reason::Changed))
+}
+
 // A folder is refused, a regular file is replaced, and anything else is written to as it is. A file
-// that may not be written to is not replaced, although the system would let it be. It is opened as
-// a shell opens it, by `create` too: so the system may refuse a file or a pipe that another user has
-// put into a folder where everyone may write. It must be the file that was looked up: a link on the
-// way may be another one by now.
+// that may not be written to is not replaced, although the system would let it be.
 fn open_old(
     rt: &HostRuntime,
     name: String,
@@ -146,24 +183,13 @@ fn open_old(
     if old.is_dir() {
         return Err(Kind::Write(Reason::IsFolder));
     }
-    let file = OpenOptions::new()
-        .write(true)
-        .create(true)
-        .open(rt, name.as_str())
-        .map_err(write_fault)?;
-    let found = file.metadata().map_err(write_fault)?;
-    if !are_same(&found, old) {
-        return Err(Kind::Write(Reason::Permission));
-    }
-    if !found.is_file() {
+    let file = open_looked_up(rt, name.as_str(), old)?;
+    if !old.is_file() {
         return Ok(Target::AsItIs(file));
     }
-    let kept = match readers {
-        Readers::AsBefore => PERMISSION_BITS,
-        Readers::Owner => OWNER_BITS,
-    };
-    let mode = found.permissions().mode() & kept;
-    create_private(rt, name, mode, Some(found.gid()))
+    let mode = old.permissions().mode() & PERMISSION_BITS;
+    let narrows = readers == Readers::OfFolder && mode & OWNER_BITS != mode;
+    create_private(rt, name, mode & OWNER_BITS, Some(old.gid()), narrows)
 }
 
 // The permissions of a new file beside a target: those that the system gives one, by the umask or the
@@ -187,7 +213,7 @@ fn open_new(rt: &HostRuntime, name: String, readers: Readers) -> Result<Target, 
         return Err(Kind::Write(Reason::NotFolder));
     }
     let mode = mode_of(rt, name.as_str(), readers)?;
-    create_private(rt, name, mode, None)
+    create_private(rt, name, mode, None, false)
 }
 
 // Standard output itself is written to: other programs may share its place. The system opens the
@@ -225,8 +251,10 @@ fn refuse_file(rt: &HostRuntime, path: &str, source: Source, reason: Reason) -> 
         Source::Descriptor(number) => format!(in rt.alloc(); "/proc/self/fd/{number}")?,
         Source::Variable(_) => return Ok(()),
     };
-    match (fs::metadata(rt, path), fs::metadata(rt, name.as_str())) {
-        (Ok(output), Ok(other)) if output.is_file() && are_same(&output, &other) => {
+    let output = if_there(fs::metadata(rt, path)).map_err(write_fault)?;
+    let other = if_there(fs::metadata(rt, name.as_str())).map_err(write_fault)?;
+    match (output, other) {
+        (Some(output), Some(other)) if output.is_file() && are_same(&output, &other) => {
             Err(Kind::Write(reason))
         }
         _ => Ok(()),
@@ -278,6 +306,7 @@ fn create_private(
     target: String,
     mode: u32,
     group: Option<u32>,
+    narrows: bool,
 ) -> Result<Target, Kind> {
     let (beside, file) = create_beside(rt, target.as_str(), MODE_IN_WRITING)?;
     Ok(Target::Replaced(PrivateFile {
@@ -285,6 +314,7 @@ fn create_private(
         beside,
         mode,
         group,
+        narrows,
         file,
     }))
 }
@@ -312,26 +342,16 @@ impl PrivateFile {
         outcome
     }
 
-    // The permissions of the file, once it has the group of the file that it replaces. Where the
-    // system refuses that group, another one gets none, and others, who may be of that group, get no
-    // more than it had.
-    fn mode_in_group(&self) -> u32 {
-        match self.group {
-            Some(group) if fchown(&self.file, None, Some(group)).is_err() => {
-                self.mode & (OWNER_BITS | self.mode >> 3 & OTHERS_BITS)
-            }
-            _ => self.mode,
-        }
-    }
-
-    // Flushes the file, gives it its group and permissions where the file system has any, and
-    // renames it: a signal on the way leaves its owner's file. Then the folder is flushed where the
+    // Flushes the file, gives it its group and permissions where the system lets it, and renames it: a
+    // signal on the way leaves its owner's file. Then the folder is flushed where the
     // system lets it. One that may not be read can't be: that is no fault, since the file stands
     // whole under its name.
     fn replace_target(&self, rt: &HostRuntime) -> io::Result<()> {
         self.file.sync_all()?;
-        let mode = self.mode_in_group();
-        let _ = self.file.set_permissions(Permissions::from_mode(mode));
+        if let Some(group) = self.group {
+            let _ = fchown(&self.file, None, Some(group));
+        }
+        let _ = self.file.set_permissions(Permissions::from_mode(self.mode));
         fs::rename(rt, self.beside.as_str(), self.target.as_str())?;
         if let Ok(folder) = File::open(rt, folder_of(self.target.as_str())) {
             let _ = folder.sync_all();

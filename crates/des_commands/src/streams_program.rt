@@ -3,7 +3,7 @@
 
 use crate::fault::{Fault, FileFault, Kind};
 use crate::inputs::{self, RANDOM_SOURCE, bytes_to_read, read_fault, system_random};
-use crate::notices::accept_key;
+use crate::notices::{self, Notice, accept_key};
 use crate::output::{self, Readers, Target, output_name, refuse_terminal};
 use crate::password_streams::{PasswordJob, check_password, run_by_password};
 use crate::reading::{key_in, password_in, password_name};
@@ -69,7 +69,7 @@ fn run_to_output<R: Read>(rt: &HostRuntime, task: Task, reader: &mut R) -> Resul
     match output::open(
         rt,
         request.output,
-        Readers::AsBefore,
+        Readers::OfFolder,
         request.secret.source(),
     )? {
         Target::StandardOutput => {
@@ -79,7 +79,13 @@ fn run_to_output<R: Read>(rt: &HostRuntime, task: Task, reader: &mut R) -> Resul
         Target::AsItIs(mut file) => task.run(rt, reader, &mut file),
         Target::Replaced(mut file) => {
             let outcome = task.run(rt, reader, &mut file.file);
-            file.end(rt, outcome)
+            let narrows = file.narrows;
+            file.end(rt, outcome)?;
+            if narrows {
+                let about = output_name(request.output);
+                let _ = notices::tell(Notice::Permissions, about, &mut rt.stderr());
+            }
+            Ok(())
         }
     }
 }
