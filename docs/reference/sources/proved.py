@@ -15,7 +15,7 @@ CLOSED = {
 }
 
 # Traits of the standard library, and whether what an impl declares of them is a clause.
-OF_OTHERS = {"Clone": True, "Debug": True, "Display": True, "From": True, "Read": True, "Model": False}
+OF_OTHERS = {"Clone": True, "Debug": True, "Display": True, "From": True, "Read": True, "Write": True, "Model": False}
 
 
 def clauses_of(function, kind):
