@@ -32,6 +32,7 @@ impl Line {
     }
 }
 
+/// The line is known, and a write that it has no room for takes nothing.
 impl Write for Line {
     ghost contents = { λ line. Some (take line.length line.bytes) };
 
