@@ -1,6 +1,6 @@
 //! Descriptors of the process under the names that the system gives them.
 
-ghost use Rattle.std.specs.Prelude.{◌≡◌, ◌≢◌, Some, Ok, Err, IfOk, IfErr};
+ghost use Rattle.std.specs.Prelude.{◌≡◌, ◌≢◌, Some, None, Ok, Err, IfOk, IfErr};
 ghost use Rattle.std.specs.List.{list_any};
 ghost use Rattle.std.specs.IoError.{error_kind};
 ghost use Rattle.des_commands.specs.Descriptors.{is_shared as is_shared_by};
@@ -111,6 +111,7 @@ pub fn folder_of(path: &str) -> &str {
 /// never the answer that there is none.
 pub fn if_there(known: io::Result<Metadata>) -> io::Result<Option<Metadata>>
     ensures there { IfOk known (λ metadata. result ≡ Ok (Some metadata)) }
+    ensures none { IfErr known (λ error. error_kind error ≡ ErrorKind.NotFound → result ≡ Ok None) }
     ensures untold { IfErr known (λ error. error_kind error ≢ ErrorKind.NotFound → result ≡ Err error) }
 {
     match known {

@@ -343,9 +343,8 @@ impl PrivateFile {
     }
 
     // Flushes the file, gives it its group and permissions where the system lets it, and renames it: a
-    // signal on the way leaves its owner's file. Then the folder is flushed where the
-    // system lets it. One that may not be read can't be: that is no fault, since the file stands
-    // whole under its name.
+    // signal on the way leaves its owner's file. Then the folder is flushed where the system lets it.
+    // One that may not be read can't be: that is no fault, since the file stands whole under its name.
     fn replace_target(&self, rt: &HostRuntime) -> io::Result<()> {
         self.file.sync_all()?;
         if let Some(group) = self.group {
