@@ -1,14 +1,12 @@
 -- A run, by the answer that was shown.
-use Rattle.std.proofs.Common.{◌≡◌, ◌⊎◌, ℕ, List, Option, Some, None, Result, Ok, Err, IfSome, IfNone, IfOk, inl, inr, refl, subst, arith}
-use Rattle.std.specs.declared.string.String.{String}
-use Rattle.std.specs.declared.vec.IntoIter.{IntoIter}
+use Rattle.std.proofs.Common.{◌≡◌, ℕ, List, Option, Some, None, Result, Ok, Err, IfSome, IfNone, IfOk, inl, inr, refl, subst, arith}
 use Rattle.std.specs.declared.vec.Vec.{Vec}
 use Rattle.std.specs.declared.alloc.Global.{Global}
 use Rattle.des_tool.specs.declared.command.fault.Fault.{Fault}
 use Rattle.des_tool.specs.declared.command.fault.Fault.TheVariants.{Usage, KeyLength, KeyText, BlockLength, BlockText, Memory}
 use Rattle.des_tool.specs.Fault.{FailsBy}
 use Rattle.des_tool.specs.Status.{status_of, IsOfAnswer, IsOfFault, IsTold, IsShown}
-use Rattle.des_tool.specs.Run.{texts_of_args, fault_in, IsTheAnswer, IsAnswered, IsReadAs, IsRun}
+use Rattle.des_tool.specs.Run.{fault_in, IsTheAnswer, IsRun}
 
 -- the status of a fault is one of a fault
 IsOfFault-status_of : (fault : Fault) → IsOfFault (status_of fault)
@@ -82,21 +80,3 @@ IsRun-from_IsShown contents told arguments (Err fault) status out_old out_new er
       err = λ is_answer. absurd (one_kind status is_answer is_fault);
       out = λ _. shown.1;
     }
-
--- the arguments that a process has, once their answer is shown, are such a run
-pub IsRun-args : {W E : Type 0} (contents : W → Option (List ℕ)) (told : E → Option (List ℕ))
-    (args : IntoIter (String Global) Global) (answer : Result (Vec ℕ Global) Fault) (status : ℕ) (out_old out_new : W)
-    (err_old err_new : E) → (answer ≡ Err Memory) ⊎ IsAnswered (texts_of_args args) answer
-    → IsShown contents told answer status out_old out_new err_old err_new
-    → (read : Result (List (List ℕ)) Fault) × IsReadAs (Ok args) read
-    × IsRun contents told read status out_old out_new err_old err_new
-IsRun-args contents told args answer status out_old out_new err_old err_new (inl refused) shown = (
-  Err Memory,
-  inr refl,
-  IsRun-from_IsShown contents told (Err Memory) (Err Memory) _ _ _ _ _ refl tt (rw refused at shown),
-)
-IsRun-args contents told args answer status out_old out_new err_old err_new (inr answered) shown = (
-  Ok (texts_of_args args),
-  inl refl,
-  IsRun-from_IsShown contents told (Ok (texts_of_args args)) answer _ _ _ _ _ answered.0 answered.1 shown,
-)

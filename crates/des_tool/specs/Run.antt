@@ -1,11 +1,10 @@
 -- What the program writes, and the status that it ends with, by its arguments.
-use Rattle.std.specs.Prelude.{◌≡◌, ◌⊎◌, ℕ, List, map, drop, Option, Some, Result, Ok, Err, IfSome, IfNone, IfOk, IsOkAnd, string_bytes}
+use Rattle.std.specs.Prelude.{◌≡◌, ◌⊎◌, ℕ, List, map, drop, Option, Some, Result, Ok, Err, IfSome, IfNone, IsOkAnd, string_bytes}
 use Rattle.std.specs.IoError.{error_kind}
 use Rattle.std.specs.Vec.Iter.{into_iter_items}
 use Rattle.std.specs.declared.alloc.Global.{Global}
 use Rattle.std.specs.declared.string.String.{String}
 use Rattle.std.specs.declared.vec.IntoIter.{IntoIter}
-use Rattle.std.specs.declared.vec.Vec.{Vec}
 use Rattle.std.specs.declared.io.Error.{Error}
 use Rattle.std.specs.declared.io.ErrorKind.{ErrorKind}
 use Rattle.std.specs.declared.io.ErrorKind.TheVariants.{OutOfMemory}
@@ -13,7 +12,7 @@ use Rattle.std.specs.Io.KnownBytes.{Appends}
 use Rattle.des.specs.Relations.{IsTheOne}
 use Rattle.des_tool.specs.declared.command.fault.Fault.{Fault}
 use Rattle.des_tool.specs.declared.command.fault.Fault.TheVariants.{Usage, Memory}
-use Rattle.des_tool.specs.Fault.{fault_of, FailsBy}
+use Rattle.des_tool.specs.Fault.{fault_of}
 use Rattle.des_tool.specs.Answer.{IsAnswer}
 use Rattle.des_tool.specs.Status.{answer_written, answer_not_written, IsOfAnswer, IsOfFault, AppendsPrefix, IsTold}
 
@@ -40,12 +39,6 @@ fault_in (Err fault) = Some fault
 -- the text is the one that answers the arguments, which were read
 abbrev pub IsTheAnswer : Result (List (List ℕ)) Fault → List ℕ → Type 0
 IsTheAnswer arguments text = IsOkAnd arguments (λ arguments. IsTheOne (IsAnswer arguments) text)
-
--- the arguments have this fault or this answer, or there is no memory for the answer
-abbrev pub IsAnswered : List (List ℕ) → Result (Vec ℕ Global) Fault → Type 0
-IsAnswered arguments answer =
-    FailsBy (fault_of arguments) answer
-    × IfOk answer (λ text. IsTheOne (IsAnswer arguments) text.items)
 
 -- a run on these arguments, or on what kept them from being read, with the writers before and
 -- after. A fault has its own status, and its line is told. Where there is none, the answer is

@@ -12,5 +12,5 @@ mod tests;
 
 pub use answers::answer;
 pub use fault::Fault;
-pub use process::run;
+pub use process::{run, run_on};
 pub use status::show;

@@ -1,9 +1,10 @@
 //! The process: its arguments are answered as they were read, and the answer is shown.
 
-ghost use Rattle.std.specs.Prelude.{◌≡◌, ◌⊎◌, ℕ, List, Result, Err};
+ghost use Rattle.std.specs.Prelude.{◌≡◌, ℕ, List, Result, Ok, Err, IfOk, IfErr, OnErr};
 ghost use Rattle.std.specs.IoError.{error_kind};
 ghost use Rattle.std.specs.Process.{exit_status};
-ghost use Rattle.des_tool.specs.Run.{texts_of_args, fault_of_kind, IsAnswered, IsReadAs, IsRun};
+ghost use Rattle.des_tool.specs.Request.{texts};
+ghost use Rattle.des_tool.specs.Run.{fault_of_kind, IsReadAs, IsRun};
 
 use super::answers::answer;
 use super::fault::Fault;
@@ -13,11 +14,23 @@ use std::env::Args;
 use std::io::{self, ErrorKind, Write};
 use std::process::ExitCode;
 
-/// Answers the arguments of the process, as `env::args` reads them, writes what `show` writes, and
-/// gives its status as the exit status.
-///
-/// The first argument is the program's own name. Arguments that are not text are at fault, as those
-/// that have no shape that is known.
+/// Answers the arguments of a command line, without the program's own name, writes what `show`
+/// writes, and gives its status as the exit status.
+pub fn run_on<W: Write, E: Write>(
+    alloc: Global,
+    arguments: &[&str],
+    out: &mut W,
+    err: &mut E,
+) -> ExitCode
+    ensures { IsRun W.contents E.contents (Ok (texts arguments.now)) (exit_status result)
+        out.old out.new err.old err.new }
+{
+    ExitCode::from(show(&answer(alloc, arguments), out, err))
+}
+
+/// Runs on the arguments that `env::args` read, as `run_on` does on those after the first, which is
+/// the program's own name. Arguments that are not text are at fault, as those that have no shape
+/// that is known.
 pub fn run<W: Write, E: Write>(
     alloc: Global,
     arguments: io::Result<Args>,
@@ -27,21 +40,33 @@ pub fn run<W: Write, E: Write>(
     ensures { (read : Result (List (List ℕ)) Fault) × IsReadAs arguments read
         × IsRun W.contents E.contents read (exit_status result) out.old out.new err.old err.new }
 {
-    match arguments {
-        Ok(args) => ExitCode::from(show(&answer_args(alloc, args), out, err)),
-        Err(error) => ExitCode::from(show(&Err(fault_of_error(error)), out, err)),
+    match run_args(alloc, arguments, out, err) {
+        Ok(code) => code,
+        Err(fault) => ExitCode::from(show(&Err(fault), out, err)),
     }
 }
 
-fn answer_args(alloc: Global, args: Args) -> Result<Vec<u8>, Fault>
-    ensures { (result ≡ Err Fault.Memory) ⊎ IsAnswered (texts_of_args args) result }
+// Fails only before anything is written: the arguments were not read, or memory was refused.
+fn run_args<W: Write, E: Write>(
+    alloc: Global,
+    arguments: io::Result<Args>,
+    out: &mut W,
+    err: &mut E,
+) -> Result<ExitCode, Fault>
+    ensures ran { IfOk result (λ code. (read : List (List ℕ)) × IsReadAs arguments (Ok read)
+        × IsRun W.contents E.contents (Ok read) (exit_status code)
+        out.old out.new err.old err.new) }
+    ensures fault { IfErr result (λ fault. IsReadAs arguments (Err fault)) }
+    ensures out { OnErr result (out.new ≡ out.old) }
+    ensures err { OnErr result (err.new ≡ err.old) }
 {
-    let arguments: Vec<String> = args.skip(1).collect(alloc)?;
+    let arguments = arguments.map_err(fault_of_error)?;
+    let arguments: Vec<String> = arguments.skip(1).collect(alloc)?;
     let arguments: Vec<&str> = arguments
         .iter()
         .map(|argument| argument.as_str())
         .collect(alloc)?;
-    answer(alloc, arguments.as_slice())
+    Ok(run_on(alloc, arguments.as_slice(), out, err))
 }
 
 // Arguments that are not text have no shape that is known.
