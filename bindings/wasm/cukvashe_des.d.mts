@@ -151,9 +151,9 @@ declare abstract class Cipher extends Keyed {
   /**
    * For a record in pieces, the last block of the answer is the vector of the next piece. VectorLength, BlockLength.
    */
-  encryptCbc(iv: Uint8Array, data: Uint8Array): Uint8Array;
+  encryptCbc(data: Uint8Array, named: { iv: Uint8Array }): Uint8Array;
   /** For a record in pieces, the last block of `data` is the vector of the next piece. VectorLength, BlockLength. */
-  decryptCbc(iv: Uint8Array, data: Uint8Array): Uint8Array;
+  decryptCbc(data: Uint8Array, named: { iv: Uint8Array }): Uint8Array;
 }
 
 /** DES. */
@@ -399,10 +399,10 @@ export function checkValues(cipher: CipherClass, keys: Uint8Array): Uint8Array;
 export function dukptTransactionKeys(base: Uint8Array, serials: Uint8Array): Uint8Array;
 /** Record k has `counts[k]` blocks, not bytes. */
 export function encryptCbcRecords(
-  cipher: Cipher, vectors: Uint8Array, counts: Iterable<number>, blocks: Uint8Array,
+  cipher: Cipher, blocks: Uint8Array, named: { vectors: Uint8Array; counts: Iterable<number> },
 ): Uint8Array;
 export function decryptCbcRecords(
-  cipher: Cipher, vectors: Uint8Array, counts: Iterable<number>, blocks: Uint8Array,
+  cipher: Cipher, blocks: Uint8Array, named: { vectors: Uint8Array; counts: Iterable<number> },
 ): Uint8Array;
 /** Message k has `lengths[k]` bytes. */
 export function macs(

@@ -3,7 +3,7 @@
 //
 //     import { load, TdesEde3 } from "./cukvashe_des.mjs";
 //     await load();
-//     const plaintext = new TdesEde3(key).decryptCbc(iv, ciphertext);
+//     const plaintext = new TdesEde3(key).decryptCbc(ciphertext, { iv });
 //
 // Bytes come in and go out as Uint8Array, texts as strings of digits; names are those of the package for Python, and so
 // are the errors, each a CukvasheError of its own name. A wrong type is a TypeError. cukvashe_des.d.mts has the types.
@@ -316,22 +316,37 @@ function textOf(text, what) {
   return Uint8Array.from(text, (character) => (character.codePointAt(0) < 128 ? character.codePointAt(0) : 63));
 }
 
-/**
- * An object of these names and of no others: a name that is spelled otherwise would pass for one that was left out.
- */
-function namedOf(what, object, ...names) {
-  if (Object.prototype.toString.call(object) !== "[object Object]") {
-    throw new TypeError(`${what}: an object of names is needed`);
-  }
+const isOfNames = (object) => Object.prototype.toString.call(object) === "[object Object]";
+
+/** Whether an object has no names but these: one that is spelled otherwise would pass for one that was left out. */
+function hasNoOther(object, names) {
   const given = Reflect.ownKeys(object);
   for (const name in object) given.push(name);
-  if (given.every((name) => names.includes(name))) return object;
+  return given.every((name) => names.includes(name));
+}
+
+/** An object of these names and of no others. */
+function namedOf(what, object, ...names) {
+  if (!isOfNames(object)) throw new TypeError(`${what}: an object of names is needed`);
+  if (hasNoOther(object, names)) return object;
   const listed = names.map((name) => `"${name}"`).join(", ").replace(/, ([^,]*)$/, " and $1");
   throw new TypeError(`${what}: the names are ${listed} alone`);
 }
 
 /** The options of a call. */
 const optionsOf = (options, ...names) => namedOf("options", options, ...names);
+
+/**
+ * What a call takes by these names, all of them, after its data. By its place a vector would pass for data of its length,
+ * and the data for a vector.
+ */
+function afterData(form, [options, ...more], ...names) {
+  if (more.length === 0 && isOfNames(options) && hasNoOther(options, names)) {
+    const values = names.map((name) => options[name]);
+    if (!values.includes(undefined)) return values;
+  }
+  throw new TypeError(`write ${form}: the data come first, the rest by name, and nothing else`);
+}
 
 /** Refuses arguments that a call does not have. Passed over, they would be taken for a part of its answer. */
 function refuseMore(more, text) {
@@ -670,24 +685,21 @@ class Cipher extends Keyed {
   }
 
   /** The data, encrypted by cipher block chaining from an initialization vector of 8 bytes. */
-  encryptCbc(iv, data, ...more) {
-    return cbc(this, "internal_encrypt_cbc", iv, data, more);
+  encryptCbc(data, ...named) {
+    const [iv] = afterData("encryptCbc(data, { iv })", named, "iv");
+    return answered(this, "internal_encrypt_cbc", data, [vectorOf(iv)]);
   }
 
   /** The data, decrypted by cipher block chaining from an initialization vector of 8 bytes. Padding stays. */
-  decryptCbc(iv, data, ...more) {
-    return cbc(this, "internal_decrypt_cbc", iv, data, more);
+  decryptCbc(data, ...named) {
+    const [iv] = afterData("decryptCbc(data, { iv })", named, "iv");
+    return answered(this, "internal_decrypt_cbc", data, [vectorOf(iv)]);
   }
 }
 
 function ecb(cipher, call, data, more) {
   refuseMore(more, "ECB takes data alone, and no initialization vector");
   return answered(cipher, call, data, []);
-}
-
-function cbc(cipher, call, iv, data, more) {
-  refuseMore(more, "CBC takes a vector and data alone, and neither padding nor options");
-  return answered(cipher, call, data, [vectorOf(iv)]);
 }
 
 /** What a call makes of data, in place, with or without a vector. */
@@ -1643,16 +1655,18 @@ export function dukptTransactionKeys(base, serials) {
  * Records, each encrypted by cipher block chaining from a vector of its own: record k has counts[k] of the blocks, one
  * record after the other, and the k-th 8 bytes of `vectors`. `cipher` is one that has a key.
  */
-export function encryptCbcRecords(cipher, vectors, counts, blocks) {
-  return recorded("internal_encrypt_cbc_records", cipher, vectors, counts, blocks);
+export function encryptCbcRecords(cipher, blocks, ...named) {
+  return recorded("encryptCbcRecords", "internal_encrypt_cbc_records", cipher, blocks, named);
 }
 
 /** Records, each decrypted by cipher block chaining. Padding stays. Arguments as of `encryptCbcRecords`. */
-export function decryptCbcRecords(cipher, vectors, counts, blocks) {
-  return recorded("internal_decrypt_cbc_records", cipher, vectors, counts, blocks);
+export function decryptCbcRecords(cipher, blocks, ...named) {
+  return recorded("decryptCbcRecords", "internal_decrypt_cbc_records", cipher, blocks, named);
 }
 
-function recorded(call, cipher, vectors, counts, blocks) {
+function recorded(name, call, cipher, blocks, named) {
+  const form = `${name}(cipher, blocks, { vectors, counts })`;
+  const [vectors, counts] = afterData(form, named, "vectors", "counts");
   const sizes = numbersOf(counts, "counts");
   const chains = listOf(vectors, BLOCK_SIZE, VectorLength, "vectors");
   const given = listOf(blocks, BLOCK_SIZE, BlockLength, "blocks");

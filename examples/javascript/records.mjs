@@ -21,9 +21,9 @@ key.fill(0);
 const records = readFileSync(file);
 for (let at = 0; at < records.length; at += 8 + SIZE) {
   if (records.length - at < 8 + SIZE) throw new Error("the file ends within a record");
-  const vector = records.subarray(at, at + 8);
+  const iv = records.subarray(at, at + 8);
   const data = records.subarray(at + 8, at + 8 + SIZE);
-  console.log(Buffer.from(unpad(cipher.decryptCbc(vector, data), "pkcs7")).toString());
+  console.log(Buffer.from(unpad(cipher.decryptCbc(data, { iv }), "pkcs7")).toString());
 }
 cipher.close(); // wipes the round keys
 

@@ -748,8 +748,8 @@ export const calculations = [
     compute({ way, mode, key, iv, data }) {
       const cipher = cipherOf(key);
       const calls = {
-        encrypt: { ecb: () => cipher.encryptEcb(data), cbc: () => cipher.encryptCbc(iv, data) },
-        decrypt: { ecb: () => cipher.decryptEcb(data), cbc: () => cipher.decryptCbc(iv, data) },
+        encrypt: { ecb: () => cipher.encryptEcb(data), cbc: () => cipher.encryptCbc(data, { iv }) },
+        decrypt: { ecb: () => cipher.decryptEcb(data), cbc: () => cipher.decryptCbc(data, { iv }) },
       };
       const label = way === "encrypt" ? "Ciphertext" : "Plaintext";
       return [value(label, calls[way][mode]()), remark("Cipher", CIPHER_NAMES[key.length])];

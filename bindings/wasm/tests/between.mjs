@@ -24,7 +24,7 @@ const mac = () => new library.CmacTdesEde3(KEY, MESSAGE);
 const terminal = () => new library.DukptTerminal(PAIR, SERIAL);
 const METHODS = [
   ...["encryptEcb", "decryptEcb"].map((name) => [name, cipher(), MESSAGE]),
-  ...["encryptCbc", "decryptCbc"].map((name) => [name, cipher(), IV, MESSAGE]),
+  ...["encryptCbc", "decryptCbc"].map((name) => [name, cipher(), MESSAGE, { iv: IV }]),
   ...[["update", mac(), MESSAGE], ["digest", mac()], ["digest", mac(), "hex"], ["copy", mac()]],
   ...[["verify", mac(), mac().digest()], ["verifyTruncatedLeft", mac(), mac().digest().subarray(0, 4)]],
   ...[["nextKey", terminal()], ["state", terminal()]],

@@ -18,10 +18,10 @@ export const SALTED = unhex("53616c7465645f5fe927a7d874ff28cd93ad37243eb1e04e969
 export const SECRET = Buffer.from("secret");
 
 // What a text of an error is made of: few characters, and no value.
-export const TEXT = /^[a-z0-9":,()^'_ .%-]+$/i;
+export const TEXT = /^[a-z0-9":,(){}^'_ .%-]+$/i;
 
 const isText = (it) => typeof it === "string";
-const isNumbers = (it) => Array.isArray(it) || it instanceof Uint16Array || it instanceof Uint8ClampedArray;
+export const isNumbers = (it) => Array.isArray(it) || it instanceof Uint16Array || it instanceof Uint8ClampedArray;
 const isFive = (it) => it === 5;
 const isOptions = (it) => it === undefined || (Object.prototype.toString.call(it) === "[object Object]" && Object.keys(it).length === 0);
 const BYTES = () => false;
@@ -94,8 +94,8 @@ export function allCalls() {
     ["decryptEach", [library.TdesEde3, KEY, IV], [BYTES, BYTES, BYTES]],
     ["checkValues", [library.TdesEde3, KEY], [BYTES, BYTES]],
     ["dukptTransactionKeys", [PAIR, SERIAL], [BYTES, BYTES]],
-    ["encryptCbcRecords", [cipher, IV, [1], IV], [BYTES, BYTES, isNumbers, BYTES]],
-    ["decryptCbcRecords", [cipher, IV, [1], IV], [BYTES, BYTES, isNumbers, BYTES]],
+    ["encryptCbcRecords", [cipher, IV, { vectors: IV, counts: [1] }], [BYTES, BYTES, BYTES]],
+    ["decryptCbcRecords", [cipher, IV, { vectors: IV, counts: [1] }], [BYTES, BYTES, BYTES]],
     ["macs", [library.RetailMacDes, PAIR, 2, [24], MESSAGE], [BYTES, BYTES, (it) => it === 5, isNumbers, BYTES]],
     ["macsEach", [library.RetailMacDes, PAIR, 2, [24], MESSAGE], [BYTES, BYTES, (it) => it === 5, isNumbers, BYTES]],
     ["wrongTags", [IV, IV], [BYTES, BYTES]],

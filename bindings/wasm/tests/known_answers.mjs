@@ -46,21 +46,21 @@ function isList(Cipher, key, plain, cipher) {
 function isChain(Cipher, key, iv, plain, cipher) {
   const held = new Cipher(key);
   const [from, to] = [unhex(plain), unhex(cipher)];
-  is(held.encryptCbc(iv, from), cipher);
-  is(held.decryptCbc(iv, to), plain);
+  is(held.encryptCbc(from, { iv }), cipher);
+  is(held.decryptCbc(to, { iv }), plain);
   // In two pieces, cut at each block.
   for (let at = 8; at < from.length; at += 8) {
-    const first = held.encryptCbc(iv, from.subarray(0, at));
-    is(held.encryptCbc(first.subarray(-8), from.subarray(at)), cipher.slice(2 * at));
-    is(held.decryptCbc(to.subarray(at - 8, at), to.subarray(at)), plain.slice(2 * at));
+    const first = held.encryptCbc(from.subarray(0, at), { iv });
+    is(held.encryptCbc(from.subarray(at), { iv: first.subarray(-8) }), cipher.slice(2 * at));
+    is(held.decryptCbc(to.subarray(at), { iv: to.subarray(at - 8, at) }), plain.slice(2 * at));
   }
   // As many records, between which stands an empty one.
   for (const copies of EDGES) {
     const counts = Array.from({ length: 2 * copies }, (_, at) => (at % 2 === 0 ? from.length / 8 : 0));
     const vectors = unhex(hex(iv).repeat(2 * copies));
-    is(library.encryptCbcRecords(held, vectors, counts, unhex(plain.repeat(copies))), cipher.repeat(copies));
-    const answers = library.decryptCbcRecords(held, vectors, Uint32Array.from(counts), unhex(cipher.repeat(copies)));
-    is(answers, plain.repeat(copies));
+    is(library.encryptCbcRecords(held, unhex(plain.repeat(copies)), { vectors, counts }), cipher.repeat(copies));
+    const named = { vectors, counts: Uint32Array.from(counts) };
+    is(library.decryptCbcRecords(held, unhex(cipher.repeat(copies)), named), plain.repeat(copies));
   }
   held.close();
 }

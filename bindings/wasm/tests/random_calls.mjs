@@ -70,7 +70,7 @@ function ecb() {
 
 function cbc() {
   const [name, size] = entry(CIPHERS);
-  return [`${name}.${one(["encryptCbc", "decryptCbc"])}`, key(size), vector(), blocks()];
+  return [`${name}.${one(["encryptCbc", "decryptCbc"])}`, key(size), blocks(), { iv: vector() }];
 }
 
 // The arguments of the constructor, the pieces of a message, and how much of the tag is verified.
@@ -139,7 +139,7 @@ function records() {
   const sum = random(3 * length);
   const cipher = { cipher: [name, bytes(size)] };
   const call = one(["encryptCbcRecords", "decryptCbcRecords"]);
-  return [call, cipher, elements(8, length), parts(sum, length), elements(8, sum)];
+  return [call, cipher, elements(8, sum), { vectors: elements(8, length), counts: parts(sum, length) }];
 }
 
 function macs() {

@@ -31,11 +31,11 @@ for (const [Cipher, size] of [[library.Des, 8], [library.TdesEde2, 16], [library
   const cipher = new Cipher(of(size));
   for (const count of [0, 1, 3, 12, 31, 32, 128, 129, 300]) {
     for (const call of ["encryptEcb", "decryptEcb"]) cipher[call](of(8 * count));
-    for (const call of ["encryptCbc", "decryptCbc"]) cipher[call](of(8), of(8 * count));
+    for (const call of ["encryptCbc", "decryptCbc"]) cipher[call](of(8 * count), { iv: of(8) });
     for (const call of ["encryptEach", "decryptEach"]) library[call](Cipher, of(size * count), of(8 * count));
     library.checkValues(Cipher, of(size * count));
     for (const call of ["encryptCbcRecords", "decryptCbcRecords"]) {
-      library[call](cipher, of(8 * count), Array(count).fill(3), of(24 * count));
+      library[call](cipher, of(24 * count), { vectors: of(8 * count), counts: Array(count).fill(3) });
     }
   }
   library.checkValue(Cipher, of(size));
