@@ -396,7 +396,7 @@ export function openSalted(
 export function encryptEach(cipher: CipherClass, keys: Uint8Array, blocks: Uint8Array): Uint8Array;
 export function decryptEach(cipher: CipherClass, keys: Uint8Array, blocks: Uint8Array): Uint8Array;
 export function checkValues(cipher: CipherClass, keys: Uint8Array): Uint8Array;
-export function dukptTransactionKeys(base: Uint8Array, serials: Uint8Array): Uint8Array;
+export function dukptTransactionKeysFromBase(base: Uint8Array, serials: Uint8Array): Uint8Array;
 /** Record k has `counts[k]` blocks, not bytes. */
 export function encryptCbcRecords(
   cipher: Cipher, blocks: Uint8Array, named: { vectors: Uint8Array; counts: Iterable<number> },

@@ -1639,7 +1639,7 @@ export function checkValues(cipher, keys) {
  * dukptTransactionKey makes of dukptInitialKey, for each. Such a key encrypts nothing itself: take dukptPinKey,
  * dukptMacKey or dukptDataKey of it.
  */
-export function dukptTransactionKeys(base, serials) {
+export function dukptTransactionKeysFromBase(base, serials) {
   const key = keyOf(base, TRANSACTION_KEY_SIZE);
   const numbers = listOf(serials, SERIAL_SIZE, SerialLength, "key serial numbers");
   const count = numbers.length / SERIAL_SIZE;

@@ -70,6 +70,10 @@ def mac_of(kind, arguments, pieces, length):
     return [tag, accepts(mac.verify, tag[:length]), accepts(mac.verify_truncated_left, tag[:length]), accepts(mac.verify, other)]
 
 
+# What has another name in Python.
+NAMES = {"dukptTransactionKeysFromBase": "dukpt_transaction_keys"}
+
+
 def called(call, arguments):
     """What a call answers, which takes vectors before the data in Python."""
     options = arguments.pop() if arguments and isinstance(arguments[-1], dict) else {}
@@ -87,7 +91,7 @@ def answer_of(name, *words):
         return called(getattr(getattr(cukvashe_des, first)(arguments[0]), snake(method)), arguments[1:])
     if first[0].isupper():
         return mac_of(getattr(cukvashe_des, first), *arguments)
-    return called(getattr(cukvashe_des, snake(first)), arguments)
+    return called(getattr(cukvashe_des, NAMES.get(first, snake(first))), arguments)
 
 
 calls, errors = collections.Counter(), collections.Counter()

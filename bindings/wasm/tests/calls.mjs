@@ -93,7 +93,7 @@ export function allCalls() {
     ["encryptEach", [library.TdesEde3, KEY, IV], [BYTES, BYTES, BYTES]],
     ["decryptEach", [library.TdesEde3, KEY, IV], [BYTES, BYTES, BYTES]],
     ["checkValues", [library.TdesEde3, KEY], [BYTES, BYTES]],
-    ["dukptTransactionKeys", [PAIR, SERIAL], [BYTES, BYTES]],
+    ["dukptTransactionKeysFromBase", [PAIR, SERIAL], [BYTES, BYTES]],
     ["encryptCbcRecords", [cipher, IV, { vectors: IV, counts: [1] }], [BYTES, BYTES, BYTES]],
     ["decryptCbcRecords", [cipher, IV, { vectors: IV, counts: [1] }], [BYTES, BYTES, BYTES]],
     ["macs", [library.RetailMacDes, PAIR, 2, [24], MESSAGE], [BYTES, BYTES, (it) => it === 5, isNumbers, BYTES]],

@@ -253,7 +253,7 @@ for (const length of LENGTHS) {
       ...[library.dukptPinKey, library.dukptMacKey, library.dukptDataKey],
       (key) => library.dukptInitialKey(key, SERIAL),
       (key) => library.dukptTransactionKey(key, SERIAL),
-      (key) => library.dukptTransactionKeys(key, SERIAL),
+      (key) => library.dukptTransactionKeysFromBase(key, SERIAL),
       (key) => library.cvv(key, ACCOUNT, "8701", "101"),
       (key) => library.equalButParity(PAIR, key),
       (key) => library.combine(PAIR, PAIR, key),
@@ -271,7 +271,7 @@ for (const length of LENGTHS) {
   }
   if (length % 10 !== 0) {
     const text = `${length} bytes are not whole key serial numbers of 10`;
-    throwsFault(() => library.dukptTransactionKeys(PAIR, of(length)), "SerialLength", text);
+    throwsFault(() => library.dukptTransactionKeysFromBase(PAIR, of(length)), "SerialLength", text);
   }
   if (length !== 8) {
     for (const call of ["pinDecode0", "pinDecode1", "pinDecode3"]) {

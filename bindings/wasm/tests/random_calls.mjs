@@ -279,7 +279,7 @@ const KINDS = [
   () => ["dukptPinKey", key(16)],
   () => [one(["dukptMacKey", "dukptDataKey"]), key(16), random(2) === 0],
   () => [one(["dukptNextSerial", "dukptIsUsable"]), serial()],
-  () => ["dukptTransactionKeys", key(16), elements(10, random(one([4, 140])))],
+  () => ["dukptTransactionKeysFromBase", key(16), elements(10, random(one([4, 140])))],
   () => ["pinEncode0", pin(), account()],
   () => ["pinEncode1", pin(), fill(0)],
   () => ["pinEncode3", pin(), account(), fill(10)],

@@ -54,7 +54,7 @@ for (const [Mac, size, padding] of MACS) {
     library.wrongTags(of(8 * count), of(8 * count));
   }
 }
-for (const count of [0, 1, 128, 129, 300]) library.dukptTransactionKeys(of(16), SERIALS.subarray(0, 10 * count));
+for (const count of [0, 1, 128, 129, 300]) library.dukptTransactionKeysFromBase(of(16), SERIALS.subarray(0, 10 * count));
 library.dukptInitialKey(of(16), of(10));
 library.dukptTransactionKey(of(16), of(10).fill(255, 7));
 library.dukptPinKey(of(16));
