@@ -568,6 +568,10 @@ function writtenText(size, name, lay) {
 // A module that has a 64-bit memory and nothing else.
 const OF_64_BITS = Uint8Array.of(0, 97, 115, 109, 1, 0, 0, 0, 5, 3, 1, 4, 1);
 
+// Which engines have it, of those that this one is of.
+const OF_NODE = "Node has one from version 24 on, versions 20 and 22 by the flag --experimental-wasm-memory64";
+const OF_BROWSERS = "Chrome and Edge have one from version 133 on, Firefox from 134 on";
+
 /** Whether this engine has a 64-bit memory for WebAssembly, without which `load` throws NoMemory64. */
 export function isSupported() {
   return typeof WebAssembly === "object" && WebAssembly.validate(OF_64_BITS);
@@ -590,7 +594,10 @@ async function fileBeside() {
  * where `crypto.subtle` is missing, as on pages by http, they are not compared.
  */
 export async function load(module) {
-  if (!isSupported()) throw new NoMemory64("this engine has no 64-bit memory for WebAssembly");
+  if (!isSupported()) {
+    const others = typeof process === "object" ? OF_NODE : OF_BROWSERS;
+    throw new NoMemory64(`this engine has no 64-bit memory for WebAssembly: ${others}`);
+  }
   const given = module === undefined ? await fileBeside() : module;
   const bytes = (given instanceof ArrayBuffer ? new Uint8Array(given) : bytesOf(given, "the module")).slice();
   if (globalThis.crypto?.subtle !== undefined) {

@@ -1,5 +1,5 @@
 // The page: a form for each calculation of the table, and what was computed.
-import { isSupported, load } from "../cukvashe_des.mjs";
+import { NoMemory64, isSupported, load } from "../cukvashe_des.mjs";
 import { calculations, faultOf } from "./calculations.mjs";
 import { FieldFault, ONE_LINE, hasLines, readAll } from "./fields.mjs";
 
@@ -237,12 +237,8 @@ function moduleBytes() {
 }
 
 async function start() {
-  if (!isSupported()) {
-    refuse("This browser has no 64-bit memory for WebAssembly, which the library needs: Chrome and Edge have it from "
-      + "version 133 on, Firefox from 134 on.");
-    return;
-  }
-  await load(await moduleBytes());
+  // A browser that has no 64-bit memory may lack what unpacks the module too.
+  await load(isSupported() ? await moduleBytes() : undefined);
   const count = knownCount();
   for (const calculation of calculations) {
     byId("list").append(make("li", {}, make("a", { href: `#${calculation.id}` }, calculation.title)));
@@ -264,4 +260,7 @@ function refuse(words) {
   byId("state").textContent = words;
 }
 
-start().catch((error) => refuse(`This page offers nothing, since ${error.message}. The file may be damaged: get it anew.`));
+start().catch((error) => {
+  const advice = error instanceof NoMemory64 ? "" : " The file may be damaged: get it anew.";
+  refuse(`This page offers nothing, since ${error.message}.${advice}`);
+});

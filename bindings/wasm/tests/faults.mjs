@@ -1,6 +1,7 @@
 // faults.mjs FOLDER: each error of the wrapper, each wrong type in the place of each argument, and what was closed or
 // not loaded.
 import assert from "node:assert/strict";
+import { spawnSync } from "node:child_process";
 import { readFileSync } from "node:fs";
 import { runInNewContext } from "node:vm";
 import { exportsOf, folder, hex, is, library, unhex } from "./common.mjs";
@@ -65,6 +66,19 @@ assert.equal(library.isSupported(), false);
 await refuses("NoMemory64", module);
 WebAssembly.validate = validate;
 assert.equal(library.isSupported(), true);
+// A Node that lacks it without flags loads the module by the flag that the error says, and package.json asks for no other.
+const file = JSON.stringify(`${new URL(`${folder}/cukvashe_des.mjs`, "file:///")}`);
+const loads = (...flags) => spawnSync(process.execPath, [...flags, "--input-type=module", "-e",
+  `const { load } = await import(${file}); await load();`], { encoding: "utf8" });
+const bare = loads();
+if (bare.status !== 0) {
+  const [, flag] = bare.stderr.match(/NoMemory64: .* by the flag (--[a-z0-9-]+)$/m);
+  assert.equal(loads(flag).status, 0, flag);
+}
+const description = JSON.parse(readFileSync(`${folder}/package.json`, "utf8"));
+const [row] = readFileSync(new URL("../../../docs/INSTALL.md", import.meta.url), "utf8").match(/^\| JavaScript \|.*/m);
+assert.equal(description.engines.node, `>=${Math.min(...row.match(/\d+/g))}`);
+assert(Number(process.versions.node.split(".")[0]) >= Number(description.engines.node.slice(2)));
 
 // Where the engine's stack ends while an array is looked at, that is not a wrong type.
 const typedArray = Object.getPrototypeOf(Uint8Array.prototype);
@@ -798,7 +812,7 @@ assert.deepEqual([PAIR, KEY].map(library.isWeakKey), [false, false]);
 assert.equal(JSON.stringify(cipher), "{}");
 assert.equal(`${Object.getOwnPropertyNames(cipher)}${Object.getOwnPropertySymbols(cipher).length}`, "0");
 assert.match(library.version, /^\d+\.\d+\.\d+$/);
-assert.equal(JSON.parse(readFileSync(`${folder}/package.json`, "utf8")).version, library.version);
+assert.equal(description.version, library.version);
 
 // Every error and call of the package for Python has its name here, but those that work in place and that a string of
 // digits replaces.

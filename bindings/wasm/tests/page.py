@@ -699,7 +699,7 @@ def refusing(page):
     browser.command("Page.addScriptToEvaluateOnNewDocument",
                     source="WebAssembly.validate = () => false; delete globalThis.DecompressionStream;")
     browser.open(page)
-    offers_nothing(browser, "This browser has no 64-bit memory for WebAssembly", "no 64-bit memory")
+    offers_nothing(browser, "no 64-bit memory for WebAssembly: Chrome and Edge have one from version 133 on, Firefox from 134 on.", "no 64-bit memory")
     browser.picture("no-memory64")
     browser.close()
 
