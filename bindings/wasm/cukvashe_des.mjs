@@ -6,7 +6,8 @@
 //     const plaintext = new TdesEde3(key).decryptCbc(ciphertext, { iv });
 //
 // Bytes come in and go out as Uint8Array, texts as strings of digits; names are those of the package for Python, and so
-// are the errors, each a CukvasheError of its own name. A wrong type is a TypeError. cukvashe_des.d.mts has the types.
+// are the errors, each a CukvasheError of its own name. A wrong type is a TypeError. cukvashe_des.d.mts says what each call
+// does, and has the types.
 //
 // Each call reads first what may run code of the caller's: classes, options, and numbers that an iterator gives. Then it
 // takes views of bytes, and then, in `inside`, where no such code runs, what an object keeps. So it answers as if that code
@@ -27,7 +28,6 @@ const STACK_SIZE = 131072;
 
 // ---- Errors ---------------------------------------------------------------------------------------------------------
 
-/** What every error of the library is. No text of one tells a value that was given, only lengths. */
 export class CukvasheError extends Error {}
 
 /** An error of a name, which stays when a tool shortens the names of classes. */
@@ -572,7 +572,6 @@ const OF_64_BITS = Uint8Array.of(0, 97, 115, 109, 1, 0, 0, 0, 5, 3, 1, 4, 1);
 const OF_NODE = "Node has one from version 24 on, versions 20 and 22 by the flag --experimental-wasm-memory64";
 const OF_BROWSERS = "Chrome and Edge have one from version 133 on, Firefox from 134 on";
 
-/** Whether this engine has a 64-bit memory for WebAssembly, without which `load` throws NoMemory64. */
 export function isSupported() {
   return typeof WebAssembly === "object" && WebAssembly.validate(OF_64_BITS);
 }
@@ -588,11 +587,6 @@ async function fileBeside() {
   return response.arrayBuffer();
 }
 
-/**
- * Loads the module: the file beside this one, or its bytes. Every other call throws NotLoaded before that. NoMemory64
- * where the engine has no 64-bit memory, ModuleMismatch where the bytes are not those that this file was built with;
- * where `crypto.subtle` is missing, as on pages by http, they are not compared.
- */
 export async function load(module) {
   if (!isSupported()) {
     const others = typeof process === "object" ? OF_NODE : OF_BROWSERS;
@@ -648,9 +642,7 @@ function kindOf(Class, Base, what) {
 // The last word of the calls that make a context, of one that is not quiet.
 const QUICK = 0;
 
-/** A cipher or MAC under one key. */
 class Keyed {
-  /** Forgets the key: the context is wiped. Every later call throws Closed. */
   close() {
     const state = states.get(this);
     if (state === undefined) return;
@@ -663,7 +655,6 @@ if (Symbol.dispose !== undefined) Object.defineProperty(Keyed.prototype, Symbol.
 
 // ---- Ciphers --------------------------------------------------------------------------------------------------------
 
-/** A block cipher under one key. Data are whole blocks of 8 bytes; `pad` and `unpad` make them of other data. */
 class Cipher extends Keyed {
   static blockSize = BLOCK_SIZE;
 
@@ -681,23 +672,19 @@ class Cipher extends Keyed {
     keep(this, Cipher, kind, context);
   }
 
-  /** The data, each block of 8 bytes encrypted by itself. */
   encryptEcb(data, ...more) {
     return ecb(this, "internal_encrypt_ecb", data, more);
   }
 
-  /** The data, each block of 8 bytes decrypted by itself. */
   decryptEcb(data, ...more) {
     return ecb(this, "internal_decrypt_ecb", data, more);
   }
 
-  /** The data, encrypted by cipher block chaining from an initialization vector of 8 bytes. */
   encryptCbc(data, ...named) {
     const [iv] = afterData("encryptCbc(data, { iv })", named, "iv");
     return answered(this, "internal_encrypt_cbc", data, [vectorOf(iv)]);
   }
 
-  /** The data, decrypted by cipher block chaining from an initialization vector of 8 bytes. Padding stays. */
   decryptCbc(data, ...named) {
     const [iv] = afterData("decryptCbc(data, { iv })", named, "iv");
     return answered(this, "internal_decrypt_cbc", data, [vectorOf(iv)]);
@@ -723,17 +710,14 @@ function answered(cipher, call, data, vectors) {
   });
 }
 
-/** DES, under a key of 8 bytes. */
 export class Des extends Cipher {
   static keySize = 8;
 }
 
-/** Triple DES: encryption, decryption, encryption, under the two parts of a key of 16 bytes and the first again. */
 export class TdesEde2 extends Cipher {
   static keySize = 16;
 }
 
-/** Triple DES: encryption, decryption, encryption, under the three parts of a key of 24 bytes. */
 export class TdesEde3 extends Cipher {
   static keySize = 24;
 }
@@ -749,11 +733,9 @@ const cipherOf = (Class) => kindOf(Class, Cipher, "the first argument");
 
 const LEAST_TAG_SIZE = 4;
 
-/** A message authentication code of a message that comes in pieces. */
 class Mac extends Keyed {
   static digestSize = TAG_SIZE;
 
-  /** Adds bytes to the message. */
   update(data, ...more) {
     refuseMore(more, "update takes data alone");
     const bytes = bytesOf(data, "data");
@@ -766,9 +748,6 @@ class Mac extends Keyed {
     return this;
   }
 
-  /**
-   * The tag of the message so far, 8 bytes, or as a string of "hex"; the message may go on. To check a tag call verify.
-   */
   digest(encoding) {
     if (encoding !== undefined && encoding !== "hex") throw new TypeError('digest takes no argument but "hex"');
     const tag = written(TAG_SIZE, "internal_mac_final", (memory) => {
@@ -778,23 +757,14 @@ class Mac extends Keyed {
     return encoding === "hex" ? hexOf(tag) : tag;
   }
 
-  /**
-   * True for the whole tag of the message so far, 8 bytes; TagMismatch is thrown for anything else. verifyTruncatedLeft
-   * takes cut tags; in C, verify takes both.
-   */
   verify(tag) {
     return accepted(this, tag, TAG_SIZE);
   }
 
-  /**
-   * True for the first 4 to 8 bytes of the tag; TagMismatch is thrown for anything else. Of 4 bytes one guess in 2^32 is
-   * right: test the length too if somebody else chose it.
-   */
   verifyTruncatedLeft(tag) {
     return accepted(this, tag, LEAST_TAG_SIZE);
   }
 
-  /** A MAC that goes on from here by itself. */
   copy() {
     return inside((memory) => {
       const { kind, context } = memory.state(this, Mac);
@@ -824,7 +794,6 @@ function macContextOf(kind, key, padding, bytes) {
   });
 }
 
-/** A MAC with a padding method of ISO/IEC 9797-1: 1, zeros, or 2, a one bit and zeros. */
 class PaddedMac extends Mac {
   constructor(key, padding, data = new Uint8Array(), ...more) {
     super();
@@ -839,7 +808,6 @@ class PaddedMac extends Mac {
 const CMAC = 5;
 const CMAC_PADDING = 2;
 
-/** CMAC, which needs no padding method. */
 class Cmac extends Mac {
   constructor(key, data = new Uint8Array(), ...more) {
     super();
@@ -850,32 +818,26 @@ class Cmac extends Mac {
   }
 }
 
-/** CBC-MAC over DES, under a key of 8 bytes. It is safe only where every message has one length. */
 export class CbcMacDes extends PaddedMac {
   static keySize = 8;
 }
 
-/** CBC-MAC over triple DES, under a key of 16 bytes. It is safe only where every message has one length. */
 export class CbcMacTdesEde2 extends PaddedMac {
   static keySize = 16;
 }
 
-/** CBC-MAC over triple DES, under a key of 24 bytes. It is safe only where every message has one length. */
 export class CbcMacTdesEde3 extends PaddedMac {
   static keySize = 24;
 }
 
-/** The retail MAC over DES, under a key of 16 bytes, two keys. */
 export class RetailMacDes extends PaddedMac {
   static keySize = 16;
 }
 
-/** CMAC over triple DES, under a key of 16 bytes. */
 export class CmacTdesEde2 extends Cmac {
   static keySize = 16;
 }
 
-/** CMAC over triple DES, under a key of 24 bytes. */
 export class CmacTdesEde3 extends Cmac {
   static keySize = 24;
 }
@@ -897,10 +859,6 @@ function methodOf(method) {
   return METHODS.get(method);
 }
 
-/**
- * The data with 1 to 8 bytes after them that make whole blocks: by "pkcs7" (RFC 5652, section 6.3) each the number of
- * these bytes, by "iso7816" (ISO/IEC 7816-4) 80 in hexadecimal digits and then zeros.
- */
 export function pad(data, method) {
   const number = methodOf(method);
   const bytes = bytesOf(data, "data");
@@ -913,10 +871,6 @@ export function pad(data, method) {
   });
 }
 
-/**
- * The data before the padding. PaddingMismatch where they do not end with it: an attacker who sends you data and learns
- * which throw it, by a message or by the time taken, can decrypt. Verify a MAC first.
- */
 export function unpad(data, method) {
   const number = methodOf(method);
   const bytes = bytesOf(data, "data");
@@ -934,13 +888,11 @@ export function unpad(data, method) {
 
 const SIZES = [8, 16, 24];
 
-/** Whether a key of 8, 16 or 24 bytes is weak: a part of it has few different round keys, or two parts are one key. */
 export function isWeakKey(key) {
   const bytes = keyOf(key, ...SIZES);
   return inside((memory) => memory.ask("weak_key_test", ...memory.list(bytes))) === WEAK_KEY;
 }
 
-/** The key of 8, 16 or 24 bytes with its parity bits, the lowest of each byte, set to odd parity. */
 export function withOddParity(key) {
   const bytes = keyOf(key, ...SIZES);
   return inside((memory) => {
@@ -950,7 +902,6 @@ export function withOddParity(key) {
   });
 }
 
-/** Whether two keys of one length, 8, 16 or 24 bytes, agree in all but their parity bits, and so are one key. */
 export function equalButParity(first, second) {
   const one = keyOf(first, ...SIZES);
   const other = keyOf(second, one.length);
@@ -959,28 +910,22 @@ export function equalButParity(first, second) {
 
 const CHECK_VALUE_SIZE = 3;
 
-/**
- * The check value of a key, three bytes: the first of the block of zeros encrypted. `cipher` is a class, as TdesEde2.
- */
 export function checkValue(cipher, key) {
   const { keySize } = cipherOf(cipher);
   const bytes = keyOf(key, keySize);
   return written(CHECK_VALUE_SIZE, "internal_check_value", (memory) => [BigInt(keySize), ...memory.list(bytes)]);
 }
 
-/** The check value of a key or component of 8, 16 or 24 bytes, by DES or, where it is longer, triple DES (EDE). */
 export function keyCheckValue(key) {
   const bytes = keyOf(key, ...SIZES);
   return written(CHECK_VALUE_SIZE, "key_check_value", (memory) => memory.list(bytes));
 }
 
-/** The first two bytes of keyCheckValue, which some systems show. */
 export function shortKeyCheckValue(key) {
   const bytes = keyOf(key, ...SIZES);
   return written(2, "short_key_check_value", (memory) => memory.list(bytes));
 }
 
-/** The key that two or more components of 8, 16 or 24 bytes make: their xor, with odd parity. A weak one is WeakKey. */
 export function combine(first, second, ...others) {
   const one = keyOf(first, ...SIZES);
   const size = one.length;
@@ -1009,48 +954,35 @@ function madeOf(name, key, lay) {
   return written(TRANSACTION_KEY_SIZE, name, (memory) => [memory.put(bytes), ...lay(memory)]);
 }
 
-/** The initial key of a terminal, from the base derivation key and a key serial number. */
 export function dukptInitialKey(base, serial) {
   const number = serialOf(serial);
   return madeOf("dukpt_initial_key", base, (memory) => [memory.put(number)]);
 }
 
-/**
- * The key of a transaction, from the terminal's initial key and the transaction's key serial number. It takes every
- * counter, and for 0 gives the initial key itself: ask dukptIsUsable first.
- */
 export function dukptTransactionKey(initial, serial) {
   const number = serialOf(serial);
   return madeOf("dukpt_transaction_key", initial, (memory) => [memory.put(number)]);
 }
 
-/** The key that encrypts PIN blocks, from the transaction's key. */
 export function dukptPinKey(transaction) {
   return madeOf("dukpt_pin_key", transaction, () => []);
 }
 
-/** The key that authenticates the request, or the response, from the transaction's key. */
 export function dukptMacKey(transaction, isResponse = false) {
   const word = responseOf(isResponse);
   return madeOf("dukpt_mac_key", transaction, () => [Number(word)]);
 }
 
-/** The key that encrypts the data of the request, or of the response, from the transaction's key. */
 export function dukptDataKey(transaction, isResponse = false) {
   const word = responseOf(isResponse);
   return madeOf("dukpt_data_key", transaction, () => [Number(word)]);
 }
 
-/**
- * The key of dukptDataKey without its last step: some terminals encrypt data under it. It reveals the transaction's
- * other keys.
- */
 export function dukptDataVariant(transaction, isResponse = false) {
   const word = responseOf(isResponse);
   return madeOf("dukpt_data_variant", transaction, () => [Number(word)]);
 }
 
-/** The next key serial number with at most ten one bits in its counter, or null where there is none. */
 export function dukptNextSerial(serial) {
   const number = serialOf(serial);
   return inside((memory) => {
@@ -1059,7 +991,6 @@ export function dukptNextSerial(serial) {
   });
 }
 
-/** Whether a transaction has this key serial number: its counter is not 0 and has at most ten one bits. */
 export function dukptIsUsable(serial) {
   const number = serialOf(serial);
   return inside((memory) => memory.ask("dukpt_is_usable", memory.put(number))) !== 0;
@@ -1067,10 +998,6 @@ export function dukptIsUsable(serial) {
 
 const STATE_SIZE = 346;
 
-/**
- * The terminal's side: the keys of its transactions to come, made of the initial key, 16 bytes, and any of its key
- * serial numbers, whose counter plays no part.
- */
 export class DukptTerminal extends Keyed {
   constructor(initial, serial) {
     super();
@@ -1083,7 +1010,6 @@ export class DukptTerminal extends Keyed {
     keep(this, DukptTerminal, null, context);
   }
 
-  /** The terminal of a state. */
   static fromState(state) {
     const { prototype } = this;
     const bytes = dataOf(state, STATE_SIZE, "the state of a terminal", "has", StateLength);
@@ -1091,11 +1017,6 @@ export class DukptTerminal extends Keyed {
     return keep(Object.create(prototype), DukptTerminal, null, context);
   }
 
-  /**
-   * The key serial number, `serial`, and the key, `key`, of the next transaction, that of dukptTransactionKey, which the
-   * terminal then forgets. Store `state()` before you use the key, or a key is used twice. NoSerial after the last
-   * transaction, the 1,048,575th.
-   */
   nextKey() {
     return inside((memory) => {
       const { context } = memory.state(this, DukptTerminal);
@@ -1109,7 +1030,6 @@ export class DukptTerminal extends Keyed {
     });
   }
 
-  /** The state, 346 bytes, from which `fromState` goes on. It is secret: it has the keys of all transactions to come. */
   state() {
     return inside((memory) => memory.state(this, DukptTerminal).context.slice());
   }
@@ -1120,74 +1040,51 @@ export class DukptTerminal extends Keyed {
 const PIN_SIZE = 13;
 const CVV_SIZE = 4;
 
-/**
- * The PIN block of format 0, 8 bytes, of a PIN of 4 to 12 digits and an account number of 8 to 19 with its check digit.
- * It is not encrypted.
- */
 export function pinEncode0(pin, account) {
   const [digits, number] = [textOf(pin, "a PIN"), textOf(account, "an account number")];
   return written(BLOCK_SIZE, "pin_encode_0", (memory) => [...memory.list(digits), ...memory.list(number)]);
 }
 
-/**
- * The PIN block of format 1 of a PIN and ten transaction digits, bytes from 0 to 15, of which it uses the first ones
- * that there is room for.
- */
 export function pinEncode1(pin, transaction) {
   const [digits, fill] = [textOf(pin, "a PIN"), fillOf(transaction)];
   return written(BLOCK_SIZE, "pin_encode_1", (memory) => [...memory.list(digits), memory.put(fill)]);
 }
 
-/** The PIN block of format 2 of a PIN, which goes to a card in clear. */
 export function pinEncode2(pin) {
   const digits = textOf(pin, "a PIN");
   return written(BLOCK_SIZE, "pin_encode_2", (memory) => memory.list(digits));
 }
 
-/**
- * The PIN block of format 3 of a PIN, an account number, and ten fill digits, random bytes from 10 to 15, of which it
- * uses the first ones that there is room for.
- */
 export function pinEncode3(pin, account, fill) {
   const [digits, number, random] = [textOf(pin, "a PIN"), textOf(account, "an account number"), fillOf(fill)];
   const lay = (memory) => [...memory.list(digits), ...memory.list(number), memory.put(random)];
   return written(BLOCK_SIZE, "pin_encode_3", lay);
 }
 
-/** The PIN of a block of format 0 and an account number. The error reveals something of the PIN: show it to nobody. */
 export function pinDecode0(block, account) {
   const [number, bytes] = [textOf(account, "an account number"), blockOf(block)];
   return writtenText(PIN_SIZE, "pin_decode_0", (memory) => [memory.put(bytes), ...memory.list(number)]);
 }
 
-/** The PIN of a block of format 1. */
 export function pinDecode1(block) {
   const bytes = blockOf(block);
   return writtenText(PIN_SIZE, "pin_decode_1", (memory) => [memory.put(bytes)]);
 }
 
-/** The PIN of a block of format 2. */
 export function pinDecode2(block) {
   const bytes = blockOf(block);
   return writtenText(PIN_SIZE, "pin_decode_2", (memory) => [memory.put(bytes)]);
 }
 
-/** The PIN of a block of format 3 and an account number. */
 export function pinDecode3(block, account) {
   const [number, bytes] = [textOf(account, "an account number"), blockOf(block)];
   return writtenText(PIN_SIZE, "pin_decode_3", (memory) => [memory.put(bytes), ...memory.list(number)]);
 }
 
-/**
- * Translates a block of format 0, 1 or 3 under the incoming key into the block of format 0 of its PIN under the outgoing
- * key. The PIN does not come out. Keys are `{ incomingKey, outgoingKey }`, of 8, 16 or 24 bytes. The account number is
- * that of both blocks. Whatever is wrong with the block is PinBlock.
- */
 export function pinTranslateTo0(incomingFormat, account, block, keys) {
   return written(BLOCK_SIZE, "pin_translate_to_0", translated(incomingFormat, account, [], block, keys));
 }
 
-/** A block of format 1 under another key; its transaction digits stay. */
 export function pinTranslateTo1(block, keys) {
   const { incomingKey, outgoingKey } = translationOf(keys);
   const [incoming, outgoing, bytes] = [keyOf(incomingKey, ...SIZES), keyOf(outgoingKey, ...SIZES), blockOf(block)];
@@ -1195,7 +1092,6 @@ export function pinTranslateTo1(block, keys) {
   return written(BLOCK_SIZE, "pin_translate_to_1", lay);
 }
 
-/** As pinTranslateTo0, to a block of format 3, with ten fill digits as of pinEncode3. */
 export function pinTranslateTo3(incomingFormat, account, fill, block, keys) {
   return written(BLOCK_SIZE, "pin_translate_to_3", translated(incomingFormat, account, [fill], block, keys));
 }
@@ -1219,18 +1115,10 @@ function translated(incomingFormat, account, fills, block, keys) {
 
 const PVV_SIZE = 5;
 
-/**
- * The PIN verification value, four digits, under a key pair of 16 bytes with an index from 1 to 6, of an account number
- * of 12 to 19 digits and the first four digits of a PIN.
- */
 export function pvv(key, account, index, pin) {
   return writtenText(PVV_SIZE, "pvv", valueOf(key, account, index, pin));
 }
 
-/**
- * True for the PIN whose PIN verification value this is; WrongPin is thrown for any other. Count these: unlimited guesses
- * find the PIN.
- */
 export function pvvVerify(key, account, index, pin, value) {
   const lay = valueOf(key, account, index, pin);
   const kept = textOf(value, "a PIN verification value");
@@ -1247,16 +1135,11 @@ function valueOf(key, account, index, pin) {
 
 const TABLE_SIZE = 16;
 
-/**
- * A decimalization table of sixteen decimal digits, those that stand for 0 to 15 in this order; TableVariety for fewer
- * than eight different ones. An attacker who chooses the table finds PINs out.
- */
 export class DecimalTable {
   constructor(digits) {
     keep(this, DecimalTable, null, tableOf("decimal_table_init", digits));
   }
 
-  /** A table of any variety, for old systems that have one. */
   static ofAnyVariety(digits) {
     const { prototype } = this;
     return keep(Object.create(prototype), DecimalTable, null, tableOf("decimal_table_init_any", digits));
@@ -1283,24 +1166,18 @@ function naturalOf(key, table, validation) {
   };
 }
 
-/**
- * The natural PIN of 4 to 12 digits: the first digits of the validation data, 8 bytes, encrypted under a key of 8, 16 or
- * 24 bytes, each by the decimalization table.
- */
 export function naturalPin(key, table, validation, length) {
   const lay = naturalOf(key, table, validation);
   const count = BigInt(numberOf(length, 4, 12, "the length of the PIN"));
   return writtenText(PIN_SIZE, "natural_pin", (memory) => [...lay(memory), count]);
 }
 
-/** The offset of a PIN: digit by digit, modulo ten, the PIN less the natural PIN. */
 export function pinOffset(key, table, validation, pin) {
   const lay = naturalOf(key, table, validation);
   const digits = textOf(pin, "a PIN");
   return writtenText(PIN_SIZE, "pin_offset", (memory) => [...lay(memory), ...memory.list(digits)]);
 }
 
-/** True for the PIN whose offset this is; WrongPin is thrown for any other. Count these. */
 export function pinOffsetVerify(key, table, validation, pin, offset) {
   const lay = naturalOf(key, table, validation);
   const texts = [textOf(pin, "a PIN"), textOf(offset, "an offset")];
@@ -1320,47 +1197,29 @@ function cardKeyBy(name, issuer, account, sequence) {
   return written(16, name, (memory) => [memory.put(key), ...texts.flatMap((text) => memory.list(text))]);
 }
 
-/**
- * The key of a card (option A), with odd parity, from the issuer's key, an account number of 8 to 19 digits and a
- * sequence number of two: "00" where the card has none.
- */
 export function emvCardKey(issuer, account, sequence) {
   return cardKeyBy("emv_card_key", issuer, account, sequence);
 }
 
-/**
- * The key of a card by option B, which differs where the account number has more than sixteen digits: take it if the
- * card scheme asks for it.
- */
 export function emvCardKeyB(issuer, account, sequence) {
   return cardKeyBy("emv_card_key_b", issuer, account, sequence);
 }
 
-/**
- * The session key of a card's key, from eight bytes that are different for each session: for secure messaging the
- * application cryptogram. The third of them plays no part.
- */
 export function emvSessionKey(card, block) {
   const bytes = dataOf(block, BLOCK_SIZE, "the block of a session", "has", BlockLength);
   return madeOf("emv_session_key", card, (memory) => [memory.put(bytes)]);
 }
 
-/** The session key for application cryptograms, by the application transaction counter, two bytes. */
 export function emvApplicationKey(card, counter) {
   const bytes = dataOf(counter, 2, "a transaction counter", "has", DataLength);
   return madeOf("emv_application_key", card, (memory) => [memory.put(bytes)]);
 }
 
-/**
- * The application cryptogram of data under a session key, 8 bytes. To check one that a card sent call
- * new RetailMacDes(session, 2, data).verify(cryptogram).
- */
 export function emvApplicationCryptogram(session, data) {
   const [key, bytes] = [keyOf(session, 16), bytesOf(data, "data")];
   return written(BLOCK_SIZE, "emv_application_cryptogram", (memory) => [memory.put(key), ...memory.list(bytes)]);
 }
 
-/** The issuer's response by method 1 to an application cryptogram, 8 bytes, with a response code of two bytes. */
 export function emvResponse1(session, cryptogram, code) {
   const request = cryptogramOf(cryptogram);
   const word = dataOf(code, 2, "a response code", "has", DataLength);
@@ -1368,10 +1227,6 @@ export function emvResponse1(session, cryptogram, code) {
   return written(BLOCK_SIZE, "emv_response_1", (memory) => [memory.put(key), memory.put(request), memory.put(word)]);
 }
 
-/**
- * The issuer's response by method 2, 4 bytes, with a card status update of four bytes and at most eight bytes of the
- * issuer's.
- */
 export function emvResponse2(session, cryptogram, status, data = new Uint8Array()) {
   const request = cryptogramOf(cryptogram);
   const word = dataOf(status, 4, "a card status update", "has", DataLength);
@@ -1382,10 +1237,6 @@ export function emvResponse2(session, cryptogram, status, data = new Uint8Array(
 
 // ---- Card verification values
 
-/**
- * The card verification value, three digits, under a key pair of 16 bytes, of an account number of 12 to 19 digits, an
- * expiry date of four and a service code of three.
- */
 export function cvv(key, account, expiry, service) {
   const pair = keyOf(key, 16);
   const texts = [textOf(account, "an account number"), textOf(expiry, "an expiry date"), textOf(service, "a service code")];
@@ -1458,11 +1309,6 @@ function optionalOf(optional) {
   return asciiOf(Array.from(optional, optionalText).join(""));
 }
 
-/**
- * The header and the key, 8, 16 or 24 bytes, of a key block of version A, B or C, a string, under a protection key of 16
- * or 24 bytes. KeyBlockMac where the block was changed, or is under another key. Look at the header before you use the
- * key.
- */
 export function unwrapKeyBlock(protection, block) {
   const held = bytesOf(protection, "a protection key");
   const text = keyBlockOf(block);
@@ -1474,14 +1320,6 @@ export function unwrapKeyBlock(protection, block) {
   });
 }
 
-/**
- * The key block, a string, of a key of 8, 16 or 24 bytes under a protection key of 16 or 24 bytes, of version B or C.
- * `header` has the fields that unwrapKeyBlock gives; no call compares them with the key's length. Options are `optional`,
- * pairs of a name of two letters or digits and its content, printable ASCII, after which a block PB is added where they do
- * not end at a multiple of eight characters, and taken only as the last, where with it they do: OptionalBlock; and
- * `padding`, random bytes that hide how long the key is, 6, 14 or 22: without it they come from the engine. An option of
- * another name is a TypeError.
- */
 export function wrapKeyBlock(protection, header, key, options = {}) {
   const { optional = [], padding } = optionsOf(options, "optional", "padding");
   const [fields, more] = [fieldsOf(header), optionalOf(optional)];
@@ -1497,22 +1335,16 @@ export function wrapKeyBlock(protection, header, key, options = {}) {
   });
 }
 
-/** The header of a key block, read with no key. Nothing of it is authenticated. */
 export function keyBlockHeader(block) {
   const text = keyBlockOf(block);
   return headerFrom(written(FIELDS_SIZE, "key_block_header", (memory) => memory.list(text)));
 }
 
-/**
- * Where the key of a key block may be, read with no key: "0" in storage and exchange, as wrapKeyBlock writes it, "1" in
- * storage only, "2" in exchange only. Nothing of it is authenticated.
- */
 export function keyBlockContext(block) {
   const text = keyBlockOf(block);
   return charactersOf(written(1, "key_block_context", (memory) => memory.list(text)));
 }
 
-/** The optional blocks of a key block, pairs of a name and its content, read with no key. Nothing is authenticated. */
 export function keyBlockOptionalBlocks(block) {
   const text = keyBlockOf(block);
   return inside((memory) => {
@@ -1569,26 +1401,14 @@ function derived(name, hash, password, salt, words, length) {
   });
 }
 
-/** The key of `length` bytes of a password, as bytes, and a salt by PBKDF2 with HMAC over "sha1" or "sha256". */
 export function pbkdf2(hashName, password, salt, iterations, length) {
   return derived("pbkdf2", hashOf(hashName), password, salt, [iterationsOf(iterations)], derivedLengthOf(length));
 }
 
-/**
- * The key, and after it the vector, of `length` bytes together, that OpenSSL's EVP_BytesToKey makes of a password and a
- * salt of 8 bytes, or of none, with one iteration. A password is quick to guess by it: take it to read what others wrote.
- */
 export function bytesToKey(hashName, password, salt, length) {
   return derived("bytes_to_key", hashOf(hashName), password, salt, [], derivedLengthOf(length));
 }
 
-/**
- * The plaintext of a file that `openssl enc` encrypted under a password, as bytes: by -des-cbc, -des-ede-cbc or -des3, as
- * `cipher` is the class Des, TdesEde2 or TdesEde3. The data are the whole file, not Base64 (-a). Options are `hashName`,
- * that of -md, "sha256" by default, "md5" before OpenSSL 1.1.0; and `iterations`, those of -iter: 10000 if only -pbkdf2
- * was given, and left out, not 1, if neither was. An option of another name is a TypeError. A wrong password is
- * PaddingMismatch, but for one in 256, which gives wrong bytes: nothing here authenticates.
- */
 export function openSalted(cipher, password, data, options = {}) {
   const { hashName = "sha256", iterations } = optionsOf(options, "hashName", "iterations");
   const { keySize } = cipherOf(cipher);
@@ -1606,12 +1426,10 @@ export function openSalted(cipher, password, data, options = {}) {
 
 // ---- Lists: elements stand one after the other, without a gap -------------------------------------------------------
 
-/** The blocks, each of 8 bytes encrypted under the key at its place. `cipher` is a class, as TdesEde2. */
 export function encryptEach(cipher, keys, blocks) {
   return answeredEach("internal_encrypt_each", cipher, keys, blocks);
 }
 
-/** The blocks, each decrypted under the key at its place. */
 export function decryptEach(cipher, keys, blocks) {
   return answeredEach("internal_decrypt_each", cipher, keys, blocks);
 }
@@ -1629,7 +1447,6 @@ function answeredEach(call, cipher, keys, blocks) {
   });
 }
 
-/** The check values of keys, three bytes for each, as `checkValue` makes them. */
 export function checkValues(cipher, keys) {
   const { keySize } = cipherOf(cipher);
   const held = listOf(keys, keySize, KeyLength, "keys");
@@ -1641,11 +1458,6 @@ export function checkValues(cipher, keys) {
   });
 }
 
-/**
- * The keys of transactions, of 16 bytes each, from the base derivation key and key serial numbers of ten bytes: what
- * dukptTransactionKey makes of dukptInitialKey, for each. Such a key encrypts nothing itself: take dukptPinKey,
- * dukptMacKey or dukptDataKey of it.
- */
 export function dukptTransactionKeysFromBase(base, serials) {
   const key = keyOf(base, TRANSACTION_KEY_SIZE);
   const numbers = listOf(serials, SERIAL_SIZE, SerialLength, "key serial numbers");
@@ -1658,15 +1470,10 @@ export function dukptTransactionKeysFromBase(base, serials) {
   });
 }
 
-/**
- * Records, each encrypted by cipher block chaining from a vector of its own: record k has counts[k] of the blocks, one
- * record after the other, and the k-th 8 bytes of `vectors`. `cipher` is one that has a key.
- */
 export function encryptCbcRecords(cipher, blocks, ...named) {
   return recorded("encryptCbcRecords", "internal_encrypt_cbc_records", cipher, blocks, named);
 }
 
-/** Records, each decrypted by cipher block chaining. Padding stays. Arguments as of `encryptCbcRecords`. */
 export function decryptCbcRecords(cipher, blocks, ...named) {
   return recorded("decryptCbcRecords", "internal_decrypt_cbc_records", cipher, blocks, named);
 }
@@ -1724,10 +1531,6 @@ function messagesOf(messages, lengths) {
   throw new CountMismatch("the lengths do not add up to the messages");
 }
 
-/**
- * The tags, of 8 bytes each, of messages under one key: message k has lengths[k] of the bytes, one after the other.
- * `mac` is a class, as RetailMacDes; the padding method is 1 or 2, of CMAC null.
- */
 export function macs(mac, key, padding, lengths, messages) {
   const kind = macsOf(mac, padding);
   const numbers = numbersOf(lengths, "lengths");
@@ -1736,7 +1539,6 @@ export function macs(mac, key, padding, lengths, messages) {
   return tagsOf("internal_macs", kind, (memory) => memory.list(held), numbers, bytes);
 }
 
-/** The tags of messages, each under the key at its place, as `macs` makes them under one. */
 export function macsEach(mac, keys, padding, lengths, messages) {
   const kind = macsOf(mac, padding);
   const numbers = numbersOf(lengths, "lengths");
@@ -1747,10 +1549,6 @@ export function macsEach(mac, keys, padding, lengths, messages) {
   return tagsOf("internal_macs_each", kind, lay, numbers, bytes);
 }
 
-/**
- * The places of the tags, of 8 bytes each, that are not the one at their place in `expected`, the tags that `macs` or
- * `macsEach` made: an array without elements where all are right. Every byte is compared.
- */
 export function wrongTags(tags, expected) {
   const [given, wanted] = [tags, expected].map((list) => listOf(list, TAG_SIZE, CountMismatch, "tags"));
   if (given.length !== wanted.length) throw new CountMismatch("the numbers of tags and expected tags differ");
