@@ -11,13 +11,14 @@ export const BLOCK_SIZE: 8;
 /** The bytes of a whole tag: 8. */
 export const TAG_SIZE: 8;
 
-/** Whether this engine has a 64-bit memory for WebAssembly, without which `load` throws NoMemory64. */
+/** Whether this engine has WebAssembly, without which `load` throws NotSupported. */
 export function isSupported(): boolean;
 
 /**
- * Loads the module: the file cukvashe_des.wasm beside cukvashe_des.mjs, or its bytes. Await it before any other call.
- * NoMemory64 says which engines have the memory; ModuleMismatch, where the bytes are not those that cukvashe_des.mjs
- * was built with. Where `crypto.subtle` is missing, as on pages by http, they are not compared.
+ * Loads the module beside cukvashe_des.mjs: cukvashe_des.wasm, or where the engine has no 64-bit memory for it
+ * cukvashe_des_32.wasm; or the bytes of one of them. Await it before any other call. NotSupported; ModuleMismatch,
+ * where the bytes are not those that cukvashe_des.mjs was built with. Where `crypto.subtle` is missing, as on pages by
+ * http, they are not compared.
  */
 export function load(module?: Uint8Array | ArrayBuffer): Promise<void>;
 
@@ -33,9 +34,9 @@ export type Digits = string | Uint8Array;
 export class CukvasheError extends Error {}
 /** A call came before `load` had ended. */
 export class NotLoaded extends CukvasheError {}
-/** The engine has no 64-bit memory for WebAssembly. The text says which engines have one. */
-export class NoMemory64 extends CukvasheError {}
-/** The module is not the one that this file was built with. */
+/** The engine has no WebAssembly, or no 64-bit memory for the bytes that were given. */
+export class NotSupported extends CukvasheError {}
+/** The module is not one that cukvashe_des.mjs was built with. */
 export class ModuleMismatch extends CukvasheError {}
 /** An initialization vector does not have 8 bytes. */
 export class VectorLength extends CukvasheError {}

@@ -20,8 +20,9 @@ export const version = "@VERSION@";
 export const BLOCK_SIZE = 8;
 export const TAG_SIZE = 8;
 
-// The SHA-256 of the module that this file was built with.
+// The SHA-256 of the modules that this file was built with: the one of a 64-bit memory, and the same of a 32-bit memory.
 const MODULE_SUM = "@MODULE_SUM@";
+const NARROW_SUM = "@NARROW_SUM@";
 
 // The bytes of the module's stack, which lies at its address 0. `build` links it so.
 const STACK_SIZE = 131072;
@@ -39,7 +40,7 @@ function fault(name) {
 }
 
 export const NotLoaded = fault("NotLoaded");
-export const NoMemory64 = fault("NoMemory64");
+export const NotSupported = fault("NotSupported");
 export const ModuleMismatch = fault("ModuleMismatch");
 export const KeyLength = fault("KeyLength");
 export const BlockLength = fault("BlockLength");
@@ -513,7 +514,7 @@ class Workspace {
     return new Uint8Array(this.#memory.buffer, at, size);
   }
 
-  // Engines older than the standard of 64-bit memories, such as Node 20's, take the number of pages as a Number.
+  // Of a 32-bit memory, and in engines older than the standard of 64-bit ones, the number of pages is a Number.
   #grow(pages) {
     try {
       this.#memory.grow(BigInt(pages));
@@ -568,17 +569,15 @@ function writtenText(size, name, lay) {
 // A module that has a 64-bit memory and nothing else.
 const OF_64_BITS = Uint8Array.of(0, 97, 115, 109, 1, 0, 0, 0, 5, 3, 1, 4, 1);
 
-// Which engines have it, of those that this one is of.
-const OF_NODE = "Node has one from version 24 on, versions 20 and 22 by the flag --experimental-wasm-memory64";
-const OF_BROWSERS = "Chrome and Edge have one from version 133 on, Firefox from 134 on";
+const hasMemory64 = () => WebAssembly.validate(OF_64_BITS);
 
 export function isSupported() {
-  return typeof WebAssembly === "object" && WebAssembly.validate(OF_64_BITS);
+  return typeof WebAssembly === "object";
 }
 
-/** The bytes of the file cukvashe_des.wasm beside this one. */
+/** The bytes of the module beside this file that the engine can run. */
 async function fileBeside() {
-  const place = new URL("cukvashe_des.wasm", import.meta.url);
+  const place = new URL(hasMemory64() ? "cukvashe_des.wasm" : "cukvashe_des_32.wasm", import.meta.url);
   if (place.protocol === "file:" && typeof process === "object") {
     return (await import("node:fs/promises")).readFile(place);
   }
@@ -588,15 +587,17 @@ async function fileBeside() {
 }
 
 export async function load(module) {
-  if (!isSupported()) {
-    const others = typeof process === "object" ? OF_NODE : OF_BROWSERS;
-    throw new NoMemory64(`this engine has no 64-bit memory for WebAssembly: ${others}`);
-  }
+  if (!isSupported()) throw new NotSupported("this engine has no WebAssembly");
   const given = module === undefined ? await fileBeside() : module;
   const bytes = (given instanceof ArrayBuffer ? new Uint8Array(given) : bytesOf(given, "the module")).slice();
   if (globalThis.crypto?.subtle !== undefined) {
-    const sum = new Uint8Array(await crypto.subtle.digest("SHA-256", bytes));
-    if (hexOf(sum) !== MODULE_SUM) throw new ModuleMismatch("the module is not the one that this file was built with");
+    const sum = hexOf(new Uint8Array(await crypto.subtle.digest("SHA-256", bytes)));
+    if (sum !== MODULE_SUM && sum !== NARROW_SUM) {
+      throw new ModuleMismatch("the module is not one that this file was built with");
+    }
+    if (sum === MODULE_SUM && !hasMemory64()) {
+      throw new NotSupported("this engine has no 64-bit memory for WebAssembly: load the bytes of cukvashe_des_32.wasm");
+    }
   }
   const { module: made, instance } = await WebAssembly.instantiate(bytes, {});
   compiled = made;

@@ -1,5 +1,5 @@
 // A host and a terminal's transaction: its keys by DUKPT, the retail MAC, the PIN block for the issuer; and a key block. It
-// needs Node 24, or 20 or 22 with --experimental-wasm-memory64.
+// needs Node 20 or later.
 
 import * as des from "../../generated/wasm/cukvashe_des.mjs"; // once installed: from "cukvashe_des"
 

@@ -1,5 +1,5 @@
 // Decrypts a file of old records. Each is an initialization vector of 8 bytes, and 32 bytes of ciphertext: triple DES with
-// three keys in CBC mode, padded by PKCS#7. It needs Node 24, or 20 or 22 with --experimental-wasm-memory64.
+// three keys in CBC mode, padded by PKCS#7. It needs Node 20 or later.
 
 import { readFileSync } from "node:fs";
 import { TdesEde3, load, unpad } from "../../generated/wasm/cukvashe_des.mjs"; // once installed: from "cukvashe_des"

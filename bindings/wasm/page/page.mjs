@@ -1,5 +1,5 @@
 // The page: a form for each calculation of the table, and what was computed.
-import { NoMemory64, isSupported, load } from "../cukvashe_des.mjs";
+import { NotSupported, isSupported, load } from "../cukvashe_des.mjs";
 import { calculations, faultOf } from "./calculations.mjs";
 import { FieldFault, ONE_LINE, hasLines, readAll } from "./fields.mjs";
 
@@ -237,7 +237,7 @@ function moduleBytes() {
 }
 
 async function start() {
-  // A browser that has no 64-bit memory may lack what unpacks the module too.
+  // A browser that has no WebAssembly may lack what unpacks the module too.
   await load(isSupported() ? await moduleBytes() : undefined);
   const count = knownCount();
   for (const calculation of calculations) {
@@ -261,6 +261,6 @@ function refuse(words) {
 }
 
 start().catch((error) => {
-  const advice = error instanceof NoMemory64 ? "" : " The file may be damaged: get it anew.";
+  const advice = error instanceof NotSupported ? "" : " The file may be damaged: get it anew.";
   refuse(`This page offers nothing, since ${error.message}.${advice}`);
 });

@@ -3,6 +3,13 @@ import assert from "node:assert/strict";
 import { readFileSync } from "node:fs";
 
 export const [folder] = process.argv.slice(2);
+// With MEMORY=32 the engine has no 64-bit memory for the wrapper.
+const { validate } = WebAssembly;
+if (process.env.MEMORY === "32") WebAssembly.validate = (bytes) => bytes.length > 13 && validate(bytes);
+const hasMemory64 = WebAssembly.validate(Uint8Array.of(0, 97, 115, 109, 1, 0, 0, 0, 5, 3, 1, 4, 1));
+
+/** The module that is loaded here. */
+export const moduleFile = `${folder}/${hasMemory64 ? "cukvashe_des.wasm" : "cukvashe_des_32.wasm"}`;
 export const library = await import(new URL(`${folder}/cukvashe_des.mjs`, "file:///"));
 
 /** The bytes of hexadecimal digits, as a plain Uint8Array. */

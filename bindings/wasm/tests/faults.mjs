@@ -4,7 +4,7 @@ import assert from "node:assert/strict";
 import { spawnSync } from "node:child_process";
 import { readFileSync } from "node:fs";
 import { runInNewContext } from "node:vm";
-import { exportsOf, folder, hex, is, library, unhex } from "./common.mjs";
+import { exportsOf, folder, hex, is, library, moduleFile, unhex } from "./common.mjs";
 import { ACCOUNT, BLOCK, FILL, IV, KEY, KEYS, MESSAGE, ONE, OTHER, PAIR, PROTECTION } from "./calls.mjs";
 import { SALTED, SECRET, SENT, SERIAL, TEXT, allCalls, isNumbers } from "./calls.mjs";
 
@@ -43,7 +43,7 @@ const saysHow = (run, form) => {
 throwsFault(() => new library.Des(KEY.subarray(0, 8)), "NotLoaded");
 throwsFault(() => library.dukptIsUsable(SERIAL), "NotLoaded");
 throwsFault(() => library.DukptTerminal.fromState(new Uint8Array(346)), "NotLoaded");
-const module = readFileSync(`${folder}/cukvashe_des.wasm`);
+const module = readFileSync(moduleFile);
 
 async function refuses(name, ...words) {
   const isFault = (error) => error.name === name && error instanceof (library[name] ?? globalThis[name]);
@@ -60,21 +60,21 @@ for (let at = 0; at < module.length; at += at < 8 || at > module.length - 8 ? 1 
   other[at] ^= 1 << (at % 8);
   await refuses("ModuleMismatch", other);
 }
-const { validate } = WebAssembly;
-WebAssembly.validate = () => false;
+// An engine without a 64-bit memory refuses the module that has one by name, and one without WebAssembly both.
+const { WebAssembly: ofEngine } = globalThis;
+const { validate } = ofEngine;
+ofEngine.validate = () => false;
+await refuses("NotSupported", readFileSync(`${folder}/cukvashe_des.wasm`));
+ofEngine.validate = validate;
+delete globalThis.WebAssembly;
 assert.equal(library.isSupported(), false);
-await refuses("NoMemory64", module);
-WebAssembly.validate = validate;
+await refuses("NotSupported");
+globalThis.WebAssembly = ofEngine;
 assert.equal(library.isSupported(), true);
-// A Node that lacks it without flags loads the module by the flag that the error says, and package.json asks for no other.
+// Without flags this Node loads the package, as package.json and INSTALL.md say.
 const file = JSON.stringify(`${new URL(`${folder}/cukvashe_des.mjs`, "file:///")}`);
-const loads = (...flags) => spawnSync(process.execPath, [...flags, "--input-type=module", "-e",
-  `const { load } = await import(${file}); await load();`], { encoding: "utf8" });
-const bare = loads();
-if (bare.status !== 0) {
-  const [, flag] = bare.stderr.match(/NoMemory64: .* by the flag (--[a-z0-9-]+)$/m);
-  assert.equal(loads(flag).status, 0, flag);
-}
+const load = `const { load } = await import(${file}); await load();`;
+assert.equal(spawnSync(process.execPath, ["--input-type=module", "-e", load]).status, 0);
 const description = JSON.parse(readFileSync(`${folder}/package.json`, "utf8"));
 const [row] = readFileSync(new URL("../../../docs/INSTALL.md", import.meta.url), "utf8").match(/^\| JavaScript \|.*/m);
 assert.equal(description.engines.node, `>=${Math.min(...row.match(/\d+/g))}`);

@@ -681,7 +681,7 @@ def contrasts(browser):
 
 
 def refusing(page):
-    """A browser without 64-bit memory, and damaged pages: one sentence, and nothing is offered."""
+    """A browser without WebAssembly, and damaged pages: one sentence, and nothing is offered."""
     def offers_nothing(browser, words, what):
         same(words in browser.run("return document.getElementById('state').textContent"), True,
              f"{what}: {browser.run('return document.getElementById(`state`).textContent')}")
@@ -697,10 +697,10 @@ def refusing(page):
             offers_nothing(browser, words, name)
     # A browser of before lacks what the page unpacks the module by, too.
     browser.command("Page.addScriptToEvaluateOnNewDocument",
-                    source="WebAssembly.validate = () => false; delete globalThis.DecompressionStream;")
+                    source="delete globalThis.WebAssembly; delete globalThis.DecompressionStream;")
     browser.open(page)
-    offers_nothing(browser, "no 64-bit memory for WebAssembly: Chrome and Edge have one from version 133 on, Firefox from 134 on.", "no 64-bit memory")
-    browser.picture("no-memory64")
+    offers_nothing(browser, "This page offers nothing, since this engine has no WebAssembly.", "no WebAssembly")
+    browser.picture("no-webassembly")
     browser.close()
 
 

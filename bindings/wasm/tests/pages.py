@@ -35,7 +35,7 @@ def damaged(page):
     """One bit of the module is another, one character of its text is missing, or the text ends early."""
     module = _module_of(page)
     for part in (3, 5, 9):
-        yield "a bit of the module", _with_module(page, _flipped(module, len(module) * part // 10)), "the module is not the one"
+        yield "a bit of the module", _with_module(page, _flipped(module, len(module) * part // 10)), "the module is not one"
     text = MODULE.search(page)[2]
     yield "a text that ends early", page.replace(text, text[: len(text) // 2 // 4 * 4]), "This page offers nothing"
     yield "a text that lacks a character", page.replace(text, text[:1000] + text[1001:]), "This page offers nothing"

@@ -3,7 +3,7 @@
 // is called.
 import assert from "node:assert/strict";
 import { readFileSync } from "node:fs";
-import { exportsOf, folder, library } from "./common.mjs";
+import { exportsOf, library, moduleFile } from "./common.mjs";
 
 const SIZE = 131072;
 const used = new Map();
@@ -122,7 +122,7 @@ for (const Cipher of [library.Des, library.TdesEde2, library.TdesEde3]) {
 
 // Exports that give answers which others give, from one buffer to another.
 const isOther = (name) => /_(encrypt|decrypt)_(ecb|cbc)_to$/.test(name);
-const module = new WebAssembly.Module(readFileSync(`${folder}/cukvashe_des.wasm`));
+const module = new WebAssembly.Module(readFileSync(moduleFile));
 assert.deepEqual(WebAssembly.Module.imports(module), []);
 const exported = WebAssembly.Module.exports(module).filter(({ kind }) => kind === "function").map(({ name }) => name);
 assert.deepEqual(exported.filter((name) => !used.has(name) && !isOther(name)), [], "exports that nothing calls");
