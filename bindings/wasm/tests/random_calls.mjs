@@ -1,7 +1,9 @@
 // random_calls.mjs FOLDER SEED COUNT: makes COUNT random calls of the wrapper, and writes a line for each: the call, its
-// arguments, and what came back or was thrown. beside_native.py reads them.
+// arguments, and what came back or was thrown, which is an error that the types name of the call. beside_native.py reads them.
+import assert from "node:assert/strict";
 import { once } from "node:events";
-import { hex, library } from "./common.mjs";
+import { readFileSync } from "node:fs";
+import { folder, hex, library } from "./common.mjs";
 
 const [, seed, count] = process.argv.slice(2).map(Number);
 await library.load();
@@ -331,6 +333,27 @@ const written = (word) => {
   return { options: Object.fromEntries(Object.entries(word).map(([name, it]) => [name, written(it)])) };
 };
 
+// ---- What the types say of calls and classes, by name
+
+const declared = readFileSync(`${folder}/cukvashe_des.d.mts`, "utf8");
+const comments = new Map();
+for (const [, comment, name] of declared.matchAll(/\/\*\*((?:(?!\*\/)[^])*)\*\/\n *(?:[a-z]+ )*(\w+)[(<: ]/g)) {
+  if (!comments.has(name)) comments.set(name, comment.replace(/\s+(\* )?/g, " "));
+}
+
+/** Whether the comment on a name names an error too, or that on a call whose errors are the same. */
+function isNamed(error, name) {
+  const comment = comments.get(name) ?? "";
+  const others = [...comment.matchAll(/(?:rrors as of|As) (\w+)/g)].map(([, other]) => other);
+  return new RegExp(`\\b${error}\\b`).test(comment) || others.some((other) => isNamed(error, other));
+}
+
+/** The names whose comments speak of a call: of a method, or of a constructor, the class behind too. */
+function spokenOf(call) {
+  const [first, method] = call.split(".");
+  return /^[A-Z]/.test(first) ? [method, Object.getPrototypeOf(library[first]).name] : [first];
+}
+
 for (let made = 0; made < count; made += 1) {
   const call = one(KINDS)();
   const line = { call: written(call) };
@@ -338,6 +361,7 @@ for (let made = 0; made < count; made += 1) {
     line.answer = written(answerOf(call));
   } catch (error) {
     if (!(error instanceof library.CukvasheError)) throw error;
+    assert(spokenOf(call[0]).some((name) => isNamed(error.name, name)), `no comment on ${call[0]} names ${error.name}`);
     line.error = [error.name, error.message];
   }
   if (!process.stdout.write(`${JSON.stringify(line)}\n`)) await once(process.stdout, "drain");
