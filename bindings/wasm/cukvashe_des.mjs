@@ -254,6 +254,9 @@ const { at: elementAt } = typedArray;
 
 /** The bytes of a Uint8Array, as Buffer is one, from whatever window it came. */
 function bytesOf(data, what) {
+  if (typeof data === "string") {
+    throw new TypeError(`${what}: a Uint8Array is needed, as Buffer.from(digits, "hex") or Uint8Array.fromHex(digits) makes it`);
+  }
   if (typedArrayName.call(data) !== "Uint8Array") throw new TypeError(`${what}: a Uint8Array is needed`);
   try {
     // An array that lies outside its buffer has the length 0, and would pass for an empty one.

@@ -760,6 +760,9 @@ for (const [name, words, allowed] of allCalls()) {
 }
 const cipher = new library.TdesEde3(KEY);
 const mac = new library.CmacTdesEde3(KEY);
+// Digits are the bytes of nothing: the error says what makes bytes of them.
+const ofDigits = /^a key: a Uint8Array is needed, as Buffer\.from\(digits, "hex"\) or Uint8Array\.fromHex\(digits\) makes it$/;
+assert.throws(() => new library.TdesEde3(hex(KEY)), { name: "TypeError", message: ofDigits });
 for (const wrong of WRONG) {
   throwsType(() => mac.update(wrong), "update");
   throwsType(() => mac.verify(wrong), "verify");
