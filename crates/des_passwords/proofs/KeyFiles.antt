@@ -14,7 +14,7 @@ pub found_is_file : (most : ℕ) (bytes : List ℕ) (result : Result EncryptedKe
     → IfOk result (λ key. IsFile most (view key.parameters) key.encrypted.now bytes)
 found_is_file most bytes (Ok key) fits gives =
     let says = key_takes most bytes (seen key) fits gives in
-    (says.named, says.is_read, says.parts)
+    (says.named, says.blanks, says.is_read, says.blank, says.parts)
 found_is_file most bytes (Err error) fits gives = tt
 
 pub file_is_found : (most : ℕ) (bytes : List ℕ) (result : Result EncryptedKey KeyFileError) → most < 2 ^ 32
@@ -22,5 +22,5 @@ pub file_is_found : (most : ℕ) (bytes : List ℕ) (result : Result EncryptedKe
     → IsFile most e encrypted bytes → Gives seen result (Ok (e, encrypted))
 file_is_found most bytes result bound gives e encrypted file =
     let read : encrypted_key_of most bytes ≡ Ok (e, encrypted) =
-    ap (encrypted_key_of most) file.2 ∙ key_again most file.0 e encrypted file.1 bound in
+    ap (encrypted_key_of most) file.4 ∙ key_again most file.0 file.1 e encrypted file.2 file.3 bound in
     subst (Gives seen result) read gives

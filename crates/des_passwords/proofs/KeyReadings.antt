@@ -4,10 +4,11 @@ use Rattle.std.proofs.lemmas.Bool.{eqb-true}
 use Rattle.std.proofs.lemmas.Slice.Eq.{bytes_eq-Decides}
 use Rattle.std.specs.Str.{bytes_eq}
 use Rattle.des_passwords.specs.Der.{fewest, element, integer}
-use Rattle.des_passwords.specs.DerReading.{at_end, digits_of, element_at, last_element_at, iterations_at}
+use Rattle.des_passwords.specs.DerReading.{at_end, at_blanks, digits_of, element_at, last_element_at, whole_element_at, iterations_at}
 use Rattle.des_passwords.specs.EncryptedKeys.{Encryption, pbe_md5_des, pbes2, id_pbkdf2, hmac_sha1, hmac_sha256, des_ede3_cbc, null, eight, pbes1_of, given_length, after_key_length, with_null, prf_named, prf_of, derivation_of, pbkdf2_of, eight_at, vector_at, pbes2_of, encryption_named, encryption_of, encrypted_key_of}
 use Rattle.des_passwords.specs.KeyFileFaults.{Structure, Algorithm, KeyDerivation, KeyLength, Prf, Cipher}
 use Rattle.des_passwords.specs.KeySpellings.{Named, algorithm, pbe_parameter, key_length, prf, pbkdf2_params, pbes2_params, encryption_algorithm, key_contents, key_file, IsInFile, IsRead}
+use Rattle.des_passwords.specs.TextLines.{are_blanks}
 use Rattle.des_passwords.specs.declared.encrypted_keys.Scheme.{Scheme}
 use Rattle.des_passwords.specs.declared.encrypted_keys.Scheme.TheVariants.{Pbes1, Pbes2Sha1, Pbes2Sha256}
 use Rattle.des_passwords.proofs.DerElements.{IsBytes, either, ok_is, no_fault, bind_ok, element_takes}
@@ -41,6 +42,36 @@ last_takes tag bytes contents fits e =
     let end = at_end_is a.0.1 a.0.0 contents a.2 in
     subst (IsLast bytes tag) end.1 (record {
       parts = taken.parts ∙ ap (λ (l : List ℕ). element tag a.0.0 ++ l) end.0 ∙ append-nil (element tag a.0.0);
+      small = taken.small;
+      fits = taken.contents_fit;
+    })
+
+-- an element that blanks alone follow
+pub record IsWhole (bytes : List ℕ) (tag : ℕ) (contents : List ℕ) : Type 0 where
+  pub blanks : List ℕ
+  pub blank : are_blanks blanks ≡ true
+  pub parts : bytes ≡ element tag contents ++ blanks
+  pub small : length contents < 2 ^ 16
+  pub fits : IsBytes contents
+
+at_blanks_is : {A : Type 0} (rest : List ℕ) (x y : A) → at_blanks rest x ≡ Ok y → (are_blanks rest ≡ true) × (x ≡ y)
+at_blanks_is rest x y e =
+    elim (either (are_blanks rest) (Ok x) (Err Structure) (Ok y) e) [
+      | inl blank ↦ (blank.0, ok_is x y blank.1)
+      | inr other ↦ absurd (no_fault Structure y other.1)
+    ]
+
+whole_takes : (tag : ℕ) (bytes contents : List ℕ) → IsBytes bytes → whole_element_at tag bytes ≡ Ok contents
+    → IsWhole bytes tag contents
+unfolding whole_element_at
+whole_takes tag bytes contents fits e =
+    let a = bind_ok (element_at tag bytes) (λ x. at_blanks x.1 x.0) contents e in
+    let taken = element_takes tag bytes a.0 fits a.1 in
+    let end = at_blanks_is a.0.1 a.0.0 contents a.2 in
+    subst (IsWhole bytes tag) end.1 (record {
+      blanks = a.0.1;
+      blank = end.0;
+      parts = taken.parts;
       small = taken.small;
       fits = taken.contents_fit;
     })
@@ -391,18 +422,20 @@ encryption_takes most bytes e fits read =
 -- what a file says
 pub record Says (most : ℕ) (bytes : List ℕ) (said : Encryption × List ℕ) : Type 0 where
   pub named : Named
+  pub blanks : List ℕ
   pub is_read : IsRead most named said.0 said.1
-  pub parts : bytes ≡ key_file named said.0 said.1
+  pub blank : are_blanks blanks ≡ true
+  pub parts : bytes ≡ key_file named said.0 said.1 ++ blanks
 
 pub key_takes : (most : ℕ) (bytes : List ℕ) (said : Encryption × List ℕ) → IsBytes bytes
     → encrypted_key_of most bytes ≡ Ok said → Says most bytes said
 unfolding encrypted_key_of
 key_takes most bytes said fits read =
-    let a = bind_ok (last_element_at 0x30 bytes) _ said read in
+    let a = bind_ok (whole_element_at 0x30 bytes) _ said read in
     let b = bind_ok (element_at 0x30 a.0) _ said a.2 in
     let t = bind_ok (last_element_at 0x04 b.0.1) _ said b.2 in
     let d = bind_ok (encryption_of most b.0.0) _ said t.2 in
-    let outer = last_takes 0x30 bytes a.0 fits a.1 in
+    let outer = whole_takes 0x30 bytes a.0 fits a.1 in
     let front = element_takes 0x30 a.0 b.0 outer.fits b.1 in
     let text = last_takes 0x04 b.0.1 t.0 front.rest_fits t.1 in
     let e = encryption_takes most b.0.0 d.0 front.contents_fit d.1 in
@@ -412,11 +445,13 @@ key_takes most bytes said fits read =
     ∙ ap (λ (l : List ℕ). encryption_algorithm e.named d.0 d.0.scheme ++ l) text.parts in
     subst (Says most bytes) (ok_is (d.0, t.0) said d.2) (record {
       named = e.named;
+      blanks = outer.blanks;
       is_read = record {
         scheme = e.scheme;
         some = e.count.some;
         few = e.count.few;
         size = subst (λ (l : List ℕ). length l < 2 ^ 16) contents outer.small;
       };
-      parts = outer.parts ∙ ap (element 0x30) contents;
+      blank = outer.blank;
+      parts = outer.parts ∙ ap (λ (l : List ℕ). element 0x30 l ++ outer.blanks) contents;
     })

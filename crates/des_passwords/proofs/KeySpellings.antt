@@ -1,9 +1,10 @@
 -- An encrypted private key that is spelled so is read.
 use Rattle.std.proofs.Common.{◌≡◌, ◌∙◌, refl, sym, ap, ℕ, ◌<◌, ◌^◌, Bool, true, false, eq-eqb, List, [], ◌∷◌, ◌++◌, length, length-append, replicate, append-nil, Ok, arith}
 use Rattle.des_passwords.specs.Der.{fewest, length_octets, element, integer}
-use Rattle.des_passwords.specs.DerReading.{length_at, tag_at, element_at, digits_of, last_element_at, iterations_at}
+use Rattle.des_passwords.specs.DerReading.{length_at, tag_at, element_at, digits_of, last_element_at, whole_element_at, iterations_at}
 use Rattle.des_passwords.specs.EncryptedKeys.{Encryption, pbe_md5_des, pbes2, id_pbkdf2, des_ede3_cbc, eight, pbes1_of, given_length, after_key_length, prf_named, prf_of, derivation_of, pbkdf2_of, eight_at, vector_at, pbes2_of, encryption_named, encryption_of, encrypted_key_of}
 use Rattle.des_passwords.specs.KeySpellings.{Named, algorithm, key_length, prf, pbkdf2_params, pbes2_params, key_file, IsRead}
+use Rattle.des_passwords.specs.TextLines.{are_blanks}
 use Rattle.des_passwords.specs.declared.encrypted_keys.Scheme.{Scheme}
 use Rattle.des_passwords.specs.declared.encrypted_keys.Scheme.TheVariants.{Pbes1, Pbes2Sha1, Pbes2Sha256, DekInfoDes, DekInfoTripleDes}
 use Rattle.des_passwords.proofs.DerElements.{element_again}
@@ -31,6 +32,11 @@ unfolding last_element_at
 last_again tag contents small =
     let read = ap (element_at tag) (sym (append-nil (element tag contents))) ∙ element_again tag contents [] small in
     rw read refl
+
+whole_again : (tag : ℕ) (contents blanks : List ℕ) → IsSmall contents → are_blanks blanks ≡ true
+    → whole_element_at tag (element tag contents ++ blanks) ≡ Ok contents
+unfolding whole_element_at
+whole_again tag contents blanks small blank = rw (element_again tag contents blanks small, blank) refl
 
 last_iterations : (most n : ℕ) → AreIterations most n → most < 2 ^ 32
     → iterations_at most (integer n) ≡ Ok (n, [])
@@ -154,27 +160,30 @@ unfolding encryption_of encryption_named
 second_again most parameters e read = rw (element_again 0x06 pbes2 parameters (omega arith)) read
 
 -- the algorithm and what is encrypted
-file_again : (most : ℕ) (encryption encrypted : List ℕ) (e : Encryption) → encryption_of most encryption ≡ Ok e
+file_again : (most : ℕ) (encryption encrypted blanks : List ℕ) (e : Encryption)
+    → encryption_of most encryption ≡ Ok e → are_blanks blanks ≡ true
     → IsSmall (element 0x30 encryption ++ element 0x04 encrypted)
-    → encrypted_key_of most (element 0x30 (element 0x30 encryption ++ element 0x04 encrypted)) ≡ Ok (e, encrypted)
+    → encrypted_key_of most (element 0x30 (element 0x30 encryption ++ element 0x04 encrypted) ++ blanks)
+    ≡ Ok (e, encrypted)
 unfolding encrypted_key_of
-file_again most encryption encrypted e read small =
+file_again most encryption encrypted blanks e read blank small =
     let text = element 0x04 encrypted in
     rw (
-      last_again 0x30 (element 0x30 encryption ++ text) small,
+      whole_again 0x30 (element 0x30 encryption ++ text) blanks small blank,
       element_again 0x30 encryption text (inside 0x30 encryption (left (element 0x30 encryption) text small)),
       last_again 0x04 encrypted (inside 0x04 encrypted (right (element 0x30 encryption) text small)),
       read,
     ) refl
 
 -- under PBES2
-pbes2_file : (most : ℕ) (named : Named) (scheme : Scheme) (salt : List ℕ) (n : ℕ) (vector encrypted : List ℕ)
+pbes2_file : (most : ℕ) (named : Named) (scheme : Scheme) (salt : List ℕ) (n : ℕ) (vector encrypted blanks : List ℕ)
     → IsFunction scheme named.prf → AreIterations most n → most < 2 ^ 32 → length vector ≡ 8
+    → are_blanks blanks ≡ true
     → IsSmall (algorithm pbes2 (pbes2_params named (encryption scheme salt n vector)) ++ element 0x04 encrypted)
-    → encrypted_key_of most
-    (element 0x30 (algorithm pbes2 (pbes2_params named (encryption scheme salt n vector)) ++ element 0x04 encrypted))
+    → encrypted_key_of most (element 0x30
+    (algorithm pbes2 (pbes2_params named (encryption scheme salt n vector)) ++ element 0x04 encrypted) ++ blanks)
     ≡ Ok (encryption scheme salt n vector, encrypted)
-pbes2_file most named scheme salt n vector encrypted function are bound long small =
+pbes2_file most named scheme salt n vector encrypted blanks function are bound long blank small =
     let e = encryption scheme salt n vector in
     let salt_and_count = element 0x04 salt ++ after_salt named scheme n in
     let parameters = pbkdf2_params named e in
@@ -188,35 +197,37 @@ pbes2_file most named scheme salt n vector encrypted function are bound long sma
     let inner_small =
     inside 0x30 salt_and_count (right (element 0x06 id_pbkdf2) (element 0x30 salt_and_count) derivation_small) in
     let read = derivation_again most named scheme salt n vector function are bound inner_small in
-    file_again most whole encrypted e
+    file_again most whole encrypted blanks e
     (second_again most (element 0x30 both) e (pbes2_again most parameters vector e read long both_small))
-    small
+    blank small
 
-parts_again : (most : ℕ) (named : Named) (scheme : Scheme) (salt : List ℕ) (n : ℕ) (vector encrypted : List ℕ)
-    → IsRead most named (encryption scheme salt n vector) encrypted → most < 2 ^ 32
-    → encrypted_key_of most (key_file named (encryption scheme salt n vector) encrypted)
+parts_again : (most : ℕ) (named : Named) (scheme : Scheme) (salt : List ℕ) (n : ℕ)
+    (vector encrypted blanks : List ℕ) → IsRead most named (encryption scheme salt n vector) encrypted
+    → are_blanks blanks ≡ true → most < 2 ^ 32
+    → encrypted_key_of most (key_file named (encryption scheme salt n vector) encrypted ++ blanks)
     ≡ Ok (encryption scheme salt n vector, encrypted)
-parts_again most named Pbes1 salt n vector encrypted h bound =
+parts_again most named Pbes1 salt n vector encrypted blanks h blank bound =
     let are : AreIterations most n = record { some = h.some; few = h.few } in
     let inner = element 0x04 salt ++ integer n in
     let parameters = element 0x06 pbe_md5_des ++ element 0x30 inner in
     let outer_small = inside 0x30 parameters (left (element 0x30 parameters) (element 0x04 encrypted) h.size) in
     let inner_small = inside 0x30 inner (right (element 0x06 pbe_md5_des) (element 0x30 inner) outer_small) in
-    file_again most parameters encrypted (encryption Pbes1 salt n vector)
+    file_again most parameters encrypted blanks (encryption Pbes1 salt n vector)
     (first_again most (element 0x30 inner) (encryption Pbes1 salt n vector)
     (pbes1_again most salt n h.scheme.0 inner_small are bound
     ∙ ap (λ (v : List ℕ). Ok (encryption Pbes1 salt n v)) (sym h.scheme.1)))
-    h.size
-parts_again most named Pbes2Sha1 salt n vector encrypted h bound =
-    pbes2_file most named Pbes2Sha1 salt n vector encrypted (sha1_again named.prf)
-    (record { some = h.some; few = h.few }) bound h.scheme h.size
-parts_again most named Pbes2Sha256 salt n vector encrypted h bound =
-    pbes2_file most named Pbes2Sha256 salt n vector encrypted (sha256_again named.prf)
-    (record { some = h.some; few = h.few }) bound h.scheme h.size
-parts_again most named DekInfoDes salt n vector encrypted h bound = absurd h.scheme
-parts_again most named DekInfoTripleDes salt n vector encrypted h bound = absurd h.scheme
+    blank h.size
+parts_again most named Pbes2Sha1 salt n vector encrypted blanks h blank bound =
+    pbes2_file most named Pbes2Sha1 salt n vector encrypted blanks (sha1_again named.prf)
+    (record { some = h.some; few = h.few }) bound h.scheme blank h.size
+parts_again most named Pbes2Sha256 salt n vector encrypted blanks h blank bound =
+    pbes2_file most named Pbes2Sha256 salt n vector encrypted blanks (sha256_again named.prf)
+    (record { some = h.some; few = h.few }) bound h.scheme blank h.size
+parts_again most named DekInfoDes salt n vector encrypted blanks h blank bound = absurd h.scheme
+parts_again most named DekInfoTripleDes salt n vector encrypted blanks h blank bound = absurd h.scheme
 
-pub key_again : (most : ℕ) (named : Named) (e : Encryption) (encrypted : List ℕ) → IsRead most named e encrypted
-    → most < 2 ^ 32 → encrypted_key_of most (key_file named e encrypted) ≡ Ok (e, encrypted)
-key_again most named e encrypted h bound =
-    parts_again most named e.scheme e.salt e.iterations e.vector encrypted h bound
+pub key_again : (most : ℕ) (named : Named) (blanks : List ℕ) (e : Encryption) (encrypted : List ℕ)
+    → IsRead most named e encrypted → are_blanks blanks ≡ true → most < 2 ^ 32
+    → encrypted_key_of most (key_file named e encrypted ++ blanks) ≡ Ok (e, encrypted)
+key_again most named blanks e encrypted h blank bound =
+    parts_again most named e.scheme e.salt e.iterations e.vector encrypted blanks h blank bound

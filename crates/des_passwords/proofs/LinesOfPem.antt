@@ -2,10 +2,9 @@
 use Rattle.std.proofs.Common.{◌≡◌, ◌∙◌, ℕ, ◌+◌, ◌-◌, ◌<◌, true, false, List, [], ◌∷◌, ◌++◌, length, take, inl, inr, Option, Some, None, Result, Ok, Err, refl, sym, ap, subst, arith, append_assoc, length-append}
 use Rattle.std.proofs.lemmas.Bool.{cases_lt}
 use Rattle.std.proofs.lemmas.List.{append-nil, nil_from_length, take_at}
-use Rattle.std.specs.Str.{bytes_eq}
 use Rattle.des_passwords.specs.Pem.{◌>>=◌, Start, body_of, is_boundary, label_of, start_of}
 use Rattle.des_passwords.specs.PemFaults.{Fault, End}
-use Rattle.des_passwords.specs.TextLines.{lines_of, IsLineBefore}
+use Rattle.des_passwords.specs.TextLines.{lines_of, is_line, IsLineBefore}
 use Rattle.des_passwords.specs.declared.pem.Label.{Label}
 use Rattle.des_passwords.proofs.LinesOfText.{lines_none}
 
@@ -72,12 +71,12 @@ unfolding body_of
 within_body last line lines rest is plain = ap (body_of last) is ∙ rw plain (told line (body_of last rest))
 
 pub body_ends : (last line : List ℕ) (lines rest : List (List ℕ)) → lines ≡ line ∷ rest → is_boundary line ≡ true
-    → bytes_eq line last ≡ true → body_of last lines ≡ Ok []
+    → is_line line last ≡ true → body_of last lines ≡ Ok []
 unfolding body_of
 body_ends last line lines rest is boundary same = ap (body_of last) is ∙ rw (boundary, same) refl
 
 pub body_differs : (last line : List ℕ) (lines rest : List (List ℕ)) → lines ≡ line ∷ rest → is_boundary line ≡ true
-    → bytes_eq line last ≡ false → body_of last lines ≡ Err End
+    → is_line line last ≡ false → body_of last lines ≡ Err End
 unfolding body_of
 body_differs last line lines rest is boundary other = ap (body_of last) is ∙ rw (boundary, other) refl
 
@@ -158,7 +157,7 @@ body_goes_on last text line rest next so_far shorter is plain before =
 -- ---- what is read at the last line
 
 pub body_read : (last text line rest next : List ℕ) → IsBodySoFar last text (front_of text rest) rest
-    → lines_of rest ≡ line ∷ lines_of next → is_boundary line ≡ true → bytes_eq line last ≡ true
+    → lines_of rest ≡ line ∷ lines_of next → is_boundary line ≡ true → is_line line last ≡ true
     → body_of last (lines_of text) ≡ Ok (lines_of (front_of text rest))
 body_read last text line rest next so_far is boundary same =
     so_far.read
@@ -166,7 +165,7 @@ body_read last text line rest next so_far is boundary same =
     ∙ ap ok (append-nil (lines_of (front_of text rest)))
 
 pub body_wrong : (last text line rest next : List ℕ) → IsBodySoFar last text (front_of text rest) rest
-    → lines_of rest ≡ line ∷ lines_of next → is_boundary line ≡ true → bytes_eq line last ≡ false
+    → lines_of rest ≡ line ∷ lines_of next → is_boundary line ≡ true → is_line line last ≡ false
     → body_of last (lines_of text) ≡ Err End
 body_wrong last text line rest next so_far is boundary other =
     so_far.read

@@ -3,6 +3,7 @@ use Rattle.std.specs.Prelude.{◌≡◌, ℕ, ◌+◌, ◌*◌, ◌-◌, List, [
 use Rattle.std.specs.Int.{w32, from_be_bytes}
 use Rattle.des_passwords.specs.declared.key_file_error.KeyFileError.{KeyFileError}
 use Rattle.des_passwords.specs.KeyFileFaults.{Fault, Structure, Iterations, fault_of}
+use Rattle.des_passwords.specs.TextLines.{are_blanks}
 
 infixl 10 ◌>>=◌
 abbrev pub ◌>>=◌ : {A B : Type 0} → Result A Fault → (A → Result B Fault) → Result B Fault
@@ -54,6 +55,16 @@ unfoldable pub last_element_at : ℕ → List ℕ → Result (List ℕ) Fault
 last_element_at tag bytes = do
   element ← element_at tag bytes
   at_end element.1 element.0
+
+-- blanks alone follow
+abbrev pub at_blanks : {A : Type 0} → List ℕ → A → Result A Fault
+at_blanks rest x = if are_blanks rest then Ok x else Err Structure
+
+-- the contents of an element that blanks alone follow, as the line end that an editor puts after a file
+unfoldable pub whole_element_at : ℕ → List ℕ → Result (List ℕ) Fault
+whole_element_at tag bytes = do
+  element ← element_at tag bytes
+  at_blanks element.1 element.0
 
 -- the digits to base 256 of a number from 0 up: the fewest octets of which the first bit is 0 (8.3.2)
 unfoldable pub digits_of : List ℕ → Result (List ℕ) Fault

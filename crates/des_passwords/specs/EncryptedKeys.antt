@@ -6,7 +6,7 @@ use Rattle.md5.specs.Md5.{md5}
 use Rattle.sha1.specs.Sha1.{sha1}
 use Rattle.sha2.specs.Sha256.{sha256}
 use Rattle.des_passwords.specs.BytesToKey.{bytes_to_key}
-use Rattle.des_passwords.specs.DerReading.{◌>>=◌, at_end, digits_of, element_at, last_element_at, iterations_at}
+use Rattle.des_passwords.specs.DerReading.{◌>>=◌, at_end, digits_of, element_at, last_element_at, whole_element_at, iterations_at}
 use Rattle.des_passwords.specs.Hmac.{hmac}
 use Rattle.des_passwords.specs.Pbkdf2.{pbkdf2}
 use Rattle.des_passwords.specs.declared.encrypted_keys.EncryptedKey.{EncryptedKey}
@@ -145,10 +145,10 @@ encryption_of most bytes = do
   oid ← element_at 0x06 bytes
   encryption_named most oid.0 oid.1
 
--- EncryptedPrivateKeyInfo (RFC 5958, section 3): how it is encrypted, and what
+-- EncryptedPrivateKeyInfo (RFC 5958, section 3), which blanks may follow: how it is encrypted, and what
 unfoldable pub encrypted_key_of : ℕ → List ℕ → Result (Encryption × List ℕ) Fault
 encrypted_key_of most bytes = do
-  key ← last_element_at 0x30 bytes
+  key ← whole_element_at 0x30 bytes
   algorithm ← element_at 0x30 key
   encrypted ← last_element_at 0x04 algorithm.1
   encryption ← encryption_of most algorithm.0

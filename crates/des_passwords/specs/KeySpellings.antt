@@ -3,6 +3,7 @@
 use Rattle.std.specs.Prelude.{◌≡◌, ℕ, ◌<◌, ◌≤◌, ◌^◌, Bool, true, false, List, [], ◌++◌, length, replicate}
 use Rattle.des_passwords.specs.Der.{element, integer}
 use Rattle.des_passwords.specs.EncryptedKeys.{Encryption, pbe_md5_des, pbes2, id_pbkdf2, hmac_sha1, hmac_sha256, des_ede3_cbc, null}
+use Rattle.des_passwords.specs.TextLines.{are_blanks}
 use Rattle.des_passwords.specs.declared.encrypted_keys.Scheme.{Scheme}
 use Rattle.des_passwords.specs.declared.encrypted_keys.Scheme.TheVariants.{Pbes1, Pbes2Sha1, Pbes2Sha256, DekInfoDes, DekInfoTripleDes}
 
@@ -71,6 +72,8 @@ pub record IsRead (most : ℕ) (named : Named) (e : Encryption) (encrypted : Lis
   pub few : e.iterations ≤ most
   pub size : length (key_contents named e encrypted) < 2 ^ 16
 
--- a file that says so
+-- a file that says so, which blanks may follow
 abbrev pub IsFile : ℕ → Encryption → List ℕ → List ℕ → Type 0
-IsFile most e encrypted bytes = (named : Named) × IsRead most named e encrypted × (bytes ≡ key_file named e encrypted)
+IsFile most e encrypted bytes =
+    (named : Named) × (blanks : List ℕ) × IsRead most named e encrypted × (are_blanks blanks ≡ true)
+    × (bytes ≡ key_file named e encrypted ++ blanks)

@@ -8,7 +8,7 @@ use Rattle.hex.specs.Hex.{decode_sized}
 use Rattle.hex.specs.declared.error.FromHexError.{FromHexError}
 use Rattle.des_passwords.specs.Base64Lines.{bytes_in}
 use Rattle.des_passwords.specs.PemFaults.{Fault, Begin, End, NotEncrypted, NoDekInfo, Cipher, Vector, EmptyLine, Base64}
-use Rattle.des_passwords.specs.TextLines.{lines_of, before, after, trimmed}
+use Rattle.des_passwords.specs.TextLines.{lines_of, is_line, before, after, trimmed}
 use Rattle.des_passwords.specs.declared.base64_lines.Base64Error.{Base64Error}
 use Rattle.des_passwords.specs.declared.base64_lines.Base64Error.TheVariants.{Line, OutOfMemory}
 use Rattle.des_passwords.specs.declared.encrypted_keys.Scheme.{Scheme}
@@ -41,13 +41,13 @@ begin_line label = codes "-----BEGIN " ++ name label ++ codes "-----"
 unfoldable pub end_line : Label → List ℕ
 end_line label = codes "-----END " ++ name label ++ codes "-----"
 
--- the label that a line begins
+-- the label that a line begins; as in all lines, blanks may end it (section 3)
 unfoldable pub label_of : List ℕ → Option Label
 label_of line =
-    if bytes_eq line (begin_line Encrypted) then Some Encrypted
-    else if bytes_eq line (begin_line Rsa) then Some Rsa
-    else if bytes_eq line (begin_line Dsa) then Some Dsa
-    else if bytes_eq line (begin_line Ec) then Some Ec
+    if is_line line (begin_line Encrypted) then Some Encrypted
+    else if is_line line (begin_line Rsa) then Some Rsa
+    else if is_line line (begin_line Dsa) then Some Dsa
+    else if is_line line (begin_line Ec) then Some Ec
     else None
 
 -- where a key begins: its label, the number of the line after its first line, and the lines from there on
@@ -77,7 +77,7 @@ is_boundary line = starts_with nat_eq line (codes "-----")
 unfoldable pub body_of : List ℕ → List (List ℕ) → Result (List (List ℕ)) Fault
 body_of last [] = Err End
 body_of last (line ∷ rest) =
-    if is_boundary line then (if bytes_eq line last then Ok [] else Err End)
+    if is_boundary line then (if is_line line last then Ok [] else Err End)
     else do
       body ← body_of last rest
       Ok (line ∷ body)
@@ -85,7 +85,7 @@ body_of last (line ∷ rest) =
 -- what follows a line, where it is the first
 unfoldable pub after_line : List ℕ → List (List ℕ) → Option (List (List ℕ))
 after_line wanted [] = None
-after_line wanted (line ∷ rest) = if bytes_eq line wanted then Some rest else None
+after_line wanted (line ∷ rest) = if is_line line wanted then Some rest else None
 
 -- the cipher by its name, in large letters or small (as OpenSSL names them; RFC 1423, section 1.1, has DES-CBC)
 unfoldable pub cipher_of : List ℕ → Result PemCipher Fault

@@ -1,9 +1,10 @@
 //! Elements of DER (ITU-T X.690), with contents of fewer than 2^16 bytes.
 
 ghost use Rattle.std.specs.Prelude.{◌≡◌, ◌≤◌, ℕ, length};
-ghost use Rattle.des_passwords.specs.DerReading.{Gives, digits_of, element_at, iterations_at, iterations_of, last_element_at, length_at, number_of, tag_at};
+ghost use Rattle.des_passwords.specs.DerReading.{Gives, digits_of, element_at, iterations_at, iterations_of, last_element_at, length_at, number_of, tag_at, whole_element_at};
 
 use crate::key_file_error::KeyFileError;
+use crate::text_lines::are_blanks;
 
 /// The tags of elements that an encrypted private key has.
 pub(crate) const INTEGER: u8 = 0x02;
@@ -60,6 +61,18 @@ pub(crate) fn last_element_at(tag: u8, bytes: &[u8]) -> Result<&[u8], KeyFileErr
 {
     let (contents, rest) = element_at(tag, bytes)?;
     if !rest.is_empty() {
+        return Err(KeyFileError::Structure);
+    }
+    Ok(contents)
+}
+
+// The contents of an element that blanks alone follow.
+#[tactic(auto, unfolding(crate::specs::DerReading::whole_element_at))]
+pub(crate) fn whole_element_at(tag: u8, bytes: &[u8]) -> Result<&[u8], KeyFileError<'_>>
+    ensures { Gives (λ x. x.now) result (whole_element_at tag bytes.now) }
+{
+    let (contents, rest) = element_at(tag, bytes)?;
+    if !are_blanks(rest) {
         return Err(KeyFileError::Structure);
     }
     Ok(contents)

@@ -9,6 +9,7 @@ ghost use Rattle.des_passwords.specs.KeySpellings.{IsFile};
 use crate::bytes_to_key::bytes_to_key;
 use crate::der::{
     INTEGER, OCTETS, OID, SEQUENCE, digits_of, element_at, iterations_at, last_element_at,
+    whole_element_at,
 };
 use crate::derivation::KeyAndVector;
 use crate::key_file_error::KeyFileError;
@@ -299,7 +300,7 @@ fn encryption_of(most: u32, bytes: &[u8]) -> Result<Parameters<'_>, KeyFileError
 fn encrypted_key_of(most: u32, bytes: &[u8]) -> Result<EncryptedKey<'_>, KeyFileError<'_>>
     ensures { Gives seen result (encrypted_key_of most bytes.now) }
 {
-    let key = last_element_at(SEQUENCE, bytes)?;
+    let key = whole_element_at(SEQUENCE, bytes)?;
     let (algorithm, rest) = element_at(SEQUENCE, key)?;
     let encrypted = last_element_at(OCTETS, rest)?;
     let parameters = encryption_of(most, algorithm)?;
@@ -309,8 +310,8 @@ fn encrypted_key_of(most: u32, bytes: &[u8]) -> Result<EncryptedKey<'_>, KeyFile
     })
 }
 
-/// Reads an encrypted private key from its DER, all of the bytes, where its iterations are at most
-/// these and its contents have fewer than 2^16 bytes. The error is the first that is met: the outer
+/// Reads an encrypted private key from its DER, which blanks alone may follow, where its iterations
+/// are at most these and its contents have fewer than 2^16 bytes. The error is the first that is met: the outer
 /// elements are read before those within them, and the cipher before how its key is derived.
 pub fn read_encrypted_key_of_many(
     bytes: &[u8],
@@ -329,7 +330,7 @@ pub fn read_encrypted_key_of_many(
     encrypted_key_of(most_iterations, bytes)
 }
 
-/// Reads an encrypted private key from its DER, all of the bytes. `Iterations` where it has more
+/// Reads an encrypted private key from its DER, which blanks alone may follow. `Iterations` where it has more
 /// than ten million: `read_encrypted_key_of_many` takes as many as you say.
 pub fn read_encrypted_key(bytes: &[u8]) -> Result<EncryptedKey<'_>, KeyFileError<'_>>
     // What is read is spelled so.

@@ -8,7 +8,8 @@ use std::fmt;
 #[derive(Clone, Copy, Debug, PartialEq, Eq)]
 pub enum KeyFileError<'a> {
     /// The bytes are not the DER of an encrypted private key: an element is missing, cut off or
-    /// another one, a length or a number is not in the fewest bytes, or bytes follow the last one.
+    /// another one, a length or a number is not in the fewest bytes, or bytes follow the last one
+    /// that are no blanks.
     Structure,
     /// The algorithm is neither PBES2 nor pbeWithMD5AndDES-CBC.
     Algorithm(&'a [u8]),

@@ -12,7 +12,7 @@ ghost use Rattle.des_passwords.specs.TextLines.{lines_of};
 use crate::base64_lines::{Base64Error, decode_lines};
 use crate::derivation::KeyAndVector;
 use crate::encrypted_keys::{Parameters, Scheme};
-use crate::text_lines::{cut, first_line, trimmed};
+use crate::text_lines::{cut, first_line, is_line, trimmed};
 use std::alloc::Global;
 use std::error::Error;
 use std::fmt;
@@ -207,13 +207,13 @@ struct Start<'a> {
 fn label_of(line: &[u8]) -> Option<Label>
     ensures { result ≡ label_of line.now }
 {
-    if line == Label::Encrypted.begin() {
+    if is_line(line, Label::Encrypted.begin()) {
         Some(Label::Encrypted)
-    } else if line == Label::Rsa.begin() {
+    } else if is_line(line, Label::Rsa.begin()) {
         Some(Label::Rsa)
-    } else if line == Label::Dsa.begin() {
+    } else if is_line(line, Label::Dsa.begin()) {
         Some(Label::Dsa)
-    } else if line == Label::Ec.begin() {
+    } else if is_line(line, Label::Ec.begin()) {
         Some(Label::Ec)
     } else {
         None
@@ -251,7 +251,7 @@ fn body_of<'a>(last: &[u8], text: &'a [u8]) -> Result<&'a [u8], PemError<'a>>
     let mut rest = text;
     'lines: while let Some((line, after)) = first_line(rest) {
         if line.starts_with(b"-----") {
-            if line == last {
+            if is_line(line, last) {
                 return Ok(&text[..text.len() - rest.len()]);
             }
             return Err(PemError::End);
@@ -269,7 +269,11 @@ fn after_line<'a>(wanted: &[u8], text: &'a [u8]) -> Option<&'a [u8]>
     ensures shorter { IfSome result (λ rest. length rest.now < length text.now) }
 {
     let (line, rest) = first_line(text)?;
-    if line == wanted { Some(rest) } else { None }
+    if is_line(line, wanted) {
+        Some(rest)
+    } else {
+        None
+    }
 }
 
 // Whether two names are the same, in large letters or small.
@@ -440,10 +444,10 @@ fn unmarked(text: &[u8]) -> &[u8]
 }
 
 /// Reads the first private key in PEM that a text holds: PKCS #8 (`ENCRYPTED PRIVATE KEY`) or what
-/// OpenSSL calls traditional, with `Proc-Type` and `DEK-Info`. A line ends with LF or CRLF. A byte
-/// order mark is passed over, as are blanks around the value of a header, and what stands before the
-/// key's first line and after its last. The error is the first fault: that no line ends the key
-/// comes before what is wrong between.
+/// OpenSSL calls traditional, with `Proc-Type` and `DEK-Info`. A line ends with LF or CRLF, and
+/// blanks may stand at its end. A byte order mark is passed over, as are blanks around the value of a
+/// header, and what stands before the key's first line and after its last. The error is the first
+/// fault: that no line ends the key comes before what is wrong between.
 #[tactic(auto, unfolding(crate::specs::Pem::pem_of))]
 pub fn read_pem(alloc: Global, text: &[u8]) -> Result<PemKey, PemError<'_>>
     ensures { GivesInMemory key_view result (pem_of text.now) }

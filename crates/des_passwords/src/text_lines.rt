@@ -2,7 +2,7 @@
 
 ghost use Rattle.std.specs.Prelude.{◌≡◌, ◌==◌, ◌<◌, ◌∷◌, [], length, position, IfSome, MatchOption};
 ghost use Rattle.std.specs.Str.Lines.{strip_carriage_return};
-ghost use Rattle.des_passwords.specs.TextLines.{IsLineBefore, after, before, lines_of, trimmed as trimmed_of};
+ghost use Rattle.des_passwords.specs.TextLines.{IsLineBefore, after, are_blanks as are_blanks_of, before, is_line as is_line_of, lines_of, trimmed as trimmed_of};
 
 // The place of the first such byte.
 fn place(byte: u8, text: &[u8]) -> Option<usize>
@@ -28,6 +28,20 @@ pub(crate) fn trimmed(text: &[u8]) -> &[u8]
     ensures { result.now ≡ trimmed_of text.now }
 {
     text.trim_ascii()
+}
+
+// Whether a line is this text, blanks at its end apart.
+pub(crate) fn is_line(line: &[u8], wanted: &[u8]) -> bool
+    ensures { result ≡ is_line_of line.now wanted.now }
+{
+    line.trim_ascii_end() == wanted
+}
+
+// Whether a text is blanks alone.
+pub(crate) fn are_blanks(text: &[u8]) -> bool
+    ensures { result ≡ are_blanks_of text.now }
+{
+    text.iter().all(|byte| byte.is_ascii_whitespace())
 }
 
 // A line without the carriage return at its end.

@@ -24,18 +24,18 @@ lines-preserved c = record {
 }
 
 -- the last line
-pub returns-then-eq-clause-read : goal.returns-then-eq-clause-read
-returns-then-eq-clause-read c =
+pub returns-then-is_line-clause-read : goal.returns-then-is_line-clause-read
+returns-then-is_line-clause-read c =
     body_read c.args.last.now c.args.text.now c.in-Some.line.now c.lines.rest.now c.in-Some.after.now
     c.lines.invariant.so_far
-    c.in-Some.ensures.lines (sym c.starts_with.ensures.value ∙ c.if-starts_with.true) (sym c.eq.ensures ∙ c.if-eq.true)
+    c.in-Some.ensures.lines (sym c.starts_with.ensures.value ∙ c.if-starts_with.true) (sym c.is_line.ensures ∙ c.if-is_line.true)
 
 -- another line with hyphens
 pub returns-then-starts_with-clause-read : goal.returns-then-starts_with-clause-read
 returns-then-starts_with-clause-read c =
     body_wrong c.args.last.now c.args.text.now c.in-Some.line.now c.lines.rest.now c.in-Some.after.now
     c.lines.invariant.so_far
-    c.in-Some.ensures.lines (sym c.starts_with.ensures.value ∙ c.if-starts_with.true) (sym c.eq.ensures ∙ c.if-eq.false)
+    c.in-Some.ensures.lines (sym c.starts_with.ensures.value ∙ c.if-starts_with.true) (sym c.is_line.ensures ∙ c.if-is_line.false)
 
 -- no line is left
 pub returns-clause-read : goal.returns-clause-read
