@@ -14,4 +14,5 @@ pub mod LinesOfText
 mod KnownAnswers
 mod KnownPem
 pub mod LinesOfPem
+pub mod StreamedCharacters
 pub mod XoredBytes

@@ -13,3 +13,4 @@ pub mod Pem
 pub mod PemFaults
 pub mod Salted
 pub mod TextLines
+pub mod Base64Streams

@@ -8,6 +8,7 @@
 #![tactic(auto)]
 
 pub mod base64_lines;
+pub mod base64_reader;
 pub mod bytes_to_key;
 mod der;
 pub mod derivation;
@@ -22,6 +23,7 @@ mod text_lines;
 mod xored;
 
 pub use base64_lines::{Base64Error, decode_base64};
+pub use base64_reader::Base64Reader;
 pub use derivation::{Derivation, KeyAndVector};
 pub use encrypted_keys::{
     EncryptedKey, Parameters, Scheme, read_encrypted_key, read_encrypted_key_of_many,
