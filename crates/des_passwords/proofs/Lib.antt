@@ -12,6 +12,7 @@ pub mod KeySpellings
 pub mod LinesOfBase64
 pub mod LinesOfText
 mod KnownAnswers
+mod KnownBase64
 mod KnownPem
 pub mod LinesOfPem
 pub mod StreamedCharacters
