@@ -23,10 +23,10 @@ mac = cukvashe_des.RetailMacDes(cukvashe_des.dukpt_mac_key(transaction), 1, mess
 mac.verify(tag)
 try:
     mac.verify(bytes(8))
-except cukvashe_des.TagMismatch:
+except cukvashe_des.TagMismatchError:
     print("another tag is refused")
 
-# The PIN block under the issuer's key: the PIN does not come out. Any fault of the block is PinBlock.
+# The PIN block under the issuer's key: the PIN does not come out. Any fault of the block is PinBlockError.
 keys = {"incoming_key": pin_key, "outgoing_key": issuer_key}
 print("to the issuer:", cukvashe_des.pin_translate_to_0(0, account, pin_block, **keys).hex())
 

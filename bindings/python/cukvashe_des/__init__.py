@@ -8,14 +8,15 @@ The library is the one in this package's folder, else the file that the environm
 that of `bindings/build`, else the one that the system finds.
 
 Data are bytes, bytearray, memoryview or anything else with a buffer of bytes, or of words whose most significant byte comes first;
-words in another order, as in array('Q'), are a TypeError. Data are read once, and never changed but by the calls named `_into`, which
-work in place in anything writable and contiguous. Ciphers take whole blocks of 8 bytes: `pad` and `unpad` make them of other data.
+words in another order, as in array('Q'), are a TypeError. Data are read once, and never changed but by the calls named `_into`,
+which work in place in anything writable and contiguous. Ciphers take whole blocks of 8 bytes: `pad` and `unpad` make them of other
+data.
 
 Messages are authenticated by objects as those of `hmac`, with `update`, `digest`, `hexdigest`, `copy` and `verify`:
 
     mac = cukvashe_des.CmacTdesEde3(key)
     mac.update(message)
-    mac.verify(tag)                                # TagMismatch, a ValueError, if it is not the whole tag
+    mac.verify(tag)                                # TagMismatchError, a ValueError, if it is not the whole tag
 
 `TdesEde3(key, quiet=True)`, and so each cipher and MAC, makes the library read no tables at addresses that depend on the key or
 the data, which other programs on the processor could learn. That is tested of the library on x86-64, not of this package.
@@ -25,14 +26,15 @@ the data, which other programs on the processor could learn. That is tested of t
 `pin_translate_` translate encrypted ones, `cvv` makes card verification values, those named `emv_` keys of cards and cryptograms.
 A PIN is verified by its value or its offset; a call that verifies returns nothing for the right PIN:
 
-    cukvashe_des.pvv_verify(key, account, 1, pin, value)    # WrongPin, a ValueError, if it is not the one
+    cukvashe_des.pvv_verify(key, account, 1, pin, value)    # WrongPinError, a ValueError, if it is not the one
 
 `unwrap_key_block(protection, block)` gives the header and the key of a key block (TR-31), `wrap_key_block` makes one, with random
 padding:
 
-    header, key = cukvashe_des.unwrap_key_block(protection, block)    # KeyBlockMac, a ValueError, if it was changed
+    header, key = cukvashe_des.unwrap_key_block(protection, block)    # KeyBlockMacError, a ValueError, if it was changed
 
-`open_salted(TdesEde3, password, data)` gives what `openssl enc -des3` encrypted; `pbkdf2` and `bytes_to_key` derive keys from passwords.
+`open_salted(TdesEde3, password, data)` gives what `openssl enc -des3` encrypted; `pbkdf2` and `bytes_to_key` derive keys from
+passwords.
 
 Lists go in one call: `encrypt_each` and `decrypt_each` with a key for each block, `check_values` of many keys and
 `dukpt_transaction_keys` of many key serial numbers. They take arrays of `uint8` or of words `>u8`, as of shape (n, 8) or
@@ -62,52 +64,52 @@ from __future__ import annotations
 from ._ciphers import Des, TdesEde2, TdesEde3
 from ._data import BLOCK_SIZE
 from ._faults import (
-    AccountDigit,
-    AccountLength,
-    BlockLength,
-    Closed,
-    CountMismatch,
-    DataLength,
-    ExpiryDigit,
-    ExpiryLength,
-    Fill,
-    FillLength,
-    Format,
-    Formats,
-    HashName,
-    IterationCount,
-    KeyBlockDigit,
-    KeyBlockField,
-    KeyBlockLength,
-    KeyBlockMac,
-    KeyBlockVersion,
-    KeyDataLength,
-    KeyIndex,
-    KeyLength,
-    NoSerial,
-    NotSalted,
-    OptionalBlock,
-    PaddingLength,
-    PaddingMethod,
-    PaddingMismatch,
-    PinBlock,
-    PinDigit,
-    PinLength,
-    ProtectionKeyLength,
-    SaltLength,
-    SequenceDigit,
-    SequenceLength,
-    SerialLength,
-    ServiceDigit,
-    ServiceLength,
-    StateLength,
-    TableDigit,
-    TableLength,
-    TableVariety,
-    TagMismatch,
-    VectorLength,
-    WeakKey,
-    WrongPin,
+    AccountDigitError,
+    AccountLengthError,
+    BlockLengthError,
+    ClosedError,
+    CountMismatchError,
+    DataLengthError,
+    ExpiryDigitError,
+    ExpiryLengthError,
+    FillError,
+    FillLengthError,
+    FormatError,
+    FormatsError,
+    HashNameError,
+    IterationCountError,
+    KeyBlockDigitError,
+    KeyBlockFieldError,
+    KeyBlockLengthError,
+    KeyBlockMacError,
+    KeyBlockVersionError,
+    KeyDataLengthError,
+    KeyIndexError,
+    KeyLengthError,
+    NoSerialError,
+    NotSaltedError,
+    OptionalBlockError,
+    PaddingLengthError,
+    PaddingMethodError,
+    PaddingMismatchError,
+    PinBlockError,
+    PinDigitError,
+    PinLengthError,
+    ProtectionKeyLengthError,
+    SaltLengthError,
+    SequenceDigitError,
+    SequenceLengthError,
+    SerialLengthError,
+    ServiceDigitError,
+    ServiceLengthError,
+    StateLengthError,
+    TableDigitError,
+    TableLengthError,
+    TableVarietyError,
+    TagMismatchError,
+    VectorLengthError,
+    WeakKeyError,
+    WrongPinError,
 )
 from ._emv import (
     emv_application_cryptogram,
@@ -178,14 +180,14 @@ from ._verification import DecimalTable, natural_pin, pin_offset, pin_offset_ver
 from ._version import __version__
 
 __all__ = [
-    "AccountDigit", "AccountLength", "BLOCK_SIZE", "BlockLength", "CbcMacDes", "CbcMacTdesEde2", "CbcMacTdesEde3", "Closed",
-    "CmacTdesEde2", "CmacTdesEde3", "CountMismatch", "DataLength", "DecimalTable", "Des", "DukptTerminal", "ExpiryDigit",
-    "ExpiryLength", "Fill", "FillLength", "Format", "Formats", "HashName", "IterationCount", "KeyBlockDigit",
-    "KeyBlockField", "KeyBlockHeader", "KeyBlockLength", "KeyBlockMac", "KeyBlockVersion", "KeyDataLength", "KeyIndex",
-    "KeyLength", "NoSerial", "NotSalted", "OptionalBlock", "PaddingLength", "PaddingMethod", "PaddingMismatch", "PinBlock",
-    "PinDigit", "PinLength", "ProtectionKeyLength", "RetailMacDes", "SaltLength", "SequenceDigit", "SequenceLength",
-    "SerialLength", "ServiceDigit", "ServiceLength", "StateLength", "TAG_SIZE", "TableDigit", "TableLength", "TableVariety",
-    "TagMismatch", "TdesEde2", "TdesEde3", "VectorLength", "WeakKey", "WrongPin", "__version__", "bytes_to_key",
+    "AccountDigitError", "AccountLengthError", "BLOCK_SIZE", "BlockLengthError", "CbcMacDes", "CbcMacTdesEde2", "CbcMacTdesEde3", "ClosedError",
+    "CmacTdesEde2", "CmacTdesEde3", "CountMismatchError", "DataLengthError", "DecimalTable", "Des", "DukptTerminal", "ExpiryDigitError",
+    "ExpiryLengthError", "FillError", "FillLengthError", "FormatError", "FormatsError", "HashNameError", "IterationCountError", "KeyBlockDigitError",
+    "KeyBlockFieldError", "KeyBlockHeader", "KeyBlockLengthError", "KeyBlockMacError", "KeyBlockVersionError", "KeyDataLengthError", "KeyIndexError",
+    "KeyLengthError", "NoSerialError", "NotSaltedError", "OptionalBlockError", "PaddingLengthError", "PaddingMethodError", "PaddingMismatchError", "PinBlockError",
+    "PinDigitError", "PinLengthError", "ProtectionKeyLengthError", "RetailMacDes", "SaltLengthError", "SequenceDigitError", "SequenceLengthError",
+    "SerialLengthError", "ServiceDigitError", "ServiceLengthError", "StateLengthError", "TAG_SIZE", "TableDigitError", "TableLengthError", "TableVarietyError",
+    "TagMismatchError", "TdesEde2", "TdesEde3", "VectorLengthError", "WeakKeyError", "WrongPinError", "__version__", "bytes_to_key",
     "check_value", "check_values", "combine", "cvv", "decrypt_cbc_records", "decrypt_each", "decrypt_each_into",
     "dukpt_data_key", "dukpt_data_variant", "dukpt_initial_key", "dukpt_is_usable", "dukpt_mac_key", "dukpt_next_serial",
     "dukpt_pin_key", "dukpt_transaction_key", "dukpt_transaction_keys", "emv_application_cryptogram", "emv_application_key",

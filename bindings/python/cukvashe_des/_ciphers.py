@@ -5,7 +5,7 @@ from __future__ import annotations
 from typing import TYPE_CHECKING, Any, ClassVar, Type
 
 from ._data import BLOCK_SIZE, KINDS, Keyed, Kind, bytes_of, in_order, is_writable, kind_of, pointer_to, vector_of
-from ._faults import BlockLength
+from ._faults import BlockLengthError
 from ._library import INT, POINTER, SIZE
 from ._statuses import OK
 
@@ -15,7 +15,7 @@ if TYPE_CHECKING:
 
 class Cipher(Keyed):
     """A block cipher under one key, which threads may share. A quiet one reads no tables at addresses that depend on the key or the
-    data, and takes up to four times as long. KeyLength."""
+    data, and takes up to four times as long. KeyLengthError."""
 
     __slots__ = ()
 
@@ -27,23 +27,26 @@ class Cipher(Keyed):
         self._context = class_of(type(self)).context_of(key, quiet)
 
     def encrypt_ecb(self, data: ReadableBuffer) -> bytes:
-        """The data, each block of 8 bytes encrypted by itself. BlockLength where they are not whole blocks."""
+        """The data, each block of 8 bytes encrypted by itself. BlockLengthError where they are not whole blocks."""
         return self._answer("encrypt_ecb_to", data)
 
     def decrypt_ecb(self, data: ReadableBuffer) -> bytes:
-        """The data, each block of 8 bytes decrypted by itself. BlockLength."""
+        """The data, each block of 8 bytes decrypted by itself. BlockLengthError."""
         return self._answer("decrypt_ecb_to", data)
 
     def encrypt_cbc(self, iv: ReadableBuffer, data: ReadableBuffer) -> bytes:
-        """The data, encrypted by cipher block chaining from an initialization vector of 8 bytes. VectorLength, BlockLength."""
+        """The data, encrypted by cipher block chaining from an initialization vector of 8 bytes. VectorLengthError,
+        BlockLengthError."""
         return self._answer("encrypt_cbc_to", data, vector_of(iv))
 
     def decrypt_cbc(self, iv: ReadableBuffer, data: ReadableBuffer) -> bytes:
-        """The data, decrypted by cipher block chaining from an initialization vector. Padding stays. VectorLength, BlockLength."""
+        """The data, decrypted by cipher block chaining from an initialization vector. Padding stays. VectorLengthError,
+        BlockLengthError."""
         return self._answer("decrypt_cbc_to", data, vector_of(iv))
 
     def encrypt_ecb_into(self, data: WriteableBuffer) -> None:
-        """Encrypts in place, in a bytearray or the like. BlockLength; TypeError where the data are not writable in one piece."""
+        """Encrypts in place, in a bytearray or the like. BlockLengthError; TypeError where the data are not writable in one
+        piece."""
         self._change("encrypt_ecb", data)
 
     def decrypt_ecb_into(self, data: WriteableBuffer) -> None:
@@ -51,7 +54,7 @@ class Cipher(Keyed):
         self._change("decrypt_ecb", data)
 
     def encrypt_cbc_into(self, iv: ReadableBuffer, data: WriteableBuffer) -> bytes:
-        """Encrypts in place by cipher block chaining; returns the vector of the next piece. VectorLength, and the errors of
+        """Encrypts in place by cipher block chaining; returns the vector of the next piece. VectorLengthError, and the errors of
         encrypt_ecb_into."""
         vector = vector_of(iv)
         self._change("encrypt_cbc", data, vector)
@@ -80,9 +83,9 @@ class Cipher(Keyed):
 
 
 def _whole(status: int, length: int) -> None:
-    """Raises BlockLength where a call refused the length."""
+    """Raises BlockLengthError where a call refused the length."""
     if status != OK:
-        raise BlockLength(f"{length} bytes are not whole blocks of {BLOCK_SIZE}")
+        raise BlockLengthError(f"{length} bytes are not whole blocks of {BLOCK_SIZE}")
 
 
 def class_of(cipher: Type[Cipher]) -> Kind:
@@ -94,21 +97,21 @@ def class_of(cipher: Type[Cipher]) -> Kind:
 
 
 class Des(Cipher):
-    """DES, under a key of 8 bytes. KeyLength."""
+    """DES, under a key of 8 bytes. KeyLengthError."""
 
     __slots__ = ()
     name, key_size = "des", 8
 
 
 class TdesEde2(Cipher):
-    """Triple DES (encrypt, decrypt, encrypt), under the two parts of a key of 16 bytes and the first again. KeyLength."""
+    """Triple DES (encrypt, decrypt, encrypt), under the two parts of a key of 16 bytes and the first again. KeyLengthError."""
 
     __slots__ = ()
     name, key_size = "tdes_ede2", 16
 
 
 class TdesEde3(Cipher):
-    """Triple DES (encrypt, decrypt, encrypt), under the three parts of a key of 24 bytes. KeyLength."""
+    """Triple DES (encrypt, decrypt, encrypt), under the three parts of a key of 24 bytes. KeyLengthError."""
 
     __slots__ = ()
     name, key_size = "tdes_ede3", 24

@@ -8,7 +8,7 @@ import re
 from itertools import takewhile
 from typing import TYPE_CHECKING, Any, Callable, Dict, Iterator, NoReturn, Optional, Tuple, Type, TypeVar, Union
 
-from ._faults import BlockLength, Closed, KeyLength, VectorLength, check
+from ._faults import BlockLengthError, ClosedError, KeyLengthError, VectorLengthError, check
 from ._library import INT, POINTER, SIZE, function, wipe
 
 if TYPE_CHECKING:
@@ -58,11 +58,11 @@ def _held(copied: bytearray) -> Iterator[Any]:
 
 @contextlib.contextmanager
 def key_of(key: ReadableBuffer, *sizes: int) -> Iterator[Any]:
-    """A copy of a key for one call, wiped after it. KeyLength if its length is none of the sizes."""
+    """A copy of a key for one call, wiped after it. KeyLengthError if its length is none of the sizes."""
     with _held(_copy_of(key)) as held:
         if len(held) not in sizes:
             listed = " or ".join(map(str, sizes))
-            raise KeyLength(f"a key has {listed} bytes, not {len(held)}")
+            raise KeyLengthError(f"a key has {listed} bytes, not {len(held)}")
         yield held
 
 
@@ -77,7 +77,7 @@ def vector_of(iv: ReadableBuffer) -> Any:
     """A copy of an initialization vector, which a call may change."""
     taken = bytes_of(iv)
     if len(taken) != BLOCK_SIZE:
-        raise VectorLength(f"an initialization vector has {BLOCK_SIZE} bytes, not {len(taken)}")
+        raise VectorLengthError(f"an initialization vector has {BLOCK_SIZE} bytes, not {len(taken)}")
     return (ctypes.c_uint8 * BLOCK_SIZE).from_buffer_copy(taken)
 
 
@@ -86,7 +86,7 @@ def block_of(block: ReadableBuffer) -> Iterator[Any]:
     """A copy of a PIN block for one call, wiped after it."""
     with _held(_copy_of(block)) as held:
         if len(held) != BLOCK_SIZE:
-            raise BlockLength(f"a PIN block has {BLOCK_SIZE} bytes, not {len(held)}")
+            raise BlockLengthError(f"a PIN block has {BLOCK_SIZE} bytes, not {len(held)}")
         yield held
 
 
@@ -272,11 +272,11 @@ class Keyed:
         """The context. The caller keeps it in use until its call has ended, which keeps it from being wiped."""
         context = self._context
         if context is None:
-            raise Closed("the object was closed")
+            raise ClosedError("the object was closed")
         return context
 
     def close(self) -> None:
-        """Forgets the key: the context is wiped, once no call uses it. Every later call raises Closed."""
+        """Forgets the key: the context is wiped, once no call uses it. Every later call raises ClosedError."""
         self._context = None
 
     def __enter__(self: _Self) -> _Self:

@@ -7,231 +7,231 @@ from typing import Dict, Type
 from . import _statuses
 
 
-class KeyLength(ValueError):
+class KeyLengthError(ValueError):
     """A key has a length that no key of the cipher has."""
 
 
-class BlockLength(ValueError):
+class BlockLengthError(ValueError):
     """Data are not whole blocks of 8 bytes."""
 
 
-class VectorLength(ValueError):
+class VectorLengthError(ValueError):
     """An initialization vector does not have 8 bytes."""
 
 
-class PaddingMethod(ValueError):
+class PaddingMethodError(ValueError):
     """There is no padding method of this name or number."""
 
 
-class PaddingMismatch(ValueError):
+class PaddingMismatchError(ValueError):
     """Data do not end with the padding."""
 
 
-class SerialLength(ValueError):
+class SerialLengthError(ValueError):
     """A key serial number does not have ten bytes."""
 
 
-class NoSerial(ValueError):
+class NoSerialError(ValueError):
     """A terminal has had its last transaction."""
 
 
-class StateLength(ValueError):
+class StateLengthError(ValueError):
     """The state of a terminal does not have 346 bytes."""
 
 
-class CountMismatch(ValueError):
+class CountMismatchError(ValueError):
     """Numbers of elements do not agree: lists differ in length, or counts or lengths do not add up to what is given."""
 
 
-class WeakKey(ValueError):
+class WeakKeyError(ValueError):
     """The weak key test refuses a key."""
 
 
-class TagMismatch(ValueError):
+class TagMismatchError(ValueError):
     """A tag is not that of the message, or does not have a length that the call takes."""
 
 
-class Closed(ValueError):
+class ClosedError(ValueError):
     """The cipher, MAC or terminal was closed, so that its key is gone."""
 
 
-class Format(ValueError):
+class FormatError(ValueError):
     """The first digit of a PIN block is not that of the format."""
 
 
-class PinLength(ValueError):
+class PinLengthError(ValueError):
     """A PIN does not have 4 to 12 digits, or the second digit of a PIN block is not the length of such a PIN."""
 
 
-class PinDigit(ValueError):
+class PinDigitError(ValueError):
     """A character of a PIN is not a digit, or a digit of the PIN of a PIN block is above 9."""
 
 
-class AccountLength(ValueError):
+class AccountLengthError(ValueError):
     """An account number has fewer digits than the call takes, or more than 19."""
 
 
-class AccountDigit(ValueError):
+class AccountDigitError(ValueError):
     """A character of an account number is not a digit."""
 
 
-class Fill(ValueError):
+class FillError(ValueError):
     """A fill digit of a PIN block is none of those of the format."""
 
 
-class FillLength(ValueError):
+class FillLengthError(ValueError):
     """There are not ten fill digits."""
 
 
-class ExpiryLength(ValueError):
+class ExpiryLengthError(ValueError):
     """An expiry date does not have four digits."""
 
 
-class ExpiryDigit(ValueError):
+class ExpiryDigitError(ValueError):
     """A character of an expiry date is not a digit."""
 
 
-class ServiceLength(ValueError):
+class ServiceLengthError(ValueError):
     """A service code does not have three digits."""
 
 
-class ServiceDigit(ValueError):
+class ServiceDigitError(ValueError):
     """A character of a service code is not a digit."""
 
 
-class KeyIndex(ValueError):
+class KeyIndexError(ValueError):
     """The index of a key pair is none of 1 to 6."""
 
 
-class TableLength(ValueError):
+class TableLengthError(ValueError):
     """A decimalization table does not have sixteen digits."""
 
 
-class TableDigit(ValueError):
+class TableDigitError(ValueError):
     """A character of a decimalization table is not a digit."""
 
 
-class TableVariety(ValueError):
+class TableVarietyError(ValueError):
     """A decimalization table has fewer than eight different digits."""
 
 
-class WrongPin(ValueError):
+class WrongPinError(ValueError):
     """A PIN is not the one."""
 
 
-class Formats(ValueError):
+class FormatsError(ValueError):
     """There is no translation of PIN blocks from this format."""
 
 
-class PinBlock(ValueError):
+class PinBlockError(ValueError):
     """Decrypted, a PIN block is not one of its format and account number."""
 
 
-class SequenceLength(ValueError):
+class SequenceLengthError(ValueError):
     """The sequence number of a card does not have two digits."""
 
 
-class SequenceDigit(ValueError):
+class SequenceDigitError(ValueError):
     """A character of the sequence number of a card is not a digit."""
 
 
-class DataLength(ValueError):
+class DataLengthError(ValueError):
     """Data of a card cryptogram do not have the number of bytes that the call takes."""
 
 
-class ProtectionKeyLength(ValueError):
+class ProtectionKeyLengthError(ValueError):
     """A protection key of key blocks does not have 16 or 24 bytes."""
 
 
-class KeyBlockLength(ValueError):
+class KeyBlockLengthError(ValueError):
     """A key block has another length than its header says, or more characters than a key block can have."""
 
 
-class KeyBlockVersion(ValueError):
+class KeyBlockVersionError(ValueError):
     """The version of a key block is none of A, B and C, or one is to be made of another than B and C."""
 
 
-class KeyBlockField(ValueError):
+class KeyBlockFieldError(ValueError):
     """The header of a key block does not end with two digits, a context of 0 to 2 and 0, or a field to be written is not as many
     letters and digits as it has."""
 
 
-class OptionalBlock(ValueError):
-    """The optional blocks of a key block can't be read, or do not end at a multiple of eight characters; or those of a block that is
-    to be made have a name that is not two letters or digits or a content that is not printable ASCII, are more than 99, or one is a
-    PB that is not the last, or does not end at a multiple of eight characters."""
+class OptionalBlockError(ValueError):
+    """The optional blocks of a key block can't be read, or do not end at a multiple of eight characters; or those of a block that
+    is to be made have a name that is not two letters or digits or a content that is not printable ASCII, are more than 99, or one
+    is a PB that is not the last, or does not end at a multiple of eight characters."""
 
 
-class KeyDataLength(ValueError):
+class KeyDataLengthError(ValueError):
     """The encrypted key of a key block does not have a length that it can have."""
 
 
-class KeyBlockDigit(ValueError):
+class KeyBlockDigitError(ValueError):
     """A character of the encrypted key of a key block, or of its MAC, is none of 0 to 9 and A to F."""
 
 
-class KeyBlockMac(ValueError):
+class KeyBlockMacError(ValueError):
     """The MAC is not that of a key block: the block was changed, or is under another protection key."""
 
 
-class PaddingLength(ValueError):
+class PaddingLengthError(ValueError):
     """The padding of the key of a key block does not have a length that it can have."""
 
 
-class HashName(ValueError):
+class HashNameError(ValueError):
     """There is no hash function of this name that the call takes."""
 
 
-class IterationCount(ValueError):
+class IterationCountError(ValueError):
     """There is no iteration, or there are more than PBKDF2 counts."""
 
 
-class NotSalted(ValueError):
+class NotSaltedError(ValueError):
     """Data do not begin with Salted__."""
 
 
-class SaltLength(ValueError):
+class SaltLengthError(ValueError):
     """Data end within the salt, or the salt of bytes_to_key does not have 0 or 8 bytes."""
 
 
 _FAULTS: Dict[int, Type[ValueError]] = {
-    _statuses.PADDING_METHOD: PaddingMethod,
-    _statuses.TAG: TagMismatch,
-    _statuses.FORMAT: Format,
-    _statuses.PIN_LENGTH: PinLength,
-    _statuses.PIN_DIGIT: PinDigit,
-    _statuses.ACCOUNT_LENGTH: AccountLength,
-    _statuses.ACCOUNT_DIGIT: AccountDigit,
-    _statuses.FILL: Fill,
-    _statuses.EXPIRY_LENGTH: ExpiryLength,
-    _statuses.EXPIRY_DIGIT: ExpiryDigit,
-    _statuses.SERVICE_LENGTH: ServiceLength,
-    _statuses.SERVICE_DIGIT: ServiceDigit,
-    _statuses.PADDING: PaddingMismatch,
-    _statuses.KEY_INDEX: KeyIndex,
-    _statuses.TABLE_LENGTH: TableLength,
-    _statuses.TABLE_DIGIT: TableDigit,
-    _statuses.TABLE_VARIETY: TableVariety,
-    _statuses.WRONG_PIN: WrongPin,
-    _statuses.FORMATS: Formats,
-    _statuses.PIN_BLOCK: PinBlock,
-    _statuses.SEQUENCE_LENGTH: SequenceLength,
-    _statuses.SEQUENCE_DIGIT: SequenceDigit,
-    _statuses.DATA_LENGTH: DataLength,
-    _statuses.KEY_LENGTH: KeyLength,
-    _statuses.PROTECTION_KEY_LENGTH: ProtectionKeyLength,
-    _statuses.KEY_BLOCK_LENGTH: KeyBlockLength,
-    _statuses.VERSION: KeyBlockVersion,
-    _statuses.HEADER: KeyBlockField,
-    _statuses.OPTIONAL_BLOCK: OptionalBlock,
-    _statuses.KEY_DATA_LENGTH: KeyDataLength,
-    _statuses.KEY_BLOCK_DIGIT: KeyBlockDigit,
-    _statuses.KEY_BLOCK_MAC: KeyBlockMac,
-    _statuses.PADDING_LENGTH: PaddingLength,
-    _statuses.HASH: HashName,
-    _statuses.ITERATIONS: IterationCount,
-    _statuses.NOT_SALTED: NotSalted,
-    _statuses.SALT_LENGTH: SaltLength,
+    _statuses.PADDING_METHOD: PaddingMethodError,
+    _statuses.TAG: TagMismatchError,
+    _statuses.FORMAT: FormatError,
+    _statuses.PIN_LENGTH: PinLengthError,
+    _statuses.PIN_DIGIT: PinDigitError,
+    _statuses.ACCOUNT_LENGTH: AccountLengthError,
+    _statuses.ACCOUNT_DIGIT: AccountDigitError,
+    _statuses.FILL: FillError,
+    _statuses.EXPIRY_LENGTH: ExpiryLengthError,
+    _statuses.EXPIRY_DIGIT: ExpiryDigitError,
+    _statuses.SERVICE_LENGTH: ServiceLengthError,
+    _statuses.SERVICE_DIGIT: ServiceDigitError,
+    _statuses.PADDING: PaddingMismatchError,
+    _statuses.KEY_INDEX: KeyIndexError,
+    _statuses.TABLE_LENGTH: TableLengthError,
+    _statuses.TABLE_DIGIT: TableDigitError,
+    _statuses.TABLE_VARIETY: TableVarietyError,
+    _statuses.WRONG_PIN: WrongPinError,
+    _statuses.FORMATS: FormatsError,
+    _statuses.PIN_BLOCK: PinBlockError,
+    _statuses.SEQUENCE_LENGTH: SequenceLengthError,
+    _statuses.SEQUENCE_DIGIT: SequenceDigitError,
+    _statuses.DATA_LENGTH: DataLengthError,
+    _statuses.KEY_LENGTH: KeyLengthError,
+    _statuses.PROTECTION_KEY_LENGTH: ProtectionKeyLengthError,
+    _statuses.KEY_BLOCK_LENGTH: KeyBlockLengthError,
+    _statuses.VERSION: KeyBlockVersionError,
+    _statuses.HEADER: KeyBlockFieldError,
+    _statuses.OPTIONAL_BLOCK: OptionalBlockError,
+    _statuses.KEY_DATA_LENGTH: KeyDataLengthError,
+    _statuses.KEY_BLOCK_DIGIT: KeyBlockDigitError,
+    _statuses.KEY_BLOCK_MAC: KeyBlockMacError,
+    _statuses.PADDING_LENGTH: PaddingLengthError,
+    _statuses.HASH: HashNameError,
+    _statuses.ITERATIONS: IterationCountError,
+    _statuses.NOT_SALTED: NotSaltedError,
+    _statuses.SALT_LENGTH: SaltLengthError,
 }
 
 # What stands after a sentence that leaves it to the call.

@@ -8,7 +8,7 @@ from dataclasses import dataclass
 from typing import TYPE_CHECKING, Any, Iterable, List, Mapping, Optional, Tuple, Union
 
 from ._data import bytes_from, bytes_of, room, secret_of
-from ._faults import KeyBlockDigit, KeyBlockField, KeyBlockLength, KeyBlockVersion, OptionalBlock, check
+from ._faults import KeyBlockDigitError, KeyBlockFieldError, KeyBlockLengthError, KeyBlockVersionError, OptionalBlockError, check
 from ._library import INT, POINTER, SIZE, function
 from ._statuses import NO_OPTIONAL_BLOCK
 
@@ -41,9 +41,10 @@ _optional_block = function("key_block_optional_block", INT, POINTER, SIZE, SIZE,
 class KeyBlockHeader:
     """What a key is for, and who may have it, in the characters of the standard. KeyBlockHeader(version="B", usage="P0",
     algorithm="T", mode="E", key_version="00", exportability="E") is that of a key of triple DES that encrypts PIN blocks, and does
-    nothing else, in a block of version B. A key version "00" means that there are no versions, "c" and a character that the value is
-    a component of a key and not the key; else it is the version. Exportability "E": exportable under a KEK in a form that complies
-    with X9.24; "N": not exportable; "S": sensitive, exportable in other forms too. No call compares a header with the key's length.
+    nothing else, in a block of version B. A key version "00" means that there are no versions, "c" and a character that the value
+    is a component of a key and not the key; else it is the version. Exportability "E": exportable under a KEK in a form that
+    complies with X9.24; "N": not exportable; "S": sensitive, exportable in other forms too. No call compares a header with the
+    key's length.
 
     A header has no optional blocks. To wrap the key of a block b again pass
     `optional=[x for x in key_block_optional_blocks(b) if x[0] != "PB"]`, and for version A also
@@ -73,9 +74,9 @@ def _fields_of(header: KeyBlockHeader) -> bytes:
     # The characters alone: the member of an enumeration that is a text too is formatted by its name.
     version, usage, algorithm, mode, key_version, exportability = (str.__str__(field) for field in given)
     if len(version) != 1:
-        raise KeyBlockVersion("a key block is made of version B or C")
+        raise KeyBlockVersionError("a key block is made of version B or C")
     if [len(field) for field in (usage, algorithm, mode, key_version, exportability)] != [2, 1, 1, 2, 1]:
-        raise KeyBlockField("the usage and the key's version have two characters, the other fields one")
+        raise KeyBlockFieldError("the usage and the key's version have two characters, the other fields one")
     return f"{version}{usage}\0{algorithm}{mode}{key_version}\0{exportability}".encode("ascii", "replace")
 
 
@@ -84,7 +85,7 @@ def _block_of(block: _Text) -> bytes:
     if isinstance(block, str):
         text = str.__str__(block)
         if not text.isascii():
-            raise KeyBlockDigit("a key block has ASCII characters alone")
+            raise KeyBlockDigitError("a key block has ASCII characters alone")
         return text.encode("ascii")
     return bytes_of(block)
 
@@ -96,9 +97,9 @@ def _optional_bytes(pair: Tuple[str, str]) -> bytes:
     # A character that is not ASCII becomes bytes that the library refuses.
     name, content = (part.encode("utf-8", "surrogatepass") for part in pair)
     if len(name) != 2:
-        raise OptionalBlock("the name of an optional block has two characters, letters or digits")
+        raise OptionalBlockError("the name of an optional block has two characters, letters or digits")
     if len(content) > _TOO_MANY:
-        raise KeyBlockLength("a key block has at most 9999 characters")
+        raise KeyBlockLengthError("a key block has at most 9999 characters")
     return name + f"0002{len(content) + 10:04X}".encode("ascii") + content
 
 
@@ -111,9 +112,10 @@ def _optional_of(optional: _OptionalBlocks) -> bytes:
 
 
 def unwrap_key_block(protection: ReadableBuffer, block: _Text) -> Tuple[KeyBlockHeader, bytes]:
-    """The header and the key, 8, 16 or 24 bytes, of a key block of version A, B or C, as str or bytes, under a protection key of 16 or
-    24 bytes. Look at the header before you use the key. ProtectionKeyLength, KeyBlockLength, KeyBlockVersion, KeyBlockField,
-    OptionalBlock, KeyDataLength, KeyBlockDigit, KeyLength; KeyBlockMac if the block was changed, or is under another key."""
+    """The header and the key, 8, 16 or 24 bytes, of a key block of version A, B or C, as str or bytes, under a protection key of 16
+    or 24 bytes. Look at the header before you use the key. ProtectionKeyLengthError, KeyBlockLengthError, KeyBlockVersionError,
+    KeyBlockFieldError, OptionalBlockError, KeyDataLengthError, KeyBlockDigitError, KeyLengthError; KeyBlockMacError if the block
+    was changed, or is under another key."""
     text, fields, key, length = _block_of(block), room(_FIELDS_SIZE), room(_KEY_SIZE), SIZE()
     with secret_of(protection) as held:
         check(_unwrap(*held, text, len(text), fields, key, ctypes.byref(length)))
@@ -129,10 +131,10 @@ def wrap_key_block(
     padding: Optional[ReadableBuffer] = None,
 ) -> str:
     """The key block of a key of 8, 16 or 24 bytes under a protection key of 16 or 24 bytes, of version B or C. Optional blocks are
-    pairs of a name of two letters or digits and its content, printable ASCII without a length. A block PB is added where they do not
-    end at a multiple of eight characters; one of yours is taken only as the last, where with it they do. The padding is random bytes
-    that hide how long the key is, or those that are given: 6, 14 or 22, with the key at most 30. KeyBlockVersion, OptionalBlock,
-    ProtectionKeyLength, KeyBlockField, KeyLength, PaddingLength, KeyBlockLength."""
+    pairs of a name of two letters or digits and its content, printable ASCII without a length. A block PB is added where they do
+    not end at a multiple of eight characters; one of yours is taken only as the last, where with it they do. The padding is random
+    bytes that hide how long the key is, or those that are given: 6, 14 or 22, with the key at most 30. KeyBlockVersionError,
+    OptionalBlockError, ProtectionKeyLengthError, KeyBlockFieldError, KeyLengthError, PaddingLengthError, KeyBlockLengthError."""
     fields, more = _fields_of(header), _optional_of(optional)
     block, length = room(len(more) + _MORE), SIZE()
     with secret_of(protection) as held, secret_of(key) as bare:
@@ -142,16 +144,16 @@ def wrap_key_block(
 
 
 def key_block_header(block: _Text) -> KeyBlockHeader:
-    """The header of a key block, read with no key. Nothing of it is authenticated. KeyBlockLength, KeyBlockVersion, KeyBlockField,
-    OptionalBlock, KeyDataLength; KeyBlockDigit for characters that are not ASCII."""
+    """The header of a key block, read with no key. Nothing of it is authenticated. KeyBlockLengthError, KeyBlockVersionError,
+    KeyBlockFieldError, OptionalBlockError, KeyDataLengthError; KeyBlockDigitError for characters that are not ASCII."""
     text, fields = _block_of(block), room(_FIELDS_SIZE)
     check(_header(text, len(text), fields))
     return _header_from(fields)
 
 
 def key_block_context(block: _Text) -> str:
-    """Where the key of a key block may be, read with no key: "0" in storage and exchange, as wrap_key_block writes it, "1" in storage
-    only, "2" in exchange only. Nothing of it is authenticated. Errors as of key_block_header."""
+    """Where the key of a key block may be, read with no key: "0" in storage and exchange, as wrap_key_block writes it, "1" in
+    storage only, "2" in exchange only. Nothing of it is authenticated. Errors as of key_block_header."""
     text, context = _block_of(block), room(1)
     check(_context(text, len(text), context))
     return bytes(context).decode("ascii")

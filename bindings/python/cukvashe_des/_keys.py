@@ -7,7 +7,7 @@ from typing import TYPE_CHECKING, Any, Callable, Optional, Type
 
 from ._ciphers import Cipher, class_of
 from ._data import bytes_from, bytes_of, key_of, room, wiped_room
-from ._faults import SerialLength, WeakKey, check
+from ._faults import SerialLengthError, WeakKeyError, check
 from ._library import BOOL, INT, POINTER, SIZE, function
 from ._statuses import NO_SERIAL, WEAK_KEY
 
@@ -33,7 +33,7 @@ _is_usable = function("dukpt_is_usable", BOOL, POINTER)
 
 
 def is_weak_key(key: ReadableBuffer) -> bool:
-    """Whether a key of 8, 16 or 24 bytes is weak: a part has few different round keys, or two parts are one key. KeyLength."""
+    """Whether a key of 8, 16 or 24 bytes is weak: a part has few different round keys, or two parts are one key. KeyLengthError."""
     with key_of(key, *KEY_SIZES) as held:
         status = _weak_key_test(held, len(held))
     if status != WEAK_KEY:
@@ -42,20 +42,21 @@ def is_weak_key(key: ReadableBuffer) -> bool:
 
 
 def with_odd_parity(key: ReadableBuffer) -> bytes:
-    """The key of 8, 16 or 24 bytes with its parity bits, the lowest of each byte, set to odd parity. KeyLength."""
+    """The key of 8, 16 or 24 bytes with its parity bits, the lowest of each byte, set to odd parity. KeyLengthError."""
     with key_of(key, *KEY_SIZES) as held:
         _set_odd_parity(held, len(held))
         return bytes(held)
 
 
 def equal_but_parity(first: ReadableBuffer, second: ReadableBuffer) -> bool:
-    """Whether two keys of one length, 8, 16 or 24 bytes, agree in all but their parity bits, and so are one key. KeyLength."""
+    """Whether two keys of one length, 8, 16 or 24 bytes, agree in all but their parity bits, and so are one key. KeyLengthError."""
     with key_of(first, *KEY_SIZES) as one, key_of(second, len(one)) as other:
         return bool(_equal_but_parity(one, other, len(one)))
 
 
 def check_value(cipher: Type[Cipher], key: ReadableBuffer) -> bytes:
-    """The check value of a key: three bytes, the first of the encrypted block of zeros. `cipher` is a class, as Des. KeyLength."""
+    """The check value of a key: three bytes, the first of the encrypted block of zeros. `cipher` is a class, as Des.
+    KeyLengthError."""
     value, kind = room(3), class_of(cipher)
     with key_of(key, kind.key_size) as held:
         check(kind.calls["check_value"](held, len(held), value))
@@ -71,17 +72,18 @@ def _value_by_length(call: Callable[..., Any], size: int, key: ReadableBuffer) -
 
 
 def key_check_value(key: ReadableBuffer) -> bytes:
-    """The check value of a key or component of 8, 16 or 24 bytes, by DES or, where it is longer, triple DES (EDE). KeyLength."""
+    """The check value of a key or component of 8, 16 or 24 bytes, by DES or, where it is longer, triple DES (EDE).
+    KeyLengthError."""
     return _value_by_length(_key_check_value, 3, key)
 
 
 def short_key_check_value(key: ReadableBuffer) -> bytes:
-    """The first two bytes of key_check_value, which some systems show. KeyLength."""
+    """The first two bytes of key_check_value, which some systems show. KeyLengthError."""
     return _value_by_length(_short_key_check_value, 2, key)
 
 
 def combine(first: ReadableBuffer, second: ReadableBuffer, *others: ReadableBuffer) -> bytes:
-    """The key that two or more components of 8, 16 or 24 bytes make: their xor, with odd parity. KeyLength, WeakKey."""
+    """The key that two or more components of 8, 16 or 24 bytes make: their xor, with odd parity. KeyLengthError, WeakKeyError."""
     with key_of(first, *KEY_SIZES) as one, key_of(second, len(one)) as other:
         size = len(one)
         key = room(size)
@@ -91,7 +93,7 @@ def combine(first: ReadableBuffer, second: ReadableBuffer, *others: ReadableBuff
                     ctypes.memmove(ctypes.byref(more, at * size), held, size)
             status = _combine[size](one, other, more, len(others), key)
     if status == WEAK_KEY:
-        raise WeakKey("the weak key test refuses the key that the components make")
+        raise WeakKeyError("the weak key test refuses the key that the components make")
     check(status)
     return bytes_from(key)
 
@@ -100,7 +102,7 @@ def serial_of(serial: ReadableBuffer) -> bytes:
     """The bytes of a key serial number."""
     taken = bytes_of(serial)
     if len(taken) != 10:
-        raise SerialLength(f"a key serial number has 10 bytes, not {len(taken)}")
+        raise SerialLengthError(f"a key serial number has 10 bytes, not {len(taken)}")
     return taken
 
 
@@ -121,39 +123,39 @@ def _response(is_response: bool) -> bool:
 
 def dukpt_initial_key(base: ReadableBuffer, serial: ReadableBuffer) -> bytes:
     """The initial key of a terminal, from the base derivation key, 16 bytes, and a key serial number, ten (ANSI X9.24-1:2009).
-    KeyLength, SerialLength."""
+    KeyLengthError, SerialLengthError."""
     return made_of_key(_initial_key, base, serial_of(serial))
 
 
 def dukpt_transaction_key(initial: ReadableBuffer, serial: ReadableBuffer) -> bytes:
     """The key of a transaction, from the terminal's initial key and the transaction's key serial number. It takes every counter,
-    and for 0 gives the initial key itself: ask dukpt_is_usable first. KeyLength, SerialLength."""
+    and for 0 gives the initial key itself: ask dukpt_is_usable first. KeyLengthError, SerialLengthError."""
     return made_of_key(_transaction_key, initial, serial_of(serial))
 
 
 def dukpt_pin_key(transaction: ReadableBuffer) -> bytes:
-    """The key that encrypts PIN blocks, from the transaction's key. KeyLength."""
+    """The key that encrypts PIN blocks, from the transaction's key. KeyLengthError."""
     return made_of_key(_pin_key, transaction)
 
 
 def dukpt_mac_key(transaction: ReadableBuffer, is_response: bool = False) -> bytes:
-    """The key that authenticates the request, or the response, from the transaction's key. KeyLength."""
+    """The key that authenticates the request, or the response, from the transaction's key. KeyLengthError."""
     return made_of_key(_mac_key, transaction, _response(is_response))
 
 
 def dukpt_data_key(transaction: ReadableBuffer, is_response: bool = False) -> bytes:
-    """The key that encrypts the data of the request, or of the response, from the transaction's key. KeyLength."""
+    """The key that encrypts the data of the request, or of the response, from the transaction's key. KeyLengthError."""
     return made_of_key(_data_key, transaction, _response(is_response))
 
 
 def dukpt_data_variant(transaction: ReadableBuffer, is_response: bool = False) -> bytes:
     """The key of dukpt_data_key without its last step: some terminals encrypt data under it. It reveals the transaction's other
-    keys. KeyLength."""
+    keys. KeyLengthError."""
     return made_of_key(_data_variant, transaction, _response(is_response))
 
 
 def dukpt_next_serial(serial: ReadableBuffer) -> Optional[bytes]:
-    """The next key serial number whose counter is usable, or None where there is none. SerialLength."""
+    """The next key serial number whose counter is usable, or None where there is none. SerialLengthError."""
     following = room(10)
     status = _next_serial(serial_of(serial), following)
     if status == NO_SERIAL:
@@ -163,5 +165,5 @@ def dukpt_next_serial(serial: ReadableBuffer) -> Optional[bytes]:
 
 
 def dukpt_is_usable(serial: ReadableBuffer) -> bool:
-    """Whether the counter of a key serial number is usable: it is not 0, and has at most ten one bits. SerialLength."""
+    """Whether the counter of a key serial number is usable: it is not 0, and has at most ten one bits. SerialLengthError."""
     return bool(_is_usable(serial_of(serial)))

@@ -10,7 +10,7 @@ from typing import TYPE_CHECKING, AbstractSet, Any, Iterable, Iterator, List, Ma
 
 from ._ciphers import Cipher, class_of
 from ._data import BLOCK_SIZE, Kind, bytes_from, in_order, is_writable, kept_apart, key_of, lent, pointer_to, room, row_size
-from ._faults import BlockLength, CountMismatch, KeyLength, SerialLength, VectorLength, fault_of
+from ._faults import BlockLengthError, CountMismatchError, KeyLengthError, SerialLengthError, VectorLengthError, fault_of
 from ._library import INT, POINTER, SIZE, function
 from ._macs import TAG_SIZE, Mac, mac_class_of
 from ._statuses import OK, PADDING_METHOD
@@ -76,15 +76,15 @@ def _list_of(
 def _answer_each(call: str, kind: Kind, keys: Any, count: int, blocks: Any, length: int) -> None:
     """Takes each block of a length through a call in place, under the key at its place."""
     if _EACH[kind.name, call](keys, count, pointer_to(blocks) if length else None, length) != OK:
-        raise CountMismatch("the numbers of keys and blocks differ")
+        raise CountMismatchError("the numbers of keys and blocks differ")
 
 
 def _answered_each(call: str, cipher: Type[Cipher], keys: ReadableBuffer, blocks: ReadableBuffer) -> bytes:
     with memoryview(blocks) as given:
-        _elements_of(given, BLOCK_SIZE, BlockLength, "blocks")
+        _elements_of(given, BLOCK_SIZE, BlockLengthError, "blocks")
         answer = bytearray(given)
     kind = class_of(cipher)
-    with _list_of(keys, kind.key_size, KeyLength, "keys") as (start, count):
+    with _list_of(keys, kind.key_size, KeyLengthError, "keys") as (start, count):
         _answer_each(call, kind, start, count, answer, len(answer))
     return bytes(answer)
 
@@ -93,9 +93,9 @@ def _change_each(call: str, cipher: Type[Cipher], keys: ReadableBuffer, blocks: 
     with memoryview(blocks) as view:
         if not is_writable(view):
             raise TypeError("a call in place needs writable blocks in one piece, as of a bytearray")
-        _elements_of(view, BLOCK_SIZE, BlockLength, "blocks")
+        _elements_of(view, BLOCK_SIZE, BlockLengthError, "blocks")
         kind = class_of(cipher)
-        with _list_of(keys, kind.key_size, KeyLength, "keys", view) as (start, count):
+        with _list_of(keys, kind.key_size, KeyLengthError, "keys", view) as (start, count):
             _answer_each(call, kind, start, count, view, view.nbytes)
 
 
@@ -103,9 +103,9 @@ def encrypt_each(cipher: Type[Cipher], keys: ReadableBuffer, blocks: ReadableBuf
     """The blocks, each of 8 bytes encrypted under the key at its place. `cipher` is a class, as TdesEde2, and the keys
     stand one after the other, as in `bytes` or in an array of shape (n, 16), the blocks as in one of shape (n, 8).
 
-    KeyLength and BlockLength where there are no whole keys or blocks, or rows of another size; CountMismatch where the
-    numbers of keys and blocks differ; TypeError for arrays of words whose most significant byte is not the first, as of
-    uint64. A long list is much faster than its blocks one by one."""
+    KeyLengthError and BlockLengthError where there are no whole keys or blocks, or rows of another size; CountMismatchError where
+    the numbers of keys and blocks differ; TypeError for arrays of words whose most significant byte is not the first, as of uint64.
+    A long list is much faster than its blocks one by one."""
     return _answered_each("encrypt_each", cipher, keys, blocks)
 
 
@@ -127,9 +127,9 @@ def decrypt_each_into(cipher: Type[Cipher], keys: ReadableBuffer, blocks: Writea
 
 def check_values(cipher: Type[Cipher], keys: ReadableBuffer) -> bytes:
     """The check values of keys that stand one after the other, as for `encrypt_each`, three bytes for each, as
-    `check_value` makes them. KeyLength where there are no whole keys, or rows of another size."""
+    `check_value` makes them. KeyLengthError where there are no whole keys, or rows of another size."""
     kind = class_of(cipher)
-    with _list_of(keys, kind.key_size, KeyLength, "keys") as (start, count):
+    with _list_of(keys, kind.key_size, KeyLengthError, "keys") as (start, count):
         values = room(_CHECK_VALUE_SIZE * count)
         _VALUES[kind.name](start, values, count)
     return bytes(values)
@@ -141,9 +141,9 @@ def dukpt_transaction_keys(base: ReadableBuffer, serials: ReadableBuffer) -> byt
     The terminals may be different ones. Every counter is taken: ask dukpt_is_usable of each serial number that was sent.
     Such a key encrypts nothing itself: take dukpt_pin_key, dukpt_mac_key or dukpt_data_key of it.
 
-    KeyLength where the base key does not have 16 bytes; SerialLength where there are no whole key serial numbers, or
+    KeyLengthError where the base key does not have 16 bytes; SerialLengthError where there are no whole key serial numbers, or
     rows of another size."""
-    numbers = _list_of(serials, _SERIAL_SIZE, SerialLength, "key serial numbers")
+    numbers = _list_of(serials, _SERIAL_SIZE, SerialLengthError, "key serial numbers")
     with key_of(base, _TRANSACTION_KEY_SIZE) as held, numbers as (start, count):
         keys = room(_TRANSACTION_KEY_SIZE * count)
         _transaction_keys(held, start, keys, count)
@@ -158,7 +158,7 @@ def _numbers_of(numbers: Iterable[int]) -> array[int]:
     try:
         return array("Q", numbers)
     except OverflowError:
-        raise CountMismatch("a count or a length is no number of 64 bits") from None
+        raise CountMismatchError("a count or a length is no number of 64 bits") from None
 
 
 def _recorded(
@@ -169,16 +169,16 @@ def _recorded(
         raise TypeError("the first argument is a cipher, such as TdesEde3(key)")
     context, held = cipher._open(), _numbers_of(counts)
     with memoryview(vectors) as given:
-        records = _elements_of(given, BLOCK_SIZE, VectorLength, "vectors")
+        records = _elements_of(given, BLOCK_SIZE, VectorLengthError, "vectors")
         chains = bytearray(given)
     with memoryview(blocks) as given:
-        _elements_of(given, BLOCK_SIZE, BlockLength, "blocks")
+        _elements_of(given, BLOCK_SIZE, BlockLengthError, "blocks")
         answer = bytearray(given)
     if records != len(held):
-        raise CountMismatch("the numbers of vectors and counts differ")
+        raise CountMismatchError("the numbers of vectors and counts differ")
     first, sizes, output = (pointer_to(data) if data else None for data in (chains, held, answer))
     if _RECORDS[context.kind.name, call](context, first, sizes, records, output, len(answer)) != OK:
-        raise CountMismatch("the counts do not add up to the number of blocks")
+        raise CountMismatchError("the counts do not add up to the number of blocks")
     return bytes(answer)
 
 
@@ -189,7 +189,7 @@ def encrypt_cbc_records(
     one record after the other, and the k-th 8 bytes of `vectors`. `cipher` is one that has a key, as TdesEde3(key).
     Vectors and blocks stand one after the other, as in `bytes` or in arrays of shape (n, 8).
 
-    VectorLength and BlockLength where there are no whole vectors or blocks, or rows of another size; CountMismatch
+    VectorLengthError and BlockLengthError where there are no whole vectors or blocks, or rows of another size; CountMismatchError
     where the numbers of vectors and counts differ, or the counts, which are of blocks and not of bytes, do not add up to
     the number of blocks; TypeError as by `encrypt_each`."""
     return _recorded("encrypt_cbc_records", cipher, vectors, counts, blocks)
@@ -214,7 +214,7 @@ def _messages_of(start: int, length: int, lengths: Iterable[int]) -> array[int]:
     """Where each message begins, and its length, by turns."""
     held = _numbers_of(lengths)
     if sum(held) != length:
-        raise CountMismatch("the lengths do not add up to the messages")
+        raise CountMismatchError("the lengths do not add up to the messages")
     pairs = array("Q", bytes(16 * len(held)))
     pairs[0::2] = array("Q", accumulate(held[:-1], initial=start)) if held else held
     pairs[1::2] = held
@@ -250,8 +250,8 @@ def macs(
     """The tags, of 8 bytes each, of messages under one key: message k has lengths[k] of the bytes, one after the other.
     `kind` is a class, as RetailMacDes; the padding method is 1 or 2, of CMAC None.
 
-    For speed, sort messages of very different lengths. KeyLength, PaddingMethod; CountMismatch where the lengths do not add up
-    to the bytes."""
+    For speed, sort messages of very different lengths. KeyLengthError, PaddingMethodError; CountMismatchError where the lengths do
+    not add up to the bytes."""
     made = _mac_of(kind, padding)
     with key_of(key, made.key_size) as held, _lent_bytes(messages) as (start, length):
         pairs = _messages_of(start or 0, length, lengths)
@@ -264,13 +264,13 @@ def macs_each(
     kind: Type[Mac], keys: ReadableBuffer, padding: Optional[int], lengths: Iterable[int], messages: ReadableBuffer
 ) -> bytes:
     """The tags of messages, each under the key at its place, as `macs` makes them under one. The keys stand one after the
-    other, as those of `encrypt_each` do. KeyLength where there are no whole keys, or rows of another size; CountMismatch
+    other, as those of `encrypt_each` do. KeyLengthError where there are no whole keys, or rows of another size; CountMismatchError
     where the numbers of keys and messages differ, too."""
     made = _mac_of(kind, padding)
-    with _list_of(keys, made.key_size, KeyLength, "keys") as (first, count), _lent_bytes(messages) as (start, length):
+    with _list_of(keys, made.key_size, KeyLengthError, "keys") as (first, count), _lent_bytes(messages) as (start, length):
         pairs = _messages_of(start or 0, length, lengths)
         if count != len(pairs) // 2:
-            raise CountMismatch("the numbers of keys and messages differ")
+            raise CountMismatchError("the numbers of keys and messages differ")
         tags = room(count * TAG_SIZE)
         _write_tags(made.name + "_macs_each", first, padding, pairs, tags)
     return bytes(tags)
@@ -280,11 +280,11 @@ def wrong_tags(tags: ReadableBuffer, expected: ReadableBuffer) -> List[int]:
     """The places of the tags, of 8 bytes each, that are not the one at their place in `expected`, the tags that `macs` or
     `macs_each` made: an empty list, which is false in an `if`, where all are right. Every byte is compared.
 
-    CountMismatch where there are no whole tags, rows of another size, or the numbers of tags differ."""
-    with _list_of(tags, TAG_SIZE, CountMismatch, "tags") as (start, count):
-        with _list_of(expected, TAG_SIZE, CountMismatch, "tags") as (other, expected_count):
+    CountMismatchError where there are no whole tags, rows of another size, or the numbers of tags differ."""
+    with _list_of(tags, TAG_SIZE, CountMismatchError, "tags") as (start, count):
+        with _list_of(expected, TAG_SIZE, CountMismatchError, "tags") as (other, expected_count):
             if count != expected_count:
-                raise CountMismatch("the numbers of tags and expected tags differ")
+                raise CountMismatchError("the numbers of tags and expected tags differ")
             right = room(count)
             _compare_tags(start, other, right, count)
     return [place for place, answer in enumerate(right) if not answer]

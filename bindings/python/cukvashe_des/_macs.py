@@ -53,13 +53,13 @@ class Mac(Keyed):
         return self.digest().hex()
 
     def verify(self, tag: ReadableBuffer) -> None:
-        """Accepts the whole tag of the message so far, 8 bytes; TagMismatch for anything else. verify_truncated_left takes cut
+        """Accepts the whole tag of the message so far, 8 bytes; TagMismatchError for anything else. verify_truncated_left takes cut
         tags; the call for C of this name takes both."""
         self._accept(tag, TAG_SIZE)
 
     def verify_truncated_left(self, tag: ReadableBuffer) -> None:
-        """Accepts the first 4 to 8 bytes of the tag; TagMismatch for anything else. Of 4 bytes one guess in 2^32 is right: test
-        len(tag) too if somebody else chose it."""
+        """Accepts the first 4 to 8 bytes of the tag; TagMismatchError for anything else. Of 4 bytes one guess in 2^32 is right:
+        test len(tag) too if somebody else chose it."""
         self._accept(tag, LEAST_TAG_SIZE)
 
     def _accept(self, tag: ReadableBuffer, least: int) -> None:
@@ -80,7 +80,7 @@ class Mac(Keyed):
         return other
 
     def close(self) -> None:
-        """Forgets the key and the message: the context is wiped. Every later call raises Closed."""
+        """Forgets the key and the message: the context is wiped. Every later call raises ClosedError."""
         with self._lock:
             super().close()
 
@@ -118,44 +118,44 @@ class Cmac(Mac):
 
 class CbcMacDes(PaddedMac):
     """CBC-MAC over DES, under a key of 8 bytes, by padding method 1 or 2. It is safe only where every message has one length.
-    KeyLength, PaddingMethod."""
+    KeyLengthError, PaddingMethodError."""
 
     __slots__ = ()
     name, key_size = "cbc_mac_des", 8
 
 
 class CbcMacTdesEde2(PaddedMac):
-    """CBC-MAC over triple DES, under a key of 16 bytes, by padding method 1 or 2. It is safe only where every message has one length.
-    KeyLength, PaddingMethod."""
+    """CBC-MAC over triple DES, under a key of 16 bytes, by padding method 1 or 2. It is safe only where every message has one
+    length. KeyLengthError, PaddingMethodError."""
 
     __slots__ = ()
     name, key_size = "cbc_mac_tdes_ede2", 16
 
 
 class CbcMacTdesEde3(PaddedMac):
-    """CBC-MAC over triple DES, under a key of 24 bytes, by padding method 1 or 2. It is safe only where every message has one length.
-    KeyLength, PaddingMethod."""
+    """CBC-MAC over triple DES, under a key of 24 bytes, by padding method 1 or 2. It is safe only where every message has one
+    length. KeyLengthError, PaddingMethodError."""
 
     __slots__ = ()
     name, key_size = "cbc_mac_tdes_ede3", 24
 
 
 class RetailMacDes(PaddedMac):
-    """The retail MAC over DES, under a key of 16 bytes, two keys, by padding method 1 or 2. KeyLength, PaddingMethod."""
+    """The retail MAC over DES, under a key of 16 bytes, two keys, by padding method 1 or 2. KeyLengthError, PaddingMethodError."""
 
     __slots__ = ()
     name, key_size = "retail_mac_des", 16
 
 
 class CmacTdesEde2(Cmac):
-    """CMAC over triple DES, under a key of 16 bytes. KeyLength."""
+    """CMAC over triple DES, under a key of 16 bytes. KeyLengthError."""
 
     __slots__ = ()
     name, key_size = "cmac_tdes_ede2", 16
 
 
 class CmacTdesEde3(Cmac):
-    """CMAC over triple DES, under a key of 24 bytes. KeyLength."""
+    """CMAC over triple DES, under a key of 24 bytes. KeyLengthError."""
 
     __slots__ = ()
     name, key_size = "cmac_tdes_ede3", 24

@@ -6,7 +6,7 @@ import ctypes
 from typing import TYPE_CHECKING
 
 from ._data import BLOCK_SIZE, bytes_of, pointer_to
-from ._faults import BlockLength, PaddingMethod, check
+from ._faults import BlockLengthError, PaddingMethodError, check
 from ._library import INT, POINTER, SIZE, function
 from ._statuses import BLOCKS
 
@@ -25,13 +25,13 @@ def _method_of(method: str) -> int:
         raise TypeError('the padding method, the second argument, is "pkcs7" or "iso7816"')
     number = _METHODS.get(method)
     if number is None:
-        raise PaddingMethod('padding is by "pkcs7" or "iso7816"')
+        raise PaddingMethodError('padding is by "pkcs7" or "iso7816"')
     return number
 
 
 def pad(data: ReadableBuffer, method: str) -> bytes:
     """The data with 1 to 8 bytes after them that make whole blocks: by "pkcs7" (RFC 5652, section 6.3) each the number of
-    these bytes, by "iso7816" (ISO/IEC 7816-4) 80 in hexadecimal digits and then zeros. PaddingMethod for another name."""
+    these bytes, by "iso7816" (ISO/IEC 7816-4) 80 in hexadecimal digits and then zeros. PaddingMethodError for another name."""
     number, given, length = _method_of(method), bytes_of(data), SIZE()
     buffer = bytearray(given) + bytes(BLOCK_SIZE)
     check(_pad(pointer_to(buffer), len(given), len(buffer), number, ctypes.byref(length)))
@@ -39,11 +39,11 @@ def pad(data: ReadableBuffer, method: str) -> bytes:
 
 
 def unpad(data: ReadableBuffer, method: str) -> bytes:
-    """The data before the padding. PaddingMethod, BlockLength; PaddingMismatch where they do not end with it. An attacker who
-    sends you data and learns which raise it, by a message or by the time taken, can decrypt: verify a MAC first."""
+    """The data before the padding. PaddingMethodError, BlockLengthError; PaddingMismatchError where they do not end with it. An
+    attacker who sends you data and learns which raise it, by a message or by the time taken, can decrypt: verify a MAC first."""
     number, given, length = _method_of(method), bytes_of(data), SIZE()
     status = _unpad(given, len(given), number, ctypes.byref(length))
     if status == BLOCKS:
-        raise BlockLength(f"{len(given)} bytes are not whole blocks of {BLOCK_SIZE}")
+        raise BlockLengthError(f"{len(given)} bytes are not whole blocks of {BLOCK_SIZE}")
     check(status)
     return given[: length.value]

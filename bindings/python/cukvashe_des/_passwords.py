@@ -7,7 +7,7 @@ from typing import TYPE_CHECKING, Optional, Type
 
 from ._ciphers import Cipher, class_of
 from ._data import bytes_from, bytes_of, room, secret_of
-from ._faults import BlockLength, HashName, KeyLength, SaltLength, check, fault_of
+from ._faults import BlockLengthError, HashNameError, KeyLengthError, SaltLengthError, check, fault_of
 from ._library import INT, POINTER, SIZE, function
 from ._statuses import BLOCKS, ITERATIONS, SALT_LENGTH
 
@@ -33,7 +33,7 @@ def _hash_of(name: str) -> int:
         raise TypeError('a hash function is "md5", "sha1" or "sha256"')
     number = _HASHES.get(name)
     if number is None:
-        raise HashName('a hash function is "md5", "sha1" or "sha256"')
+        raise HashNameError('a hash function is "md5", "sha1" or "sha256"')
     return number
 
 
@@ -54,13 +54,13 @@ def _iterations_of(number: int) -> int:
 def _length_of(number: int) -> int:
     count = _count_of(number, "the length of a key is a number")
     if count in (0, _TOO_MANY):
-        raise KeyLength("a key that is derived has one byte at least, and less than 2^32")
+        raise KeyLengthError("a key that is derived has one byte at least, and less than 2^32")
     return count
 
 
 def pbkdf2(hash_name: str, password: ReadableBuffer, salt: ReadableBuffer, iterations: int, length: int) -> bytes:
-    """The key, `length` bytes, that PBKDF2 with HMAC over "sha1" or "sha256" makes of a password and a salt. HashName,
-    IterationCount, KeyLength."""
+    """The key, `length` bytes, that PBKDF2 with HMAC over "sha1" or "sha256" makes of a password and a salt. HashNameError,
+    IterationCountError, KeyLengthError."""
     number, count, key, grains = _hash_of(hash_name), _iterations_of(iterations), room(_length_of(length)), bytes_of(salt)
     with secret_of(password) as held:
         check(_pbkdf2(number, *held, grains, len(grains), count, key, len(key)))
@@ -72,12 +72,12 @@ def bytes_to_key(hash_name: str, password: ReadableBuffer, salt: ReadableBuffer,
     one iteration over "md5", "sha1" or "sha256". A password is quick to guess by it: take it to read what others wrote.
 
     The password stands before the salt, unlike in EVP_BytesToKey. The salt has 8 bytes, without Salted__, or none (-nosalt).
-    HashName, KeyLength, SaltLength."""
+    HashNameError, KeyLengthError, SaltLengthError."""
     number, key, grains = _hash_of(hash_name), room(_length_of(length)), bytes_of(salt)
     with secret_of(password) as held:
         status = _bytes_to_key(number, *held, grains, len(grains), key, len(key))
     if status == SALT_LENGTH:
-        raise SaltLength(f"the salt of bytes_to_key has 0 or 8 bytes, not {len(grains)}")
+        raise SaltLengthError(f"the salt of bytes_to_key has 0 or 8 bytes, not {len(grains)}")
     check(status)
     return bytes_from(key)
 
@@ -93,8 +93,9 @@ def open_salted(
     """The plaintext of a file that `openssl enc` encrypted under a password: by -des-cbc, -des-ede-cbc or -des3, as `cipher` is the
     class Des, TdesEde2 or TdesEde3. The data are the whole file, not Base64 (-a). The hash function is that of -md, "sha256" by
     default, "md5" before OpenSSL 1.1.0. The iterations are those of -iter; 10000 if only -pbkdf2 was given; None, not 1, if neither
-    was. HashName, NotSalted, SaltLength, IterationCount, BlockLength, PaddingMismatch. A wrong password, hash function or number of
-    iterations is PaddingMismatch, but for one in 256, which returns wrong bytes: nothing here authenticates."""
+    was. HashNameError, NotSaltedError, SaltLengthError, IterationCountError, BlockLengthError, PaddingMismatchError. A wrong
+    password, hash function or number of iterations is PaddingMismatchError, but for one in 256, which returns wrong bytes: nothing
+    here authenticates."""
     call, number = _open_salted[class_of(cipher).name], _hash_of(hash_name)
     count = 0 if iterations is None else _iterations_of(iterations)
     given, length = bytes_of(data), SIZE()
@@ -102,6 +103,6 @@ def open_salted(
     with secret_of(password) as held:
         status = call(number, count, *held, given, len(given), plain, len(plain), ctypes.byref(length))
     if status == BLOCKS:
-        raise BlockLength(f"{len(given)} bytes are not whole blocks of 8")
+        raise BlockLengthError(f"{len(given)} bytes are not whole blocks of 8")
     check(status)
     return bytes_from(plain, length.value)

@@ -5,7 +5,7 @@ from __future__ import annotations
 from typing import TYPE_CHECKING, Any, Callable, Union
 
 from ._data import BLOCK_SIZE, block_of, bytes_from, bytes_of, key_of, number_of, room, text_from, text_of
-from ._faults import FillLength, check
+from ._faults import FillLengthError, check
 from ._keys import KEY_SIZES
 from ._library import INT, POINTER, SIZE, function
 
@@ -35,7 +35,7 @@ def _fill_of(digits: ReadableBuffer) -> bytes:
     """Ten digits of four bits, one in a byte."""
     taken = bytes_of(digits)
     if len(taken) != 10:
-        raise FillLength(f"there are ten fill digits, not {len(taken)}")
+        raise FillLengthError(f"there are ten fill digits, not {len(taken)}")
     return taken
 
 
@@ -56,45 +56,45 @@ def _decoded(call: Callable[..., Any], block: ReadableBuffer, *account: Any) -> 
 
 def pin_encode_0(pin: _Text, account: _Text) -> bytes:
     """The PIN block of format 0, 8 bytes, of a PIN of 4 to 12 digits and an account number of 8 to 19 with the check digit,
-    as str or bytes of digits. It is not encrypted. PinLength, PinDigit, AccountLength, AccountDigit."""
+    as str or bytes of digits. It is not encrypted. PinLengthError, PinDigitError, AccountLengthError, AccountDigitError."""
     with text_of(pin) as digits, text_of(account) as number:
         return _encoded(_encode_0, *digits, *number)
 
 
 def pin_encode_1(pin: _Text, transaction: ReadableBuffer) -> bytes:
     """The PIN block of format 1 of a PIN and ten transaction digits, bytes from 0 to 15, of which it uses the first ones
-    that there is room for. PinLength, PinDigit, FillLength, Fill."""
+    that there is room for. PinLengthError, PinDigitError, FillLengthError, FillError."""
     with text_of(pin) as digits:
         return _encoded(_encode_1, *digits, _fill_of(transaction))
 
 
 def pin_encode_2(pin: _Text) -> bytes:
-    """The PIN block of format 2 of a PIN, which goes to a card in clear. PinLength, PinDigit."""
+    """The PIN block of format 2 of a PIN, which goes to a card in clear. PinLengthError, PinDigitError."""
     with text_of(pin) as digits:
         return _encoded(_encode_2, *digits)
 
 
 def pin_encode_3(pin: _Text, account: _Text, fill: ReadableBuffer) -> bytes:
     """The PIN block of format 3 of a PIN, an account number, and ten fill digits, random bytes from 10 to 15, of which it uses
-    the first ones that there is room for. Errors as of pin_encode_0; FillLength, Fill."""
+    the first ones that there is room for. Errors as of pin_encode_0; FillLengthError, FillError."""
     with text_of(pin) as digits, text_of(account) as number:
         return _encoded(_encode_3, *digits, *number, _fill_of(fill))
 
 
 def pin_decode_0(block: ReadableBuffer, account: _Text) -> str:
-    """The PIN of a block of format 0 and an account number. BlockLength, AccountLength, AccountDigit, Format, PinLength, PinDigit,
-    Fill. Which of these is raised reveals something of the PIN: show it to nobody."""
+    """The PIN of a block of format 0 and an account number. BlockLengthError, AccountLengthError, AccountDigitError, FormatError,
+    PinLengthError, PinDigitError, FillError. Which of these is raised reveals something of the PIN: show it to nobody."""
     with text_of(account) as number:
         return _decoded(_decode_0, block, *number)
 
 
 def pin_decode_1(block: ReadableBuffer) -> str:
-    """The PIN of a block of format 1. BlockLength, Format, PinLength, PinDigit."""
+    """The PIN of a block of format 1. BlockLengthError, FormatError, PinLengthError, PinDigitError."""
     return _decoded(_decode_1, block)
 
 
 def pin_decode_2(block: ReadableBuffer) -> str:
-    """The PIN of a block of format 2. BlockLength, Format, PinLength, PinDigit, Fill."""
+    """The PIN of a block of format 2. BlockLengthError, FormatError, PinLengthError, PinDigitError, FillError."""
     return _decoded(_decode_2, block)
 
 
@@ -107,9 +107,10 @@ def pin_decode_3(block: ReadableBuffer, account: _Text) -> str:
 def pin_translate_to_0(
     incoming_format: int, account: _Text, block: ReadableBuffer, *, incoming_key: ReadableBuffer, outgoing_key: ReadableBuffer
 ) -> bytes:
-    """Translates a block of format 0, 1 or 3 under the incoming key into the block of format 0 of its PIN under the outgoing key. The
-    PIN does not come out. Keys have 8, 16 or 24 bytes, and are given by name; the account number, of 8 to 19 digits, is that of both
-    blocks. KeyLength, Formats, AccountLength, AccountDigit, BlockLength; PinBlock, whatever is wrong with the block."""
+    """Translates a block of format 0, 1 or 3 under the incoming key into the block of format 0 of its PIN under the outgoing key.
+    The PIN does not come out. Keys have 8, 16 or 24 bytes, and are given by name; the account number, of 8 to 19 digits, is that of
+    both blocks. KeyLengthError, FormatsError, AccountLengthError, AccountDigitError, BlockLengthError; PinBlockError, whatever is
+    wrong with the block."""
     number = number_of(incoming_format, 0, 3)
     with key_of(incoming_key, *KEY_SIZES) as held, key_of(outgoing_key, *KEY_SIZES) as other:
         with text_of(account) as of, block_of(block) as given:
@@ -117,7 +118,7 @@ def pin_translate_to_0(
 
 
 def pin_translate_to_1(block: ReadableBuffer, *, incoming_key: ReadableBuffer, outgoing_key: ReadableBuffer) -> bytes:
-    """A block of format 1 under another key; its transaction digits stay. KeyLength, BlockLength, PinBlock."""
+    """A block of format 1 under another key; its transaction digits stay. KeyLengthError, BlockLengthError, PinBlockError."""
     with key_of(incoming_key, *KEY_SIZES) as held, key_of(outgoing_key, *KEY_SIZES) as other, block_of(block) as given:
         return _encoded(_to_1, held, len(held), other, len(other), given)
 
@@ -131,7 +132,8 @@ def pin_translate_to_3(
     incoming_key: ReadableBuffer,
     outgoing_key: ReadableBuffer,
 ) -> bytes:
-    """As pin_translate_to_0, to a block of format 3, with ten fill digits as of pin_encode_3. Its errors; FillLength, Fill."""
+    """As pin_translate_to_0, to a block of format 3, with ten fill digits as of pin_encode_3. Its errors; FillLengthError,
+    FillError."""
     number, digits = number_of(incoming_format, 0, 3), _fill_of(fill)
     with key_of(incoming_key, *KEY_SIZES) as held, key_of(outgoing_key, *KEY_SIZES) as other:
         with text_of(account) as of, block_of(block) as given:
@@ -139,9 +141,9 @@ def pin_translate_to_3(
 
 
 def cvv(key: ReadableBuffer, account: _Text, expiry: _Text, service: _Text) -> str:
-    """The card verification value, three digits, under a key pair of 16 bytes, of an account number of 12 to 19 digits,
-    an expiry date of four and a service code of three, as str or bytes of digits. KeyLength, AccountLength, AccountDigit,
-    ExpiryLength, ExpiryDigit, ServiceLength, ServiceDigit."""
+    """The card verification value, three digits, under a key pair of 16 bytes, of an account number of 12 to 19 digits, an expiry
+    date of four and a service code of three, as str or bytes of digits. KeyLengthError, AccountLengthError, AccountDigitError,
+    ExpiryLengthError, ExpiryDigitError, ServiceLengthError, ServiceDigitError."""
     value = room(_CVV_SIZE)
     with key_of(key, 16) as held, text_of(account) as number, text_of(expiry) as date, text_of(service) as code:
         check(_cvv(held, *number, *date, *code, value))

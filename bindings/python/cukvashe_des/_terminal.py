@@ -7,7 +7,7 @@ import threading
 from typing import TYPE_CHECKING, Any, Tuple, Type, TypeVar
 
 from ._data import Keyed, bytes_from, context_type, key_of, room, secret_of
-from ._faults import NoSerial, StateLength, check
+from ._faults import NoSerialError, StateLengthError, check
 from ._keys import serial_of
 from ._library import INT, POINTER, function
 from ._statuses import NO_SERIAL
@@ -28,7 +28,7 @@ _Self = TypeVar("_Self", bound="DukptTerminal")
 
 class DukptTerminal(Keyed):
     """The keys of a terminal's transactions to come, made of the initial key, 16 bytes, and any of the terminal's key serial
-    numbers, whose counter plays no part. Threads may share one: its calls take turns. KeyLength, SerialLength."""
+    numbers, whose counter plays no part. Threads may share one: its calls take turns. KeyLengthError, SerialLengthError."""
 
     # Another name than a MAC's: so Python refuses to make the one an object of the other's class, whose context is longer.
     __slots__ = ("_turns",)
@@ -43,13 +43,14 @@ class DukptTerminal(Keyed):
         self._context, self._turns = state, threading.Lock()
 
     def next_key(self) -> Tuple[bytes, bytes]:
-        """The key serial number and the key of the next transaction, that of dukpt_transaction_key, which the terminal then forgets.
-        Store `state()` before you use the key, or a key is used twice. NoSerial after the last transaction, the 1,048,575th."""
+        """The key serial number and the key of the next transaction, that of dukpt_transaction_key, which the terminal then
+        forgets. Store `state()` before you use the key, or a key is used twice. NoSerialError after the last transaction, the
+        1,048,575th."""
         serial, key = room(_SERIAL_SIZE), room(16)
         with self._turns:
             status = _next_key(self._open(), serial, key)
         if status == NO_SERIAL:
-            raise NoSerial("the terminal has had its last transaction")
+            raise NoSerialError("the terminal has had its last transaction")
         check(status)
         return bytes(serial), bytes_from(key)
 
@@ -60,15 +61,15 @@ class DukptTerminal(Keyed):
 
     @classmethod
     def from_state(cls: Type[_Self], state: ReadableBuffer) -> _Self:
-        """The terminal of a state. StateLength."""
+        """The terminal of a state. StateLengthError."""
         made = cls.__new__(cls)
         with secret_of(state) as (held, length):
             if length != _STATE_SIZE:
-                raise StateLength(f"the state of a terminal has {_STATE_SIZE} bytes, not {length}")
+                raise StateLengthError(f"the state of a terminal has {_STATE_SIZE} bytes, not {length}")
             made._begin(_State.from_buffer_copy(held))
         return made
 
     def close(self) -> None:
-        """Forgets the keys: the state is wiped. Every later call raises Closed."""
+        """Forgets the keys: the state is wiped. Every later call raises ClosedError."""
         with self._turns:
             super().close()

@@ -5,7 +5,7 @@ from __future__ import annotations
 from typing import TYPE_CHECKING, Any, Union
 
 from ._data import BLOCK_SIZE, data_of, key_of, number_of, room, text_from, text_of
-from ._faults import BlockLength, check
+from ._faults import BlockLengthError, check
 from ._keys import KEY_SIZES
 from ._library import INT, POINTER, SIZE, function
 
@@ -28,9 +28,9 @@ _verify = function("pin_offset_verify", INT, POINTER, SIZE, POINTER, POINTER, PO
 
 
 def pvv(key: ReadableBuffer, account: _Text, index: int, pin: _Text) -> str:
-    """The PIN verification value, four digits, under a key pair of 16 bytes with an index from 1 to 6, of an account number of
-    12 to 19 digits and the first four digits of a PIN, as str or bytes of digits. KeyLength, PinLength, PinDigit, AccountLength,
-    AccountDigit, KeyIndex."""
+    """The PIN verification value, four digits, under a key pair of 16 bytes with an index from 1 to 6, of an account number of 12
+    to 19 digits and the first four digits of a PIN, as str or bytes of digits. KeyLengthError, PinLengthError, PinDigitError,
+    AccountLengthError, AccountDigitError, KeyIndexError."""
     value, place = room(_PVV_SIZE), number_of(index, 1, 6)
     with key_of(key, 16) as held, text_of(account) as number, text_of(pin) as digits:
         check(_pvv(held, *number, place, *digits, value))
@@ -38,16 +38,17 @@ def pvv(key: ReadableBuffer, account: _Text, index: int, pin: _Text) -> str:
 
 
 def pvv_verify(key: ReadableBuffer, account: _Text, index: int, pin: _Text, value: _Text) -> None:
-    """Accepts the PIN whose PIN verification value, four digits, this is; the errors of pvv, and WrongPin for any other PIN. Count
-    these: unlimited guesses find the PIN."""
+    """Accepts the PIN whose PIN verification value, four digits, this is; the errors of pvv, and WrongPinError for any other PIN.
+    Count these: unlimited guesses find the PIN."""
     place = number_of(index, 1, 6)
     with key_of(key, 16) as held, text_of(account) as number, text_of(pin) as digits, text_of(value) as kept:
         check(_pvv_verify(held, *number, place, *digits, *kept))
 
 
 class DecimalTable:
-    """A decimalization table of sixteen decimal digits, as str or bytes, those that stand for 0 to 15 in this order. TableLength,
-    TableDigit; TableVariety for fewer than eight different ones. An attacker who chooses the table finds PINs out."""
+    """A decimalization table of sixteen decimal digits, as str or bytes, those that stand for 0 to 15 in this order.
+    TableLengthError, TableDigitError; TableVarietyError for fewer than eight different ones. An attacker who chooses the table
+    finds PINs out."""
 
     __slots__ = ("_table",)
 
@@ -59,7 +60,7 @@ class DecimalTable:
 
     @classmethod
     def of_any_variety(cls, digits: _Text) -> DecimalTable:
-        """A table of any variety, for old systems that have one. TableLength, TableDigit."""
+        """A table of any variety, for old systems that have one. TableLengthError, TableDigitError."""
         made, table = cls.__new__(cls), room(_TABLE_SIZE)
         with text_of(digits) as text:
             check(_init_any(table, *text))
@@ -79,12 +80,12 @@ def _table_of(table: DecimalTable) -> Any:
 
 def _validation_of(validation: ReadableBuffer) -> bytes:
     """Validation data, sixteen digits in 8 bytes."""
-    return data_of(validation, BLOCK_SIZE, "validation data have", BlockLength)
+    return data_of(validation, BLOCK_SIZE, "validation data have", BlockLengthError)
 
 
 def natural_pin(key: ReadableBuffer, table: DecimalTable, validation: ReadableBuffer, length: int) -> str:
     """The natural PIN of 4 to 12 digits: the first digits of the validation data, 8 bytes, encrypted under a key of 8, 16 or 24
-    bytes, each by the decimalization table. KeyLength, PinLength; BlockLength for other validation data."""
+    bytes, each by the decimalization table. KeyLengthError, PinLengthError; BlockLengthError for other validation data."""
     pin, data, count = room(_PIN_SIZE), _validation_of(validation), number_of(length, 4, 12)
     with key_of(key, *KEY_SIZES) as held:
         check(_natural_pin(held, len(held), _table_of(table), data, count, pin))
@@ -92,7 +93,8 @@ def natural_pin(key: ReadableBuffer, table: DecimalTable, validation: ReadableBu
 
 
 def pin_offset(key: ReadableBuffer, table: DecimalTable, validation: ReadableBuffer, pin: _Text) -> str:
-    """The offset of a PIN: digit by digit, modulo ten, the PIN less the natural PIN. PinDigit, and the errors of natural_pin."""
+    """The offset of a PIN: digit by digit, modulo ten, the PIN less the natural PIN. PinDigitError, and the errors of
+    natural_pin."""
     offset, data = room(_PIN_SIZE), _validation_of(validation)
     with key_of(key, *KEY_SIZES) as held, text_of(pin) as digits:
         check(_pin_offset(held, len(held), _table_of(table), data, *digits, offset))
@@ -102,7 +104,7 @@ def pin_offset(key: ReadableBuffer, table: DecimalTable, validation: ReadableBuf
 def pin_offset_verify(
     key: ReadableBuffer, table: DecimalTable, validation: ReadableBuffer, pin: _Text, offset: _Text
 ) -> None:
-    """Accepts the PIN whose offset this is; the errors of pin_offset, and WrongPin for any other PIN. Count these."""
+    """Accepts the PIN whose offset this is; the errors of pin_offset, and WrongPinError for any other PIN. Count these."""
     data = _validation_of(validation)
     with key_of(key, *KEY_SIZES) as held, text_of(pin) as digits, text_of(offset) as kept:
         check(_verify(held, len(held), _table_of(table), data, *digits, *kept))

@@ -6,7 +6,7 @@ import pickle
 import unittest
 
 import cukvashe_des
-from cukvashe_des import BlockLength, Closed, DataLength, DukptTerminal, KeyLength, NoSerial, RetailMacDes, SerialLength, StateLength
+from cukvashe_des import BlockLengthError, ClosedError, DataLengthError, DukptTerminal, KeyLengthError, NoSerialError, RetailMacDes, SerialLengthError, StateLengthError
 
 from .values import LENGTHS, PAIR
 
@@ -50,8 +50,8 @@ class Cryptograms(unittest.TestCase):
         self.assertEqual(cukvashe_des.emv_response_2(SESSION, CRYPTOGRAM, STATUS, bytes(range(1, 9))).hex(), "264eaa20")
 
     def test_refused(self):
-        for account, sequence, fault in (("1" * 7, "", "AccountLength"), ("1" * 20, "", "AccountLength"), ("1234567a", "", "AccountDigit"),
-                                         ("1" * 8, "0", "SequenceLength"), ("1" * 8, "000", "SequenceLength"), ("1" * 8, "0:", "SequenceDigit")):
+        for account, sequence, fault in (("1" * 7, "", "AccountLengthError"), ("1" * 20, "", "AccountLengthError"), ("1234567a", "", "AccountDigitError"),
+                                         ("1" * 8, "0", "SequenceLengthError"), ("1" * 8, "000", "SequenceLengthError"), ("1" * 8, "0:", "SequenceDigitError")):
             self.assertRaises(getattr(cukvashe_des, fault), cukvashe_des.emv_card_key, PAIR, account, sequence)
             self.assertRaises(getattr(cukvashe_des, fault), cukvashe_des.emv_card_key_b, PAIR, account, sequence)
         self.assertRaises(TypeError, cukvashe_des.emv_response_1, SESSION, CRYPTOGRAM, "00")
@@ -59,23 +59,23 @@ class Cryptograms(unittest.TestCase):
         for length in LENGTHS:
             given = bytes(length)
             if length != 16:
-                self.assertRaises(KeyLength, cukvashe_des.emv_card_key, given, "1" * 8, "00")
-                self.assertRaises(KeyLength, cukvashe_des.emv_card_key_b, given, "1" * 8, "00")
-                self.assertRaises(KeyLength, cukvashe_des.emv_session_key, given, bytes(8))
-                self.assertRaises(KeyLength, cukvashe_des.emv_application_cryptogram, given, DATA)
-                self.assertRaises(KeyLength, cukvashe_des.emv_response_1, given, CRYPTOGRAM, b"00")
-                self.assertRaises(KeyLength, cukvashe_des.emv_response_2, given, CRYPTOGRAM, STATUS)
+                self.assertRaises(KeyLengthError, cukvashe_des.emv_card_key, given, "1" * 8, "00")
+                self.assertRaises(KeyLengthError, cukvashe_des.emv_card_key_b, given, "1" * 8, "00")
+                self.assertRaises(KeyLengthError, cukvashe_des.emv_session_key, given, bytes(8))
+                self.assertRaises(KeyLengthError, cukvashe_des.emv_application_cryptogram, given, DATA)
+                self.assertRaises(KeyLengthError, cukvashe_des.emv_response_1, given, CRYPTOGRAM, b"00")
+                self.assertRaises(KeyLengthError, cukvashe_des.emv_response_2, given, CRYPTOGRAM, STATUS)
             if length != 8:
-                self.assertRaises(BlockLength, cukvashe_des.emv_session_key, CARD_KEY, given)
-                self.assertRaises(BlockLength, cukvashe_des.emv_response_1, SESSION, given, b"00")
-                self.assertRaises(BlockLength, cukvashe_des.emv_response_2, SESSION, given, STATUS)
+                self.assertRaises(BlockLengthError, cukvashe_des.emv_session_key, CARD_KEY, given)
+                self.assertRaises(BlockLengthError, cukvashe_des.emv_response_1, SESSION, given, b"00")
+                self.assertRaises(BlockLengthError, cukvashe_des.emv_response_2, SESSION, given, STATUS)
             if length != 2:
-                self.assertRaises(DataLength, cukvashe_des.emv_application_key, CARD_KEY, given)
-                self.assertRaises(DataLength, cukvashe_des.emv_response_1, SESSION, CRYPTOGRAM, given)
+                self.assertRaises(DataLengthError, cukvashe_des.emv_application_key, CARD_KEY, given)
+                self.assertRaises(DataLengthError, cukvashe_des.emv_response_1, SESSION, CRYPTOGRAM, given)
             if length != 4:
-                self.assertRaises(DataLength, cukvashe_des.emv_response_2, SESSION, CRYPTOGRAM, given)
+                self.assertRaises(DataLengthError, cukvashe_des.emv_response_2, SESSION, CRYPTOGRAM, given)
             if length > 8:
-                self.assertRaises(DataLength, cukvashe_des.emv_response_2, SESSION, CRYPTOGRAM, STATUS, given)
+                self.assertRaises(DataLengthError, cukvashe_des.emv_response_2, SESSION, CRYPTOGRAM, STATUS, given)
 
 
 class Terminals(unittest.TestCase):
@@ -106,17 +106,17 @@ class Terminals(unittest.TestCase):
         self.assertEqual(serial.hex(), "ffff9876543210fff800")
         state = terminal.state()
         for _ in range(3):
-            self.assertRaises(NoSerial, terminal.next_key)
+            self.assertRaises(NoSerialError, terminal.next_key)
             self.assertEqual(terminal.state(), state)
 
     def test_refused(self):
         for length in LENGTHS:
             if length != 16:
-                self.assertRaises(KeyLength, DukptTerminal, bytes(length), BEFORE)
+                self.assertRaises(KeyLengthError, DukptTerminal, bytes(length), BEFORE)
             if length != 10:
-                self.assertRaises(SerialLength, DukptTerminal, INITIAL, bytes(length))
+                self.assertRaises(SerialLengthError, DukptTerminal, INITIAL, bytes(length))
         for length in (*LENGTHS, 345, 347, 692):
-            self.assertRaisesRegex(StateLength, f"not {length}$", DukptTerminal.from_state, bytes(length))
+            self.assertRaisesRegex(StateLengthError, f"not {length}$", DukptTerminal.from_state, bytes(length))
 
     def test_close(self):
         """What it held is gone, by `close` and at the end of a `with` block, and it goes into no text, copy or file."""
@@ -131,7 +131,7 @@ class Terminals(unittest.TestCase):
             terminal.next_key()
         self.assertNotEqual(bytes(context), bytes(346))
         for call in (terminal.next_key, terminal.state):
-            self.assertRaises(Closed, call)
+            self.assertRaises(ClosedError, call)
         terminal.close()
         context.__del__()
         self.assertEqual(bytes(context), bytes(346))

@@ -2,7 +2,7 @@
 
 import unittest
 
-from cukvashe_des import BlockLength, Des, KeyLength, VectorLength
+from cukvashe_des import BlockLengthError, Des, KeyLengthError, VectorLengthError
 
 from .values import ANSWERS, CIPHERS, COUNTS, IV, KEY, LENGTHS, LONG, TEXT, known_ciphertexts
 
@@ -78,7 +78,7 @@ class Lengths(unittest.TestCase):
                     if length == kind.key_size:
                         self.assertIsInstance(kind(bytes(length), quiet=quiet), kind)
                     else:
-                        self.assertRaisesRegex(KeyLength, f"not {length}$", kind, bytes(length), quiet=quiet)
+                        self.assertRaisesRegex(KeyLengthError, f"not {length}$", kind, bytes(length), quiet=quiet)
 
     def test_data(self):
         """Each call refuses each length that is not whole blocks, and those in place change nothing."""
@@ -87,11 +87,11 @@ class Lengths(unittest.TestCase):
             for length in [length for length in (*LENGTHS, 1023, 1025, 2047, 4801) if length % 8]:
                 for call in (cipher.encrypt_ecb, cipher.decrypt_ecb, cipher.encrypt_ecb_into, cipher.decrypt_ecb_into):
                     data = bytearray(b"\x5a" * length)
-                    self.assertRaisesRegex(BlockLength, f"^{length} bytes", call, data)
+                    self.assertRaisesRegex(BlockLengthError, f"^{length} bytes", call, data)
                     self.assertEqual(data, b"\x5a" * length)
                 for call in (cipher.encrypt_cbc, cipher.decrypt_cbc, cipher.encrypt_cbc_into, cipher.decrypt_cbc_into):
                     data, iv = bytearray(b"\x5a" * length), bytearray(IV)
-                    self.assertRaisesRegex(BlockLength, f"^{length} bytes", call, iv, data)
+                    self.assertRaisesRegex(BlockLengthError, f"^{length} bytes", call, iv, data)
                     self.assertEqual((data, iv), (b"\x5a" * length, IV))
 
     def test_vectors(self):
@@ -103,7 +103,7 @@ class Lengths(unittest.TestCase):
                     if length == 8:
                         call(bytes(length), data)
                     else:
-                        self.assertRaisesRegex(VectorLength, f"not {length}$", call, bytes(length), data)
+                        self.assertRaisesRegex(VectorLengthError, f"not {length}$", call, bytes(length), data)
                         self.assertEqual(data, TEXT)
 
     def test_quiet(self):

@@ -5,7 +5,7 @@ import unittest
 from unittest import mock
 
 import cukvashe_des
-from cukvashe_des import KeyLength, RetailMacDes, TdesEde2, TdesEde3, _keys, _padding, _terminal
+from cukvashe_des import KeyLengthError, RetailMacDes, TdesEde2, TdesEde3, _keys, _padding, _terminal
 from cukvashe_des._data import KINDS
 
 from .values import ANSWERS, CMACS, IV, KEY, MESSAGE, OBJECTS, PADDED_MACS, PAIR, SERIAL, TEXT
@@ -42,7 +42,7 @@ class Derived(unittest.TestCase):
                     self.assertEqual((cipher.encrypt_ecb(TEXT), cipher.decrypt_ecb(answer)), (answer, TEXT))
                     self.assertEqual(cipher.encrypt_cbc(IV, TEXT), kind(key).encrypt_cbc(IV, TEXT))
                     for length in {8, 16, 24} - {kind.key_size}:
-                        self.assertRaisesRegex(KeyLength, f"^a key has {kind.key_size} bytes, not {length}$", made, KEY[:length])
+                        self.assertRaisesRegex(KeyLengthError, f"^a key has {kind.key_size} bytes, not {length}$", made, KEY[:length])
 
     def test_calls_of_a_class(self):
         """Keys and blocks in every number: none is read beyond its end, and a call is refused where it is with the base."""
@@ -73,7 +73,7 @@ class Derived(unittest.TestCase):
                 self.assertIsInstance(mac.copy(), made)
                 self.assertIsNone(mac.verify(tag))
                 for length in {8, 16, 24} - {kind.key_size}:
-                    self.assertRaises(KeyLength, made, KEY[:length], *arguments[1:])
+                    self.assertRaises(KeyLengthError, made, KEY[:length], *arguments[1:])
 
     def test_macs_of_a_class(self):
         for kind in PADDED_MACS + CMACS:
@@ -87,8 +87,8 @@ class Derived(unittest.TestCase):
     def test_changed(self):
         """The attributes of the package's own classes are for whoever reads them: nothing asks them."""
         with mock.patch.object(TdesEde3, "key_size", 16), mock.patch.object(TdesEde3, "name", "des"):
-            self.assertRaises(KeyLength, TdesEde3, KEY[:16])
-            self.assertRaises(KeyLength, cukvashe_des.check_values, TdesEde3, KEY[:16])
+            self.assertRaises(KeyLengthError, TdesEde3, KEY[:16])
+            self.assertRaises(KeyLengthError, cukvashe_des.check_values, TdesEde3, KEY[:16])
             self.assertEqual(TdesEde3(KEY).encrypt_ecb(TEXT), ANSWERS[TdesEde3])
 
     def test_other_class(self):

@@ -13,13 +13,13 @@ import weakref
 from unittest import mock
 
 from cukvashe_des import (
-    BlockLength,
-    Closed,
+    BlockLengthError,
+    ClosedError,
     CmacTdesEde3,
     Des,
     DukptTerminal,
-    StateLength,
-    TagMismatch,
+    StateLengthError,
+    TagMismatchError,
     TdesEde3,
     _ciphers,
     _data,
@@ -433,10 +433,10 @@ class Threads(unittest.TestCase):
                     self.assertEqual(self.turn(mac, lock, call, *given), [True, True])
                     self.assertEqual(lock.noted, [True, True])
                     lock.noted.clear()
-                self.assertEqual(self.turn(mac, lock, self.assertRaises, TagMismatch, mac.verify, b""), [True, True])
+                self.assertEqual(self.turn(mac, lock, self.assertRaises, TagMismatchError, mac.verify, b""), [True, True])
             self.assertIsInstance(mac.copy()._lock, type(threading.Lock()))
             self.assertEqual(self.turn(mac, lock, mac.close), [True, False])
-            self.assertEqual(self.turn(mac, lock, self.assertRaises, Closed, mac.update, b""), [False, False])
+            self.assertEqual(self.turn(mac, lock, self.assertRaises, ClosedError, mac.update, b""), [False, False])
 
     def test_turns_of_a_terminal(self):
         """The same of a terminal, which gives no key twice."""
@@ -457,7 +457,7 @@ class Threads(unittest.TestCase):
                 lock.noted.clear()
         self.assertEqual(self.turn(terminal, lock, terminal.close), [True, False])
         for call in (terminal.next_key, terminal.state):
-            self.assertEqual(self.turn(terminal, lock, self.assertRaises, Closed, call), [False, False])
+            self.assertEqual(self.turn(terminal, lock, self.assertRaises, ClosedError, call), [False, False])
 
     def test_closing(self):
         """A cipher that another thread closes answers right, or not at all."""
@@ -472,7 +472,7 @@ class Threads(unittest.TestCase):
                 try:
                     for _ in range(20):
                         self.assertEqual(cipher.encrypt_ecb(plain), answer)
-                except Closed:
+                except ClosedError:
                     pass
 
             self.together(4, work)
@@ -593,7 +593,7 @@ class Wiped(WatchesWiping):
             self.assertEqual(DukptTerminal.from_state(terminal.state()).state(), state)
         self.wiped.clear()
         for length in (0, 345, 347):
-            self.assertRaisesRegex(StateLength, f"^the state of a terminal has 346 bytes, not {length}$", DukptTerminal.from_state, bytes(length))
+            self.assertRaisesRegex(StateLengthError, f"^the state of a terminal has 346 bytes, not {length}$", DukptTerminal.from_state, bytes(length))
         self.assertEqual(self.wiped[1:], [345, 347])
 
     def test_next_key(self):
@@ -656,9 +656,9 @@ class Wiped(WatchesWiping):
                 calls = [(made.update, data), (made.digest,), (made.hexdigest,), (made.verify, data), (made.verify_truncated_left, data),
                          (made.copy,)]
             for call, *arguments in calls:
-                self.assertRaises(Closed, call, *arguments)
+                self.assertRaises(ClosedError, call, *arguments)
             self.assertEqual(data, TEXT)
-            self.assertRaises(Closed, made.__enter__().copy if kind not in ANSWERS else lambda: made.encrypt_ecb(b""))
+            self.assertRaises(ClosedError, made.__enter__().copy if kind not in ANSWERS else lambda: made.encrypt_ecb(b""))
 
     def test_with(self):
         """An error inside `with` goes on, and the object is closed."""
@@ -681,9 +681,9 @@ class Faults(unittest.TestCase):
         """A refused call leaves a MAC and a cipher as they were."""
         mac = CmacTdesEde3(KEY, TEXT)
         tag = mac.digest()
-        self.assertRaises(TagMismatch, mac.verify, bytes(8))
+        self.assertRaises(TagMismatchError, mac.verify, bytes(8))
         self.assertRaises(TypeError, mac.update, "text")
         self.assertEqual(mac.digest(), tag)
         cipher = TdesEde3(KEY)
-        self.assertRaises(BlockLength, cipher.encrypt_ecb, TEXT[:-1])
+        self.assertRaises(BlockLengthError, cipher.encrypt_ecb, TEXT[:-1])
         self.assertEqual(cipher.encrypt_ecb(TEXT), ANSWERS[TdesEde3])

@@ -20,9 +20,9 @@ else:
 
 import cukvashe_des
 from cukvashe_des import (
-    KeyBlockField,
+    KeyBlockFieldError,
     KeyBlockHeader,
-    KeyBlockVersion,
+    KeyBlockVersionError,
     key_block_context,
     key_block_header,
     key_block_optional_blocks,
@@ -58,10 +58,10 @@ KNOWN = [
 
 # A character of BLOCK that is changed, and the first fault.
 CHANGES = [
-    (1, "1", "KeyBlockLength"), (4, "1", "KeyBlockLength"), (0, "D", "KeyBlockVersion"), (0, "b", "KeyBlockVersion"),
-    (12, "/", "KeyBlockField"), (14, "3", "KeyBlockField"), (14, "1", "KeyBlockMac"), (15, "1", "KeyBlockField"), (13, "1", "OptionalBlock"),
-    (0, "A", "KeyDataLength"), (0, "C", "KeyDataLength"), (16, "a", "KeyBlockDigit"), (79, "G", "KeyBlockDigit"),
-    (63, "0", "KeyBlockMac"), (79, "F", "KeyBlockMac"), (5, "K", "KeyBlockMac"), (11, "S", "KeyBlockMac"),
+    (1, "1", "KeyBlockLengthError"), (4, "1", "KeyBlockLengthError"), (0, "D", "KeyBlockVersionError"), (0, "b", "KeyBlockVersionError"),
+    (12, "/", "KeyBlockFieldError"), (14, "3", "KeyBlockFieldError"), (14, "1", "KeyBlockMacError"), (15, "1", "KeyBlockFieldError"), (13, "1", "OptionalBlockError"),
+    (0, "A", "KeyDataLengthError"), (0, "C", "KeyDataLengthError"), (16, "a", "KeyBlockDigitError"), (79, "G", "KeyBlockDigitError"),
+    (63, "0", "KeyBlockMacError"), (79, "F", "KeyBlockMacError"), (5, "K", "KeyBlockMacError"), (11, "S", "KeyBlockMacError"),
 ]
 
 # Contexts of the third known block, by OpenSSL, and of BLOCK, by the package; a last one of other fields.
@@ -164,7 +164,7 @@ class KeyBlocks(unittest.TestCase):
             self.assertEqual(key_block_optional_blocks(block)[:2], [("CT", content), ("KS", "")])
             self.assertEqual(unwrap_key_block(PROTECTION, block), (BLOCK_HEADER, BLOCK_KEY))
         for length in (9900, 10001, 70000):
-            with self.assertRaises(cukvashe_des.KeyBlockLength):
+            with self.assertRaises(cukvashe_des.KeyBlockLengthError):
                 wrap_key_block(PROTECTION, BLOCK_HEADER, BLOCK_KEY, optional=[("CT", "x" * length)])
 
     def test_each_filling(self):
@@ -179,40 +179,40 @@ class KeyBlocks(unittest.TestCase):
             wrong = block[:place] + character + block[place + 1 :]
             self.assertRaises(getattr(cukvashe_des, fault), unwrap_key_block, PROTECTION, wrong)
             self.assertRaises(getattr(cukvashe_des, fault), unwrap_key_block, PROTECTION, wrong.encode())
-            if fault not in ("KeyBlockDigit", "KeyBlockMac"):
+            if fault not in ("KeyBlockDigitError", "KeyBlockMacError"):
                 self.assertRaises(getattr(cukvashe_des, fault), key_block_context, wrong)
                 self.assertRaises(getattr(cukvashe_des, fault), key_block_header, wrong)
                 self.assertRaises(getattr(cukvashe_des, fault), key_block_optional_blocks, wrong)
         for wrong in NO_KEYS:
-            self.assertRaises(cukvashe_des.KeyLength, unwrap_key_block, PROTECTION, wrong)
+            self.assertRaises(cukvashe_des.KeyLengthError, unwrap_key_block, PROTECTION, wrong)
         for wrong in (block + "\n", block + "\0", " " + block, block[:-1], ""):
             for call in (lambda text: unwrap_key_block(PROTECTION, text), key_block_header, key_block_optional_blocks):
-                self.assertRaises(cukvashe_des.KeyBlockLength, call, wrong)
-                self.assertRaises(cukvashe_des.KeyBlockLength, call, wrong.encode())
+                self.assertRaises(cukvashe_des.KeyBlockLengthError, call, wrong)
+                self.assertRaises(cukvashe_des.KeyBlockLengthError, call, wrong.encode())
         for wrong in (block[:-1] + "\uff15", "\u0391" + block[1:], block[:5] + "\xe9" + block[6:]):
             for call in (lambda text: unwrap_key_block(PROTECTION, text), key_block_header, key_block_optional_blocks):
-                self.assertRaises(cukvashe_des.KeyBlockDigit, call, wrong)
-        self.assertRaises(cukvashe_des.KeyBlockMac, unwrap_key_block, LONG, block)
+                self.assertRaises(cukvashe_des.KeyBlockDigitError, call, wrong)
+        self.assertRaises(cukvashe_des.KeyBlockMacError, unwrap_key_block, LONG, block)
 
     def test_lengths_refused(self):
         for length in LENGTHS:
             if length not in (16, 24):
-                self.assertRaises(cukvashe_des.ProtectionKeyLength, unwrap_key_block, bytes(length), BLOCK)
-                self.assertRaises(cukvashe_des.ProtectionKeyLength, wrap_key_block, bytes(length), BLOCK_HEADER, BLOCK_KEY)
+                self.assertRaises(cukvashe_des.ProtectionKeyLengthError, unwrap_key_block, bytes(length), BLOCK)
+                self.assertRaises(cukvashe_des.ProtectionKeyLengthError, wrap_key_block, bytes(length), BLOCK_HEADER, BLOCK_KEY)
             if length not in (8, 16, 24):
-                self.assertRaises(cukvashe_des.KeyLength, wrap_key_block, PROTECTION, BLOCK_HEADER, bytes(length))
+                self.assertRaises(cukvashe_des.KeyLengthError, wrap_key_block, PROTECTION, BLOCK_HEADER, bytes(length))
             if length not in (6, 14):
-                with self.assertRaises(cukvashe_des.PaddingLength):
+                with self.assertRaises(cukvashe_des.PaddingLengthError):
                     wrap_key_block(PROTECTION, BLOCK_HEADER, BLOCK_KEY, padding=bytes(length))
 
     def test_headers_refused(self):
         for version in ("A", "D", "b", "", "BB", "\uff22", "\0"):
-            self.assertRaises(cukvashe_des.KeyBlockVersion, wrap_key_block, PROTECTION, changed(version=version), BLOCK_KEY)
+            self.assertRaises(cukvashe_des.KeyBlockVersionError, wrap_key_block, PROTECTION, changed(version=version), BLOCK_KEY)
         for fields in ({"usage": "P"}, {"usage": "P00"}, {"usage": ""}, {"usage": "P "}, {"usage": "P\0"}, {"usage": "P\xe9"},
                        {"algorithm": ""}, {"algorithm": "TT"}, {"algorithm": "-"}, {"mode": "\uff25"}, {"mode": "EE"},
                        {"key_version": "0"}, {"key_version": "000"}, {"key_version": "\0\0"}, {"exportability": " "},
                        {"exportability": ""}):
-            self.assertRaises(cukvashe_des.KeyBlockField, wrap_key_block, PROTECTION, changed(**fields), BLOCK_KEY)
+            self.assertRaises(cukvashe_des.KeyBlockFieldError, wrap_key_block, PROTECTION, changed(**fields), BLOCK_KEY)
         for fields in ({"version": b"B"}, {"usage": b"P0"}, {"key_version": 0}, {"exportability": None}):
             self.assertRaises(TypeError, wrap_key_block, PROTECTION, changed(**fields), BLOCK_KEY)
         for header in ("B", None, ("B", "P0", "T", "E", "00", "E"), BLOCK.decode()):
@@ -239,18 +239,18 @@ class KeyBlocks(unittest.TestCase):
         self.assertEqual(wrap_key_block(PROTECTION, header, BLOCK_KEY, padding=padding), BLOCK.decode())
         self.assertEqual(unwrap_key_block(PROTECTION, Said(BLOCK.decode())), (BLOCK_HEADER, BLOCK_KEY))
         for name in ("version", "usage", "algorithm", "mode", "key_version", "exportability"):
-            with self.assertRaises((KeyBlockField, KeyBlockVersion)):
+            with self.assertRaises((KeyBlockFieldError, KeyBlockVersionError)):
                 wrap_key_block(PROTECTION, replace(BLOCK_HEADER, **{name: Said("P0T")}), BLOCK_KEY, padding=padding)
 
     def test_optional_refused(self):
         for optional in ([("K", "")], [("KSX", "")], [("", "")], [("K\xe9", "")], [("\xe9", "")], [("K-", "")], [(" S", "")], [("K\n", "")],
                          [("KS", "\uff10")], [("KS", "")] * 100, [("KS", "")] * 99, [("PB", "")], [("KV", "ABCDEF"), ("PB", "000")],
                          {"PB": "0000", "KS": ""}, [("PB", ""), ("KS", "")], [("PB", "0000"), ("PB", "0000")]):
-            with self.assertRaises(cukvashe_des.OptionalBlock):
+            with self.assertRaises(cukvashe_des.OptionalBlockError):
                 wrap_key_block(PROTECTION, BLOCK_HEADER, BLOCK_KEY, optional=optional)
         for wrong in ("\n", "\0", "\x1f", "\x7f", "\xe9", "\uff10", "\ud800"):
             for content in (wrong, wrong + "00", "00" + wrong, "0" + wrong + "0"):
-                with self.assertRaisesRegex(cukvashe_des.OptionalBlock, "^the optional blocks can't be read or written: a wrong length, name"):
+                with self.assertRaisesRegex(cukvashe_des.OptionalBlockError, "^the optional blocks can't be read or written: a wrong length, name"):
                     wrap_key_block(PROTECTION, BLOCK_HEADER, BLOCK_KEY, optional=[("KV", "ABCDEF"), ("KS", content)])
         for name in ("pb", "Pb", "BP", "PA"):
             block = wrap_key_block(PROTECTION, BLOCK_HEADER, BLOCK_KEY, optional=[(name, "")])

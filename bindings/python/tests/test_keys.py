@@ -4,15 +4,15 @@ import unittest
 
 import cukvashe_des
 from cukvashe_des import (
-    BlockLength,
+    BlockLengthError,
     Des,
-    KeyLength,
-    PaddingMethod,
-    PaddingMismatch,
-    SerialLength,
+    KeyLengthError,
+    PaddingMethodError,
+    PaddingMismatchError,
+    SerialLengthError,
     TdesEde2,
     TdesEde3,
-    WeakKey,
+    WeakKeyError,
     pad,
     unpad,
 )
@@ -72,19 +72,19 @@ class Keys(unittest.TestCase):
                 if length in SIZES:
                     call(bytes(length))
                 else:
-                    self.assertRaisesRegex(KeyLength, f"not {length}$", call, bytes(length))
+                    self.assertRaisesRegex(KeyLengthError, f"not {length}$", call, bytes(length))
             for size in SIZES:
                 if length != size:
-                    self.assertRaises(KeyLength, cukvashe_des.equal_but_parity, bytes(size), bytes(length))
-                    self.assertRaises(KeyLength, cukvashe_des.equal_but_parity, bytes(length), bytes(size))
-                    self.assertRaises(KeyLength, cukvashe_des.combine, bytes(size), bytes(length))
-                    self.assertRaises(KeyLength, cukvashe_des.combine, bytes(length), bytes(size))
-                    self.assertRaises(KeyLength, cukvashe_des.combine, bytes(size), bytes(size), bytes(size), bytes(length))
+                    self.assertRaises(KeyLengthError, cukvashe_des.equal_but_parity, bytes(size), bytes(length))
+                    self.assertRaises(KeyLengthError, cukvashe_des.equal_but_parity, bytes(length), bytes(size))
+                    self.assertRaises(KeyLengthError, cukvashe_des.combine, bytes(size), bytes(length))
+                    self.assertRaises(KeyLengthError, cukvashe_des.combine, bytes(length), bytes(size))
+                    self.assertRaises(KeyLengthError, cukvashe_des.combine, bytes(size), bytes(size), bytes(size), bytes(length))
             for kind in ANSWERS:
                 if length != kind.key_size:
-                    self.assertRaises(KeyLength, cukvashe_des.check_value, kind, bytes(length))
+                    self.assertRaises(KeyLengthError, cukvashe_des.check_value, kind, bytes(length))
             if length not in SIZES:
-                self.assertRaises(KeyLength, cukvashe_des.combine, bytes(length), bytes(length))
+                self.assertRaises(KeyLengthError, cukvashe_des.combine, bytes(length), bytes(length))
 
     def test_check_values(self):
         """Those of PAIR by OpenSSL; the others are the beginning of the block of zeros, encrypted."""
@@ -108,7 +108,7 @@ class Keys(unittest.TestCase):
                     last = bytes(one ^ other for one, other in zip(last, part))
                 self.assertEqual(cukvashe_des.combine(*parts, last), key)
                 self.assertEqual(cukvashe_des.combine(*parts, bytes(byte ^ 1 for byte in last)), key)
-                self.assertRaises(WeakKey, cukvashe_des.combine, *parts, *parts)
+                self.assertRaises(WeakKeyError, cukvashe_des.combine, *parts, *parts)
         self.assertRaises(TypeError, cukvashe_des.combine, PAIR)
 
 
@@ -150,14 +150,14 @@ class Transactions(unittest.TestCase):
         for length in LENGTHS:
             if length != 10:
                 for call in (cukvashe_des.dukpt_next_serial, cukvashe_des.dukpt_is_usable):
-                    self.assertRaisesRegex(SerialLength, f"not {length}$", call, bytes(length))
+                    self.assertRaisesRegex(SerialLengthError, f"not {length}$", call, bytes(length))
                 for call in (cukvashe_des.dukpt_initial_key, cukvashe_des.dukpt_transaction_key):
-                    self.assertRaisesRegex(SerialLength, f"not {length}$", call, PAIR, bytes(length))
+                    self.assertRaisesRegex(SerialLengthError, f"not {length}$", call, PAIR, bytes(length))
             if length != 16:
                 for call in (cukvashe_des.dukpt_initial_key, cukvashe_des.dukpt_transaction_key):
-                    self.assertRaises(KeyLength, call, bytes(length), SERIAL)
+                    self.assertRaises(KeyLengthError, call, bytes(length), SERIAL)
                 for call in (cukvashe_des.dukpt_pin_key, cukvashe_des.dukpt_mac_key, cukvashe_des.dukpt_data_key):
-                    self.assertRaises(KeyLength, call, bytes(length))
+                    self.assertRaises(KeyLengthError, call, bytes(length))
 
     def test_which_message(self):
         for call in (cukvashe_des.dukpt_mac_key, cukvashe_des.dukpt_data_key, cukvashe_des.dukpt_data_variant):
@@ -189,24 +189,24 @@ class Padding(unittest.TestCase):
                 if right:
                     self.assertEqual(unpad(block, method), TEXT_BLOCK)
                 else:
-                    self.assertRaises(PaddingMismatch, unpad, block, method)
+                    self.assertRaises(PaddingMismatchError, unpad, block, method)
         for method in ("pkcs7", "iso7816"):
-            self.assertRaises(PaddingMismatch, unpad, b"", method)
-            self.assertRaises(PaddingMismatch, unpad, bytes(8), method)
+            self.assertRaises(PaddingMismatchError, unpad, b"", method)
+            self.assertRaises(PaddingMismatchError, unpad, bytes(8), method)
             for count in range(8):
                 padded = self.padded(b"\x99" * count, method)
                 for place in range(count, 8):
                     turned = bytearray(padded)
                     turned[place] ^= 0x40
-                    self.assertRaises(PaddingMismatch, unpad, turned, method)
+                    self.assertRaises(PaddingMismatchError, unpad, turned, method)
             for length in LENGTHS:
                 if length % 8:
-                    self.assertRaisesRegex(BlockLength, f"^{length} bytes", unpad, b"\1" * length, method)
+                    self.assertRaisesRegex(BlockLengthError, f"^{length} bytes", unpad, b"\1" * length, method)
 
     def test_methods(self):
         for call in (pad, unpad):
             for method in ("", "pkcs5", "PKCS7", "iso7816 ", "x923", "zeros", "none", "secret"):
-                self.assertRaises(PaddingMethod, call, b"\1" * 8, method)
+                self.assertRaises(PaddingMethodError, call, b"\1" * 8, method)
             for method in (1, None, b"pkcs7"):
                 self.assertRaises(TypeError, call, b"\1" * 8, method)
 

@@ -8,14 +8,14 @@ from unittest import mock
 
 import cukvashe_des
 from cukvashe_des import (
-    BlockLength,
-    CountMismatch,
-    KeyLength,
+    BlockLengthError,
+    CountMismatchError,
+    KeyLengthError,
     RetailMacDes,
-    SerialLength,
+    SerialLengthError,
     TdesEde2,
     TdesEde3,
-    VectorLength,
+    VectorLengthError,
     _data,
     _lists,
     check_value,
@@ -103,18 +103,18 @@ class Records(unittest.TestCase):
         cipher = TdesEde3(KEY)
         for call in (cukvashe_des.encrypt_cbc_records, cukvashe_des.decrypt_cbc_records):
             for counts in ([1, 1], [1, 3], [4], [], [3], [1, 1, 1], [-1, 4], [2**64, 3], [2**64 - 1, 4]):
-                self.assertRaises(CountMismatch, call, cipher, bytes(16), counts, bytes(24))
+                self.assertRaises(CountMismatchError, call, cipher, bytes(16), counts, bytes(24))
             # Lengths in bytes, and counts of which eight times as much is right in 64 bits.
             for counts in ([8, 16], [2**61 + 1, 2]):
-                self.assertRaises(CountMismatch, call, cipher, bytes(16), counts, bytes(24))
-            self.assertRaises(VectorLength, call, cipher, bytes(15), [3], bytes(24))
-            self.assertRaises(BlockLength, call, cipher, bytes(8), [3], bytes(23))
+                self.assertRaises(CountMismatchError, call, cipher, bytes(16), counts, bytes(24))
+            self.assertRaises(VectorLengthError, call, cipher, bytes(15), [3], bytes(24))
+            self.assertRaises(BlockLengthError, call, cipher, bytes(8), [3], bytes(23))
             for wrong in (b"12", "12", 3, None, [1.5], ["1"], {1, 2}, frozenset((1, 2)), {1: 1, 2: 2}, {1: 1, 2: 2}.keys()):
                 self.assertRaises(TypeError, call, cipher, bytes(16), wrong, bytes(24))
             self.assertRaises(TypeError, call, TdesEde3, bytes(8), [3], bytes(24))
             with cipher.__class__(KEY) as closed:
                 pass
-            self.assertRaises(cukvashe_des.Closed, call, closed, bytes(8), [3], bytes(24))
+            self.assertRaises(cukvashe_des.ClosedError, call, closed, bytes(8), [3], bytes(24))
 
 
 class Messages(unittest.TestCase):
@@ -139,11 +139,11 @@ class Messages(unittest.TestCase):
             key, right = KEY[: kind.key_size], 1 if kind in PADDED_MACS else None
             for call, keys in ((cukvashe_des.macs, key), (cukvashe_des.macs_each, key * 2)):
                 for lengths in ([1, 1], [3, 1], [-1, 4], [2**64, 3], [2**64 - 1, 4]):
-                    self.assertRaises(CountMismatch, call, kind, keys, right, lengths, b"abc")
+                    self.assertRaises(CountMismatchError, call, kind, keys, right, lengths, b"abc")
                 for padding in (0, 3, -1, 2**40):
-                    fault = cukvashe_des.PaddingMethod if right else TypeError
+                    fault = cukvashe_des.PaddingMethodError if right else TypeError
                     self.assertRaises(fault, call, kind, keys, padding, [1, 2], b"abc")
-                self.assertRaises(KeyLength, call, kind, keys[:-1], right, [1, 2], b"abc")
+                self.assertRaises(KeyLengthError, call, kind, keys[:-1], right, [1, 2], b"abc")
                 for lengths in ({1, 2}, {1: 1, 2: 2}):
                     self.assertRaises(TypeError, call, kind, keys, right, lengths, b"abc")
                 for padding in ("1", True, None if right else 1):
@@ -153,7 +153,7 @@ class Messages(unittest.TestCase):
                     with self.assertRaisesRegex(TypeError, "most significant byte first"):
                         call(kind, keys, right, [1, memoryview(words).nbytes - 1], words)
             for keys in (b"", key, key * 3):
-                self.assertRaises(CountMismatch, cukvashe_des.macs_each, kind, keys, right, [1, 2], b"abc")
+                self.assertRaises(CountMismatchError, cukvashe_des.macs_each, kind, keys, right, [1, 2], b"abc")
 
 
 class Tags(unittest.TestCase):
@@ -176,7 +176,7 @@ class Tags(unittest.TestCase):
 
     def test_refused(self):
         for tags, expected in ((8, 0), (0, 8), (8, 16), (8, 7), (7, 8), (7, 7), (4, 4), (12, 12)):
-            self.assertRaises(CountMismatch, cukvashe_des.wrong_tags, bytes(tags), bytes(expected))
+            self.assertRaises(CountMismatchError, cukvashe_des.wrong_tags, bytes(tags), bytes(expected))
 
 
 def views_of_list(value, size):
@@ -230,11 +230,11 @@ class Kinds(unittest.TestCase):
             self.assertEqual(call(*given), call(*arguments))
 
     def test_other_rows(self):
-        faults = {24: KeyLength, 16: KeyLength, 10: SerialLength, 8: BlockLength}
+        faults = {24: KeyLengthError, 16: KeyLengthError, 10: SerialLengthError, 8: BlockLengthError}
         for call, at, _, given in self.each_place(wrong_rows):
             size = ELEMENTS[call, at]
-            fault = VectorLength if "records" in call.__name__ and at == 1 else faults[size]
-            fault = CountMismatch if call is cukvashe_des.wrong_tags else fault
+            fault = VectorLengthError if "records" in call.__name__ and at == 1 else faults[size]
+            fault = CountMismatchError if call is cukvashe_des.wrong_tags else fault
             with self.assertRaisesRegex(fault, f"^rows of [0-9]+ bytes are not [a-z ]+ of {size}$"):
                 call(*given)
 
@@ -248,11 +248,11 @@ class Kinds(unittest.TestCase):
         for call in (encrypt_each_into, decrypt_each_into):
             data = bytearray(TEXT)
             for shape in ((2, 12), (24, 1), (1, 6, 4)):
-                self.assertRaises(BlockLength, call, TdesEde3, KEY * 3, memoryview(data).cast("B", shape))
+                self.assertRaises(BlockLengthError, call, TdesEde3, KEY * 3, memoryview(data).cast("B", shape))
             for words in "HQd":
                 self.assertRaises(TypeError, call, TdesEde3, KEY * 3, memoryview(data).cast(words))
             for keys in wrong_rows(KEY * 3, 24):
-                self.assertRaises(KeyLength, call, TdesEde3, keys, data)
+                self.assertRaises(KeyLengthError, call, TdesEde3, keys, data)
             for keys in wrong_words(KEY * 3, 24):
                 self.assertRaises(TypeError, call, TdesEde3, keys, data)
             self.assertEqual(data, TEXT)
@@ -311,8 +311,8 @@ class Kinds(unittest.TestCase):
             encrypt_each_into(kind, keys, changed)
             self.assertEqual(changed.tobytes(), answer)
             self.assertEqual(decrypt_each(kind, keys, changed), TEXT)
-            self.assertRaises(KeyLength, check_values, kind, numpy.zeros((3, kind.key_size + 8), numpy.uint8))
-            self.assertRaises(BlockLength, encrypt_each, kind, keys, blocks.reshape(2, 12))
+            self.assertRaises(KeyLengthError, check_values, kind, numpy.zeros((3, kind.key_size + 8), numpy.uint8))
+            self.assertRaises(BlockLengthError, encrypt_each, kind, keys, blocks.reshape(2, 12))
             for other in (keys.view(numpy.uint64), keys.view(f"S{kind.key_size}"), keys.astype(object), keys.astype(float)):
                 self.assertRaises(TypeError, encrypt_each, kind, other, blocks)
                 self.assertRaises(TypeError, check_values, kind, other)
@@ -366,26 +366,26 @@ class Refused(unittest.TestCase):
             for kind in ANSWERS:
                 size, data = kind.key_size, some(length)
                 if length % size:
-                    self.assertRaises(KeyLength, encrypt_each, kind, data, TEXT)
-                    self.assertRaises(KeyLength, check_values, kind, data)
+                    self.assertRaises(KeyLengthError, encrypt_each, kind, data, TEXT)
+                    self.assertRaises(KeyLengthError, check_values, kind, data)
                 elif length // size != 3:
-                    self.assertRaises(CountMismatch, decrypt_each, kind, data, TEXT)
+                    self.assertRaises(CountMismatchError, decrypt_each, kind, data, TEXT)
                 if length % 8:
-                    self.assertRaises(BlockLength, encrypt_each, kind, KEY[:size], data)
+                    self.assertRaises(BlockLengthError, encrypt_each, kind, KEY[:size], data)
                 elif length != 8:
-                    self.assertRaises(CountMismatch, decrypt_each, kind, KEY[:size], data)
+                    self.assertRaises(CountMismatchError, decrypt_each, kind, KEY[:size], data)
             if length % 10:
-                self.assertRaises(SerialLength, dukpt_transaction_keys, PAIR, some(length))
+                self.assertRaises(SerialLengthError, dukpt_transaction_keys, PAIR, some(length))
             if length != 16:
-                self.assertRaises(KeyLength, dukpt_transaction_keys, some(length), SERIALS)
+                self.assertRaises(KeyLengthError, dukpt_transaction_keys, some(length), SERIALS)
 
     def test_stays(self):
         for call in (encrypt_each_into, decrypt_each_into):
-            for keys, fault in ((KEY * 2, CountMismatch), (KEY * 4, CountMismatch), (KEY[:23], KeyLength), (b"", CountMismatch)):
+            for keys, fault in ((KEY * 2, CountMismatchError), (KEY * 4, CountMismatchError), (KEY[:23], KeyLengthError), (b"", CountMismatchError)):
                 blocks = bytearray(TEXT)
                 self.assertRaises(fault, call, TdesEde3, keys, blocks)
                 self.assertEqual(blocks, TEXT)
-            self.assertRaises(BlockLength, call, TdesEde3, KEY, bytearray(7))
+            self.assertRaises(BlockLengthError, call, TdesEde3, KEY, bytearray(7))
 
 
 class Threads(unittest.TestCase):
@@ -435,7 +435,7 @@ class Wiped(WatchesWiping):
         spread = memoryview(bytes(byte for byte in KEY * 2 for _ in range(2)))[::2]
         for call, blocks in ((encrypt_each, TEXT), (encrypt_each_into, bytearray(TEXT))):
             self.wiped.clear()
-            self.assertRaises(CountMismatch, call, TdesEde3, spread, blocks)
+            self.assertRaises(CountMismatchError, call, TdesEde3, spread, blocks)
             self.assertEqual(self.wiped, [48])
 
     def test_overlap(self):

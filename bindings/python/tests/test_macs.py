@@ -3,7 +3,7 @@
 import unittest
 
 import cukvashe_des
-from cukvashe_des import CmacTdesEde2, CmacTdesEde3, KeyLength, PaddingMethod, RetailMacDes, TagMismatch
+from cukvashe_des import CmacTdesEde2, CmacTdesEde3, KeyLengthError, PaddingMethodError, RetailMacDes, TagMismatchError
 
 from .values import CMACS, COUNTS, KEY, LENGTHS, PADDED_MACS, PAIR, TEXT, known_macs
 
@@ -51,10 +51,10 @@ class Tags(unittest.TestCase):
                     for place in range(length):
                         turned = bytearray(part)
                         turned[place] ^= 1
-                        self.assertRaises(TagMismatch, accepts, turned)
+                        self.assertRaises(TagMismatchError, accepts, turned)
                 else:
-                    self.assertRaises(TagMismatch, accepts, part)
-            self.assertRaises(TagMismatch, accepts, tag + tag)
+                    self.assertRaises(TagMismatchError, accepts, part)
+            self.assertRaises(TagMismatchError, accepts, tag + tag)
         self.assertEqual(mac.digest(), tag)
 
     def test_known(self):
@@ -87,7 +87,7 @@ class Tags(unittest.TestCase):
             whole.update(message)
             self.assertEqual(whole.digest(), pieces.digest())
             self.assertEqual(kind(*arguments, message).digest(), pieces.digest())
-            self.assertRaises(TagMismatch, whole.verify, kind(*arguments, message[: len(message) % 65536]).digest())
+            self.assertRaises(TagMismatchError, whole.verify, kind(*arguments, message[: len(message) % 65536]).digest())
 
     def test_quiet(self):
         """A quiet MAC, and its copy, are of another state than a quick one; the word is asked for by name alone."""
@@ -114,14 +114,14 @@ class Refused(unittest.TestCase):
                     if length == kind.key_size:
                         self.assertIsInstance(kind(bytes(length), *method, quiet=quiet), kind)
                     else:
-                        self.assertRaisesRegex(KeyLength, f"not {length}$", kind, bytes(length), *method, quiet=quiet)
+                        self.assertRaisesRegex(KeyLengthError, f"not {length}$", kind, bytes(length), *method, quiet=quiet)
 
     def test_methods(self):
         for kind in PADDED_MACS:
             key = KEY[: kind.key_size]
             for number in (0, 3, -1, 257, 2**32 + 1, 2**64 + 2, 10**30):
-                self.assertRaises(PaddingMethod, kind, key, number)
-                self.assertRaises(PaddingMethod, kind, key, number, quiet=True)
+                self.assertRaises(PaddingMethodError, kind, key, number)
+                self.assertRaises(PaddingMethodError, kind, key, number, quiet=True)
             for other in (b"1", "1", 1.0, None, True, False, key):
                 self.assertRaises(TypeError, kind, key, other)
 

@@ -46,23 +46,23 @@ class Keys(unittest.TestCase):
             self.assertEqual(len(bytes_to_key(name, b"secret", SALT, 16)), 16)
             for salt in (b"x", SALT[:7], SALT + b"x", b"Salted__" + SALT, b"secret"):
                 words = f"^the salt of bytes_to_key has 0 or 8 bytes, not {len(salt)}$"
-                with self.assertRaisesRegex(cukvashe_des.SaltLength, words):
+                with self.assertRaisesRegex(cukvashe_des.SaltLengthError, words):
                     bytes_to_key(name, b"secret", salt, 16)
-                with self.assertRaisesRegex(cukvashe_des.SaltLength, words):
+                with self.assertRaisesRegex(cukvashe_des.SaltLengthError, words):
                     bytes_to_key(name, SALT, bytearray(salt), 24)
                 if name != "md5":
                     self.assertEqual(pbkdf2(name, b"secret", salt, 2, 24), hashlib.pbkdf2_hmac(name, b"secret", salt, 2, 24))
 
     def test_refused(self):
         for name in ("md5", "sha512", "", "SHA1", "sha-1"):
-            self.assertRaises(cukvashe_des.HashName, pbkdf2, name, b"secret", SALT, 1, 24)
+            self.assertRaises(cukvashe_des.HashNameError, pbkdf2, name, b"secret", SALT, 1, 24)
             if name != "md5":
-                self.assertRaises(cukvashe_des.HashName, bytes_to_key, name, b"secret", SALT, 24)
+                self.assertRaises(cukvashe_des.HashNameError, bytes_to_key, name, b"secret", SALT, 24)
         for count in (0, -1, 2**32, 2**32 + 1, 2**64, 2**64 + 1, -(2**64) + 1):
-            self.assertRaises(cukvashe_des.IterationCount, pbkdf2, "sha1", b"secret", SALT, count, 24)
+            self.assertRaises(cukvashe_des.IterationCountError, pbkdf2, "sha1", b"secret", SALT, count, 24)
         for length in (0, -1, 2**32, 2**64 + 1):
-            self.assertRaises(cukvashe_des.KeyLength, pbkdf2, "sha1", b"secret", SALT, 1, length)
-            self.assertRaises(cukvashe_des.KeyLength, bytes_to_key, "sha1", b"secret", SALT, length)
+            self.assertRaises(cukvashe_des.KeyLengthError, pbkdf2, "sha1", b"secret", SALT, 1, length)
+            self.assertRaises(cukvashe_des.KeyLengthError, bytes_to_key, "sha1", b"secret", SALT, length)
         for wrong in ("secret", None, 6):
             self.assertRaises(TypeError, pbkdf2, "sha1", wrong, SALT, 1, 24)
             self.assertRaises(TypeError, pbkdf2, "sha1", b"secret", wrong, 1, 24)
@@ -90,17 +90,17 @@ class Files(unittest.TestCase):
 
     def test_refused(self):
         for cut in range(len(SALTED)):
-            fault = ("NotSalted" if cut < 8 else "SaltLength" if cut < 16 else "BlockLength" if cut % 8 else "PaddingMismatch")
+            fault = ("NotSaltedError" if cut < 8 else "SaltLengthError" if cut < 16 else "BlockLengthError" if cut % 8 else "PaddingMismatchError")
             self.assertRaises(getattr(cukvashe_des, fault), open_salted, TdesEde3, b"secret", SALTED[:cut])
-        self.assertRaises(cukvashe_des.NotSalted, open_salted, TdesEde3, b"secret", b"salted__" + SALTED[8:])
+        self.assertRaises(cukvashe_des.NotSaltedError, open_salted, TdesEde3, b"secret", b"salted__" + SALTED[8:])
         for more in ({"hash_name": "md5"}, {"hash_name": "sha1"}, {"iterations": 1}, {"iterations": 10000}):
-            with self.assertRaises(cukvashe_des.PaddingMismatch):
+            with self.assertRaises(cukvashe_des.PaddingMismatchError):
                 open_salted(TdesEde3, b"secret", SALTED, **more)
-        self.assertRaises(cukvashe_des.PaddingMismatch, open_salted, TdesEde2, b"secret", SALTED)
-        self.assertRaises(cukvashe_des.PaddingMismatch, open_salted, TdesEde3, b"secret\n", SALTED)
-        for more, fault in (({"hash_name": "sha512"}, "HashName"), ({"hash_name": "md5", "iterations": 1}, "HashName"),
-                            ({"iterations": 0}, "IterationCount"), ({"iterations": 2**32}, "IterationCount"),
-                            ({"iterations": 2**64}, "IterationCount")):
+        self.assertRaises(cukvashe_des.PaddingMismatchError, open_salted, TdesEde2, b"secret", SALTED)
+        self.assertRaises(cukvashe_des.PaddingMismatchError, open_salted, TdesEde3, b"secret\n", SALTED)
+        for more, fault in (({"hash_name": "sha512"}, "HashNameError"), ({"hash_name": "md5", "iterations": 1}, "HashNameError"),
+                            ({"iterations": 0}, "IterationCountError"), ({"iterations": 2**32}, "IterationCountError"),
+                            ({"iterations": 2**64}, "IterationCountError")):
             with self.assertRaises(getattr(cukvashe_des, fault)):
                 open_salted(TdesEde3, b"secret", SALTED, **more)
         self.assertRaises(TypeError, open_salted, TdesEde3, "secret", SALTED)

@@ -3,7 +3,7 @@
 import unittest
 
 import cukvashe_des
-from cukvashe_des import BlockLength, FillLength, KeyLength
+from cukvashe_des import BlockLengthError, FillLengthError, KeyLengthError
 
 from .values import ACCOUNT, CARD, DIGITS, FILL, LENGTHS, PAIR
 
@@ -58,53 +58,53 @@ class PinBlocks(unittest.TestCase):
             for block[0] in range(256):
                 try:
                     accepted.append((block[0], cukvashe_des.pin_decode_0(block, ACCOUNT)))
-                except (cukvashe_des.Format, cukvashe_des.PinLength, cukvashe_des.PinDigit, cukvashe_des.Fill):
+                except (cukvashe_des.FormatError, cukvashe_des.PinLengthError, cukvashe_des.PinDigitError, cukvashe_des.FillError):
                     pass
             self.assertEqual(accepted, [(right, pin)])
 
     def test_encoding_refused(self):
-        for pin, fault in (("123:", "PinDigit"), ("/234", "PinDigit"), ("123\uff14", "PinDigit"), ("12\x0034", "PinDigit"),
-                           *(("1" * length, "PinLength") for length in LENGTHS if not 4 <= length <= 12)):
+        for pin, fault in (("123:", "PinDigitError"), ("/234", "PinDigitError"), ("123\uff14", "PinDigitError"), ("12\x0034", "PinDigitError"),
+                           *(("1" * length, "PinLengthError") for length in LENGTHS if not 4 <= length <= 12)):
             fault = getattr(cukvashe_des, fault)
             self.assertRaises(fault, cukvashe_des.pin_encode_0, pin, "")
             self.assertRaises(fault, cukvashe_des.pin_encode_1, pin, DIGITS)
             self.assertRaises(fault, cukvashe_des.pin_encode_2, pin)
             self.assertRaises(fault, cukvashe_des.pin_encode_3, pin, "", FILL)
-        for account, fault in ((ACCOUNT[1:] + ":", "AccountDigit"), ("\uff14" + ACCOUNT[1:], "AccountDigit"),
-                               *(("4" * length, "AccountLength") for length in LENGTHS if not 8 <= length <= 19)):
+        for account, fault in ((ACCOUNT[1:] + ":", "AccountDigitError"), ("\uff14" + ACCOUNT[1:], "AccountDigitError"),
+                               *(("4" * length, "AccountLengthError") for length in LENGTHS if not 8 <= length <= 19)):
             fault = getattr(cukvashe_des, fault)
             self.assertRaises(fault, cukvashe_des.pin_encode_0, "1234", account)
             self.assertRaises(fault, cukvashe_des.pin_encode_3, "1234", account, bytes(10))
             self.assertRaises(fault, cukvashe_des.pin_decode_0, bytes(8), account)
             self.assertRaises(fault, cukvashe_des.pin_decode_3, bytes(8), account)
         for at in range(10):
-            self.assertRaises(cukvashe_des.Fill, cukvashe_des.pin_encode_1, "1234", DIGITS[:at] + b"\x10" + DIGITS[at + 1 :])
+            self.assertRaises(cukvashe_des.FillError, cukvashe_des.pin_encode_1, "1234", DIGITS[:at] + b"\x10" + DIGITS[at + 1 :])
             for digit in (b"\x09", b"\x10"):
                 fill = FILL[:at] + digit + FILL[at + 1 :]
-                self.assertRaises(cukvashe_des.Fill, cukvashe_des.pin_encode_3, "1234", ACCOUNT, fill)
+                self.assertRaises(cukvashe_des.FillError, cukvashe_des.pin_encode_3, "1234", ACCOUNT, fill)
 
     def test_decoding_refused(self):
-        for block, fault in (("141274edcba9876f", "Format"), ("031274edcba9876f", "PinLength"), ("0d1274edcba9876f", "PinLength"),
-                             ("04a274edcba9876f", "PinDigit"), ("041274edcba9876e", "Fill")):
+        for block, fault in (("141274edcba9876f", "FormatError"), ("031274edcba9876f", "PinLengthError"), ("0d1274edcba9876f", "PinLengthError"),
+                             ("04a274edcba9876f", "PinDigitError"), ("041274edcba9876e", "FillError")):
             self.assertRaises(getattr(cukvashe_des, fault), cukvashe_des.pin_decode_0, bytes.fromhex(block), ACCOUNT)
-        for block, fault in (("041234fe09a51234", "Format"), ("131234fe09a51234", "PinLength"), ("14123afe09a51234", "PinDigit")):
+        for block, fault in (("041234fe09a51234", "FormatError"), ("131234fe09a51234", "PinLengthError"), ("14123afe09a51234", "PinDigitError")):
             self.assertRaises(getattr(cukvashe_des, fault), cukvashe_des.pin_decode_1, bytes.fromhex(block))
-        for block, fault in (("141234ffffffffff", "Format"), ("231234ffffffffff", "PinLength"), ("24123affffffffff", "PinDigit"),
-                             ("241234fffffffffe", "Fill")):
+        for block, fault in (("141234ffffffffff", "FormatError"), ("231234ffffffffff", "PinLengthError"), ("24123affffffffff", "PinDigitError"),
+                             ("241234fffffffffe", "FillError")):
             self.assertRaises(getattr(cukvashe_des, fault), cukvashe_des.pin_decode_2, bytes.fromhex(block))
-        for block, fault in (("041274b9f9b9d35d", "Format"), ("341274b9f9b9d359", "Fill")):
+        for block, fault in (("041274b9f9b9d35d", "FormatError"), ("341274b9f9b9d359", "FillError")):
             self.assertRaises(getattr(cukvashe_des, fault), cukvashe_des.pin_decode_3, bytes.fromhex(block), ACCOUNT)
 
     def test_lengths(self):
         for length in LENGTHS:
             if length != 8:
-                self.assertRaisesRegex(BlockLength, f"not {length}$", cukvashe_des.pin_decode_0, bytes(length), ACCOUNT)
-                self.assertRaisesRegex(BlockLength, f"not {length}$", cukvashe_des.pin_decode_1, bytes(length))
-                self.assertRaisesRegex(BlockLength, f"not {length}$", cukvashe_des.pin_decode_2, bytes(length))
-                self.assertRaisesRegex(BlockLength, f"not {length}$", cukvashe_des.pin_decode_3, bytes(length), ACCOUNT)
+                self.assertRaisesRegex(BlockLengthError, f"not {length}$", cukvashe_des.pin_decode_0, bytes(length), ACCOUNT)
+                self.assertRaisesRegex(BlockLengthError, f"not {length}$", cukvashe_des.pin_decode_1, bytes(length))
+                self.assertRaisesRegex(BlockLengthError, f"not {length}$", cukvashe_des.pin_decode_2, bytes(length))
+                self.assertRaisesRegex(BlockLengthError, f"not {length}$", cukvashe_des.pin_decode_3, bytes(length), ACCOUNT)
             if length != 10:
-                self.assertRaisesRegex(FillLength, f"not {length}$", cukvashe_des.pin_encode_1, "1234", bytes(length))
-                self.assertRaisesRegex(FillLength, f"not {length}$", cukvashe_des.pin_encode_3, "1234", ACCOUNT, bytes(length))
+                self.assertRaisesRegex(FillLengthError, f"not {length}$", cukvashe_des.pin_encode_1, "1234", bytes(length))
+                self.assertRaisesRegex(FillLengthError, f"not {length}$", cukvashe_des.pin_encode_3, "1234", ACCOUNT, bytes(length))
 
 
 class CardVerification(unittest.TestCase):
@@ -116,16 +116,16 @@ class CardVerification(unittest.TestCase):
 
     def test_refused(self):
         account, expiry, service = CARD
-        cards = [((account[1:] + ":", "", ""), "AccountDigit"), ((account, "870/", ""), "ExpiryDigit"),
-                 ((account, expiry, "10:"), "ServiceDigit")]
+        cards = [((account[1:] + ":", "", ""), "AccountDigitError"), ((account, "870/", ""), "ExpiryDigitError"),
+                 ((account, expiry, "10:"), "ServiceDigitError")]
         for length in LENGTHS:
             if not 12 <= length <= 19:
-                cards.append((("4" * length, "", ""), "AccountLength"))
+                cards.append((("4" * length, "", ""), "AccountLengthError"))
             if length != 4:
-                cards.append(((account, "8" * length, ""), "ExpiryLength"))
+                cards.append(((account, "8" * length, ""), "ExpiryLengthError"))
             if length != 3:
-                cards.append(((account, expiry, "1" * length), "ServiceLength"))
+                cards.append(((account, expiry, "1" * length), "ServiceLengthError"))
             if length != 16:
-                self.assertRaises(KeyLength, cukvashe_des.cvv, bytes(length), *CARD)
+                self.assertRaises(KeyLengthError, cukvashe_des.cvv, bytes(length), *CARD)
         for card, fault in cards:
             self.assertRaises(getattr(cukvashe_des, fault), cukvashe_des.cvv, PAIR, *card)

@@ -3,7 +3,7 @@
 import unittest
 
 import cukvashe_des
-from cukvashe_des import BlockLength, DecimalTable, FillLength, KeyLength, TdesEde2, WrongPin
+from cukvashe_des import BlockLengthError, DecimalTable, FillLengthError, KeyLengthError, TdesEde2, WrongPinError
 
 from .values import (
     ACCOUNT,
@@ -44,20 +44,20 @@ class Values(unittest.TestCase):
             self.assertEqual(cukvashe_des.pvv(bytearray(PAIR), account.encode(), index, pin.encode()), value)
             self.assertIsNone(cukvashe_des.pvv_verify(PAIR, account, index, pin, value))
             for other in (f"{int(value) ^ 1:04}", value[::-1], "0000", value[:3], value + "0", "", value[:3] + "\uff14"):
-                self.assertRaises(WrongPin, cukvashe_des.pvv_verify, PAIR, account, index, pin, other)
+                self.assertRaises(WrongPinError, cukvashe_des.pvv_verify, PAIR, account, index, pin, other)
 
     def test_refused(self):
         for call, more in ((cukvashe_des.pvv, ()), (cukvashe_des.pvv_verify, ("1234",))):
-            for pin, account, index, fault in (("123", "", 0, "PinLength"), ("123:", "", 0, "PinDigit"), ("1234", "1" * 11, 0, "AccountLength"),
-                                               ("1234", "1" * 20, 1, "AccountLength"), ("1234", "1" * 11 + ":", 0, "AccountDigit")):
+            for pin, account, index, fault in (("123", "", 0, "PinLengthError"), ("123:", "", 0, "PinDigitError"), ("1234", "1" * 11, 0, "AccountLengthError"),
+                                               ("1234", "1" * 20, 1, "AccountLengthError"), ("1234", "1" * 11 + ":", 0, "AccountDigitError")):
                 self.assertRaises(getattr(cukvashe_des, fault), call, PAIR, account, index, pin, *more)
             for index in (0, 7, -1, 256, 257, 2**32 + 1, 2**64 + 1, -(2**32) + 1):
-                self.assertRaises(cukvashe_des.KeyIndex, call, PAIR, "1" * 12, index, "1234", *more)
+                self.assertRaises(cukvashe_des.KeyIndexError, call, PAIR, "1" * 12, index, "1234", *more)
             for index in ("1", b"1", None, True, 1.0):
                 self.assertRaises(TypeError, call, PAIR, "1" * 12, index, "1234", *more)
             for length in LENGTHS:
                 if length != 16:
-                    self.assertRaises(KeyLength, call, bytes(length), ACCOUNT, 1, "1234", *more)
+                    self.assertRaises(KeyLengthError, call, bytes(length), ACCOUNT, 1, "1234", *more)
 
 
 class Offsets(unittest.TestCase):
@@ -73,13 +73,13 @@ class Offsets(unittest.TestCase):
             self.assertIsNone(cukvashe_des.pin_offset_verify(PAIR, TABLE, VALIDATION, pin, offset))
             for at in range(len(pin)):
                 other = pin[:at] + str((int(pin[at]) + 1) % 10) + pin[at + 1 :]
-                self.assertRaises(WrongPin, cukvashe_des.pin_offset_verify, PAIR, TABLE, VALIDATION, other, offset)
+                self.assertRaises(WrongPinError, cukvashe_des.pin_offset_verify, PAIR, TABLE, VALIDATION, other, offset)
             if len(pin) < 12:
-                self.assertRaises(WrongPin, cukvashe_des.pin_offset_verify, PAIR, TABLE, VALIDATION, pin + "0", offset)
+                self.assertRaises(WrongPinError, cukvashe_des.pin_offset_verify, PAIR, TABLE, VALIDATION, pin + "0", offset)
 
     def test_refused(self):
         for length in (0, 3, 13, -4, 2**32 + 4, 2**64 + 4):
-            self.assertRaises(cukvashe_des.PinLength, cukvashe_des.natural_pin, PAIR, TABLE, VALIDATION, length)
+            self.assertRaises(cukvashe_des.PinLengthError, cukvashe_des.natural_pin, PAIR, TABLE, VALIDATION, length)
         for length in ("4", None, 4.0, True):
             self.assertRaises(TypeError, cukvashe_des.natural_pin, PAIR, TABLE, VALIDATION, length)
         for table in ("0123456789012345", b"0123456789012345", None):
@@ -88,12 +88,12 @@ class Offsets(unittest.TestCase):
             self.assertRaises(TypeError, cukvashe_des.pin_offset_verify, PAIR, table, VALIDATION, "1234", "0000")
         for length in LENGTHS:
             if length != 8:
-                self.assertRaisesRegex(BlockLength, f"not {length}$", cukvashe_des.natural_pin, PAIR, TABLE, bytes(length), 4)
-                self.assertRaisesRegex(BlockLength, f"not {length}$", cukvashe_des.pin_offset, PAIR, TABLE, bytes(length), "1234")
+                self.assertRaisesRegex(BlockLengthError, f"not {length}$", cukvashe_des.natural_pin, PAIR, TABLE, bytes(length), 4)
+                self.assertRaisesRegex(BlockLengthError, f"not {length}$", cukvashe_des.pin_offset, PAIR, TABLE, bytes(length), "1234")
             if length not in (8, 16, 24):
-                self.assertRaises(KeyLength, cukvashe_des.natural_pin, bytes(length), TABLE, VALIDATION, 4)
-                self.assertRaises(KeyLength, cukvashe_des.pin_offset_verify, bytes(length), TABLE, VALIDATION, "1234", "0000")
-        for pin, fault in (("123", "PinLength"), ("1" * 13, "PinLength"), ("123/", "PinDigit")):
+                self.assertRaises(KeyLengthError, cukvashe_des.natural_pin, bytes(length), TABLE, VALIDATION, 4)
+                self.assertRaises(KeyLengthError, cukvashe_des.pin_offset_verify, bytes(length), TABLE, VALIDATION, "1234", "0000")
+        for pin, fault in (("123", "PinLengthError"), ("1" * 13, "PinLengthError"), ("123/", "PinDigitError")):
             fault = getattr(cukvashe_des, fault)
             self.assertRaises(fault, cukvashe_des.pin_offset, PAIR, TABLE, VALIDATION, pin)
             self.assertRaises(fault, cukvashe_des.pin_offset_verify, PAIR, TABLE, VALIDATION, pin, "0000")
@@ -101,12 +101,12 @@ class Offsets(unittest.TestCase):
 
     def test_tables(self):
         """Each fault; and by a table of zeros alone a PIN is its own offset."""
-        for digits, fault in (("", "TableLength"), ("0" * 15, "TableLength"), ("01234567" * 2 + "8", "TableLength"),
-                              ("012345678901234:", "TableDigit"), (b"/123456789012345", "TableDigit"), ("\uff10" + "1" * 15, "TableDigit")):
+        for digits, fault in (("", "TableLengthError"), ("0" * 15, "TableLengthError"), ("01234567" * 2 + "8", "TableLengthError"),
+                              ("012345678901234:", "TableDigitError"), (b"/123456789012345", "TableDigitError"), ("\uff10" + "1" * 15, "TableDigitError")):
             self.assertRaises(getattr(cukvashe_des, fault), DecimalTable, digits)
             self.assertRaises(getattr(cukvashe_des, fault), DecimalTable.of_any_variety, digits)
         for digits in ("0123456001234560", "0" * 16):
-            self.assertRaises(cukvashe_des.TableVariety, DecimalTable, digits)
+            self.assertRaises(cukvashe_des.TableVarietyError, DecimalTable, digits)
         zeros = DecimalTable.of_any_variety(b"0" * 16)
         self.assertEqual(cukvashe_des.pin_offset(PAIR, zeros, VALIDATION, "4711"), "4711")
         self.assertEqual(repr(zeros), "DecimalTable { ... }")
@@ -130,13 +130,13 @@ class Translation(unittest.TestCase):
                 self.assertEqual(to_format_1(incoming, outgoing, bytearray(block)), answer)
         cipher = TdesEde2(PAIR)
         for block in ("041274edcba9876f", "1312340123456789", "1d12340123456789", "141a340123456789"):
-            self.assertRaises(cukvashe_des.PinBlock, to_format_1, PAIR, OTHER, cipher.encrypt_ecb(bytes.fromhex(block)))
+            self.assertRaises(cukvashe_des.PinBlockError, to_format_1, PAIR, OTHER, cipher.encrypt_ecb(bytes.fromhex(block)))
         for length in LENGTHS:
             if length not in (8, 16, 24):
-                self.assertRaises(KeyLength, to_format_1, bytes(length), OTHER, ONE)
-                self.assertRaises(KeyLength, to_format_1, PAIR, bytes(length), ONE)
+                self.assertRaises(KeyLengthError, to_format_1, bytes(length), OTHER, ONE)
+                self.assertRaises(KeyLengthError, to_format_1, PAIR, bytes(length), ONE)
             if length != 8:
-                self.assertRaises(BlockLength, to_format_1, PAIR, OTHER, bytes(length))
+                self.assertRaises(BlockLengthError, to_format_1, PAIR, OTHER, bytes(length))
 
     def test_keys_by_name(self):
         """Neither key goes by its place, in which it could be taken for the other, and none is left out."""
@@ -151,28 +151,28 @@ class Translation(unittest.TestCase):
 
     def test_refused(self):
         for number in (2, 4, -1, 256, 2**32, 2**32 + 3, 2**64):
-            self.assertRaises(cukvashe_des.Formats, to_format_0, PAIR, number, OTHER, "", SENT)
-            self.assertRaises(cukvashe_des.Formats, to_format_3, PAIR, number, OTHER, "", bytes(10), SENT)
+            self.assertRaises(cukvashe_des.FormatsError, to_format_0, PAIR, number, OTHER, "", SENT)
+            self.assertRaises(cukvashe_des.FormatsError, to_format_3, PAIR, number, OTHER, "", bytes(10), SENT)
         for number in ("0", b"0", None, False, 0.0):
             self.assertRaises(TypeError, to_format_0, PAIR, number, OTHER, ACCOUNT, SENT)
-        for account, fault in (("1" * 7, "AccountLength"), ("1" * 20, "AccountLength"), ("1234567:", "AccountDigit")):
+        for account, fault in (("1" * 7, "AccountLengthError"), ("1" * 20, "AccountLengthError"), ("1234567:", "AccountDigitError")):
             self.assertRaises(getattr(cukvashe_des, fault), to_format_0, PAIR, 0, OTHER, account, SENT)
             self.assertRaises(getattr(cukvashe_des, fault), to_format_3, PAIR, 0, OTHER, account, bytes(10), SENT)
-        self.assertRaises(cukvashe_des.Fill, to_format_3, PAIR, 0, OTHER, ACCOUNT, bytes(10), SENT)
+        self.assertRaises(cukvashe_des.FillError, to_format_3, PAIR, 0, OTHER, ACCOUNT, bytes(10), SENT)
         for length in LENGTHS:
             if length not in (8, 16, 24):
-                self.assertRaises(KeyLength, to_format_0, bytes(length), 0, OTHER, ACCOUNT, SENT)
-                self.assertRaises(KeyLength, to_format_3, PAIR, 0, bytes(length), ACCOUNT, FILL, SENT)
+                self.assertRaises(KeyLengthError, to_format_0, bytes(length), 0, OTHER, ACCOUNT, SENT)
+                self.assertRaises(KeyLengthError, to_format_3, PAIR, 0, bytes(length), ACCOUNT, FILL, SENT)
             if length != 8:
-                self.assertRaises(BlockLength, to_format_0, PAIR, 0, OTHER, ACCOUNT, bytes(length))
+                self.assertRaises(BlockLengthError, to_format_0, PAIR, 0, OTHER, ACCOUNT, bytes(length))
             if length != 10:
-                self.assertRaises(FillLength, to_format_3, PAIR, 0, OTHER, ACCOUNT, bytes(length), SENT)
+                self.assertRaises(FillLengthError, to_format_3, PAIR, 0, OTHER, ACCOUNT, bytes(length), SENT)
 
     def test_one_fault_of_the_block(self):
         """Whatever is wrong with the block, and with another account number."""
         cipher = TdesEde2(PAIR)
         for block in ("141274edcba9876f", "031274edcba9876f", "0d1274edcba9876f", "041a74edcba9876f", "041274fdcba9876f", "041274edcba9876e"):
             sent = cipher.encrypt_ecb(bytes.fromhex(block))
-            self.assertRaises(cukvashe_des.PinBlock, to_format_0, PAIR, 0, OTHER, ACCOUNT, sent)
-            self.assertRaises(cukvashe_des.PinBlock, to_format_3, PAIR, 0, OTHER, ACCOUNT, FILL, sent)
-        self.assertRaises(cukvashe_des.PinBlock, to_format_0, PAIR, 0, OTHER, "4012345678919", SENT)
+            self.assertRaises(cukvashe_des.PinBlockError, to_format_0, PAIR, 0, OTHER, ACCOUNT, sent)
+            self.assertRaises(cukvashe_des.PinBlockError, to_format_3, PAIR, 0, OTHER, ACCOUNT, FILL, sent)
+        self.assertRaises(cukvashe_des.PinBlockError, to_format_0, PAIR, 0, OTHER, "4012345678919", SENT)

@@ -56,7 +56,7 @@ def words_of(error):
 def accepts(call, tag):
     try:
         call(tag)
-    except cukvashe_des.TagMismatch:
+    except cukvashe_des.TagMismatchError:
         return False
     return True
 
@@ -102,8 +102,9 @@ for line in sys.stdin:
         # What verifies is true here, and says nothing in Python.
         here = {"answer": True if said["call"][0] in ("pvvVerify", "pinOffsetVerify") else answer}
     except ValueError as error:
-        here = {"error": [type(error).__name__, words_of(error)]}
-        errors[type(error).__name__] += 1
+        name = type(error).__name__[: -len("Error")]
+        here = {"error": [name, words_of(error)]}
+        errors[name] += 1
     there = {key: value for key, value in said.items() if key != "call"}
     if here != there:
         sys.exit(f"{said['call']}: the module gives {there}, the native library {here}")
