@@ -37,10 +37,10 @@ padding:
 passwords.
 
 Lists go in one call: `encrypt_each` and `decrypt_each` with a key for each block, `check_values` of many keys and
-`dukpt_transaction_keys` of many key serial numbers. They take arrays of `uint8` or of words `>u8`, as of shape (n, 8) or
+`dukpt_transaction_keys_from_base` of many key serial numbers. They take arrays of `uint8` or of words `>u8`, as of shape (n, 8) or
 (n, 16), where they stand, and other threads of Python run meanwhile:
 
-    keys = cukvashe_des.dukpt_transaction_keys(base, serials)
+    keys = cukvashe_des.dukpt_transaction_keys_from_base(base, serials)
     pin_keys = b"".join(cukvashe_des.dukpt_pin_key(keys[at : at + 16]) for at in range(0, len(keys), 16))
     blocks = cukvashe_des.decrypt_each(cukvashe_des.TdesEde2, pin_keys, blocks)
 
@@ -150,7 +150,7 @@ from ._lists import (
     decrypt_cbc_records,
     decrypt_each,
     decrypt_each_into,
-    dukpt_transaction_keys,
+    dukpt_transaction_keys_from_base,
     encrypt_cbc_records,
     encrypt_each,
     encrypt_each_into,
@@ -190,7 +190,7 @@ __all__ = [
     "TagMismatchError", "TdesEde2", "TdesEde3", "VectorLengthError", "WeakKeyError", "WrongPinError", "__version__", "bytes_to_key",
     "check_value", "check_values", "combine", "cvv", "decrypt_cbc_records", "decrypt_each", "decrypt_each_into",
     "dukpt_data_key", "dukpt_data_variant", "dukpt_initial_key", "dukpt_is_usable", "dukpt_mac_key", "dukpt_next_serial",
-    "dukpt_pin_key", "dukpt_transaction_key", "dukpt_transaction_keys", "emv_application_cryptogram", "emv_application_key",
+    "dukpt_pin_key", "dukpt_transaction_key", "dukpt_transaction_keys_from_base", "emv_application_cryptogram", "emv_application_key",
     "emv_card_key", "emv_card_key_b", "emv_response_1", "emv_response_2", "emv_session_key", "encrypt_cbc_records",
     "encrypt_each", "encrypt_each_into", "equal_but_parity", "is_weak_key", "key_block_context", "key_block_header",
     "key_block_optional_blocks", "key_check_value", "macs", "macs_each", "natural_pin", "open_salted", "pad", "pbkdf2",

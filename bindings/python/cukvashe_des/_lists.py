@@ -135,7 +135,7 @@ def check_values(cipher: Type[Cipher], keys: ReadableBuffer) -> bytes:
     return bytes(values)
 
 
-def dukpt_transaction_keys(base: ReadableBuffer, serials: ReadableBuffer) -> bytes:
+def dukpt_transaction_keys_from_base(base: ReadableBuffer, serials: ReadableBuffer) -> bytes:
     """The keys of transactions, of 16 bytes each, from the base derivation key and key serial numbers of ten bytes, one
     after the other, as in an array of shape (n, 10): what dukpt_transaction_key makes of dukpt_initial_key, for each.
     The terminals may be different ones. Every counter is taken: ask dukpt_is_usable of each serial number that was sent.

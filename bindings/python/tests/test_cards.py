@@ -96,7 +96,7 @@ class Terminals(unittest.TestCase):
             self.assertNotIn(key, [state[at : at + 16] for at in range(10, 346, 16)])
             terminal = DukptTerminal.from_state(bytearray(state))
             taken.append((serial, key))
-        keys = cukvashe_des.dukpt_transaction_keys(PAIR, b"".join(serial for serial, _ in taken))
+        keys = cukvashe_des.dukpt_transaction_keys_from_base(PAIR, b"".join(serial for serial, _ in taken))
         self.assertEqual(b"".join(key for _, key in taken), keys)
 
     def test_end(self):

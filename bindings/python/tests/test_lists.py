@@ -24,7 +24,7 @@ from cukvashe_des import (
     decrypt_each_into,
     dukpt_initial_key,
     dukpt_transaction_key,
-    dukpt_transaction_keys,
+    dukpt_transaction_keys_from_base,
     encrypt_each,
     encrypt_each_into,
 )
@@ -78,11 +78,11 @@ class Answers(unittest.TestCase):
                 self.assertEqual(check_values(kind, keys), values)
 
     def test_transactions(self):
-        self.assertEqual(dukpt_transaction_keys(PAIR, SERIALS), TRANSACTIONS)
+        self.assertEqual(dukpt_transaction_keys_from_base(PAIR, SERIALS), TRANSACTIONS)
         for count in COUNTS:
             serials = some(10 * count)
             keys = (dukpt_transaction_key(dukpt_initial_key(PAIR, serial), serial) for serial in parts(serials, 10))
-            self.assertEqual(dukpt_transaction_keys(PAIR, serials), b"".join(keys))
+            self.assertEqual(dukpt_transaction_keys_from_base(PAIR, serials), b"".join(keys))
 
 
 class Records(unittest.TestCase):
@@ -375,9 +375,9 @@ class Refused(unittest.TestCase):
                 elif length != 8:
                     self.assertRaises(CountMismatchError, decrypt_each, kind, KEY[:size], data)
             if length % 10:
-                self.assertRaises(SerialLengthError, dukpt_transaction_keys, PAIR, some(length))
+                self.assertRaises(SerialLengthError, dukpt_transaction_keys_from_base, PAIR, some(length))
             if length != 16:
-                self.assertRaises(KeyLengthError, dukpt_transaction_keys, some(length), SERIALS)
+                self.assertRaises(KeyLengthError, dukpt_transaction_keys_from_base, some(length), SERIALS)
 
     def test_stays(self):
         for call in (encrypt_each_into, decrypt_each_into):
@@ -456,5 +456,5 @@ class Wiped(WatchesWiping):
 
     def test_transactions(self):
         serials = bytes.fromhex("ffff9876543210e00001" "ffff9876543210e00002")
-        keys = cukvashe_des.dukpt_transaction_keys(PAIR, serials)
+        keys = cukvashe_des.dukpt_transaction_keys_from_base(PAIR, serials)
         self.assertEqual((sorted(self.wiped), len(keys)), ([16, 32], 32))

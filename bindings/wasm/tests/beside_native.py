@@ -71,27 +71,18 @@ def mac_of(kind, arguments, pieces, length):
 
 
 # What has another name in Python.
-NAMES = {"dukptTransactionKeysFromBase": "dukpt_transaction_keys"}
-
-
-def called(call, arguments):
-    """What a call answers, which takes vectors before the data in Python."""
-    options = arguments.pop() if arguments and isinstance(arguments[-1], dict) else {}
-    if "iv" in options:
-        return call(options["iv"], *arguments)
-    if "vectors" in options:
-        return call(arguments[0], options["vectors"], options["counts"], arguments[1])
-    return call(*arguments, **options)
+NAMES = {"dukptTransactionKeys": "dukpt_transaction_keys_from_base"}
 
 
 def answer_of(name, *words):
     arguments = [given(word) for word in words]
-    first, _, method = name.partition(".")
-    if method:
-        return called(getattr(getattr(cukvashe_des, first)(arguments[0]), snake(method)), arguments[1:])
+    first, _, call = name.partition(".")
+    if call:
+        return getattr(getattr(cukvashe_des, first)(arguments[0]), snake(call))(*arguments[1:])
     if first[0].isupper():
         return mac_of(getattr(cukvashe_des, first), *arguments)
-    return called(getattr(cukvashe_des, NAMES.get(first, snake(first))), arguments)
+    options = arguments.pop() if arguments and isinstance(arguments[-1], dict) else {}
+    return getattr(cukvashe_des, NAMES.get(first, snake(first)))(*arguments, **options)
 
 
 calls, errors = collections.Counter(), collections.Counter()
