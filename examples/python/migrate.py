@@ -9,7 +9,7 @@ iv, text = bytes.fromhex("1234567890abcdef"), b"The qufck brown fox jump"
 sealed = bytes.fromhex("38413d4ba2325cf1141f707471ac2ced57db530f0123b5acdda77ebde0c63614")
 
 
-def pycryptodome():
+def pycryptodome() -> None:
     try:
         from Crypto.Cipher import DES3
         from Crypto.Hash import CMAC, SHA256
@@ -22,9 +22,9 @@ def pycryptodome():
         from Cryptodome.Util import Padding
 
     cbc = DES3.new(key, DES3.MODE_CBC, iv=iv)
-    assert cbc.encrypt(Padding.pad(text, 8)) == TdesEde3(key).encrypt_cbc(iv, pad(text, "pkcs7"))
+    assert cbc.encrypt(Padding.pad(text, 8)) == TdesEde3(key).encrypt_cbc(pad(text, "pkcs7"), iv=iv)
     cbc = DES3.new(key, DES3.MODE_CBC, iv=iv)
-    assert Padding.unpad(cbc.decrypt(sealed), 8) == unpad(TdesEde3(key).decrypt_cbc(iv, sealed), "pkcs7")
+    assert Padding.unpad(cbc.decrypt(sealed), 8) == unpad(TdesEde3(key).decrypt_cbc(sealed, iv=iv), "pkcs7")
     assert DES3.new(key, DES3.MODE_ECB).encrypt(text) == TdesEde3(key).encrypt_ecb(text)
     # A key of two parts: there its length decides, here the class.
     assert DES3.new(pair, DES3.MODE_ECB).encrypt(text) == TdesEde2(pair).encrypt_ecb(text)
@@ -33,7 +33,7 @@ def pycryptodome():
     assert derived == pbkdf2("sha256", b"password", b"salt", 1000, 24)
 
 
-def cryptography():
+def cryptography() -> None:
     from cryptography.hazmat.primitives import cmac, hashes, padding
     from cryptography.hazmat.primitives.ciphers import Cipher, modes
     from cryptography.hazmat.primitives.kdf.pbkdf2 import PBKDF2HMAC
@@ -45,10 +45,10 @@ def cryptography():
 
     cbc, padder = Cipher(TripleDES(key), modes.CBC(iv)).encryptor(), padding.PKCS7(64).padder()
     theirs = cbc.update(padder.update(text) + padder.finalize()) + cbc.finalize()
-    assert theirs == TdesEde3(key).encrypt_cbc(iv, pad(text, "pkcs7"))
+    assert theirs == TdesEde3(key).encrypt_cbc(pad(text, "pkcs7"), iv=iv)
     cbc, unpadder = Cipher(TripleDES(key), modes.CBC(iv)).decryptor(), padding.PKCS7(64).unpadder()
     theirs = unpadder.update(cbc.update(sealed) + cbc.finalize()) + unpadder.finalize()
-    assert theirs == unpad(TdesEde3(key).decrypt_cbc(iv, sealed), "pkcs7")
+    assert theirs == unpad(TdesEde3(key).decrypt_cbc(sealed, iv=iv), "pkcs7")
     assert Cipher(TripleDES(key), modes.ECB()).encryptor().update(text) == TdesEde3(key).encrypt_ecb(text)
     # A key of two parts: there the first part stands once more at its end, here the class decides.
     assert Cipher(TripleDES(pair + pair[:8]), modes.ECB()).encryptor().update(text) == TdesEde2(pair).encrypt_ecb(text)
@@ -59,7 +59,7 @@ def cryptography():
     assert theirs == pbkdf2("sha256", b"password", b"salt", 1000, 24)
 
 
-assert TdesEde3(key).encrypt_cbc(iv, pad(text, "pkcs7")) == sealed
+assert TdesEde3(key).encrypt_cbc(pad(text, "pkcs7"), iv=iv) == sealed
 for compare in (pycryptodome, cryptography):
     try:
         compare()

@@ -8,19 +8,20 @@ On a cluster of your own `Client("tcp://HOST:8786")` names the scheduler. Each w
 import csv
 import os
 import sys
+from typing import Iterator, List, Tuple
 
 import cukvashe_des
 from dask.distributed import Client, LocalCluster
 
 
-def decrypted(key_file, vectors, counts, blocks):
+def decrypted(key_file: str, vectors: bytes, counts: List[int], blocks: bytes) -> bytes:
     """The plaintext of a partition, with its padding. The worker reads the key: none goes over the network."""
     with open(key_file) as file:
         cipher = cukvashe_des.TdesEde3(bytes.fromhex(file.read()))
-    return cukvashe_des.decrypt_cbc_records(cipher, vectors, counts, blocks)
+    return cukvashe_des.decrypt_cbc_records(cipher, blocks, vectors=vectors, counts=counts)
 
 
-def partitions(vectors, counts, blocks, size):
+def partitions(vectors: bytes, counts: List[int], blocks: bytes, size: int) -> Iterator[Tuple[bytes, List[int], bytes]]:
     """A column in partitions of `size` records."""
     end = 0
     for first in range(0, len(counts), size):
@@ -29,7 +30,7 @@ def partitions(vectors, counts, blocks, size):
         yield vectors[8 * first : 8 * (first + size)], part, blocks[begin:end]
 
 
-def main(key_file, table):
+def main(key_file: str, table: str) -> None:
     with open(table, newline="") as file:
         rows = list(csv.DictReader(file)) * 25_000  # as if the table were long
     vectors = bytes.fromhex("".join(row["vector"] for row in rows))

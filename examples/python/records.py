@@ -5,23 +5,24 @@
 
 import csv
 import sys
+from typing import Dict, Iterator, List
 
 import cukvashe_des
 
 
-def decrypted(cipher, rows):
+def decrypted(cipher: cukvashe_des.Cipher, rows: List[Dict[str, str]]) -> Iterator[bytes]:
     """The texts of the records, each of which has an initialization vector of its own."""
     vectors = b"".join(bytes.fromhex(row["vector"]) for row in rows)
     blocks = b"".join(bytes.fromhex(row["ciphertext"]) for row in rows)
     counts = [len(row["ciphertext"]) // 16 for row in rows]  # blocks of 8 bytes
-    plain = cukvashe_des.decrypt_cbc_records(cipher, vectors, counts, blocks)
+    plain = cukvashe_des.decrypt_cbc_records(cipher, blocks, vectors=vectors, counts=counts)
     end = 0
     for count in counts:
         begin, end = end, end + 8 * count
         yield cukvashe_des.unpad(plain[begin:end], "pkcs7")
 
 
-def main(key_file, table):
+def main(key_file: str, table: str) -> None:
     with open(key_file) as file:
         key = bytes.fromhex(file.read())
     with open(table, newline="") as file:

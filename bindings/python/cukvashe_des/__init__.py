@@ -2,7 +2,7 @@
 
     import cukvashe_des
     cipher = cukvashe_des.TdesEde3(key)            # 24 bytes
-    plaintext = cipher.decrypt_cbc(iv, ciphertext)
+    plaintext = cipher.decrypt_cbc(ciphertext, iv=iv)
 
 The library is the one in this package's folder, else the file that the environment variable CUKVASHE_DES_LIBRARY names, else
 that of `bindings/build`, else the one that the system finds.
@@ -16,7 +16,7 @@ Messages are authenticated by objects as those of `hmac`, with `update`, `digest
 
     mac = cukvashe_des.CmacTdesEde3(key)
     mac.update(message)
-    mac.verify(tag)                                # TagMismatchError, a ValueError, if it is not the whole tag
+    mac.verify(tag)                                # TagMismatchError if it is not the whole tag
 
 `TdesEde3(key, quiet=True)`, and so each cipher and MAC, makes the library read no tables at addresses that depend on the key or
 the data, which other programs on the processor could learn. That is tested of the library on x86-64, not of this package.
@@ -26,12 +26,12 @@ the data, which other programs on the processor could learn. That is tested of t
 `pin_translate_` translate encrypted ones, `cvv` makes card verification values, those named `emv_` keys of cards and cryptograms.
 A PIN is verified by its value or its offset; a call that verifies returns nothing for the right PIN:
 
-    cukvashe_des.pvv_verify(key, account, 1, pin, value)    # WrongPinError, a ValueError, if it is not the one
+    cukvashe_des.pvv_verify(key, account, 1, pin, value)    # WrongPinError if it is not the one
 
 `unwrap_key_block(protection, block)` gives the header and the key of a key block (TR-31), `wrap_key_block` makes one, with random
 padding:
 
-    header, key = cukvashe_des.unwrap_key_block(protection, block)    # KeyBlockMacError, a ValueError, if it was changed
+    header, key = cukvashe_des.unwrap_key_block(protection, block)    # KeyBlockMacError if it was changed
 
 `open_salted(TdesEde3, password, data)` gives what `openssl enc -des3` encrypted; `pbkdf2` and `bytes_to_key` derive keys from
 passwords.
@@ -46,11 +46,12 @@ Lists go in one call: `encrypt_each` and `decrypt_each` with a key for each bloc
 
 The key of a transaction encrypts nothing itself, so each is made the PIN key of its transaction first.
 
-`decrypt_cbc_records(cipher, vectors, counts, blocks)` and its inverse take a column of records, `macs` and `macs_each` many
-messages, and `wrong_tags` gives the places of the tags that came and are not those that these made.
+`decrypt_cbc_records(cipher, blocks, vectors=vectors, counts=counts)` and its inverse take a column of records, `macs` and
+`macs_each` many messages, and `wrong_tags` gives the places of the tags that came and are not those that these made.
 
-A fault is a ValueError of its own name, which the call's text names, an argument of the wrong type a TypeError. Their texts tell
-lengths, and no other value that was given.
+Each fault is an `Error` of its own name, which the call's text names. Those by which a call says that a tag, a PIN or a key block
+is not the right one are below `VerificationError`, and no ValueError; all others are a ValueError too. An argument of the wrong
+type is a TypeError. Texts tell lengths, and no other value that was given.
 
 A class that you derive from one of the ciphers or MACs is the same cipher or MAC, whatever attributes it has.
 
@@ -61,7 +62,7 @@ a `bytearray` you can overwrite.
 
 from __future__ import annotations
 
-from ._ciphers import Des, TdesEde2, TdesEde3
+from ._ciphers import Cipher, Des, TdesEde2, TdesEde3
 from ._data import BLOCK_SIZE
 from ._faults import (
     AccountDigitError,
@@ -70,6 +71,7 @@ from ._faults import (
     ClosedError,
     CountMismatchError,
     DataLengthError,
+    Error,
     ExpiryDigitError,
     ExpiryLengthError,
     FillError,
@@ -108,6 +110,7 @@ from ._faults import (
     TableVarietyError,
     TagMismatchError,
     VectorLengthError,
+    VerificationError,
     WeakKeyError,
     WrongPinError,
 )
@@ -158,7 +161,7 @@ from ._lists import (
     macs_each,
     wrong_tags,
 )
-from ._macs import TAG_SIZE, CbcMacDes, CbcMacTdesEde2, CbcMacTdesEde3, CmacTdesEde2, CmacTdesEde3, RetailMacDes
+from ._macs import TAG_SIZE, CbcMacDes, CbcMacTdesEde2, CbcMacTdesEde3, CmacTdesEde2, CmacTdesEde3, Mac, RetailMacDes
 from ._padding import pad, unpad
 from ._passwords import bytes_to_key, open_salted, pbkdf2
 from ._payment import (
@@ -180,24 +183,26 @@ from ._verification import DecimalTable, natural_pin, pin_offset, pin_offset_ver
 from ._version import __version__
 
 __all__ = [
-    "AccountDigitError", "AccountLengthError", "BLOCK_SIZE", "BlockLengthError", "CbcMacDes", "CbcMacTdesEde2", "CbcMacTdesEde3", "ClosedError",
-    "CmacTdesEde2", "CmacTdesEde3", "CountMismatchError", "DataLengthError", "DecimalTable", "Des", "DukptTerminal", "ExpiryDigitError",
-    "ExpiryLengthError", "FillError", "FillLengthError", "FormatError", "FormatsError", "HashNameError", "IterationCountError", "KeyBlockDigitError",
-    "KeyBlockFieldError", "KeyBlockHeader", "KeyBlockLengthError", "KeyBlockMacError", "KeyBlockVersionError", "KeyDataLengthError", "KeyIndexError",
-    "KeyLengthError", "NoSerialError", "NotSaltedError", "OptionalBlockError", "PaddingLengthError", "PaddingMethodError", "PaddingMismatchError", "PinBlockError",
-    "PinDigitError", "PinLengthError", "ProtectionKeyLengthError", "RetailMacDes", "SaltLengthError", "SequenceDigitError", "SequenceLengthError",
-    "SerialLengthError", "ServiceDigitError", "ServiceLengthError", "StateLengthError", "TAG_SIZE", "TableDigitError", "TableLengthError", "TableVarietyError",
-    "TagMismatchError", "TdesEde2", "TdesEde3", "VectorLengthError", "WeakKeyError", "WrongPinError", "__version__", "bytes_to_key",
-    "check_value", "check_values", "combine", "cvv", "decrypt_cbc_records", "decrypt_each", "decrypt_each_into",
-    "dukpt_data_key", "dukpt_data_variant", "dukpt_initial_key", "dukpt_is_usable", "dukpt_mac_key", "dukpt_next_serial",
-    "dukpt_pin_key", "dukpt_transaction_key", "dukpt_transaction_keys_from_base", "emv_application_cryptogram", "emv_application_key",
-    "emv_card_key", "emv_card_key_b", "emv_response_1", "emv_response_2", "emv_session_key", "encrypt_cbc_records",
-    "encrypt_each", "encrypt_each_into", "equal_but_parity", "is_weak_key", "key_block_context", "key_block_header",
-    "key_block_optional_blocks", "key_check_value", "macs", "macs_each", "natural_pin", "open_salted", "pad", "pbkdf2",
-    "pin_decode_0", "pin_decode_1", "pin_decode_2", "pin_decode_3", "pin_encode_0", "pin_encode_1", "pin_encode_2",
-    "pin_encode_3", "pin_offset", "pin_offset_verify", "pin_translate_to_0", "pin_translate_to_1", "pin_translate_to_3",
-    "pvv", "pvv_verify", "short_key_check_value", "unpad", "unwrap_key_block", "with_odd_parity", "wrap_key_block",
-    "wrong_tags",
+    "AccountDigitError", "AccountLengthError", "BLOCK_SIZE", "BlockLengthError", "CbcMacDes", "CbcMacTdesEde2", "CbcMacTdesEde3",
+    "Cipher", "ClosedError", "CmacTdesEde2", "CmacTdesEde3", "CountMismatchError", "DataLengthError", "DecimalTable", "Des",
+    "DukptTerminal", "Error", "ExpiryDigitError", "ExpiryLengthError", "FillError", "FillLengthError", "FormatError",
+    "FormatsError", "HashNameError", "IterationCountError", "KeyBlockDigitError", "KeyBlockFieldError", "KeyBlockHeader",
+    "KeyBlockLengthError", "KeyBlockMacError", "KeyBlockVersionError", "KeyDataLengthError", "KeyIndexError", "KeyLengthError",
+    "Mac", "NoSerialError", "NotSaltedError", "OptionalBlockError", "PaddingLengthError", "PaddingMethodError",
+    "PaddingMismatchError", "PinBlockError", "PinDigitError", "PinLengthError", "ProtectionKeyLengthError", "RetailMacDes",
+    "SaltLengthError", "SequenceDigitError", "SequenceLengthError", "SerialLengthError", "ServiceDigitError",
+    "ServiceLengthError", "StateLengthError", "TAG_SIZE", "TableDigitError", "TableLengthError", "TableVarietyError",
+    "TagMismatchError", "TdesEde2", "TdesEde3", "VectorLengthError", "VerificationError", "WeakKeyError", "WrongPinError",
+    "__version__", "bytes_to_key", "check_value", "check_values", "combine", "cvv", "decrypt_cbc_records", "decrypt_each",
+    "decrypt_each_into", "dukpt_data_key", "dukpt_data_variant", "dukpt_initial_key", "dukpt_is_usable", "dukpt_mac_key",
+    "dukpt_next_serial", "dukpt_pin_key", "dukpt_transaction_key", "dukpt_transaction_keys_from_base",
+    "emv_application_cryptogram", "emv_application_key", "emv_card_key", "emv_card_key_b", "emv_response_1", "emv_response_2",
+    "emv_session_key", "encrypt_cbc_records", "encrypt_each", "encrypt_each_into", "equal_but_parity", "is_weak_key",
+    "key_block_context", "key_block_header", "key_block_optional_blocks", "key_check_value", "macs", "macs_each", "natural_pin",
+    "open_salted", "pad", "pbkdf2", "pin_decode_0", "pin_decode_1", "pin_decode_2", "pin_decode_3", "pin_encode_0",
+    "pin_encode_1", "pin_encode_2", "pin_encode_3", "pin_offset", "pin_offset_verify", "pin_translate_to_0", "pin_translate_to_1",
+    "pin_translate_to_3", "pvv", "pvv_verify", "short_key_check_value", "unpad", "unwrap_key_block", "with_odd_parity",
+    "wrap_key_block", "wrong_tags",
 ]
 
 # Texts of errors and of `help` name the package, and not the file that defines a class.

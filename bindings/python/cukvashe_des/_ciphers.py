@@ -1,16 +1,35 @@
 """The ciphers."""
 
-from __future__ import annotations
+# Annotations are no texts here: they would be looked up in the package, which the classes name as their module.
 
-from typing import TYPE_CHECKING, Any, ClassVar, Type
+import functools
+from typing import Any, Callable, ClassVar, Type, TypeVar, cast
 
 from ._data import BLOCK_SIZE, KINDS, Keyed, Kind, bytes_of, in_order, is_writable, kind_of, pointer_to, vector_of
 from ._faults import BlockLengthError
 from ._library import INT, POINTER, SIZE
 from ._statuses import OK
+from ._types import ReadableBuffer, WriteableBuffer
 
-if TYPE_CHECKING:
-    from _typeshed import ReadableBuffer, WriteableBuffer
+
+_Call = TypeVar("_Call", bound=Callable[..., Any])
+
+
+def vectors_by_name(call: _Call) -> _Call:
+    """A call that takes vectors by name alone, since they and data are bytes alike. In another order it is a TypeError that says
+    what to write."""
+    code = call.__code__
+    places, end = code.co_argcount, code.co_argcount + code.co_kwonlyargcount
+    words = [name for name in code.co_varnames[:places] if name != "self"]
+    words += [f"{name}={name}" for name in code.co_varnames[places:end]]
+
+    @functools.wraps(call)
+    def checked(*given: Any, **named: Any) -> Any:
+        if len(given) > places:
+            raise TypeError(f"the data come first, and vectors go by name: {code.co_name}({', '.join(words)})")
+        return call(*given, **named)
+
+    return cast(_Call, checked)
 
 
 class Cipher(Keyed):
@@ -34,12 +53,14 @@ class Cipher(Keyed):
         """The data, each block of 8 bytes decrypted by itself. BlockLengthError."""
         return self._answer("decrypt_ecb_to", data)
 
-    def encrypt_cbc(self, iv: ReadableBuffer, data: ReadableBuffer) -> bytes:
+    @vectors_by_name
+    def encrypt_cbc(self, data: ReadableBuffer, *, iv: ReadableBuffer) -> bytes:
         """The data, encrypted by cipher block chaining from an initialization vector of 8 bytes. VectorLengthError,
         BlockLengthError."""
         return self._answer("encrypt_cbc_to", data, vector_of(iv))
 
-    def decrypt_cbc(self, iv: ReadableBuffer, data: ReadableBuffer) -> bytes:
+    @vectors_by_name
+    def decrypt_cbc(self, data: ReadableBuffer, *, iv: ReadableBuffer) -> bytes:
         """The data, decrypted by cipher block chaining from an initialization vector. Padding stays. VectorLengthError,
         BlockLengthError."""
         return self._answer("decrypt_cbc_to", data, vector_of(iv))
@@ -53,14 +74,16 @@ class Cipher(Keyed):
         """Decrypts in place. Errors as of encrypt_ecb_into."""
         self._change("decrypt_ecb", data)
 
-    def encrypt_cbc_into(self, iv: ReadableBuffer, data: WriteableBuffer) -> bytes:
+    @vectors_by_name
+    def encrypt_cbc_into(self, data: WriteableBuffer, *, iv: ReadableBuffer) -> bytes:
         """Encrypts in place by cipher block chaining; returns the vector of the next piece. VectorLengthError, and the errors of
         encrypt_ecb_into."""
         vector = vector_of(iv)
         self._change("encrypt_cbc", data, vector)
         return bytes(vector)
 
-    def decrypt_cbc_into(self, iv: ReadableBuffer, data: WriteableBuffer) -> bytes:
+    @vectors_by_name
+    def decrypt_cbc_into(self, data: WriteableBuffer, *, iv: ReadableBuffer) -> bytes:
         """Decrypts in place by cipher block chaining; returns the vector of the next piece. Errors as of encrypt_cbc_into."""
         vector = vector_of(iv)
         self._change("decrypt_cbc", data, vector)
@@ -92,7 +115,7 @@ def class_of(cipher: Type[Cipher]) -> Kind:
     """What a class of ciphers stands for. A class that a caller derives from one is as that one."""
     kind = kind_of(cipher, Cipher)
     if kind is None:
-        raise TypeError("the first argument is a class of ciphers, such as TdesEde2")
+        raise TypeError("a class of ciphers is Des, TdesEde2, TdesEde3, or one that is derived from these")
     return kind
 
 

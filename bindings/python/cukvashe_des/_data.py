@@ -6,17 +6,15 @@ import contextlib
 import ctypes
 import re
 from itertools import takewhile
-from typing import TYPE_CHECKING, Any, Callable, Dict, Iterator, NoReturn, Optional, Tuple, Type, TypeVar, Union
+from typing import Any, Callable, Dict, Iterator, NoReturn, Optional, Tuple, Type, TypeVar
 
-from ._faults import BlockLengthError, ClosedError, KeyLengthError, VectorLengthError, check
+from ._faults import BlockLengthError, ClosedError, Error, KeyLengthError, VectorLengthError, check
 from ._library import INT, POINTER, SIZE, function, wipe
-
-if TYPE_CHECKING:
-    from _typeshed import ReadableBuffer, WriteableBuffer
-
-    _Call = Callable[..., Any]
+from ._types import ReadableBuffer, Text, WriteableBuffer
 
 BLOCK_SIZE = 8
+
+_Data = TypeVar("_Data")
 
 
 # Bytes, and words whose most significant byte comes first, as a memoryview names them.
@@ -56,13 +54,26 @@ def _held(copied: bytearray) -> Iterator[Any]:
         wipe(held, len(held))
 
 
+def no_text(key: _Data) -> _Data:
+    """A key, or keys, that are no text: most texts in their place are the hexadecimal digits of a key."""
+    if isinstance(key, str):
+        raise TypeError("a key is bytes and not a text: bytes.fromhex makes it of hexadecimal digits")
+    return key
+
+
+def hint_of(key: Any, *sizes: int) -> str:
+    """What an error says more of bytes that are the hexadecimal digits of a key of one of the sizes."""
+    is_digits = len(key) in [2 * size for size in sizes] and all(byte in b"0123456789ABCDEFabcdef" for byte in key)
+    return ": bytes.fromhex makes a key of hexadecimal digits" if is_digits else ""
+
+
 @contextlib.contextmanager
 def key_of(key: ReadableBuffer, *sizes: int) -> Iterator[Any]:
     """A copy of a key for one call, wiped after it. KeyLengthError if its length is none of the sizes."""
-    with _held(_copy_of(key)) as held:
+    with _held(_copy_of(no_text(key))) as held:
         if len(held) not in sizes:
             listed = " or ".join(map(str, sizes))
-            raise KeyLengthError(f"a key has {listed} bytes, not {len(held)}")
+            raise KeyLengthError(f"a key has {listed} bytes, not {len(held)}{hint_of(held, *sizes)}")
         yield held
 
 
@@ -90,7 +101,7 @@ def block_of(block: ReadableBuffer) -> Iterator[Any]:
         yield held
 
 
-def data_of(data: ReadableBuffer, size: int, what: str, fault: Type[ValueError]) -> bytes:
+def data_of(data: ReadableBuffer, size: int, what: str, fault: Type[Error]) -> bytes:
     """The bytes of data that have one length, and no other."""
     taken = bytes_of(data)
     if len(taken) != size:
@@ -106,7 +117,7 @@ def number_of(number: int, least: int, most: int) -> int:
 
 
 @contextlib.contextmanager
-def text_of(digits: Union[str, ReadableBuffer]) -> Iterator[Tuple[Any, int]]:
+def text_of(digits: Text) -> Iterator[Tuple[Any, int]]:
     """A copy of a text, of str or of bytes, and its length, wiped after a call. A character beyond ASCII becomes one that is no
     digit either."""
     with _held(bytearray(digits, "ascii", "replace") if isinstance(digits, str) else _copy_of(digits)) as held:
@@ -199,7 +210,8 @@ def kept_apart(data: ReadableBuffer, written: memoryview) -> Iterator[Tuple[Any,
 
 def row_size(view: memoryview) -> Optional[int]:
     """The bytes of a row, which is the last dimension of more than one, else None."""
-    return view.itemsize * view.shape[-1] if view.ndim > 1 else None
+    shape = view.shape or ()
+    return view.itemsize * shape[-1] if len(shape) > 1 else None
 
 
 def pointer_to(data: WriteableBuffer) -> Any:
@@ -233,7 +245,7 @@ class Kind:
         self.context = context_type(words)
         self.context.kind = self
         starts = (INT, POINTER, POINTER, SIZE, *paddings)
-        self.calls: Dict[str, _Call] = {call: function(f"{name}_{call}", *starts) for call in ("init", "init_quiet")}
+        self.calls: Dict[str, Callable[..., Any]] = {call: function(f"{name}_{call}", *starts) for call in ("init", "init_quiet")}
 
     def declare(self, call: str, result: Any, *arguments: Any) -> None:
         """Declares a call of the library's."""

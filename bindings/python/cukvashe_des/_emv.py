@@ -2,17 +2,13 @@
 
 from __future__ import annotations
 
-from typing import TYPE_CHECKING, Any, Callable, Union
+from typing import Any, Callable
 
 from ._data import BLOCK_SIZE, bytes_from, bytes_of, data_of, key_of, room, text_of
 from ._faults import BlockLengthError, DataLengthError, check
 from ._keys import made_of_key
 from ._library import INT, POINTER, SIZE, function
-
-if TYPE_CHECKING:
-    from _typeshed import ReadableBuffer
-
-    _Text = Union[str, ReadableBuffer]
+from ._types import ReadableBuffer, Text
 
 _card_key = function("emv_card_key", INT, POINTER, POINTER, SIZE, POINTER, SIZE, POINTER)
 _card_key_b = function("emv_card_key_b", INT, POINTER, POINTER, SIZE, POINTER, SIZE, POINTER)
@@ -28,7 +24,7 @@ def _cryptogram_of(cryptogram: ReadableBuffer) -> bytes:
     return data_of(cryptogram, BLOCK_SIZE, "an application cryptogram has", BlockLengthError)
 
 
-def _made_by(option: Callable[..., Any], issuer: ReadableBuffer, account: _Text, sequence: _Text) -> bytes:
+def _made_by(option: Callable[..., Any], issuer: ReadableBuffer, account: Text, sequence: Text) -> bytes:
     """The key of a card by an option."""
     key = room(16)
     with key_of(issuer, 16) as held, text_of(account) as number, text_of(sequence) as place:
@@ -36,14 +32,14 @@ def _made_by(option: Callable[..., Any], issuer: ReadableBuffer, account: _Text,
     return bytes_from(key)
 
 
-def emv_card_key(issuer: ReadableBuffer, account: _Text, sequence: _Text) -> bytes:
+def emv_card_key(issuer: ReadableBuffer, account: Text, sequence: Text) -> bytes:
     """The key of a card (option A), with odd parity, from the issuer's key, an account number of 8 to 19 digits and a sequence
     number of two, as str or bytes of digits: "00" where the card has none. KeyLengthError, AccountLengthError, AccountDigitError,
     SequenceLengthError, SequenceDigitError."""
     return _made_by(_card_key, issuer, account, sequence)
 
 
-def emv_card_key_b(issuer: ReadableBuffer, account: _Text, sequence: _Text) -> bytes:
+def emv_card_key_b(issuer: ReadableBuffer, account: Text, sequence: Text) -> bytes:
     """The key of a card by option B, which differs where the account number has more than sixteen digits: take it if the card
     scheme asks for it. Errors as of emv_card_key."""
     return _made_by(_card_key_b, issuer, account, sequence)

@@ -1,4 +1,4 @@
-"""The errors. Each is a ValueError of its own name, and no text of one tells a value that was given, only lengths."""
+"""The errors. No text of one tells a value that was given, only lengths."""
 
 from __future__ import annotations
 
@@ -7,194 +7,203 @@ from typing import Dict, Type
 from . import _statuses
 
 
-class KeyLengthError(ValueError):
+class Error(Exception):
+    """What a call of this package refuses or does not find: the base of the errors of this package. A wrong type is a TypeError."""
+
+
+class VerificationError(Error):
+    """What was to be verified is not right. It is no ValueError, so that no `except ValueError`, as one around `decode`, catches
+    it."""
+
+
+class KeyLengthError(Error, ValueError):
     """A key has a length that no key of the cipher has."""
 
 
-class BlockLengthError(ValueError):
+class BlockLengthError(Error, ValueError):
     """Data are not whole blocks of 8 bytes."""
 
 
-class VectorLengthError(ValueError):
+class VectorLengthError(Error, ValueError):
     """An initialization vector does not have 8 bytes."""
 
 
-class PaddingMethodError(ValueError):
+class PaddingMethodError(Error, ValueError):
     """There is no padding method of this name or number."""
 
 
-class PaddingMismatchError(ValueError):
+class PaddingMismatchError(Error, ValueError):
     """Data do not end with the padding."""
 
 
-class SerialLengthError(ValueError):
+class SerialLengthError(Error, ValueError):
     """A key serial number does not have ten bytes."""
 
 
-class NoSerialError(ValueError):
+class NoSerialError(Error, ValueError):
     """A terminal has had its last transaction."""
 
 
-class StateLengthError(ValueError):
+class StateLengthError(Error, ValueError):
     """The state of a terminal does not have 346 bytes."""
 
 
-class CountMismatchError(ValueError):
+class CountMismatchError(Error, ValueError):
     """Numbers of elements do not agree: lists differ in length, or counts or lengths do not add up to what is given."""
 
 
-class WeakKeyError(ValueError):
+class WeakKeyError(Error, ValueError):
     """The weak key test refuses a key."""
 
 
-class TagMismatchError(ValueError):
+class TagMismatchError(VerificationError):
     """A tag is not that of the message, or does not have a length that the call takes."""
 
 
-class ClosedError(ValueError):
+class ClosedError(Error, ValueError):
     """The cipher, MAC or terminal was closed, so that its key is gone."""
 
 
-class FormatError(ValueError):
+class FormatError(Error, ValueError):
     """The first digit of a PIN block is not that of the format."""
 
 
-class PinLengthError(ValueError):
+class PinLengthError(Error, ValueError):
     """A PIN does not have 4 to 12 digits, or the second digit of a PIN block is not the length of such a PIN."""
 
 
-class PinDigitError(ValueError):
+class PinDigitError(Error, ValueError):
     """A character of a PIN is not a digit, or a digit of the PIN of a PIN block is above 9."""
 
 
-class AccountLengthError(ValueError):
+class AccountLengthError(Error, ValueError):
     """An account number has fewer digits than the call takes, or more than 19."""
 
 
-class AccountDigitError(ValueError):
+class AccountDigitError(Error, ValueError):
     """A character of an account number is not a digit."""
 
 
-class FillError(ValueError):
+class FillError(Error, ValueError):
     """A fill digit of a PIN block is none of those of the format."""
 
 
-class FillLengthError(ValueError):
+class FillLengthError(Error, ValueError):
     """There are not ten fill digits."""
 
 
-class ExpiryLengthError(ValueError):
+class ExpiryLengthError(Error, ValueError):
     """An expiry date does not have four digits."""
 
 
-class ExpiryDigitError(ValueError):
+class ExpiryDigitError(Error, ValueError):
     """A character of an expiry date is not a digit."""
 
 
-class ServiceLengthError(ValueError):
+class ServiceLengthError(Error, ValueError):
     """A service code does not have three digits."""
 
 
-class ServiceDigitError(ValueError):
+class ServiceDigitError(Error, ValueError):
     """A character of a service code is not a digit."""
 
 
-class KeyIndexError(ValueError):
+class KeyIndexError(Error, ValueError):
     """The index of a key pair is none of 1 to 6."""
 
 
-class TableLengthError(ValueError):
+class TableLengthError(Error, ValueError):
     """A decimalization table does not have sixteen digits."""
 
 
-class TableDigitError(ValueError):
+class TableDigitError(Error, ValueError):
     """A character of a decimalization table is not a digit."""
 
 
-class TableVarietyError(ValueError):
+class TableVarietyError(Error, ValueError):
     """A decimalization table has fewer than eight different digits."""
 
 
-class WrongPinError(ValueError):
+class WrongPinError(VerificationError):
     """A PIN is not the one."""
 
 
-class FormatsError(ValueError):
+class FormatsError(Error, ValueError):
     """There is no translation of PIN blocks from this format."""
 
 
-class PinBlockError(ValueError):
+class PinBlockError(Error, ValueError):
     """Decrypted, a PIN block is not one of its format and account number."""
 
 
-class SequenceLengthError(ValueError):
+class SequenceLengthError(Error, ValueError):
     """The sequence number of a card does not have two digits."""
 
 
-class SequenceDigitError(ValueError):
+class SequenceDigitError(Error, ValueError):
     """A character of the sequence number of a card is not a digit."""
 
 
-class DataLengthError(ValueError):
+class DataLengthError(Error, ValueError):
     """Data of a card cryptogram do not have the number of bytes that the call takes."""
 
 
-class ProtectionKeyLengthError(ValueError):
+class ProtectionKeyLengthError(Error, ValueError):
     """A protection key of key blocks does not have 16 or 24 bytes."""
 
 
-class KeyBlockLengthError(ValueError):
+class KeyBlockLengthError(Error, ValueError):
     """A key block has another length than its header says, or more characters than a key block can have."""
 
 
-class KeyBlockVersionError(ValueError):
+class KeyBlockVersionError(Error, ValueError):
     """The version of a key block is none of A, B and C, or one is to be made of another than B and C."""
 
 
-class KeyBlockFieldError(ValueError):
+class KeyBlockFieldError(Error, ValueError):
     """The header of a key block does not end with two digits, a context of 0 to 2 and 0, or a field to be written is not as many
     letters and digits as it has."""
 
 
-class OptionalBlockError(ValueError):
+class OptionalBlockError(Error, ValueError):
     """The optional blocks of a key block can't be read, or do not end at a multiple of eight characters; or those of a block that
     is to be made have a name that is not two letters or digits or a content that is not printable ASCII, are more than 99, or one
     is a PB that is not the last, or does not end at a multiple of eight characters."""
 
 
-class KeyDataLengthError(ValueError):
+class KeyDataLengthError(Error, ValueError):
     """The encrypted key of a key block does not have a length that it can have."""
 
 
-class KeyBlockDigitError(ValueError):
+class KeyBlockDigitError(Error, ValueError):
     """A character of the encrypted key of a key block, or of its MAC, is none of 0 to 9 and A to F."""
 
 
-class KeyBlockMacError(ValueError):
+class KeyBlockMacError(VerificationError):
     """The MAC is not that of a key block: the block was changed, or is under another protection key."""
 
 
-class PaddingLengthError(ValueError):
+class PaddingLengthError(Error, ValueError):
     """The padding of the key of a key block does not have a length that it can have."""
 
 
-class HashNameError(ValueError):
+class HashNameError(Error, ValueError):
     """There is no hash function of this name that the call takes."""
 
 
-class IterationCountError(ValueError):
+class IterationCountError(Error, ValueError):
     """There is no iteration, or there are more than PBKDF2 counts."""
 
 
-class NotSaltedError(ValueError):
+class NotSaltedError(Error, ValueError):
     """Data do not begin with Salted__."""
 
 
-class SaltLengthError(ValueError):
+class SaltLengthError(Error, ValueError):
     """Data end within the salt, or the salt of bytes_to_key does not have 0 or 8 bytes."""
 
 
-_FAULTS: Dict[int, Type[ValueError]] = {
+_FAULTS: Dict[int, Type[Error]] = {
     _statuses.PADDING_METHOD: PaddingMethodError,
     _statuses.TAG: TagMismatchError,
     _statuses.FORMAT: FormatError,
@@ -243,15 +252,15 @@ _TAKEN = {
 }
 
 
-def fault_of(status: int) -> ValueError:
+def fault_of(status: int, hint: str = "") -> Error:
     """The fault of a status, with its sentence."""
-    return _FAULTS[status](_statuses.SENTENCES[status] + _TAKEN.get(status, ""))
+    return _FAULTS[status](_statuses.SENTENCES[status] + _TAKEN.get(status, "") + hint)
 
 
-def check(status: int) -> None:
+def check(status: int, hint: str = "") -> None:
     """Raises the fault of a status. One that none of the calls here can return is a RuntimeError: the library is another one."""
     if status == _statuses.OK:
         return
     if status not in _FAULTS:
         raise RuntimeError(f"the library returned the status {status}, which this call has not")
-    raise fault_of(status)
+    raise fault_of(status, hint)

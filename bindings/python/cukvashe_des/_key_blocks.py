@@ -5,18 +5,14 @@ from __future__ import annotations
 import ctypes
 import os
 from dataclasses import dataclass
-from typing import TYPE_CHECKING, Any, Iterable, List, Mapping, Optional, Tuple, Union
+from typing import Any, List, Mapping, Optional, Tuple
 
-from ._data import bytes_from, bytes_of, room, secret_of
+from ._data import bytes_from, bytes_of, hint_of, no_text, room, secret_of
+from ._keys import KEY_SIZES
 from ._faults import KeyBlockDigitError, KeyBlockFieldError, KeyBlockLengthError, KeyBlockVersionError, OptionalBlockError, check
 from ._library import INT, POINTER, SIZE, function
-from ._statuses import NO_OPTIONAL_BLOCK
-
-if TYPE_CHECKING:
-    from _typeshed import ReadableBuffer
-
-    _Text = Union[str, ReadableBuffer]
-    _OptionalBlocks = Union[Mapping[str, str], Iterable[Tuple[str, str]]]
+from ._statuses import KEY_LENGTH, NO_OPTIONAL_BLOCK, PROTECTION_KEY_LENGTH
+from ._types import OptionalBlocks, ReadableBuffer, Text
 
 _KEY_SIZE = 24
 _KEY_DATA_SIZE = 32
@@ -80,7 +76,7 @@ def _fields_of(header: KeyBlockHeader) -> bytes:
     return f"{version}{usage}\0{algorithm}{mode}{key_version}\0{exportability}".encode("ascii", "replace")
 
 
-def _block_of(block: _Text) -> bytes:
+def _block_of(block: Text) -> bytes:
     """The characters of a key block."""
     if isinstance(block, str):
         text = str.__str__(block)
@@ -103,7 +99,7 @@ def _optional_bytes(pair: Tuple[str, str]) -> bytes:
     return name + f"0002{len(content) + 10:04X}".encode("ascii") + content
 
 
-def _optional_of(optional: _OptionalBlocks) -> bytes:
+def _optional_of(optional: OptionalBlocks) -> bytes:
     """Optional blocks, one after the other."""
     if isinstance(optional, (str, bytes, bytearray, memoryview)):
         raise TypeError("optional blocks are pairs of a name and its content")
@@ -111,14 +107,20 @@ def _optional_of(optional: _OptionalBlocks) -> bytes:
     return b"".join(map(_optional_bytes, pairs))
 
 
-def unwrap_key_block(protection: ReadableBuffer, block: _Text) -> Tuple[KeyBlockHeader, bytes]:
+def _checked(status: int, protection: Any, key: Any = ()) -> None:
+    """Raises the fault of a status."""
+    lengths = {PROTECTION_KEY_LENGTH: (protection, 16, 24), KEY_LENGTH: (key, *KEY_SIZES)}
+    check(status, hint_of(*lengths[status]) if status in lengths else "")
+
+
+def unwrap_key_block(protection: ReadableBuffer, block: Text) -> Tuple[KeyBlockHeader, bytes]:
     """The header and the key, 8, 16 or 24 bytes, of a key block of version A, B or C, as str or bytes, under a protection key of 16
     or 24 bytes. Look at the header before you use the key. ProtectionKeyLengthError, KeyBlockLengthError, KeyBlockVersionError,
     KeyBlockFieldError, OptionalBlockError, KeyDataLengthError, KeyBlockDigitError, KeyLengthError; KeyBlockMacError if the block
     was changed, or is under another key."""
     text, fields, key, length = _block_of(block), room(_FIELDS_SIZE), room(_KEY_SIZE), SIZE()
-    with secret_of(protection) as held:
-        check(_unwrap(*held, text, len(text), fields, key, ctypes.byref(length)))
+    with secret_of(no_text(protection)) as held:
+        _checked(_unwrap(*held, text, len(text), fields, key, ctypes.byref(length)), held[0])
     return _header_from(fields), bytes_from(key, length.value)
 
 
@@ -127,7 +129,7 @@ def wrap_key_block(
     header: KeyBlockHeader,
     key: ReadableBuffer,
     *,
-    optional: _OptionalBlocks = (),
+    optional: OptionalBlocks = (),
     padding: Optional[ReadableBuffer] = None,
 ) -> str:
     """The key block of a key of 8, 16 or 24 bytes under a protection key of 16 or 24 bytes, of version B or C. Optional blocks are
@@ -137,13 +139,14 @@ def wrap_key_block(
     OptionalBlockError, ProtectionKeyLengthError, KeyBlockFieldError, KeyLengthError, PaddingLengthError, KeyBlockLengthError."""
     fields, more = _fields_of(header), _optional_of(optional)
     block, length = room(len(more) + _MORE), SIZE()
-    with secret_of(protection) as held, secret_of(key) as bare:
+    with secret_of(no_text(protection)) as held, secret_of(no_text(key)) as bare:
         hiding = os.urandom(max(0, _KEY_DATA_SIZE - 2 - bare[1])) if padding is None else bytes_of(padding)
-        check(_wrap(*held, fields, more, len(more), *bare, hiding, len(hiding), block, len(block), ctypes.byref(length)))
+        status = _wrap(*held, fields, more, len(more), *bare, hiding, len(hiding), block, len(block), ctypes.byref(length))
+        _checked(status, held[0], bare[0])
     return bytes(block)[: length.value].decode("ascii")
 
 
-def key_block_header(block: _Text) -> KeyBlockHeader:
+def key_block_header(block: Text) -> KeyBlockHeader:
     """The header of a key block, read with no key. Nothing of it is authenticated. KeyBlockLengthError, KeyBlockVersionError,
     KeyBlockFieldError, OptionalBlockError, KeyDataLengthError; KeyBlockDigitError for characters that are not ASCII."""
     text, fields = _block_of(block), room(_FIELDS_SIZE)
@@ -151,7 +154,7 @@ def key_block_header(block: _Text) -> KeyBlockHeader:
     return _header_from(fields)
 
 
-def key_block_context(block: _Text) -> str:
+def key_block_context(block: Text) -> str:
     """Where the key of a key block may be, read with no key: "0" in storage and exchange, as wrap_key_block writes it, "1" in
     storage only, "2" in exchange only. Nothing of it is authenticated. Errors as of key_block_header."""
     text, context = _block_of(block), room(1)
@@ -159,10 +162,11 @@ def key_block_context(block: _Text) -> str:
     return bytes(context).decode("ascii")
 
 
-def key_block_optional_blocks(block: _Text) -> List[Tuple[str, str]]:
+def key_block_optional_blocks(block: Text) -> List[Tuple[str, str]]:
     """The optional blocks of a key block, pairs of a name and its content, read with no key. Nothing of them is authenticated.
     Errors as of key_block_header."""
-    text, found = _block_of(block), []
+    text = _block_of(block)
+    found: List[Tuple[str, str]] = []
     name, offset, length = room(3), SIZE(), SIZE()
     while True:
         status = _optional_block(text, len(text), len(found), name, ctypes.byref(offset), ctypes.byref(length))

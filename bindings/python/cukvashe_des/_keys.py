@@ -3,16 +3,14 @@
 from __future__ import annotations
 
 import ctypes
-from typing import TYPE_CHECKING, Any, Callable, Optional, Type
+from typing import Any, Callable, Optional, Type
 
 from ._ciphers import Cipher, class_of
 from ._data import bytes_from, bytes_of, key_of, room, wiped_room
 from ._faults import SerialLengthError, WeakKeyError, check
 from ._library import BOOL, INT, POINTER, SIZE, function
 from ._statuses import NO_SERIAL, WEAK_KEY
-
-if TYPE_CHECKING:
-    from _typeshed import ReadableBuffer
+from ._types import ReadableBuffer
 
 KEY_SIZES = (8, 16, 24)
 

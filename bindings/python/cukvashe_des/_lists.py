@@ -6,17 +6,15 @@ from __future__ import annotations
 import contextlib
 from array import array
 from itertools import accumulate
-from typing import TYPE_CHECKING, AbstractSet, Any, Iterable, Iterator, List, Mapping, Optional, Tuple, Type
+from typing import AbstractSet, Any, Iterable, Iterator, List, Mapping, Optional, Tuple, Type
 
-from ._ciphers import Cipher, class_of
-from ._data import BLOCK_SIZE, Kind, bytes_from, in_order, is_writable, kept_apart, key_of, lent, pointer_to, room, row_size
-from ._faults import BlockLengthError, CountMismatchError, KeyLengthError, SerialLengthError, VectorLengthError, fault_of
+from ._ciphers import Cipher, class_of, vectors_by_name
+from ._data import BLOCK_SIZE, Kind, bytes_from, in_order, is_writable, kept_apart, key_of, lent, no_text, pointer_to, room, row_size
+from ._faults import BlockLengthError, CountMismatchError, Error, KeyLengthError, SerialLengthError, VectorLengthError, fault_of
 from ._library import INT, POINTER, SIZE, function
 from ._macs import TAG_SIZE, Mac, mac_class_of
 from ._statuses import OK, PADDING_METHOD
-
-if TYPE_CHECKING:
-    from _typeshed import ReadableBuffer, WriteableBuffer
+from ._types import ReadableBuffer, WriteableBuffer
 
 _CHECK_VALUE_SIZE, _SERIAL_SIZE, _TRANSACTION_KEY_SIZE = 3, 10, 16
 
@@ -47,27 +45,30 @@ _compare_tags = function("compare_tags", None, POINTER, POINTER, POINTER, SIZE)
 _transaction_keys = function("dukpt_transaction_keys", None, POINTER, POINTER, POINTER, SIZE)
 
 
-def _count_of(length: int, size: int, fault: Type[ValueError], elements: str) -> int:
+def _count_of(length: int, size: int, fault: Type[Error], elements: str) -> int:
     """How many elements of a size bytes are."""
     if length % size != 0:
         raise fault(f"{length} bytes are not whole {elements} of {size}")
     return length // size
 
 
-def _elements_of(view: memoryview, size: int, fault: Type[ValueError], elements: str) -> int:
+def _elements_of(view: memoryview, size: int, fault: Type[Error], elements: str) -> int:
     """How many elements of a size an object has. Of an array of more than one dimension each row is an element."""
     row = row_size(in_order(view))
     if row not in (size, None):
-        raise fault(f"rows of {row} bytes are not {elements} of {size}")
+        # Of keys it says nothing: rows of two could be keys of another cipher.
+        is_of_blocks = fault is BlockLengthError and row and row % size == 0
+        hint = f": reshape(-1, {size // view.itemsize}) makes them of it" if is_of_blocks else ""
+        raise fault(f"rows of {row} bytes are not {elements} of {size}{hint}")
     return _count_of(view.nbytes, size, fault, elements)
 
 
 @contextlib.contextmanager
 def _list_of(
-    data: ReadableBuffer, size: int, fault: Type[ValueError], elements: str, written: Optional[memoryview] = None
+    data: ReadableBuffer, size: int, fault: Type[Error], elements: str, written: Optional[memoryview] = None
 ) -> Iterator[Tuple[Any, int]]:
     """Where the elements of a list begin, and how many there are, kept apart from what a call writes."""
-    with memoryview(data) as view:
+    with memoryview(no_text(data) if fault is KeyLengthError else data) as view:
         count = _elements_of(view, size, fault, elements)
         with lent(view) if written is None else kept_apart(view, written) as (start, _):
             yield start, count
@@ -162,7 +163,7 @@ def _numbers_of(numbers: Iterable[int]) -> array[int]:
 
 
 def _recorded(
-    call: str, cipher: Cipher, vectors: ReadableBuffer, counts: Iterable[int], blocks: ReadableBuffer
+    call: str, cipher: Cipher, blocks: ReadableBuffer, vectors: ReadableBuffer, counts: Iterable[int]
 ) -> bytes:
     """What a call makes of records, from a copy of the vectors, which it changes."""
     if not isinstance(cipher, Cipher):
@@ -176,14 +177,16 @@ def _recorded(
         answer = bytearray(given)
     if records != len(held):
         raise CountMismatchError("the numbers of vectors and counts differ")
-    first, sizes, output = (pointer_to(data) if data else None for data in (chains, held, answer))
+    first, sizes = (pointer_to(chains), pointer_to(held)) if records else (None, None)
+    output = pointer_to(answer) if answer else None
     if _RECORDS[context.kind.name, call](context, first, sizes, records, output, len(answer)) != OK:
         raise CountMismatchError("the counts do not add up to the number of blocks")
     return bytes(answer)
 
 
+@vectors_by_name
 def encrypt_cbc_records(
-    cipher: Cipher, vectors: ReadableBuffer, counts: Iterable[int], blocks: ReadableBuffer
+    cipher: Cipher, blocks: ReadableBuffer, *, vectors: ReadableBuffer, counts: Iterable[int]
 ) -> bytes:
     """Records, each encrypted by cipher block chaining from a vector of its own: record k has counts[k] of the blocks,
     one record after the other, and the k-th 8 bytes of `vectors`. `cipher` is one that has a key, as TdesEde3(key).
@@ -192,14 +195,15 @@ def encrypt_cbc_records(
     VectorLengthError and BlockLengthError where there are no whole vectors or blocks, or rows of another size; CountMismatchError
     where the numbers of vectors and counts differ, or the counts, which are of blocks and not of bytes, do not add up to
     the number of blocks; TypeError as by `encrypt_each`."""
-    return _recorded("encrypt_cbc_records", cipher, vectors, counts, blocks)
+    return _recorded("encrypt_cbc_records", cipher, blocks, vectors, counts)
 
 
+@vectors_by_name
 def decrypt_cbc_records(
-    cipher: Cipher, vectors: ReadableBuffer, counts: Iterable[int], blocks: ReadableBuffer
+    cipher: Cipher, blocks: ReadableBuffer, *, vectors: ReadableBuffer, counts: Iterable[int]
 ) -> bytes:
     """Records, each decrypted by cipher block chaining. Padding stays. Arguments and errors as of `encrypt_cbc_records`."""
-    return _recorded("decrypt_cbc_records", cipher, vectors, counts, blocks)
+    return _recorded("decrypt_cbc_records", cipher, blocks, vectors, counts)
 
 
 @contextlib.contextmanager

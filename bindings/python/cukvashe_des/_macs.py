@@ -1,17 +1,15 @@
 """The message authentication codes."""
 
-from __future__ import annotations
+# Annotations are no texts here, as in _ciphers.py.
 
 import threading
-from typing import TYPE_CHECKING, ClassVar, Type, TypeVar
+from typing import Any, ClassVar, Dict, Type, TypeVar
 
 from ._data import BLOCK_SIZE, KINDS, Keyed, Kind, bytes_of, kind_of, room
 from ._faults import fault_of
 from ._library import INT, POINTER, SIZE
 from ._statuses import OK, TAG
-
-if TYPE_CHECKING:
-    from _typeshed import ReadableBuffer
+from ._types import ReadableBuffer
 
 TAG_SIZE = 8
 LEAST_TAG_SIZE = 4
@@ -29,6 +27,9 @@ class Mac(Keyed):
     key_size: ClassVar[int] = 0
     digest_size: ClassVar[int] = TAG_SIZE
     block_size: ClassVar[int] = BLOCK_SIZE
+
+    def __init__(self, *arguments: Any, **words: Any) -> None:
+        mac_class_of(type(self))  # This class itself is no MAC's, and each MAC's has its own arguments.
 
     def _begin(self, quiet: bool, key: ReadableBuffer, *padding: int) -> None:
         self._context, self._lock = mac_class_of(type(self)).context_of(key, quiet, *padding), threading.Lock()
@@ -89,7 +90,7 @@ def mac_class_of(mac: Type[Mac]) -> Kind:
     """What a class of MACs stands for. A class that a caller derives from one is as that one."""
     kind = kind_of(mac, Mac)
     if kind is None:
-        raise TypeError("the first argument is a class of MACs, such as CmacTdesEde2")
+        raise TypeError("a class of MACs is one such as CmacTdesEde2, or one that is derived from such a one")
     return kind
 
 
@@ -161,14 +162,11 @@ class CmacTdesEde3(Cmac):
     name, key_size = "cmac_tdes_ede3", 24
 
 
-for _mac, _words, *_paddings in (
-    (CbcMacDes, 21, INT),
-    (CbcMacTdesEde2, 37, INT),
-    (CbcMacTdesEde3, 53, INT),
-    (RetailMacDes, 38, INT),
-    (CmacTdesEde2, 37),
-    (CmacTdesEde3, 53),
-):
+_WORDS: Dict[Type[Mac], int] = {
+    CbcMacDes: 21, CbcMacTdesEde2: 37, CbcMacTdesEde3: 53, RetailMacDes: 38, CmacTdesEde2: 37, CmacTdesEde3: 53
+}
+for _mac, _words in _WORDS.items():
+    _paddings = (INT,) if issubclass(_mac, PaddedMac) else ()
     _kind = KINDS[_mac] = Kind(_mac.name, _mac.key_size, _words, *_paddings)
     _kind.declare("update", None, POINTER, POINTER, SIZE)
     _kind.declare("final", None, POINTER, POINTER)

@@ -3,15 +3,12 @@
 from __future__ import annotations
 
 import ctypes
-from typing import TYPE_CHECKING
 
 from ._data import BLOCK_SIZE, bytes_of, pointer_to
 from ._faults import BlockLengthError, PaddingMethodError, check
 from ._library import INT, POINTER, SIZE, function
 from ._statuses import BLOCKS
-
-if TYPE_CHECKING:
-    from _typeshed import ReadableBuffer
+from ._types import ReadableBuffer
 
 _METHODS = {"pkcs7": 11, "iso7816": 12}
 

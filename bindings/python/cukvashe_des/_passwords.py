@@ -3,16 +3,14 @@
 from __future__ import annotations
 
 import ctypes
-from typing import TYPE_CHECKING, Optional, Type
+from typing import Optional, Type
 
 from ._ciphers import Cipher, class_of
 from ._data import bytes_from, bytes_of, room, secret_of
 from ._faults import BlockLengthError, HashNameError, KeyLengthError, SaltLengthError, check, fault_of
 from ._library import INT, POINTER, SIZE, function
-from ._statuses import BLOCKS, ITERATIONS, SALT_LENGTH
-
-if TYPE_CHECKING:
-    from _typeshed import ReadableBuffer
+from ._statuses import BLOCKS, HASH, ITERATIONS, SALT_LENGTH
+from ._types import ReadableBuffer
 
 _HASHES = {"md5": 21, "sha1": 22, "sha256": 23}
 
@@ -27,13 +25,14 @@ _open_salted = {
 }
 
 
-def _hash_of(name: str) -> int:
-    """The number of a hash function. What is given in its place may be a secret, so no text tells it."""
+def _hash_of(name: str, is_pbkdf2: bool) -> int:
+    """The number of a hash function: for PBKDF2 the library refuses MD5. What is given in its place may be a secret, so no text
+    tells it."""
     if not isinstance(name, str):
-        raise TypeError('a hash function is "md5", "sha1" or "sha256"')
+        raise TypeError("a hash function is named by a text, as \"sha256\"")
     number = _HASHES.get(name)
     if number is None:
-        raise HashNameError('a hash function is "md5", "sha1" or "sha256"')
+        raise fault_of(HASH) if is_pbkdf2 else HashNameError('a hash function is "md5", "sha1" or "sha256"')
     return number
 
 
@@ -61,7 +60,7 @@ def _length_of(number: int) -> int:
 def pbkdf2(hash_name: str, password: ReadableBuffer, salt: ReadableBuffer, iterations: int, length: int) -> bytes:
     """The key, `length` bytes, that PBKDF2 with HMAC over "sha1" or "sha256" makes of a password and a salt. HashNameError,
     IterationCountError, KeyLengthError."""
-    number, count, key, grains = _hash_of(hash_name), _iterations_of(iterations), room(_length_of(length)), bytes_of(salt)
+    number, count, key, grains = _hash_of(hash_name, True), _iterations_of(iterations), room(_length_of(length)), bytes_of(salt)
     with secret_of(password) as held:
         check(_pbkdf2(number, *held, grains, len(grains), count, key, len(key)))
     return bytes_from(key)
@@ -73,7 +72,7 @@ def bytes_to_key(hash_name: str, password: ReadableBuffer, salt: ReadableBuffer,
 
     The password stands before the salt, unlike in EVP_BytesToKey. The salt has 8 bytes, without Salted__, or none (-nosalt).
     HashNameError, KeyLengthError, SaltLengthError."""
-    number, key, grains = _hash_of(hash_name), room(_length_of(length)), bytes_of(salt)
+    number, key, grains = _hash_of(hash_name, False), room(_length_of(length)), bytes_of(salt)
     with secret_of(password) as held:
         status = _bytes_to_key(number, *held, grains, len(grains), key, len(key))
     if status == SALT_LENGTH:
@@ -96,7 +95,7 @@ def open_salted(
     was. HashNameError, NotSaltedError, SaltLengthError, IterationCountError, BlockLengthError, PaddingMismatchError. A wrong
     password, hash function or number of iterations is PaddingMismatchError, but for one in 256, which returns wrong bytes: nothing
     here authenticates."""
-    call, number = _open_salted[class_of(cipher).name], _hash_of(hash_name)
+    call, number = _open_salted[class_of(cipher).name], _hash_of(hash_name, iterations is not None)
     count = 0 if iterations is None else _iterations_of(iterations)
     given, length = bytes_of(data), SIZE()
     plain = room(len(given))

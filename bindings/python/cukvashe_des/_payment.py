@@ -2,17 +2,13 @@
 
 from __future__ import annotations
 
-from typing import TYPE_CHECKING, Any, Callable, Union
+from typing import Any, Callable
 
 from ._data import BLOCK_SIZE, block_of, bytes_from, bytes_of, key_of, number_of, room, text_from, text_of
 from ._faults import FillLengthError, check
 from ._keys import KEY_SIZES
 from ._library import INT, POINTER, SIZE, function
-
-if TYPE_CHECKING:
-    from _typeshed import ReadableBuffer
-
-    _Text = Union[str, ReadableBuffer]
+from ._types import ReadableBuffer, Text
 
 _PIN_SIZE = 13
 _CVV_SIZE = 4
@@ -54,34 +50,34 @@ def _decoded(call: Callable[..., Any], block: ReadableBuffer, *account: Any) -> 
     return text_from(pin)
 
 
-def pin_encode_0(pin: _Text, account: _Text) -> bytes:
+def pin_encode_0(pin: Text, account: Text) -> bytes:
     """The PIN block of format 0, 8 bytes, of a PIN of 4 to 12 digits and an account number of 8 to 19 with the check digit,
     as str or bytes of digits. It is not encrypted. PinLengthError, PinDigitError, AccountLengthError, AccountDigitError."""
     with text_of(pin) as digits, text_of(account) as number:
         return _encoded(_encode_0, *digits, *number)
 
 
-def pin_encode_1(pin: _Text, transaction: ReadableBuffer) -> bytes:
+def pin_encode_1(pin: Text, transaction: ReadableBuffer) -> bytes:
     """The PIN block of format 1 of a PIN and ten transaction digits, bytes from 0 to 15, of which it uses the first ones
     that there is room for. PinLengthError, PinDigitError, FillLengthError, FillError."""
     with text_of(pin) as digits:
         return _encoded(_encode_1, *digits, _fill_of(transaction))
 
 
-def pin_encode_2(pin: _Text) -> bytes:
+def pin_encode_2(pin: Text) -> bytes:
     """The PIN block of format 2 of a PIN, which goes to a card in clear. PinLengthError, PinDigitError."""
     with text_of(pin) as digits:
         return _encoded(_encode_2, *digits)
 
 
-def pin_encode_3(pin: _Text, account: _Text, fill: ReadableBuffer) -> bytes:
+def pin_encode_3(pin: Text, account: Text, fill: ReadableBuffer) -> bytes:
     """The PIN block of format 3 of a PIN, an account number, and ten fill digits, random bytes from 10 to 15, of which it uses
     the first ones that there is room for. Errors as of pin_encode_0; FillLengthError, FillError."""
     with text_of(pin) as digits, text_of(account) as number:
         return _encoded(_encode_3, *digits, *number, _fill_of(fill))
 
 
-def pin_decode_0(block: ReadableBuffer, account: _Text) -> str:
+def pin_decode_0(block: ReadableBuffer, account: Text) -> str:
     """The PIN of a block of format 0 and an account number. BlockLengthError, AccountLengthError, AccountDigitError, FormatError,
     PinLengthError, PinDigitError, FillError. Which of these is raised reveals something of the PIN: show it to nobody."""
     with text_of(account) as number:
@@ -98,14 +94,14 @@ def pin_decode_2(block: ReadableBuffer) -> str:
     return _decoded(_decode_2, block)
 
 
-def pin_decode_3(block: ReadableBuffer, account: _Text) -> str:
+def pin_decode_3(block: ReadableBuffer, account: Text) -> str:
     """The PIN of a block of format 3 and an account number. Errors as of pin_decode_0."""
     with text_of(account) as number:
         return _decoded(_decode_3, block, *number)
 
 
 def pin_translate_to_0(
-    incoming_format: int, account: _Text, block: ReadableBuffer, *, incoming_key: ReadableBuffer, outgoing_key: ReadableBuffer
+    incoming_format: int, account: Text, block: ReadableBuffer, *, incoming_key: ReadableBuffer, outgoing_key: ReadableBuffer
 ) -> bytes:
     """Translates a block of format 0, 1 or 3 under the incoming key into the block of format 0 of its PIN under the outgoing key.
     The PIN does not come out. Keys have 8, 16 or 24 bytes, and are given by name; the account number, of 8 to 19 digits, is that of
@@ -125,7 +121,7 @@ def pin_translate_to_1(block: ReadableBuffer, *, incoming_key: ReadableBuffer, o
 
 def pin_translate_to_3(
     incoming_format: int,
-    account: _Text,
+    account: Text,
     fill: ReadableBuffer,
     block: ReadableBuffer,
     *,
@@ -140,7 +136,7 @@ def pin_translate_to_3(
             return _encoded(_to_3, held, len(held), number, other, len(other), *of, digits, given)
 
 
-def cvv(key: ReadableBuffer, account: _Text, expiry: _Text, service: _Text) -> str:
+def cvv(key: ReadableBuffer, account: Text, expiry: Text, service: Text) -> str:
     """The card verification value, three digits, under a key pair of 16 bytes, of an account number of 12 to 19 digits, an expiry
     date of four and a service code of three, as str or bytes of digits. KeyLengthError, AccountLengthError, AccountDigitError,
     ExpiryLengthError, ExpiryDigitError, ServiceLengthError, ServiceDigitError."""

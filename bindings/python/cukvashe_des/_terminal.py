@@ -4,16 +4,14 @@ from __future__ import annotations
 
 import ctypes
 import threading
-from typing import TYPE_CHECKING, Any, Tuple, Type, TypeVar
+from typing import Any, Tuple, Type, TypeVar
 
 from ._data import Keyed, bytes_from, context_type, key_of, room, secret_of
 from ._faults import NoSerialError, StateLengthError, check
 from ._keys import serial_of
 from ._library import INT, POINTER, function
 from ._statuses import NO_SERIAL
-
-if TYPE_CHECKING:
-    from _typeshed import ReadableBuffer
+from ._types import ReadableBuffer
 
 _SERIAL_SIZE = 10
 _STATE_SIZE = 346

@@ -2,17 +2,13 @@
 
 from __future__ import annotations
 
-from typing import TYPE_CHECKING, Any, Union
+from typing import Any
 
 from ._data import BLOCK_SIZE, data_of, key_of, number_of, room, text_from, text_of
 from ._faults import BlockLengthError, check
 from ._keys import KEY_SIZES
 from ._library import INT, POINTER, SIZE, function
-
-if TYPE_CHECKING:
-    from _typeshed import ReadableBuffer
-
-    _Text = Union[str, ReadableBuffer]
+from ._types import ReadableBuffer, Text
 
 _PIN_SIZE = 13
 _PVV_SIZE = 5
@@ -27,7 +23,7 @@ _pin_offset = function("pin_offset", INT, POINTER, SIZE, POINTER, POINTER, POINT
 _verify = function("pin_offset_verify", INT, POINTER, SIZE, POINTER, POINTER, POINTER, SIZE, POINTER, SIZE)
 
 
-def pvv(key: ReadableBuffer, account: _Text, index: int, pin: _Text) -> str:
+def pvv(key: ReadableBuffer, account: Text, index: int, pin: Text) -> str:
     """The PIN verification value, four digits, under a key pair of 16 bytes with an index from 1 to 6, of an account number of 12
     to 19 digits and the first four digits of a PIN, as str or bytes of digits. KeyLengthError, PinLengthError, PinDigitError,
     AccountLengthError, AccountDigitError, KeyIndexError."""
@@ -37,7 +33,7 @@ def pvv(key: ReadableBuffer, account: _Text, index: int, pin: _Text) -> str:
     return text_from(value)
 
 
-def pvv_verify(key: ReadableBuffer, account: _Text, index: int, pin: _Text, value: _Text) -> None:
+def pvv_verify(key: ReadableBuffer, account: Text, index: int, pin: Text, value: Text) -> None:
     """Accepts the PIN whose PIN verification value, four digits, this is; the errors of pvv, and WrongPinError for any other PIN.
     Count these: unlimited guesses find the PIN."""
     place = number_of(index, 1, 6)
@@ -52,14 +48,14 @@ class DecimalTable:
 
     __slots__ = ("_table",)
 
-    def __init__(self, digits: _Text) -> None:
+    def __init__(self, digits: Text) -> None:
         table = room(_TABLE_SIZE)
         with text_of(digits) as text:
             check(_init(table, *text))
         self._table = table
 
     @classmethod
-    def of_any_variety(cls, digits: _Text) -> DecimalTable:
+    def of_any_variety(cls, digits: Text) -> DecimalTable:
         """A table of any variety, for old systems that have one. TableLengthError, TableDigitError."""
         made, table = cls.__new__(cls), room(_TABLE_SIZE)
         with text_of(digits) as text:
@@ -92,7 +88,7 @@ def natural_pin(key: ReadableBuffer, table: DecimalTable, validation: ReadableBu
     return text_from(pin)
 
 
-def pin_offset(key: ReadableBuffer, table: DecimalTable, validation: ReadableBuffer, pin: _Text) -> str:
+def pin_offset(key: ReadableBuffer, table: DecimalTable, validation: ReadableBuffer, pin: Text) -> str:
     """The offset of a PIN: digit by digit, modulo ten, the PIN less the natural PIN. PinDigitError, and the errors of
     natural_pin."""
     offset, data = room(_PIN_SIZE), _validation_of(validation)
@@ -102,7 +98,7 @@ def pin_offset(key: ReadableBuffer, table: DecimalTable, validation: ReadableBuf
 
 
 def pin_offset_verify(
-    key: ReadableBuffer, table: DecimalTable, validation: ReadableBuffer, pin: _Text, offset: _Text
+    key: ReadableBuffer, table: DecimalTable, validation: ReadableBuffer, pin: Text, offset: Text
 ) -> None:
     """Accepts the PIN whose offset this is; the errors of pin_offset, and WrongPinError for any other PIN. Count these."""
     data = _validation_of(validation)

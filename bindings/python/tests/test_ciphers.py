@@ -23,12 +23,12 @@ class KnownAnswers(unittest.TestCase):
         self.assertEqual(data, plain)
 
     def chain(self, cipher, iv, plain, answer):
-        self.assertEqual(cipher.encrypt_cbc(iv, plain), answer)
-        self.assertEqual(cipher.decrypt_cbc(iv, answer), plain)
+        self.assertEqual(cipher.encrypt_cbc(plain, iv=iv), answer)
+        self.assertEqual(cipher.decrypt_cbc(answer, iv=iv), plain)
         data, last = bytearray(plain), (iv + answer)[-8:]
-        self.assertEqual(cipher.encrypt_cbc_into(iv, data), last)
+        self.assertEqual(cipher.encrypt_cbc_into(data, iv=iv), last)
         self.assertEqual(data, answer)
-        self.assertEqual(cipher.decrypt_cbc_into(iv, data), last)
+        self.assertEqual(cipher.decrypt_cbc_into(data, iv=iv), last)
         self.assertEqual(data, plain)
 
     def test_published(self):
@@ -62,11 +62,11 @@ class KnownAnswers(unittest.TestCase):
         """What the calls in place make of pieces is what the call of the whole makes, in both directions."""
         for kind in ANSWERS:
             cipher, blocks = kind(KEY[: kind.key_size]), bytes(range(256)) * 24
-            chained = cipher.encrypt_cbc(IV, blocks)
+            chained = cipher.encrypt_cbc(blocks, iv=IV)
             for call, whole, made in ((cipher.encrypt_cbc_into, blocks, chained), (cipher.decrypt_cbc_into, chained, blocks)):
                 vector, pieces = IV, bytearray(whole)
                 for start, end in ((0, 8), (8, 8), (8, 2056), (2056, len(pieces))):
-                    vector = call(vector, memoryview(pieces)[start:end])
+                    vector = call(memoryview(pieces)[start:end], iv=vector)
                 self.assertEqual((pieces, vector), (made, chained[-8:]))
 
 
@@ -91,7 +91,7 @@ class Lengths(unittest.TestCase):
                     self.assertEqual(data, b"\x5a" * length)
                 for call in (cipher.encrypt_cbc, cipher.decrypt_cbc, cipher.encrypt_cbc_into, cipher.decrypt_cbc_into):
                     data, iv = bytearray(b"\x5a" * length), bytearray(IV)
-                    self.assertRaisesRegex(BlockLengthError, f"^{length} bytes", call, iv, data)
+                    self.assertRaisesRegex(BlockLengthError, f"^{length} bytes", call, data, iv=iv)
                     self.assertEqual((data, iv), (b"\x5a" * length, IV))
 
     def test_vectors(self):
@@ -101,10 +101,22 @@ class Lengths(unittest.TestCase):
                 for call in (cipher.encrypt_cbc, cipher.decrypt_cbc, cipher.encrypt_cbc_into, cipher.decrypt_cbc_into):
                     data = bytearray(TEXT)
                     if length == 8:
-                        call(bytes(length), data)
+                        call(data, iv=bytes(length))
                     else:
-                        self.assertRaisesRegex(VectorLengthError, f"not {length}$", call, bytes(length), data)
+                        self.assertRaisesRegex(VectorLengthError, f"not {length}$", call, data, iv=bytes(length))
                         self.assertEqual(data, TEXT)
+
+    def test_vector_by_name(self):
+        """The order of other libraries, by which two blocks that are exchanged gave other bytes, is a TypeError that says what to write, and
+        changes nothing; so is any other in which the vector has no name."""
+        for kind in ANSWERS:
+            cipher, data = kind(KEY[: kind.key_size]), bytearray(TEXT[:8])
+            for call in (cipher.encrypt_cbc, cipher.decrypt_cbc, cipher.encrypt_cbc_into, cipher.decrypt_cbc_into):
+                written = f"^the data come first, and vectors go by name: {call.__name__}\\(data, iv=iv\\)$"
+                for arguments in ((IV, data), (data, IV), (IV, data, data)):
+                    self.assertRaisesRegex(TypeError, written, call, *arguments)
+                self.assertRaisesRegex(TypeError, "'iv'", call, data)
+                self.assertEqual(data, TEXT[:8])
 
     def test_quiet(self):
         """A quiet cipher is made by its own call, and is asked for by name alone."""

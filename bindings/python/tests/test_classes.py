@@ -8,7 +8,7 @@ import cukvashe_des
 from cukvashe_des import KeyLengthError, RetailMacDes, TdesEde2, TdesEde3, _keys, _padding, _terminal
 from cukvashe_des._data import KINDS
 
-from .values import ANSWERS, CMACS, IV, KEY, MESSAGE, OBJECTS, PADDED_MACS, PAIR, SERIAL, TEXT
+from .values import ANSWERS, CMACS, IV, KEY, MESSAGE, OBJECTS, PADDED_MACS, PAIR, SERIAL, TEXT, decrypt_records, encrypt_records
 
 # What a caller might set, or the package might ask a class, each with values of another cipher, and of none.
 ATTRIBUTES = [{"name": "des"}, {"name": "cmac_tdes_ede2"}, {"name": ""}, {"key_size": 8}, {"key_size": 16}, {"key_size": 24},
@@ -40,7 +40,7 @@ class Derived(unittest.TestCase):
                 for quiet in (False, True):
                     cipher = made(key, quiet=quiet)
                     self.assertEqual((cipher.encrypt_ecb(TEXT), cipher.decrypt_ecb(answer)), (answer, TEXT))
-                    self.assertEqual(cipher.encrypt_cbc(IV, TEXT), kind(key).encrypt_cbc(IV, TEXT))
+                    self.assertEqual(cipher.encrypt_cbc(TEXT, iv=IV), kind(key).encrypt_cbc(TEXT, iv=IV))
                     for length in {8, 16, 24} - {kind.key_size}:
                         self.assertRaisesRegex(KeyLengthError, f"^a key has {kind.key_size} bytes, not {length}$", made, KEY[:length])
 
@@ -61,8 +61,8 @@ class Derived(unittest.TestCase):
         for kind in ANSWERS:
             key = KEY[: kind.key_size]
             for made in derived(kind):
-                for call in (cukvashe_des.encrypt_cbc_records, cukvashe_des.decrypt_cbc_records):
-                    self.assertEqual(call(made(key), IV * 2, (1, 2), TEXT), call(kind(key), IV * 2, (1, 2), TEXT))
+                for call in (encrypt_records, decrypt_records):
+                    self.assertEqual(call(made(key), TEXT, IV * 2, (1, 2)), call(kind(key), TEXT, IV * 2, (1, 2)))
 
     def test_macs(self):
         for kind, arguments in OBJECTS[len(ANSWERS) :]:
@@ -97,7 +97,7 @@ class Derived(unittest.TestCase):
         answer, tag = cipher.encrypt_ecb(TEXT), mac.digest()
         cipher.__class__, mac.__class__ = TdesEde3, CMACS[1]
         self.assertEqual((cipher.encrypt_ecb(TEXT), mac.digest(), mac.copy().digest()), (answer, tag, tag))
-        self.assertEqual(cukvashe_des.encrypt_cbc_records(cipher, IV, (3,), TEXT), TdesEde2(PAIR).encrypt_cbc(IV, TEXT))
+        self.assertEqual(encrypt_records(cipher, TEXT, IV, (3,)), TdesEde2(PAIR).encrypt_cbc(TEXT, iv=IV))
         for made, other in ((mac, cukvashe_des.DukptTerminal), (cipher, cukvashe_des.DukptTerminal), (cipher, RetailMacDes)):
             self.assertRaises(TypeError, setattr, made, "__class__", other)
 

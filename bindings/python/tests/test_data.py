@@ -18,6 +18,7 @@ from cukvashe_des import (
     CmacTdesEde3,
     Des,
     DukptTerminal,
+    Error,
     StateLengthError,
     TagMismatchError,
     TdesEde3,
@@ -51,6 +52,7 @@ from .values import (
     SALTED_TEXT,
     SERIAL,
     TEXT,
+    in_places,
 )
 
 
@@ -187,8 +189,8 @@ class InPlace(unittest.TestCase):
             cipher = kind(KEY[: kind.key_size])
             yield cipher.encrypt_ecb_into, cipher.encrypt_ecb(TEXT)
             yield cipher.decrypt_ecb_into, cipher.decrypt_ecb(TEXT)
-            yield lambda data, cipher=cipher: cipher.encrypt_cbc_into(IV, data), cipher.encrypt_cbc(IV, TEXT)
-            yield lambda data, cipher=cipher: cipher.decrypt_cbc_into(IV, data), cipher.decrypt_cbc(IV, TEXT)
+            yield lambda data, cipher=cipher: cipher.encrypt_cbc_into(data, iv=IV), cipher.encrypt_cbc(TEXT, iv=IV)
+            yield lambda data, cipher=cipher: cipher.decrypt_cbc_into(data, iv=IV), cipher.decrypt_cbc(TEXT, iv=IV)
 
     def test_writable(self):
         for call, answer in self.calls():
@@ -224,15 +226,15 @@ class InPlace(unittest.TestCase):
             cipher = kind(KEY[: kind.key_size])
             for call in (cipher.encrypt_cbc_into, cipher.decrypt_cbc_into):
                 iv = bytearray(IV)
-                self.assertNotEqual(call(iv, bytearray(TEXT)), IV)
+                self.assertNotEqual(call(bytearray(TEXT), iv=iv), IV)
                 self.assertEqual(iv, IV)
 
     def test_nothing(self):
         for kind in ANSWERS:
             cipher = kind(KEY[: kind.key_size])
             cipher.encrypt_ecb_into(bytearray())
-            self.assertEqual(cipher.encrypt_cbc_into(IV, array.array("B")), IV)
-            self.assertEqual((cipher.encrypt_ecb(b""), cipher.decrypt_cbc(IV, b"")), (b"", b""))
+            self.assertEqual(cipher.encrypt_cbc_into(array.array("B"), iv=IV), IV)
+            self.assertEqual((cipher.encrypt_ecb(b""), cipher.decrypt_cbc(b"", iv=IV)), (b"", b""))
 
     def test_length_is_kept(self):
         """As long as a call works on a bytearray, nobody can make it shorter."""
@@ -245,7 +247,7 @@ class InPlace(unittest.TestCase):
 
         with mock.patch.dict(KINDS[Des].calls, encrypt_ecb=shortening, decrypt_cbc=shortening):
             cipher.encrypt_ecb_into(data)
-            cipher.decrypt_cbc_into(IV, data)
+            cipher.decrypt_cbc_into(data, iv=IV)
         self.assertEqual(len(tried), 2)
         data.clear()
 
@@ -305,7 +307,7 @@ class OnceAlone(unittest.TestCase):
                 iv, data = bytearray(IV), bytearray(TEXT)
                 cipher = kind(KEY[: kind.key_size])
                 taken.clear()
-                cipher.decrypt_cbc_into(iv, data)
+                cipher.decrypt_cbc_into(data, iv=iv)
                 self.assertEqual(sorted(taken), sorted([id(iv), id(data)]))
 
     def test_other_lengths(self):
@@ -330,7 +332,7 @@ class OnceAlone(unittest.TestCase):
         """What a call answers with another value at a place, or its error; of an object what it makes of a text."""
         try:
             answer = call(*arguments[:at], value, *arguments[at + 1 :])
-        except ValueError as error:
+        except Error as error:
             return type(error), str(error)
         if hasattr(answer, "encrypt_ecb"):
             return answer.encrypt_ecb(TEXT)
@@ -385,13 +387,13 @@ class Threads(unittest.TestCase):
     def test_cipher(self):
         """One cipher in four threads, both ways."""
         cipher, plain = TdesEde3(KEY), TEXT * 2000
-        encrypted, chained = cipher.encrypt_ecb(plain), cipher.encrypt_cbc(IV, plain)
+        encrypted, chained = cipher.encrypt_ecb(plain), cipher.encrypt_cbc(plain, iv=IV)
 
         def work(_):
             for _ in range(8):
                 self.assertEqual(cipher.encrypt_ecb(plain), encrypted)
                 self.assertEqual(cipher.decrypt_ecb(encrypted), plain)
-                self.assertEqual(cipher.decrypt_cbc(IV, chained), plain)
+                self.assertEqual(cipher.decrypt_cbc(chained, iv=IV), plain)
 
         self.together(4, work)
 
@@ -581,7 +583,7 @@ class Wiped(WatchesWiping):
                                        (wrap_key_block, (PROTECTION, BLOCK_HEADER, KEY[:9]), [9, 16]),
                                        (open_salted, (TdesEde3, b"Secret", SALTED), [6])):
             self.wiped.clear()
-            self.assertRaises(ValueError, call, *arguments)
+            self.assertRaises(Error, call, *arguments)
             self.assertEqual(sorted(self.wiped), sizes, call.__name__)
 
     def test_states(self):
@@ -650,8 +652,9 @@ class Wiped(WatchesWiping):
             data = bytearray(TEXT)
             if kind in ANSWERS:
                 calls = [(made.encrypt_ecb, data), (made.decrypt_ecb, data), (made.encrypt_ecb_into, data)]
-                calls += [(made.decrypt_ecb_into, data), (made.encrypt_cbc, IV, data), (made.decrypt_cbc, IV, data)]
-                calls += [(made.encrypt_cbc_into, IV, data), (made.decrypt_cbc_into, IV, data)]
+                calls += [(made.decrypt_ecb_into, data)]
+                calls += [(in_places(call, "iv"), data, IV) for call in (made.encrypt_cbc, made.decrypt_cbc, made.encrypt_cbc_into,
+                                                                         made.decrypt_cbc_into)]
             else:
                 calls = [(made.update, data), (made.digest,), (made.hexdigest,), (made.verify, data), (made.verify_truncated_left, data),
                          (made.copy,)]

@@ -17,7 +17,7 @@ from cukvashe_des import (
     unpad,
 )
 
-from .values import ANSWERS, KEY, LENGTHS, PAIR, SERIAL
+from .values import ANSWERS, BLOCK, BLOCK_HEADER, KEY, LENGTHS, OBJECTS, OTHER, PAIR, PROTECTION, SERIAL
 
 SIZES = (8, 16, 24)
 
@@ -110,6 +110,45 @@ class Keys(unittest.TestCase):
                 self.assertEqual(cukvashe_des.combine(*parts, bytes(byte ^ 1 for byte in last)), key)
                 self.assertRaises(WeakKeyError, cukvashe_des.combine, *parts, *parts)
         self.assertRaises(TypeError, cukvashe_des.combine, PAIR)
+
+
+class Hexadecimal(unittest.TestCase):
+    """The hexadecimal digits of a key in its place, as a text or as bytes, are refused, and the error says how to make a key of them."""
+
+    CALLS = (
+        *((kind, KEY[: kind.key_size], arguments[1:]) for kind, arguments in OBJECTS),
+        (cukvashe_des.DukptTerminal, PAIR, (SERIAL,)),
+        *((call, PAIR, ()) for call in (cukvashe_des.is_weak_key, cukvashe_des.with_odd_parity, cukvashe_des.key_check_value,
+                                        cukvashe_des.short_key_check_value, cukvashe_des.dukpt_pin_key, cukvashe_des.dukpt_data_key)),
+        (cukvashe_des.combine, PAIR, (OTHER,)),
+        *((call, PAIR, (SERIAL,)) for call in (cukvashe_des.dukpt_initial_key, cukvashe_des.dukpt_transaction_key,
+                                               cukvashe_des.dukpt_transaction_keys_from_base)),
+        (cukvashe_des.unwrap_key_block, PROTECTION, (BLOCK,)),
+        (cukvashe_des.wrap_key_block, PROTECTION, (BLOCK_HEADER, PAIR)),
+        (lambda key: cukvashe_des.wrap_key_block(PROTECTION, BLOCK_HEADER, key), KEY, ()),
+        (lambda key: cukvashe_des.check_value(TdesEde3, key), KEY, ()),
+        (lambda key: cukvashe_des.macs(cukvashe_des.CmacTdesEde2, key, None, [], b""), PAIR, ()),
+    )
+
+    def test_digits(self):
+        for call, key, others in self.CALLS:
+            call(key, *others)
+            for digits in (key.hex(), key.hex().upper()):
+                self.assertRaisesRegex(TypeError, "^a key is bytes and not a text: bytes.fromhex makes", call, digits, *others)
+                for data in (digits.encode(), bytearray(digits, "ascii")):
+                    with self.assertRaisesRegex(cukvashe_des.Error, ": bytes.fromhex makes a key of hexadecimal digits$") as caught:
+                        call(data, *others)
+                    self.assertIn(type(caught.exception), (cukvashe_des.KeyLengthError, cukvashe_des.ProtectionKeyLengthError))
+
+    def test_texts_of_keys(self):
+        for call in (cukvashe_des.encrypt_each, cukvashe_des.decrypt_each):
+            self.assertRaisesRegex(TypeError, "bytes.fromhex", call, TdesEde2, PAIR.hex(), bytes(8))
+        self.assertRaisesRegex(TypeError, "bytes.fromhex", cukvashe_des.check_values, TdesEde2, PAIR.hex())
+
+    def test_no_digits(self):
+        """Other bytes of a wrong length are told nothing of digits, nor is another length of digits."""
+        for key in (bytes(48), PAIR.hex().encode()[:-1] + b"g", b"0" * 30, b"0" * 24 + b" " + b"0" * 23, b"0" * 32):
+            self.assertRaisesRegex(KeyLengthError, f"not {len(key)}$", TdesEde3, key)
 
 
 class Transactions(unittest.TestCase):

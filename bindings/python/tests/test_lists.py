@@ -30,7 +30,7 @@ from cukvashe_des import (
 )
 
 from .test_data import WatchesWiping, by_columns, views, words
-from .values import ANSWERS, CMACS, COUNTS, ELEMENTS, KEY, LISTS, PADDED_MACS, PAIR, SERIALS, TEXT
+from .values import ANSWERS, CMACS, COUNTS, ELEMENTS, KEY, LISTS, PADDED_MACS, PAIR, SERIALS, TEXT, decrypt_records, encrypt_records
 
 try:
     import numpy
@@ -85,6 +85,15 @@ class Answers(unittest.TestCase):
             self.assertEqual(dukpt_transaction_keys_from_base(PAIR, serials), b"".join(keys))
 
 
+    def test_name_of_base(self):
+        """Of one transaction the initial key is taken, of many the base key: a name that differs by its plural alone is none, since the other
+        key in its place gives other keys."""
+        self.assertFalse(hasattr(cukvashe_des, "dukpt_transaction_keys"))
+        initial = dukpt_initial_key(PAIR, SERIALS[:10])
+        self.assertEqual(dukpt_transaction_key(initial, SERIALS[:10]), TRANSACTIONS[:16])
+        self.assertNotEqual(dukpt_transaction_keys_from_base(initial, SERIALS[:10]), TRANSACTIONS[:16])
+
+
 class Records(unittest.TestCase):
     def test_records(self):
         for kind in ANSWERS:
@@ -93,28 +102,36 @@ class Records(unittest.TestCase):
                 counts = [40 if k == records // 2 else k % 5 for k in range(records)]
                 vectors, plain, answer, at = some(8 * records), some(8 * sum(counts), 9), b"", 0
                 for vector, count in zip(parts(vectors, 8), counts):
-                    answer += cipher.encrypt_cbc(vector, plain[at : at + 8 * count])
+                    answer += cipher.encrypt_cbc(plain[at : at + 8 * count], iv=vector)
                     at += 8 * count
-                self.assertEqual(cukvashe_des.encrypt_cbc_records(cipher, vectors, counts, plain), answer)
-                self.assertEqual(cukvashe_des.decrypt_cbc_records(cipher, vectors, array.array("Q", counts), answer), plain)
-                self.assertEqual(cukvashe_des.decrypt_cbc_records(cipher, memoryview(vectors), iter(counts), bytearray(answer)), plain)
+                self.assertEqual(encrypt_records(cipher, plain, vectors, counts), answer)
+                self.assertEqual(decrypt_records(cipher, answer, vectors, array.array("Q", counts)), plain)
+                self.assertEqual(decrypt_records(cipher, bytearray(answer), memoryview(vectors), iter(counts)), plain)
+
+    def test_vectors_by_name(self):
+        """One record of one block, by whose place it could be the vector: a TypeError that says what to write."""
+        cipher = TdesEde3(KEY)
+        for call in (cukvashe_des.encrypt_cbc_records, cukvashe_des.decrypt_cbc_records):
+            written = f"^the data come first, .*: {call.__name__}\\(cipher, blocks, vectors=vectors, counts=counts\\)$"
+            for arguments in ((TEXT[:8], [1], TEXT[8:16]), (TEXT[:8], TEXT[8:16], [1]), (TEXT[:8], TEXT[8:16])):
+                self.assertRaisesRegex(TypeError, written, call, cipher, *arguments)
 
     def test_refused(self):
         cipher = TdesEde3(KEY)
-        for call in (cukvashe_des.encrypt_cbc_records, cukvashe_des.decrypt_cbc_records):
+        for call in (encrypt_records, decrypt_records):
             for counts in ([1, 1], [1, 3], [4], [], [3], [1, 1, 1], [-1, 4], [2**64, 3], [2**64 - 1, 4]):
-                self.assertRaises(CountMismatchError, call, cipher, bytes(16), counts, bytes(24))
+                self.assertRaises(CountMismatchError, call, cipher, bytes(24), bytes(16), counts)
             # Lengths in bytes, and counts of which eight times as much is right in 64 bits.
             for counts in ([8, 16], [2**61 + 1, 2]):
-                self.assertRaises(CountMismatchError, call, cipher, bytes(16), counts, bytes(24))
-            self.assertRaises(VectorLengthError, call, cipher, bytes(15), [3], bytes(24))
-            self.assertRaises(BlockLengthError, call, cipher, bytes(8), [3], bytes(23))
+                self.assertRaises(CountMismatchError, call, cipher, bytes(24), bytes(16), counts)
+            self.assertRaises(VectorLengthError, call, cipher, bytes(24), bytes(15), [3])
+            self.assertRaises(BlockLengthError, call, cipher, bytes(23), bytes(8), [3])
             for wrong in (b"12", "12", 3, None, [1.5], ["1"], {1, 2}, frozenset((1, 2)), {1: 1, 2: 2}, {1: 1, 2: 2}.keys()):
-                self.assertRaises(TypeError, call, cipher, bytes(16), wrong, bytes(24))
-            self.assertRaises(TypeError, call, TdesEde3, bytes(8), [3], bytes(24))
+                self.assertRaises(TypeError, call, cipher, bytes(24), bytes(16), wrong)
+            self.assertRaises(TypeError, call, TdesEde3, bytes(24), bytes(8), [3])
             with cipher.__class__(KEY) as closed:
                 pass
-            self.assertRaises(cukvashe_des.ClosedError, call, closed, bytes(8), [3], bytes(24))
+            self.assertRaises(cukvashe_des.ClosedError, call, closed, bytes(24), bytes(8), [3])
 
 
 class Messages(unittest.TestCase):
@@ -233,9 +250,11 @@ class Kinds(unittest.TestCase):
         faults = {24: KeyLengthError, 16: KeyLengthError, 10: SerialLengthError, 8: BlockLengthError}
         for call, at, _, given in self.each_place(wrong_rows):
             size = ELEMENTS[call, at]
-            fault = VectorLengthError if "records" in call.__name__ and at == 1 else faults[size]
+            fault = VectorLengthError if "records" in call.__name__ and at == 2 else faults[size]
             fault = CountMismatchError if call is cukvashe_des.wrong_tags else fault
-            with self.assertRaisesRegex(fault, f"^rows of [0-9]+ bytes are not [a-z ]+ of {size}$"):
+            row = memoryview(given[at]).itemsize * memoryview(given[at]).shape[-1]
+            hint = f": reshape\\(-1, {8 // memoryview(given[at]).itemsize}\\) makes them of it" if fault is BlockLengthError and row % 8 == 0 else ""
+            with self.assertRaisesRegex(fault, f"^rows of {row} bytes are not [a-z ]+ of {size}{hint}$"):
                 call(*given)
 
     def test_other_words(self):
@@ -321,11 +340,11 @@ class Kinds(unittest.TestCase):
     def test_numpy_counts(self):
         """Counts in an array of any integers."""
         cipher, counts = TdesEde3(KEY), (1, 2)
-        answer = cukvashe_des.encrypt_cbc_records(cipher, TEXT[:16], counts, TEXT)
+        answer = encrypt_records(cipher, TEXT, TEXT[:16], counts)
         for kind in (numpy.uint64, numpy.int64, numpy.uint8, ">u4"):
-            self.assertEqual(cukvashe_des.encrypt_cbc_records(cipher, TEXT[:16], numpy.array(counts, kind), TEXT), answer)
+            self.assertEqual(encrypt_records(cipher, TEXT, TEXT[:16], numpy.array(counts, kind)), answer)
         for other in (numpy.array(counts, float), numpy.array([counts])):
-            self.assertRaises(TypeError, cukvashe_des.encrypt_cbc_records, cipher, TEXT[:16], other, TEXT)
+            self.assertRaises(TypeError, encrypt_records, cipher, TEXT, TEXT[:16], other)
 
     def test_apart(self):
         """Keys and blocks of one memory at every distance: where a byte of the keys would be written over, the call has a copy of them, and

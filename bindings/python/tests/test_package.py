@@ -3,12 +3,14 @@
 import ast
 import ctypes
 import glob
+import inspect
 import os
 import re
 import shutil
 import subprocess
 import sys
 import tempfile
+import typing
 import unittest
 from unittest import mock
 
@@ -16,7 +18,7 @@ import cukvashe_des
 from cukvashe_des import _library, _statuses
 from cukvashe_des._data import KINDS
 
-from .values import OBJECTS, TOP
+from .values import BLOCK, KEY, OBJECTS, PAIR, PROTECTION, TEXT, TOP, faults_of_package
 
 PACKAGE = os.path.dirname(os.path.abspath(cukvashe_des.__file__))
 
@@ -69,7 +71,7 @@ class Package(unittest.TestCase):
                          {kind: (known.name, known.key_size) for kind, known in KINDS.items()})
 
     def test_names(self):
-        """What the package offers is listed, and each fault is a ValueError of the package."""
+        """What the package offers is listed, and classes name it as their module."""
         self.assertEqual(sorted(cukvashe_des.__all__), cukvashe_des.__all__)
         offered = {name for name in vars(cukvashe_des) if not name.startswith("_") and name != "annotations"}
         self.assertEqual(offered, {*cukvashe_des.__all__} - {"__version__"})
@@ -80,6 +82,59 @@ class Package(unittest.TestCase):
                 self.assertTrue(value.__doc__)
             elif callable(value):
                 self.assertTrue(value.__doc__)
+
+    def test_errors(self):
+        """Each ends in Error, and is an Error of the package. Those that say that a tag, a PIN or a key block is not the right one are a
+        VerificationError and no ValueError, and all others a ValueError, as far as bases go."""
+        verified = {cukvashe_des.TagMismatchError, cukvashe_des.WrongPinError, cukvashe_des.KeyBlockMacError}
+        self.assertLess(verified, set(faults_of_package()))
+        self.assertEqual(cukvashe_des.Error.__bases__, (Exception,))
+        self.assertEqual(cukvashe_des.VerificationError.__bases__, (cukvashe_des.Error,))
+        for fault in faults_of_package():
+            self.assertTrue(fault.__name__.endswith("Error"))
+            bases = (cukvashe_des.VerificationError,) if fault in verified else (cukvashe_des.Error, ValueError)
+            self.assertEqual(fault.__bases__, bases, fault)
+
+    def test_forged(self):
+        """What is written around `decode`, which raises a ValueError, lets a forged tag, a wrong PIN and a changed key block through."""
+        def read_text(verify, *arguments):
+            try:
+                verify(*arguments)
+                return TEXT.decode()
+            except ValueError:
+                return "no text"
+
+        forged = ((cukvashe_des.CmacTdesEde3(KEY, TEXT).verify, bytes(8)),
+                  (cukvashe_des.CmacTdesEde3(KEY, TEXT).verify_truncated_left, bytes(4)),
+                  (cukvashe_des.pvv_verify, PAIR, "4123456789012345", 1, "1234", "1895"),
+                  (cukvashe_des.unwrap_key_block, PROTECTION, BLOCK[:-1] + b"F"))
+        for verify, *arguments in forged:
+            self.assertRaises(cukvashe_des.VerificationError, read_text, verify, *arguments)
+        self.assertEqual(read_text(cukvashe_des.TdesEde3, KEY[:-1]), "no text")
+
+    def test_star(self):
+        """`from cukvashe_des import *` brings no short name of an error that a program has for something else."""
+        brought = {}
+        exec("from cukvashe_des import *", brought)
+        self.assertEqual(brought.keys() & {"Format", "Fill", "Closed"}, set())
+        self.assertIs(brought["TdesEde3"], cukvashe_des.TdesEde3)
+
+    def test_hints_of_running_programs(self):
+        """`typing.get_type_hints` finds the types of each class, function and method, with a type for each argument."""
+        found = 0
+        for name in cukvashe_des.__all__:
+            value = getattr(cukvashe_des, name)
+            calls = [value] if callable(value) else []
+            if isinstance(value, type):
+                calls += [member for each in value.__mro__ if each.__module__.startswith("cukvashe_des") for member in vars(each).values()]
+            for call in (getattr(one, "__func__", one) for one in calls):
+                if isinstance(call, type):
+                    typing.get_type_hints(call)
+                elif inspect.isfunction(call) and call.__code__.co_filename.startswith(PACKAGE):
+                    hints = typing.get_type_hints(call).keys() | {"self", "cls"}
+                    self.assertEqual(hints, {*inspect.signature(call).parameters, "self", "cls", "return"}, call)
+                    found += 1
+        self.assertGreater(found, 150)
 
     def test_hints(self):
         """Each function of the package has a type for each argument and for its answer, and the package says so."""

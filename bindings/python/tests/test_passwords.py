@@ -3,6 +3,7 @@
 import hashlib
 import inspect
 import os
+import re
 import shutil
 import subprocess
 import unittest
@@ -52,6 +53,24 @@ class Keys(unittest.TestCase):
                     bytes_to_key(name, SALT, bytearray(salt), 24)
                 if name != "md5":
                     self.assertEqual(pbkdf2(name, b"secret", salt, 2, 24), hashlib.pbkdf2_hmac(name, b"secret", salt, 2, 24))
+
+    def test_offered(self):
+        """Each call offers the hash functions that it takes, and no other."""
+        for call, taken in (
+            (lambda name: pbkdf2(name, b"secret", SALT, 1, 24), {"sha1", "sha256"}),
+            (lambda name: bytes_to_key(name, b"secret", SALT, 24), {"md5", "sha1", "sha256"}),
+            (lambda name: open_salted(TdesEde3, b"secret", SALTED, hash_name=name), {"md5", "sha1", "sha256"}),
+            (lambda name: open_salted(TdesEde3, b"secret", SALTED, hash_name=name, iterations=1), {"sha1", "sha256"}),
+        ):
+            refused = {}
+            for name in ("md5", "sha1", "sha256", "sha512", "MD5", ""):
+                try:
+                    call(name)
+                except cukvashe_des.HashNameError as error:
+                    refused[name] = set(re.findall('"(.*?)"', str(error)))
+                except cukvashe_des.PaddingMismatchError:
+                    pass
+            self.assertEqual(refused, dict.fromkeys({"md5", "sha512", "MD5", ""} - taken, taken))
 
     def test_refused(self):
         for name in ("md5", "sha512", "", "SHA1", "sha-1"):

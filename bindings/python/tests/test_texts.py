@@ -7,7 +7,7 @@ import unittest
 import cukvashe_des
 from cukvashe_des import Des, KeyBlockHeader
 
-from .values import ACCOUNT, BLOCK, BLOCK_HEADER, CALLS, IV, KEY, LISTS, MESSAGE, OBJECTS, PADDED_MACS, SALTED, opens, to_format_0
+from .values import ACCOUNT, BLOCK, BLOCK_HEADER, CALLS, IV, KEY, LISTS, MESSAGE, OBJECTS, PADDED_MACS, SALTED, faults_of_package, in_places, opens, to_format_0
 
 
 # Each error and its text, which tells a length, here #, and nothing else that is not the same at every call.
@@ -116,12 +116,12 @@ class Texts(unittest.TestCase):
                         self.assertNotIn(piece.lower(), text.lower())
 
     def faults(self, call, *arguments):
-        """The error of a call, if it has one, tells nothing of the arguments, and is a ValueError or a TypeError."""
+        """The error of a call, if it has one, tells nothing of the arguments, and is an Error of the package or a TypeError."""
         try:
             call(*arguments)
-        except (TypeError, ValueError) as error:
+        except (TypeError, cukvashe_des.Error) as error:
             self.tells_nothing(error, arguments)
-            if isinstance(error, ValueError):
+            if isinstance(error, cukvashe_des.Error):
                 length = re.search("(?<=not )[0-9]+$|^[0-9]+(?= bytes)", str(error))
                 if length:
                     self.assertIn(int(length[0]), [len(value) for value in arguments if isinstance(value, (bytes, bytearray))])
@@ -144,7 +144,8 @@ class Texts(unittest.TestCase):
             closed.close()
             for one in (made, closed):
                 if hasattr(one, "encrypt_ecb"):
-                    calls += [(one.encrypt_ecb_into, (MESSAGE,)), (one.decrypt_cbc_into, (IV, MESSAGE)), (one.encrypt_cbc, (IV, MESSAGE))]
+                    calls += [(one.encrypt_ecb_into, (MESSAGE,)), (one.decrypt_cbc_into, (MESSAGE, IV)), (one.encrypt_cbc, (MESSAGE, IV))]
+                    calls += [(in_places(call, "iv"), (MESSAGE, IV)) for call in (one.decrypt_cbc_into, one.encrypt_cbc)]
                 else:
                     calls += [(one.update, (MESSAGE,)), (one.verify, (MESSAGE[:8],)), (one.verify_truncated_left, (MESSAGE[:4],))]
         return calls
@@ -201,9 +202,7 @@ class Texts(unittest.TestCase):
         names |= self.faults(cukvashe_des.pbkdf2, "sha1", MESSAGE, IV, 1, 0)
         for cut in (7, 15):
             names |= self.faults(opens, KEY, SALTED[:cut])
-        faults = {name for name in cukvashe_des.__all__ if name[0].isupper() and isinstance(getattr(cukvashe_des, name), type)
-                  and issubclass(getattr(cukvashe_des, name), ValueError)}
-        self.assertEqual(names, faults | {"TypeError"})
+        self.assertEqual(names, {fault.__name__ for fault in faults_of_package()} | {"TypeError"})
         self.assertEqual(self.sentences, SENTENCES)
 
     def test_method(self):

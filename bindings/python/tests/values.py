@@ -1,5 +1,6 @@
 """Known answers, and every object and call of the package with arguments that it takes."""
 
+import functools
 import os
 
 import cukvashe_des
@@ -127,6 +128,28 @@ def to_format_3(incoming, number, outgoing, account, fill, block):
     return cukvashe_des.pin_translate_to_3(number, account, fill, block, incoming_key=incoming, outgoing_key=outgoing)
 
 
+def faults_of_package():
+    """The errors of the package, without the two that are bases."""
+    values = (getattr(cukvashe_des, name) for name in cukvashe_des.__all__)
+    errors = [value for value in values if isinstance(value, type) and issubclass(value, cukvashe_des.Error)]
+    return [error for error in errors if error not in (cukvashe_des.Error, cukvashe_des.VerificationError)]
+
+
+def in_places(call, *names):
+    """A call whose last arguments go by name alone, with these in places."""
+
+    @functools.wraps(call)
+    def placed(*arguments):
+        first = len(arguments) - len(names)
+        return call(*arguments[:first], **dict(zip(names, arguments[first:])))
+
+    return placed
+
+
+encrypt_records = in_places(cukvashe_des.encrypt_cbc_records, "vectors", "counts")
+decrypt_records = in_places(cukvashe_des.decrypt_cbc_records, "vectors", "counts")
+
+
 def opens(password, data):
     """The call that opens a file, whose own name is a part of the file's first bytes."""
     return cukvashe_des.open_salted(TdesEde3, password, data)
@@ -194,8 +217,8 @@ LISTS = [
     (cukvashe_des.decrypt_each, (TdesEde2, PAIR * 3, MESSAGE)),
     (cukvashe_des.check_values, (TdesEde3, KEY * 2)),
     (cukvashe_des.dukpt_transaction_keys_from_base, (PAIR, SERIALS)),
-    (cukvashe_des.encrypt_cbc_records, (TdesEde3(KEY), MESSAGE[:16], (1, 2), MESSAGE)),
-    (cukvashe_des.decrypt_cbc_records, (TdesEde3(KEY), MESSAGE[:16], (1, 2), MESSAGE)),
+    (encrypt_records, (TdesEde3(KEY), MESSAGE, MESSAGE[:16], (1, 2))),
+    (decrypt_records, (TdesEde3(KEY), MESSAGE, MESSAGE[:16], (1, 2))),
     (cukvashe_des.macs, (CbcMacTdesEde2, PAIR, 2, (20, 4), MESSAGE)),
     (cukvashe_des.macs_each, (RetailMacDes, PAIR * 2, 2, (20, 4), MESSAGE)),
     (cukvashe_des.macs_each, (CmacTdesEde2, PAIR * 2, None, (20, 4), MESSAGE)),
@@ -210,10 +233,10 @@ ELEMENTS = {
     (cukvashe_des.decrypt_each, 2): 8,
     (cukvashe_des.check_values, 1): 24,
     (cukvashe_des.dukpt_transaction_keys_from_base, 1): 10,
-    (cukvashe_des.encrypt_cbc_records, 1): 8,
-    (cukvashe_des.encrypt_cbc_records, 3): 8,
-    (cukvashe_des.decrypt_cbc_records, 1): 8,
-    (cukvashe_des.decrypt_cbc_records, 3): 8,
+    (encrypt_records, 1): 8,
+    (encrypt_records, 2): 8,
+    (decrypt_records, 1): 8,
+    (decrypt_records, 2): 8,
     (cukvashe_des.macs_each, 1): 16,
     (cukvashe_des.wrong_tags, 0): 8,
     (cukvashe_des.wrong_tags, 1): 8,
@@ -227,7 +250,7 @@ def methods():
         made = kind(*arguments)
         if kind in ANSWERS:
             calls += [(made.encrypt_ecb, (MESSAGE,)), (made.decrypt_ecb, (MESSAGE,))]
-            calls += [(made.encrypt_cbc, (IV, MESSAGE)), (made.decrypt_cbc, (IV, MESSAGE))]
+            calls += [(in_places(call, "iv"), (MESSAGE, IV)) for call in (made.encrypt_cbc, made.decrypt_cbc)]
         else:
             calls += [(made.update, (b"",)), (made.digest, ()), (made.hexdigest, ()), (made.verify, (made.digest(),)),
                       (made.verify_truncated_left, (made.digest(),))]

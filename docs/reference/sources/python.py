@@ -35,10 +35,8 @@ class Package:
                 self.definitions.setdefault(node.name, node)
             elif isinstance(node, ast.Assign) and isinstance(node.targets[0], ast.Name):
                 self.definitions.setdefault(node.targets[0].id, node)
-            elif isinstance(node, ast.If) and ast.unparse(node.test) == "TYPE_CHECKING":
-                for inner in node.body:
-                    if isinstance(inner, ast.Assign):
-                        self.aliases[inner.targets[0].id] = ast.unparse(inner.value)
+                if module == "_types":
+                    self.aliases[node.targets[0].id] = ast.unparse(node.value)
 
     def bases(self, node):
         """The classes of the package that a class is derived from, the next first."""
@@ -58,7 +56,7 @@ class Package:
 
     def written(self, text):
         """A type or a signature with the package's own names of types written out."""
-        return re.sub(r"\b_\w+\b", lambda found: self.aliases.get(found[0], found[0]), text)
+        return re.sub(r"\b\w+\b", lambda found: self.aliases.get(found[0], found[0]), text)
 
     def signature(self, node, name, is_method=False):
         """A call as it is written, without `self`."""
@@ -70,7 +68,7 @@ class Package:
         return re.sub(r"(?<=[\w\]])=", " = ", self.written(f"{name}({ast.unparse(given)}){returns}").replace("_Self", "Self"))
 
     def is_fault(self, node):
-        return isinstance(node, ast.ClassDef) and [ast.unparse(base) for base in node.bases] == ["ValueError"]
+        return isinstance(node, ast.ClassDef) and any(each.name == "Error" for each in [node, *self.bases(node)])
 
     # ---- what is shown
 
@@ -147,7 +145,7 @@ def made():
     nodes = {name: package.definitions[name] for name in package.names}
     faults = {name: node for name, node in nodes.items() if package.is_fault(node)}
     classes = {name: node for name, node in nodes.items() if isinstance(node, ast.ClassDef) and name not in faults}
-    below = {base.name: base for node in classes.values() for base in package.bases(node)}
+    bases = {base.name: base for node in classes.values() for base in package.bases(node)}
     yield "# The package for Python"
     yield ""
     yield filled(
@@ -155,23 +153,30 @@ def made():
         "buffer of bytes, as `bytes`, `bytearray`, `memoryview` and arrays of numpy, and `WriteableBuffer` one that can be written."
     )
     yield ""
-    for heading in ("The module", "Classes", "Bases of the classes", "Calls", "Faults", "Numbers"):
+    for heading in ("The module", "Classes", "Bases of the classes", "Calls", "Errors", "Numbers"):
         yield f"- [{heading}](#{heading.lower().replace(' ', '-')})"
     yield from ["", "## The module"]
     yield from package.said(package.init, "the module")
     yield from ["", "## Classes"]
     for name, node in classes.items():
-        yield from package.class_lines(node, name, is_shown=True)
+        yield from package.class_lines(node, name, is_shown=name not in bases)
     yield from ["", "## Bases of the classes", ""]
     yield "The module does not have these names. What they have, each class above has that is derived from them."
-    for name, node in below.items():
-        yield from package.class_lines(node, name, is_shown=False)
+    for name, node in bases.items():
+        if name not in classes:
+            yield from package.class_lines(node, name, is_shown=False)
     yield from ["", "## Calls"]
     for name, node in nodes.items():
         if isinstance(node, ast.FunctionDef):
             yield from package.call_lines(node, name)
-    yield from ["", "## Faults", "", "Each is a `ValueError`.", ""]
-    yield from table(["Fault", "What it says"], ((f"`{name}`", first_sentence(ast.get_docstring(node))) for name, node in faults.items()))
+    yield from ["", "## Errors", ""]
+    yield from table(
+        ["Error", "Bases", "What it says"],
+        (
+            (f"`{name}`", ", ".join(f"`{ast.unparse(base)}`" for base in node.bases), first_sentence(ast.get_docstring(node)))
+            for name, node in sorted(faults.items(), key=lambda each: [ast.unparse(base) for base in each[1].bases] != ["Exception"])
+        ),
+    )
     yield from ["", "## Numbers", ""]
     values = {name: ast.unparse(node.value) for name, node in nodes.items() if isinstance(node, ast.Assign)}
     yield from table(["Name", "Value"], ((f"`{name}`", f"`{value}`") for name, value in values.items()))
