@@ -1,6 +1,6 @@
 """The ciphers."""
 
-# Annotations are no texts here: they would be looked up in the package, which the classes name as their module.
+# Annotations are evaluated here: as texts `typing.get_type_hints` would look them up in the package, which classes name as their module.
 
 import functools
 from typing import Any, Callable, ClassVar, Type, TypeVar, cast
@@ -10,7 +10,6 @@ from ._faults import BlockLengthError
 from ._library import INT, POINTER, SIZE
 from ._statuses import OK
 from ._types import ReadableBuffer, WriteableBuffer
-
 
 _Call = TypeVar("_Call", bound=Callable[..., Any])
 
@@ -33,8 +32,8 @@ def vectors_by_name(call: _Call) -> _Call:
 
 
 class Cipher(Keyed):
-    """A block cipher under one key, which threads may share. A quiet one reads no tables at addresses that depend on the key or the
-    data, and takes up to four times as long. KeyLengthError."""
+    """A block cipher under one key, which threads may share: what Des, TdesEde2 and TdesEde3 have in common, for annotations. A quiet
+    one reads no tables at addresses that depend on the key or the data, and takes up to four times as long. KeyLengthError."""
 
     __slots__ = ()
 

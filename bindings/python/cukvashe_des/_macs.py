@@ -1,6 +1,6 @@
 """The message authentication codes."""
 
-# Annotations are no texts here, as in _ciphers.py.
+# Annotations are evaluated here, as in _ciphers.py.
 
 import threading
 from typing import Any, ClassVar, Dict, Type, TypeVar
@@ -18,8 +18,9 @@ _Self = TypeVar("_Self", bound="Mac")
 
 
 class Mac(Keyed):
-    """A message authentication code of a message that comes in pieces. Threads may share one: its calls take turns. A quiet one
-    reads no tables at addresses that depend on the key or the message, and takes two to two and a half times as long."""
+    """A message authentication code of a message that comes in pieces: what all MACs have in common, for annotations. Threads may
+    share one: its calls take turns. A quiet one reads no tables at addresses that depend on the key or the message, and takes two
+    to two and a half times as long."""
 
     __slots__ = ("_lock",)
 

@@ -108,6 +108,8 @@ class Derived(unittest.TestCase):
             for call in (cukvashe_des.check_values, cukvashe_des.encrypt_each):
                 self.assertRaises(TypeError, call, made, KEY[:8], IV)
             self.assertRaises(TypeError, cukvashe_des.macs, made, KEY[:8], 1, (8,), IV)
+        for base, arguments in ((cukvashe_des.Cipher, (KEY[:8],)), (cukvashe_des.Mac, (KEY[:8],)), (cukvashe_des.Mac, ())):
+            self.assertRaisesRegex(TypeError, "^a class of ", base, *arguments)
         mixed = type("Mixed", (TdesEde3, RetailMacDes), {})
         self.assertEqual(cukvashe_des.check_value(mixed, KEY), cukvashe_des.check_value(TdesEde3, KEY))
         self.assertEqual(cukvashe_des.macs(mixed, PAIR, 2, (8,), IV), cukvashe_des.macs(RetailMacDes, PAIR, 2, (8,), IV))
