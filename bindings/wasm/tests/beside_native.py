@@ -70,10 +70,6 @@ def mac_of(kind, arguments, pieces, length):
     return [tag, accepts(mac.verify, tag[:length]), accepts(mac.verify_truncated_left, tag[:length]), accepts(mac.verify, other)]
 
 
-# What has another name in Python.
-NAMES = {"dukptTransactionKeys": "dukpt_transaction_keys_from_base"}
-
-
 def answer_of(name, *words):
     arguments = [given(word) for word in words]
     first, _, method = name.partition(".")
@@ -82,13 +78,8 @@ def answer_of(name, *words):
     elif first[0].isupper():
         return mac_of(getattr(cukvashe_des, first), *arguments)
     else:
-        call = getattr(cukvashe_des, NAMES.get(first, snake(first)))
+        call = getattr(cukvashe_des, snake(first))
     options = arguments.pop() if arguments and isinstance(arguments[-1], dict) else {}
-    if "CbcRecords" in name and not options:
-        cipher, options["vectors"], options["counts"], *data = arguments
-        arguments = [cipher, *data]
-    elif "Cbc" in name and not options:
-        options["iv"], *arguments = arguments
     return call(*arguments, **options)
 
 
