@@ -6,8 +6,8 @@
 //     const plaintext = new TdesEde3(key).decryptCbc(ciphertext, { iv });
 //
 // Bytes come in and go out as Uint8Array, texts as strings of digits; names are those of the package for Python, and so
-// are the errors, each a CukvasheError of its own name. A wrong type is a TypeError. cukvashe_des.d.mts says what each call
-// does, and has the types.
+// are the errors, but for Error at their end, each a CukvasheError of its own name. A wrong type is a TypeError.
+// cukvashe_des.d.mts says what each call does, and has the types.
 //
 // Each call reads first what may run code of the caller's: classes, options, and numbers that an iterator gives. Then it
 // takes views of bytes, and then, in `inside`, where no such code runs, what an object keeps. So it answers as if that code
