@@ -66,7 +66,7 @@ complete -c cukvashe -n "__cukvashe_option decrypt" -l padding -x -a 'pkcs7 iso7
 complete -c cukvashe -n "__cukvashe_option decrypt" -l from -x -d 'Decrypt from this block of 8 bytes on, the first being 0'
 complete -c cukvashe -n "__cukvashe_option decrypt" -l blocks -x -d 'Decrypt at most this number of blocks'
 complete -c cukvashe -n "__cukvashe_option decrypt" -l no-salt -d 'The input has no salt, and does not begin with Salted__'
-complete -c cukvashe -n "__cukvashe_option decrypt" -l base64 -d 'The input is Base64 in lines, all of which is held in memory'
+complete -c cukvashe -n "__cukvashe_option decrypt" -l base64 -d 'The input is Base64 in lines'
 complete -c cukvashe -n "__cukvashe_option decrypt-pem" -l form -x -a 'pem der' -d 'The form of what is written'
 complete -c cukvashe -n "__cukvashe_option mac" -l padding -x -a '1 2' -d 'Needed by cbc-mac and retail: 2, unless all messages have one length'
 complete -c cukvashe -n "__cukvashe_option mac" -l in -r -F -d 'Read the message from a file'

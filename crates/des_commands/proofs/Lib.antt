@@ -10,3 +10,4 @@ pub mod ProtectionSizes
 pub mod WrapFaults
 pub mod ShownTexts
 pub mod UnwrapFaults
+pub mod ObjectIdentifiers

@@ -15,6 +15,7 @@ pub mod Jobs
 pub mod JobFaults
 pub mod StreamRequests
 pub mod StreamArguments
+pub mod CommandArguments
 pub mod Runs
 pub mod Names
 pub mod KeyBlockLines

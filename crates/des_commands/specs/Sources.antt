@@ -5,7 +5,7 @@ use Rattle.std.specs.Char.{is_ascii_digit, is_ascii_hexdigit}
 use Rattle.std.specs.Io.KnownBytes.{Consumes, IsAtEnd}
 use Rattle.des_commands.specs.declared.fault.Reason.{Reason}
 use Rattle.des_commands.specs.declared.fault.Kind.{Kind}
-use Rattle.des_commands.specs.declared.fault.Kind.TheVariants.{Source, InputLength, Memory}
+use Rattle.des_commands.specs.declared.fault.Kind.TheVariants.{Source, InputLength, Memory, Read}
 use Rattle.des_commands.specs.declared.source.Source.{Source as Place}
 use Rattle.des_commands.specs.declared.source.Source.TheVariants.{StandardInput, File, Descriptor, Variable}
 use Rattle.des_commands.specs.Texts.{is_space}
@@ -51,6 +51,18 @@ name_of_source StandardInput = codes "standard input"
 name_of_source (File path) = shown_path path.now
 name_of_source (Descriptor number) = codes "--key-fd"
 name_of_source (Variable name) = codes "--key-env"
+
+-- an input can't be read, or memory was refused
+abbrev pub FailsToRead : Kind → Type 0
+FailsToRead kind = (kind ≡ Memory) ⊎ ((reason : Reason) × (kind ≡ Read reason))
+
+-- the same of an input that is a source
+abbrev pub FailsAsSource : Kind → Type 0
+FailsAsSource kind = (kind ≡ Memory) ⊎ ((reason : Reason) × (kind ≡ Source reason))
+
+abbrev pub of_source : Kind → Kind
+of_source (Read reason) = Source reason
+of_source kind = kind
 
 -- all was read, no more than the longest input
 abbrev pub IsAllOf : ℕ → List ℕ → Option (List ℕ) → Option (List ℕ) → Type 0

@@ -33,6 +33,14 @@ pub fn verified(tag: &[u8; 8], given: &[u8]) -> bool
     verify_truncated_left(given, tag).is_ok()
 }
 
+/// The status of a verification: 0 where these are the first 4 to 8 bytes of the tag, and else 1.
+pub fn verification_status(tag: &[u8; 8], given: &[u8]) -> u8
+    ensures right { (result ≡ 0) ↔ IsTruncated given.now tag.now }
+    ensures wrong { (result ≡ 1) ↔ (¬ IsTruncated given.now tag.now) }
+{
+    status_of(0, !verified(tag, given))
+}
+
 /// The 4 to 8 bytes of a tag that hexadecimal digits write. Any other text is the fault `Tag`.
 pub fn tag_of_digits(alloc: Global, digits: &[u8]) -> Result<Vec<u8>, Kind>
     ensures tag { IfOk result (λ tag. tag.items ≡ bytes_of_text digits.now) }

@@ -8,10 +8,12 @@ pub mod streams;
 mod table;
 mod typed;
 
-ghost use Rattle.std.specs.Prelude.{◌≡◌, IfOk, IfErr, Some};
+ghost use Rattle.std.specs.Prelude.{◌≡◌, ◌<◌, ◌≤◌, ℕ, List, Option, true, false, length, filter, IfOk, IfErr, Some};
+ghost use Rattle.clap.specs.Matches.{subcommand_name_of};
 ghost use Rattle.des_commands.specs.declared.fault.Kind.TheVariants.{Usage};
 ghost use Rattle.des_commands.specs.declared.fault.Misuse.TheVariants.{StandardInputTwice};
 ghost use Rattle.des_commands.specs.StreamArguments.{IsInput, IsReadTwice};
+ghost use Rattle.des_commands.specs.CommandArguments.{HasDirectionOf, is_standard_input as is_standard_input_of, source_of as source_of_account, standard_inputs};
 
 use crate::command::{
     Account, Calculation, CalculationRequest, Command, MacRequest, Purpose, Question,
@@ -55,7 +57,10 @@ pub(crate) fn file_of<'a>(path: &'a str) -> Source<'a>
 }
 
 // The fault, where the options don't go together.
-fn refuse<'a>(is_misuse: bool, fault: Misuse) -> Result<(), Fault<'a>> {
+fn refuse<'a>(is_misuse: bool, fault: Misuse) -> Result<(), Fault<'a>>
+    ensures passed { IfOk result (λ _. is_misuse ≡ false) }
+    ensures fault { IfErr result (λ refused. (is_misuse ≡ true) × (refused.kind ≡ Usage fault)) }
+{
     if is_misuse {
         return Err(misuse(fault, ""));
     }
@@ -119,8 +124,26 @@ fn read_once<'a>(first: Source, second: Source) -> Result<(), Fault<'a>>
     }
 }
 
-fn is_standard_input(source: Option<Source>) -> bool {
+fn is_standard_input(source: Option<Source>) -> bool
+    ensures { result ≡ is_standard_input_of source.entry }
+{
     matches!(source, Some(Source::StandardInput))
+}
+
+fn count_standard_inputs(sources: &[Option<Source>]) -> usize
+    ensures { result ≡ length (filter is_standard_input_of sources.now) }
+{
+    sources.iter().filter(|it| is_standard_input(**it)).count()
+}
+
+// Where an account number is, if it is no argument.
+fn source_of<'a>(account: Account<'a>) -> Option<Source<'a>>
+    ensures { result ≡ source_of_account account.entry }
+{
+    match account {
+        Account::In(source) => Some(source),
+        _ => None,
+    }
 }
 
 // ---- calculations
@@ -146,14 +169,16 @@ fn by_key<'a>(calculation: Calculation<'a>, matches: &ArgMatches<'a>) -> Request
 }
 
 // The request, unless it reads standard input twice.
-fn read_each_once<'a>(request: CalculationRequest<'a>) -> Requested<'a> {
-    let account = match request.account {
-        Account::In(source) => Some(source),
-        _ => None,
-    };
+fn read_each_once<'a>(request: CalculationRequest<'a>) -> Requested<'a>
+    ensures once { IfOk result (λ read. (read ≡ request.entry) × (standard_inputs request.entry ≤ 1)) }
+    ensures fault { IfErr result (λ fault.
+        (1 < standard_inputs request.entry) × (fault.kind ≡ Usage StandardInputTwice)) }
+{
+    let account = source_of(request.account);
     let sources = [account, request.key, request.to_key, Some(request.input)];
-    let count = sources.iter().filter(|it| is_standard_input(**it)).count();
-    refuse(count > 1, Misuse::StandardInputTwice)?;
+    if count_standard_inputs(&sources) > 1 {
+        return Err(misuse(Misuse::StandardInputTwice, ""));
+    }
     Ok(request)
 }
 
@@ -213,7 +238,9 @@ fn mac_request<'a>(matches: &ArgMatches<'a>) -> Result<MacRequest<'a>, Fault<'a>
 
 // ---- keys
 
-fn combine_request<'m, 'a>(matches: &'m ArgMatches<'a>) -> Result<Command<'m, 'a>, Fault<'a>> {
+fn combine_request<'m, 'a>(matches: &'m ArgMatches<'a>) -> Result<Command<'m, 'a>, Fault<'a>>
+    ensures { IfOk result (λ command. (name : Option (List ℕ)) → HasDirectionOf name command) }
+{
     match (texts_of(matches, "part-file"), count_of(matches, "count")) {
         (None, Some(count)) => {
             let request = by_key(Calculation::Combine { count }, matches)?;
@@ -283,7 +310,9 @@ fn calculation_of<'a>(name: &str, matches: &ArgMatches<'a>) -> Requested<'a> {
 }
 
 /// What the words ask for; a fault where their options don't go together.
-pub fn command_of<'m, 'a>(matches: &'m ArgMatches<'a>) -> Result<Command<'m, 'a>, Fault<'a>> {
+pub fn command_of<'m, 'a>(matches: &'m ArgMatches<'a>) -> Result<Command<'m, 'a>, Fault<'a>>
+    ensures direction { IfOk result (HasDirectionOf (subcommand_name_of matches.now)) }
+{
     match matches.subcommand() {
         Some(("encrypt", matches)) => Ok(Command::Stream(stream_request(true, matches)?)),
         Some(("decrypt", matches)) => Ok(Command::Stream(stream_request(false, matches)?)),

@@ -1,7 +1,9 @@
 //! Inputs: files that are opened, the places where they are read from, and random bytes.
 
-ghost use Rattle.std.specs.Prelude.{◌≡◌, ◌≤◌, ◌⊎◌, IfOk, IfErr};
+ghost use Rattle.std.specs.Prelude.{◌≡◌, ◌≤◌, ◌⊎◌, ◌↔◌, IfOk, IfErr};
+ghost use Rattle.std.specs.IoError.{error_kind};
 ghost use Rattle.std.specs.Io.KnownBytes.{Consumes};
+ghost use Rattle.des_commands.specs.Sources.{of_source as fault_of_source, FailsToRead, FailsAsSource};
 
 use crate::descriptors::{Followed, follow, standing_of};
 use crate::fault::{Kind, Reason};
@@ -25,7 +27,8 @@ pub struct Input {
 
 /// The fault of an error that says why an input can't be read.
 pub fn read_fault(error: io::Error) -> Kind
-    ensures { (result ≡ Kind.Memory) ⊎ ((reason : Reason) × (result ≡ Kind.Read reason)) }
+    ensures fault { FailsToRead result }
+    ensures memory { (result ≡ Kind.Memory) ↔ (error_kind error ≡ ErrorKind.OutOfMemory) }
 {
     match error.kind() {
         ErrorKind::OutOfMemory => Kind::Memory,
@@ -36,7 +39,9 @@ pub fn read_fault(error: io::Error) -> Kind
 /// Opens a file to read. The system opens the file of a descriptor, as `/dev/fd/3`, anew and at its
 /// beginning: it is read from where the descriptor stands. Standard input under other names than its
 /// own is refused: it may be read beside this. The fault is `Read` or `Memory`.
-pub fn open(rt: &HostRuntime, path: &str) -> Result<Input, Kind> {
+pub fn open(rt: &HostRuntime, path: &str) -> Result<Input, Kind>
+    ensures { IfErr result FailsToRead }
+{
     let place = match follow(rt, path) {
         Ok(Followed::Descriptor(0) | Followed::OtherDescriptor) => {
             return Err(Kind::Read(Reason::Descriptor));
@@ -100,7 +105,9 @@ pub fn bytes_to_read(length: u64, place: u64, skipped: u64, blocks: Option<u64>)
 }
 
 /// The fault of an input that is a source.
-pub fn of_source(kind: Kind) -> Kind {
+pub fn of_source(kind: Kind) -> Kind
+    ensures { result ≡ fault_of_source kind }
+{
     match kind {
         Kind::Read(reason) => Kind::Source(reason),
         kind => kind,
@@ -135,6 +142,7 @@ pub fn random_bytes<R: Read, const N: usize>(source: &mut R) -> Result<[u8; N], 
 /// Random bytes of the system. The fault is `Source` or `Memory`.
 pub fn system_random<const N: usize>(rt: &HostRuntime) -> Result<[u8; N], Kind>
     requires { N ≤ 1000 }
+    ensures { IfErr result FailsAsSource }
 {
     let mut source = File::open(rt, RANDOM_SOURCE).map_err(|error| of_source(read_fault(error)))?;
     random_bytes(&mut source)

@@ -3,7 +3,7 @@
 ghost use Rattle.std.specs.Prelude.{IfSome};
 ghost use Rattle.des_commands.specs.Keys.{IsKeySize};
 
-use crate::answer::{status_of, tag_line, tag_of_digits, verified};
+use crate::answer::{tag_line, tag_of_digits, verification_status};
 use crate::command::{MacRequest, Question};
 use crate::fault::{Fault, Kind};
 use crate::inputs;
@@ -57,8 +57,7 @@ pub fn mac_status<'a>(rt: &HostRuntime, request: &MacRequest<'a>) -> Result<u8, 
             let given = tag_of_digits(rt.alloc(), digits.as_bytes()).map_err(|kind| Fault::about(
                 kind, "--verify",
             ))?;
-            let is_right = verified(&tag_for(rt, request)?, given.as_slice());
-            Ok(status_of(0, !is_right))
+            Ok(verification_status(&tag_for(rt, request)?, given.as_slice()))
         }
     }
 }

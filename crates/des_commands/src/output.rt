@@ -1,6 +1,7 @@
 //! Output files. A regular file is replaced when all of it is written, and not before.
 
-ghost use Rattle.std.specs.Prelude.{◌≡◌, ◌⊎◌};
+ghost use Rattle.std.specs.Prelude.{◌≡◌, ◌⊎◌, ◌↔◌};
+ghost use Rattle.std.specs.IoError.{error_kind};
 
 use crate::descriptors::{
     Followed, folder_mode, folder_of, follow, has_shared, if_there, standing_of,
@@ -76,7 +77,8 @@ pub enum Target {
 
 /// The fault of an error that says why an output can't be written.
 pub fn write_fault(error: io::Error) -> Kind
-    ensures { (result ≡ Kind.Memory) ⊎ ((reason : Reason) × (result ≡ Kind.Write reason)) }
+    ensures fault { (result ≡ Kind.Memory) ⊎ ((reason : Reason) × (result ≡ Kind.Write reason)) }
+    ensures memory { (result ≡ Kind.Memory) ↔ (error_kind error ≡ ErrorKind.OutOfMemory) }
 {
     match error.kind() {
         ErrorKind::OutOfMemory => Kind::Memory,

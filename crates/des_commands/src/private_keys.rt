@@ -1,7 +1,8 @@
 //! Private keys under passwords: what is decrypted of them, and their text.
 
-ghost use Rattle.std.specs.Prelude.{◌≡◌, ◌<◌, ◌+◌, ◌^◌, ◌++◌, IfSome, IfOk, IfErr, OnOk};
-ghost use Rattle.des_commands.specs.PrivateKeys.{extent_of as extent_by, is_sequence as is_sequence_of, is_der as is_der_of, base64_lines, pem_of, label_text};
+ghost use Rattle.std.specs.Prelude.{◌≡◌, ◌<◌, ◌+◌, ◌^◌, ◌++◌, IfSome, IfOk, IfErr, OnOk, string_bytes};
+ghost use Rattle.des_commands.specs.PrivateKeys.{extent_of as extent_by, is_sequence as is_sequence_of, are_blanks_from as are_blanks_from_of, begins_with_sequence_alone as begins_with_sequence_alone_of, is_der as is_der_of, base64_lines, pem_of, label_text, with_number, object_identifier_text};
+ghost use Rattle.des_passwords.specs.TextLines.{are_blanks as are_blanks_of};
 ghost use Rattle.des_commands.specs.DecryptedKeys.{IsPlain, IsDecryptedKey, FailsAsPrivateKey, private_key_fault};
 
 use crate::fault::{FileFault, Kind};
@@ -46,12 +47,35 @@ pub fn is_sequence(bytes: &[u8]) -> bool
     }
 }
 
-/// Whether a file is DER: all of it is one sequence, or it begins as one with 128 bytes or more, which
-/// no text of ASCII does.
+fn are_blanks(bytes: &[u8]) -> bool
+    ensures { result ≡ are_blanks_of bytes.now }
+{
+    bytes.iter().all(|byte| byte.is_ascii_whitespace())
+}
+
+// Whether the bytes have as many before a place, and blanks alone from there on.
+fn are_blanks_from(place: usize, bytes: &[u8]) -> bool
+    ensures { result ≡ are_blanks_from_of place bytes.now }
+{
+    bytes.len() >= place && are_blanks(&bytes[place..])
+}
+
+// Whether the bytes begin with one sequence, and blanks alone follow.
+fn begins_with_sequence_alone(bytes: &[u8]) -> bool
+    ensures { result ≡ begins_with_sequence_alone_of bytes.now }
+{
+    match extent_of(bytes) {
+        Some((before, size)) => bytes[0] == 48 && are_blanks_from(before + size, bytes),
+        None => false,
+    }
+}
+
+/// Whether a file is DER: it is one sequence, which blanks may follow, or it begins as one with 128
+/// bytes or more, which no text of ASCII does.
 pub fn is_der(bytes: &[u8]) -> bool
     ensures { result ≡ is_der_of bytes.now }
 {
-    is_sequence(bytes) || bytes.len() >= 2 && bytes[0] == 48 && bytes[1] >= 128
+    begins_with_sequence_alone(bytes) || bytes.len() >= 2 && bytes[0] == 48 && bytes[1] >= 128
 }
 
 // The fault of a private key, of one of its bytes: a list of bytes fails to grow only where memory is
@@ -147,7 +171,9 @@ pub fn pem_text(alloc: Global, label: Label, key: &[u8]) -> Result<Vec<u8>, Allo
 // ---- object identifiers
 
 // The text with a number more. The first number holds two.
-fn add_number(alloc: Global, text: String, number: u64) -> Result<String, AllocError> {
+fn add_number(alloc: Global, text: String, number: u64) -> Result<String, AllocError>
+    ensures { IfOk result (λ more. string_bytes more ≡ with_number (string_bytes text) number) }
+{
     if text.is_empty() {
         let first = std::cmp::min(number / 40, 2);
         let second = number - 40 * first;
@@ -159,11 +185,13 @@ fn add_number(alloc: Global, text: String, number: u64) -> Result<String, AllocE
 
 /// The text of an object identifier (ITU-T X.690, 8.19): its numbers with points between, or its bytes
 /// in hexadecimal digits where they end within a number, or one has more than 56 bits.
-pub fn object_identifier(alloc: Global, contents: &[u8]) -> Result<String, AllocError> {
+pub fn object_identifier(alloc: Global, contents: &[u8]) -> Result<String, AllocError>
+    ensures { IfOk result (λ text. string_bytes text ≡ object_identifier_text contents.now) }
+{
     let mut text = String::new(alloc);
     let mut number = 0u64;
     let mut is_whole = false;
-    for byte in contents {
+    'octets: for byte in contents {
         if number >= 1 << 56 {
             return hex::encode(alloc, contents);
         }

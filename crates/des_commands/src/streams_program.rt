@@ -2,7 +2,7 @@
 //! output.
 
 use crate::fault::{Fault, FileFault, Kind};
-use crate::inputs::{self, RANDOM_SOURCE, bytes_to_read, read_fault, system_random};
+use crate::inputs::{self, RANDOM_SOURCE, system_random};
 use crate::notices::{self, Notice, accept_key};
 use crate::output::{self, Readers, Target, output_name, refuse_terminal};
 use crate::password_streams::{PasswordJob, check_password, run_by_password};
@@ -15,9 +15,10 @@ use crate::stream_request::{
 };
 use crate::streams;
 use crate::watched::Watched;
+use base64::engine::general_purpose::STANDARD;
 use des_io::pieces::fill;
+use des_passwords::Base64Reader;
 use des_passwords::salted::PREFIX;
-use des_passwords::{Base64Error, decode_base64};
 use std::io::{Read, Write};
 
 // A request, with what was read for it.
@@ -150,21 +151,6 @@ fn run_file(rt: &HostRuntime, task: Task, path: &str) -> Result<(), Kind> {
 
 // ---- Base64
 
-// The text of an input.
-fn text_of_input(rt: &HostRuntime, source: Source) -> Result<Vec<u8>, Kind> {
-    let mut text = Vec::new(rt.alloc());
-    match source {
-        Source::File(path) => {
-            let mut input = inputs::open(rt, path)?;
-            input.file.read_to_end(&mut text).map_err(read_fault)?;
-        }
-        _ => {
-            rt.stdin().read_to_end(&mut text).map_err(read_fault)?;
-        }
-    }
-    Ok(text)
-}
-
 /// Tells a fault of a file, and of what stands in it, and gives its status.
 pub fn tell_in(rt: &HostRuntime, fault: FileFault, input: &str, detail: &str) -> Result<u8, Kind> {
     let about = format!(in rt.alloc(); "{input}: {detail}")?;
@@ -172,22 +158,29 @@ pub fn tell_in(rt: &HostRuntime, fault: FileFault, input: &str, detail: &str) ->
     Ok(tell::<English, _>(fault, &mut rt.stderr()))
 }
 
+// Does the work with the bytes that a reader gives as Base64. A text that is none is told by its line.
+fn run_encoded<R: Read + Drop>(rt: &HostRuntime, task: Task, reader: R) -> Result<u8, Kind> {
+    let mut reader = Base64Reader::new(reader, &STANDARD);
+    let outcome = run_from_start(rt, task, &mut reader, None);
+    match reader.line_of_fault() {
+        Some(line) => {
+            let line = format!(in rt.alloc(); "line {line}")?;
+            tell_in(
+                rt,
+                FileFault::Base64,
+                task.request.input.name(),
+                line.as_str(),
+            )
+        }
+        None => outcome.map(|()| 0),
+    }
+}
+
 // Reads Base64, and does the work with its bytes.
 fn run_base64(rt: &HostRuntime, task: Task) -> Result<u8, Kind> {
-    let source = task.request.input;
-    let text = text_of_input(rt, source)?;
-    match decode_base64(rt.alloc(), text.as_slice()) {
-        Ok(bytes) => {
-            let count = task.request.part.and_then(|part| part.count);
-            let total = bytes_to_read(bytes.len() as u64, 0, task.skipped, count);
-            run_from_start(rt, task, bytes.as_slice(), Some(total))?;
-            Ok(0)
-        }
-        Err(Base64Error::Line(line)) => {
-            let line = format!(in rt.alloc(); "line {line}")?;
-            tell_in(rt, FileFault::Base64, source.name(), line.as_str())
-        }
-        Err(Base64Error::OutOfMemory) => Err(Kind::Memory),
+    match task.request.input {
+        Source::File(path) => run_encoded(rt, task, inputs::open(rt, path)?.file),
+        _ => run_encoded(rt, task, rt.stdin()),
     }
 }
 

@@ -206,7 +206,9 @@ pub fn request_of_words<'a>(words: &StreamWords<'a>) -> Result<StreamRequest<'a>
 pub fn stream_request<'a>(
     encrypts: bool,
     matches: &ArgMatches<'a>,
-) -> Result<StreamRequest<'a>, Fault<'a>> {
+) -> Result<StreamRequest<'a>, Fault<'a>>
+    ensures direction { IfOk result (λ request. request.encrypts ≡ encrypts) }
+{
     let coding = match is_set(matches, "base64") {
         true => Coding::Base64,
         false => Coding::Bytes,

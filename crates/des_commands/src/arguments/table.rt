@@ -88,7 +88,7 @@ Example:
         "blocks": Number("COUNT") => "Decrypt at most this number of blocks";
     }, Files, Progress, Key, Password, Derive, AnyCount, {
         "no-salt": Nothing => "The input has no salt, and does not begin with Salted__";
-        "base64": Nothing => "The input is Base64 in lines, all of which is held in memory";
+        "base64": Nothing => "The input is Base64 in lines";
     }] "\
 Limits: a changed input decrypts to something, mostly with no fault, since nothing is authenticated.
 
