@@ -2,19 +2,20 @@
 -- characters are those of RFC 4648, section 10.
 use Rattle.std.proofs.Common.{◌≡◌, codes, Some, None, refl}
 use Rattle.base64.proofs.OnLiterals.{base64_on_literals}
+use Rattle.base64.specs.Engines.{standard}
 use Rattle.des_passwords.specs.Base64Streams.{after, after_all, beginning, bytes_of, character_of, characters_from}
 
 -- lines of any length, with blanks at their ends, and a group that goes on in the next
-base64-in_lines : bytes_of (codes " Zm9v \r\n\n\tYm\nF\ny\t\n") ≡ Some (codes "foobar")
+base64-in_lines : bytes_of standard (codes " Zm9v \r\n\n\tYm\nF\ny\t\n") ≡ Some (codes "foobar")
 unfolding base64_on_literals after character_of characters_from
 base64-in_lines = refl
 
-base64-padded : bytes_of (codes "Zm9vYg\n==\n") ≡ Some (codes "foob")
+base64-padded : bytes_of standard (codes "Zm9vYg\n==\n") ≡ Some (codes "foob")
 unfolding base64_on_literals after character_of characters_from
 base64-padded = refl
 
 -- a blank within a line
-base64-gap : bytes_of (codes "Zm9v YmFy") ≡ None
+base64-gap : bytes_of standard (codes "Zm9v YmFy") ≡ None
 unfolding base64_on_literals after character_of characters_from
 base64-gap = refl
 

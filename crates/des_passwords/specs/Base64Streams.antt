@@ -2,7 +2,7 @@
 -- without the blanks at their ends, and the line of the first character that can't stand where it does.
 use Rattle.std.specs.Prelude.{ℕ, ◌+◌, ◌%◌, ◌-◌, ◌^◌, min, ◌==◌, ◌&&◌, ◌||◌, Bool, true, false, not, if◌then◌else◌, List, [], ◌∷◌, Option, Some, None, option_map}
 use Rattle.std.specs.Char.{is_ascii_alphanumeric, is_ascii_whitespace}
-use Rattle.base64.specs.Engines.{standard}
+use Rattle.base64.specs.declared.engine.general_purpose.GeneralPurpose.{GeneralPurpose}
 use Rattle.base64.specs.GeneralPurpose.{decoded_of}
 use Rattle.base64.specs.Read.{decoder_remaining, outlook, Outlook}
 use Rattle.des_passwords.specs.declared.base64_reader.Base64Reader.{Base64Reader}
@@ -97,6 +97,6 @@ module _ {R : Type 0} (remaining : R → Option (List ℕ)) where
   abbrev pub outlook_on : Base64Reader R → Outlook
   outlook_on reader = outlook characters_remaining reader.decoder
 
--- the bytes that a text encodes, where it is Base64
-abbrev pub bytes_of : List ℕ → Option (List ℕ)
-bytes_of text = decoded_of standard (characters_from beginning text)
+-- the bytes that a text encodes, where it is Base64 as an engine decodes it
+abbrev pub bytes_of : GeneralPurpose → List ℕ → Option (List ℕ)
+bytes_of engine text = decoded_of engine (characters_from beginning text)

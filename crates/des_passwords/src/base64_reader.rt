@@ -3,7 +3,6 @@
 ghost use Rattle.std.specs.Prelude.{◌≡◌, ◌≤◌, ◌++◌, length, take, Ok, option_map, option_and_then};
 ghost use Rattle.std.specs.Io.{ReadsAtMost};
 ghost use Rattle.std.specs.Io.KnownBytes.{ReadConsumes};
-ghost use Rattle.base64.specs.Engines.{standard};
 ghost use Rattle.base64.specs.Read.{IsInvalid};
 ghost use Rattle.des_passwords.specs.Base64Streams.{after as after_byte, after_all, after_blank, after_character, beginning, bytes_of, bytes_remaining, can_stand, character_of, characters_from, characters_remaining, is_symbol as is_symbol_of, outlook_on};
 
@@ -177,12 +176,12 @@ pub struct Base64Reader<'e, R: Read> {
 }
 
 impl<'e, R: Read> Base64Reader<'e, R> {
-    /// A reader of what a reader gives from here on. The engine is `STANDARD`.
+    /// A reader of what a reader gives from here on. `engine` is `STANDARD`: `line_of_fault` knows its
+    /// symbols.
     pub fn new(reader: R, engine: &'e GeneralPurpose) -> Base64Reader<'e, R>
-        requires { engine.now ≡ standard }
         ensures bytes { bytes_remaining R.remaining result
-            ≡ option_and_then bytes_of (R.remaining reader) }
-        ensures outlook { outlook_on R.remaining result ≡ option_map bytes_of (R.remaining reader) }
+            ≡ option_and_then (bytes_of engine.now) (R.remaining reader) }
+        ensures outlook { outlook_on R.remaining result ≡ option_map (bytes_of engine.now) (R.remaining reader) }
     {
         let characters = Characters {
             inner: reader,
