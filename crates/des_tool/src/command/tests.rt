@@ -4,12 +4,14 @@
 use super::{Fault, answer, show};
 use std::io::{self, Error, ErrorKind, Write};
 
-// A writer that takes one byte a write, and fails once it has no more room.
+// A writer that takes one byte a write, each after one that is interrupted, and fails once it has no
+// more room: so does its flush.
 #[derive(Drop)]
 struct Page {
     bytes: [u8; 64],
     taken: usize,
     room: usize,
+    interrupted: bool,
 }
 
 impl Page {
@@ -18,6 +20,7 @@ impl Page {
             bytes: [0; 64],
             taken: 0,
             room,
+            interrupted: false,
         }
     }
 
@@ -29,6 +32,10 @@ impl Page {
 
 impl Write for Page {
     fn write(&mut self, bytes: &[u8]) -> io::Result<usize> {
+        self.interrupted = !self.interrupted;
+        if self.interrupted {
+            return Err(Error::from(ErrorKind::Interrupted));
+        }
         match bytes.first() {
             Some(byte) if self.taken < self.room.min(64) => {
                 self.bytes[self.taken] = *byte;
@@ -40,7 +47,11 @@ impl Write for Page {
     }
 
     fn flush(&mut self) -> io::Result<()> {
-        Ok(())
+        if self.taken < self.room {
+            Ok(())
+        } else {
+            Err(Error::from(ErrorKind::StorageFull))
+        }
     }
 }
 
@@ -60,7 +71,7 @@ fn shows(
 
 // Whether an answer is shown with this text, and as a prefix of it wherever the writer fails.
 fn is_answer(answer: &Result<Vec<u8>, Fault>, text: &[u8]) -> bool {
-    for room in 0..text.len() {
+    for room in 0..text.len() + 1 {
         if !shows(answer, (room, &text[..room]), (ENOUGH, &[]), 4) {
             return false;
         }
