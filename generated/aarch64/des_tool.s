@@ -2647,24 +2647,24 @@
 	.byte	37
 	.byte	38
 	.byte	39
-	.section	".text.des_tool::command::status::finish::<#8366a837468c3893>","ax",@progbits
+	.section	".text.des_tool::command::status::show::<#8366a837468c3893>","ax",@progbits
 	.p2align	2
-	.type	"des_tool::command::status::finish::<#8366a837468c3893>",@function
-"des_tool::command::status::finish::<#8366a837468c3893>":
-	sub	sp, sp, #144
+	.type	"des_tool::command::status::show::<#8366a837468c3893>",@function
+"des_tool::command::status::show::<#8366a837468c3893>":
+	sub	sp, sp, #240
 	ldrb	w8, [x0]
-	stp	x20, x19, [sp, #128]
+	stp	x20, x19, [sp, #224]
 	mov	x19, x0
-	stp	x29, x30, [sp, #96]
-	add	x29, sp, #96
-	stp	x22, x21, [sp, #112]
+	stp	x29, x30, [sp, #192]
+	add	x29, sp, #192
+	stp	x22, x21, [sp, #208]
 	cbz	w8, .LBB14_4
 	ldrb	w8, [x19, #1]
 	movi	v0.2d, #0000000000000000
-	adrp	x9, ".Lswitch.table.des_tool::command::status::finish::<#8366a837468c3893>"
-	add	x9, x9, :lo12:".Lswitch.table.des_tool::command::status::finish::<#8366a837468c3893>"
-	adrp	x10, ".Lswitch.table.des_tool::command::status::finish::<#8366a837468c3893>.167.rel"
-	add	x10, x10, :lo12:".Lswitch.table.des_tool::command::status::finish::<#8366a837468c3893>.167.rel"
+	adrp	x9, ".Lswitch.table.des_tool::command::status::show::<#8366a837468c3893>"
+	add	x9, x9, :lo12:".Lswitch.table.des_tool::command::status::show::<#8366a837468c3893>"
+	adrp	x10, ".Lswitch.table.des_tool::command::status::show::<#8366a837468c3893>.165.rel"
+	add	x10, x10, :lo12:".Lswitch.table.des_tool::command::status::show::<#8366a837468c3893>.165.rel"
 	ldr	x2, [x9, x8, lsl #3]
 	ldrsw	x8, [x10, x8, lsl #2]
 	mov	x0, sp
@@ -2677,7 +2677,7 @@
 	cbnz	w8, .LBB14_3
 	adrp	x1, .Lstatic.18
 	add	x1, x1, :lo12:.Lstatic.18
-	mov	x0, sp
+	add	x0, sp, #96
 	mov	w2, #1
 	bl	"des_tool::command::status::write_whole::<#03326aa510967ad1>"
 .LBB14_3:
@@ -2685,10 +2685,10 @@
 	cmp	w8, #5
 	mov	w8, #2
 	cinc	w0, w8, eq
-	ldp	x20, x19, [sp, #128]
-	ldp	x22, x21, [sp, #112]
-	ldp	x29, x30, [sp, #96]
-	add	sp, sp, #144
+	ldp	x20, x19, [sp, #224]
+	ldp	x22, x21, [sp, #208]
+	ldp	x29, x30, [sp, #192]
+	add	sp, sp, #240
 	ret
 .LBB14_4:
 	ldp	x21, x19, [x19, #8]
@@ -2701,12 +2701,12 @@
 .LBB14_6:
 	subs	x3, x19, x20
 	b.ls	.LBB14_13
-	mov	x0, sp
+	add	x0, sp, #96
 	add	x2, x21, x20
 	mov	w1, #1
 	bl	"std::io::write_fd"
-	ldrb	w9, [sp]
-	ldr	x8, [sp, #8]
+	ldrb	w9, [sp, #96]
+	ldr	x8, [sp, #104]
 	cbz	w9, .LBB14_10
 	adrp	x9, .LCPI14_0
 	adrp	x10, .LCPI14_1
@@ -2716,13 +2716,13 @@
 	ubfx	w10, w8, #8, #8
 	ldr	d2, [x9, :lo12:.LCPI14_2]
 	mov	w9, #40
-	stp	q0, q1, [sp]
+	stp	q0, q1, [sp, #96]
 	cmp	w10, #41
-	str	d2, [sp, #32]
-	strb	w9, [sp, #40]
+	str	d2, [sp, #128]
+	strb	w9, [sp, #136]
 	b.hs	.LBB14_12
 	ubfx	x8, x8, #8, #6
-	mov	x9, sp
+	add	x9, sp, #96
 	ldrb	w8, [x9, x8]
 	cmp	w8, #35
 	b.eq	.LBB14_5
@@ -2733,20 +2733,20 @@
 	b	.LBB14_5
 .LBB14_12:
 	mov	w0, #4
-	ldp	x20, x19, [sp, #128]
-	ldp	x22, x21, [sp, #112]
-	ldp	x29, x30, [sp, #96]
-	add	sp, sp, #144
+	ldp	x20, x19, [sp, #224]
+	ldp	x22, x21, [sp, #208]
+	ldp	x29, x30, [sp, #192]
+	add	sp, sp, #240
 	ret
 .LBB14_13:
 	mov	w0, wzr
-	ldp	x20, x19, [sp, #128]
-	ldp	x22, x21, [sp, #112]
-	ldp	x29, x30, [sp, #96]
-	add	sp, sp, #144
+	ldp	x20, x19, [sp, #224]
+	ldp	x22, x21, [sp, #208]
+	ldp	x29, x30, [sp, #192]
+	add	sp, sp, #240
 	ret
 .Lfunc_end14:
-	.size	"des_tool::command::status::finish::<#8366a837468c3893>", .Lfunc_end14-"des_tool::command::status::finish::<#8366a837468c3893>"
+	.size	"des_tool::command::status::show::<#8366a837468c3893>", .Lfunc_end14-"des_tool::command::status::show::<#8366a837468c3893>"
 
 	.section	".text.std::io::write_fd","ax",@progbits
 	.p2align	2
@@ -3250,14 +3250,9 @@ cukvashe_main:
 	str	xzr, [sp]
 	add	x26, sp, #1264
 	bl	__sysv_signal
-	movi	v0.2d, #0000000000000000
 	mov	x25, xzr
 	mov	x20, xzr
 	sub	x19, x29, #24
-	stp	xzr, xzr, [sp, #120]
-	str	xzr, [sp, #112]
-	stur	xzr, [sp, #134]
-	stp	q0, q0, [sp, #80]
 	str	xzr, [sp, #1680]
 	str	x19, [sp, #1664]
 	str	xzr, [sp, #1672]
@@ -3533,25 +3528,30 @@ cukvashe_main:
 	mov	x0, x21
 	bl	rattle_dealloc
 .LBB17_69:
+	movi	v0.2d, #0000000000000000
 	ldr	x20, [sp, #1664]
 	ldr	x23, [sp, #1680]
 	mov	x24, xzr
 	mov	x28, xzr
-	mov	x19, xzr
+	mov	x27, xzr
 	sub	x10, x29, #24
-	sub	x9, x29, #24
 	add	x13, x20, #24
+	sub	x9, x29, #24
+	stp	xzr, xzr, [sp, #120]
+	str	xzr, [sp, #112]
+	stur	xzr, [sp, #134]
+	stp	q0, q0, [sp, #80]
 	str	x9, [sp, #72]
 	str	x10, [sp, #1264]
 	cmp	x28, #0
-	csel	x27, xzr, xzr, eq
+	csel	x19, xzr, xzr, eq
 .LBB17_70:
 	ldr	x22, [sp, #72]
 	cbz	x25, .LBB17_91
 	mov	w8, #24
 	sub	x21, x25, #1
-	madd	x8, x19, x8, x20
-	add	x19, x19, #1
+	madd	x8, x27, x8, x20
+	add	x27, x27, #1
 	ldr	x9, [x8, #16]
 	cbz	x9, .LBB17_74
 	ldr	x0, [x8]
@@ -3563,13 +3563,13 @@ cukvashe_main:
 	mov	x21, x25
 .LBB17_74:
 	cbz	x21, .LBB17_91
-	add	x8, x19, x19, lsl #1
-	cmp	x28, x27
+	add	x8, x27, x27, lsl #1
+	cmp	x28, x19
 	sub	x25, x21, #1
 	lsl	x12, x8, #3
 	add	x8, x20, x12
 	b.ne	.LBB17_77
-	add	x19, x19, #1
+	add	x27, x27, #1
 	b	.LBB17_82
 .LBB17_77:
 	mov	w9, #24
@@ -3582,7 +3582,7 @@ cukvashe_main:
 	cbz	x25, .LBB17_153
 	mov	w10, #24
 	mov	x9, xzr
-	sub	x11, x8, x27
+	sub	x11, x8, x19
 	madd	x10, x28, x10, x22
 	add	x8, x13, x12
 	add	x10, x10, #24
@@ -3598,52 +3598,52 @@ cukvashe_main:
 	b.ne	.LBB17_79
 	b	.LBB17_90
 .LBB17_81:
-	add	x10, x19, x9
+	add	x10, x27, x9
 	sub	x9, x21, x9
-	add	x19, x10, #2
+	add	x27, x10, #2
 	sub	x21, x9, #1
 	sub	x25, x9, #2
 .LBB17_82:
 	ldp	x22, x28, [x8]
-	sub	x9, x24, x27
+	sub	x9, x24, x19
 	mov	x10, x24
 	ldr	x24, [x8, #16]
 	cmp	x21, x9
 	mov	x9, x10
-	str	x27, [sp, #1272]
+	str	x19, [sp, #1272]
 	str	x10, [sp, #1280]
 	b.hi	.LBB17_84
 .LBB17_83:
 	mov	w8, #24
 	ldr	x10, [sp, #1264]
-	madd	x8, x27, x8, x10
+	madd	x8, x19, x8, x10
 	str	x10, [sp, #72]
 	stp	x22, x28, [x8]
-	add	x28, x27, #1
+	add	x28, x19, #1
 	str	x24, [x8, #16]
 	mov	w8, #1
 	mov	x24, x9
 	str	x28, [sp, #1272]
 	cmp	x28, #0
-	csel	x27, xzr, x9, eq
+	csel	x19, xzr, x9, eq
 	tbz	w8, #0, .LBB17_70
 	b	.LBB17_73
 .LBB17_84:
 	add	x0, sp, #1264
 	mov	x1, x21
 	bl	"std_alloc::vec::Vec::grow_amortized::<#dddb8944fea4a04d>"
-	ldr	x27, [sp, #1272]
+	ldr	x19, [sp, #1272]
 	ldr	x8, [sp, #1280]
 	tbnz	w0, #0, .LBB17_88
 	mov	x9, x8
-	cmp	x8, x27
+	cmp	x8, x19
 	add	x13, x20, #24
 	b.ne	.LBB17_83
 	add	x0, sp, #1264
 	mov	w1, #1
 	bl	"std_alloc::vec::Vec::grow_amortized::<#dddb8944fea4a04d>"
 	cbz	w0, .LBB17_462
-	ldr	x27, [sp, #1272]
+	ldr	x19, [sp, #1272]
 	ldr	x9, [sp, #1280]
 	b	.LBB17_89
 .LBB17_88:
@@ -3755,7 +3755,7 @@ cukvashe_main:
 	strb	w24, [sp, #145]
 	stp	x22, x21, [sp, #152]
 	str	x21, [sp, #168]
-	bl	"des_tool::command::status::finish::<#8366a837468c3893>"
+	bl	"des_tool::command::status::show::<#8366a837468c3893>"
 	mov	w23, w0
 	cbnz	w26, .LBB17_111
 	cbz	x21, .LBB17_111
@@ -3880,10 +3880,14 @@ cukvashe_main:
 .LBB17_150:
 	mov	w9, #21
 	mov	w10, #38
+	stp	xzr, xzr, [sp, #120]
 	strb	w9, [sp, #1264]
 	strb	w10, [sp, #1664]
 	ldrb	w8, [x8]
+	str	xzr, [sp, #112]
+	stur	xzr, [sp, #134]
 	and	w8, w8, #0xff
+	str	xzr, [sp, #80]
 	cmp	w8, #38
 	mov	w8, #5
 	csel	w8, w8, wzr, eq
@@ -3896,7 +3900,7 @@ cukvashe_main:
 	strb	w9, [sp, #80]
 	stur	q0, [sp, #88]
 	str	x8, [sp, #104]
-	bl	"des_tool::command::status::finish::<#8366a837468c3893>"
+	bl	"des_tool::command::status::show::<#8366a837468c3893>"
 	and	w20, w0, #0xff
 .LBB17_152:
 	mov	w0, w20
@@ -5497,11 +5501,11 @@ cukvashe_main:
 	bl	rattle_dealloc
 .LBB17_464:
 	cbz	x25, .LBB17_470
-	add	x8, x25, x19
-	cmp	x19, x8
+	add	x8, x25, x27
+	cmp	x27, x8
 	b.hs	.LBB17_470
 	mov	w8, #24
-	madd	x8, x19, x8, x20
+	madd	x8, x27, x8, x20
 	add	x19, x8, #16
 	b	.LBB17_468
 .LBB17_467:
@@ -5607,12 +5611,12 @@ cukvashe_main:
 	cmp	x22, #24
 	movi	v0.2d, #0000000000000000
 	lsl	x23, x12, #3
-	csel	x19, x22, x9, lo
+	csel	x27, x22, x9, lo
 	mov	x25, x24
 	add	x0, sp, #1264
-	add	x11, x19, x12
-	add	x9, x19, x12
-	lsl	x2, x19, #3
+	add	x11, x27, x12
+	add	x9, x27, x12
+	lsl	x2, x27, #3
 	str	x9, [sp, #56]
 	add	x9, x10, x11, lsl #3
 	add	x1, x10, x23
@@ -5631,12 +5635,12 @@ cukvashe_main:
 	str	q0, [sp, #1280]
 	str	q0, [sp, #1264]
 	bl	memcpy
-	mov	x27, x19
+	mov	x19, x27
 .LBB17_494:
 	orr	x0, x26, #0x8
 	mov	x1, x21
 	bl	"des::des::DesBlockCipherDecrypt::decrypt_block"
-	subs	x27, x27, #1
+	subs	x19, x19, #1
 	add	x21, x21, #8
 	b.ne	.LBB17_494
 	cmp	x22, #4
@@ -5650,8 +5654,8 @@ cukvashe_main:
 	dup	v0.2d, x25
 	ldr	x22, [sp, #40]
 	ldr	x12, [sp, #56]
-	and	x8, x19, #0x1c
-	and	x11, x19, #0x1c
+	and	x8, x27, #0x1c
+	and	x11, x27, #0x1c
 	add	x9, x9, x23
 .LBB17_498:
 	mov	v2.16b, v0.16b
@@ -5666,14 +5670,14 @@ cukvashe_main:
 	stp	q2, q1, [x9, #-16]
 	add	x9, x9, #32
 	b.ne	.LBB17_498
-	cmp	x19, x8
+	cmp	x27, x8
 	b.eq	.LBB17_492
 	mov	x25, v0.d[1]
 .LBB17_501:
 	ldr	x11, [sp, #48]
 	lsl	x10, x8, #3
 	add	x9, sp, #1264
-	sub	x8, x19, x8
+	sub	x8, x27, x8
 	add	x11, x11, x23
 	add	x9, x9, x10
 	add	x10, x11, x10
@@ -6519,29 +6523,29 @@ cukvashe_main:
 	.ascii	"Memory"
 	.size	.Lstatic.24, 6
 
-	.type	".Lswitch.table.des_tool::command::status::finish::<#8366a837468c3893>",@object
-	.section	".rodata..Lswitch.table.des_tool::command::status::finish::<#8366a837468c3893>","a",@progbits
+	.type	".Lswitch.table.des_tool::command::status::show::<#8366a837468c3893>",@object
+	.section	".rodata..Lswitch.table.des_tool::command::status::show::<#8366a837468c3893>","a",@progbits
 	.p2align	3, 0x0
-".Lswitch.table.des_tool::command::status::finish::<#8366a837468c3893>":
+".Lswitch.table.des_tool::command::status::show::<#8366a837468c3893>":
 	.xword	5
 	.xword	9
 	.xword	7
 	.xword	11
 	.xword	9
 	.xword	6
-	.size	".Lswitch.table.des_tool::command::status::finish::<#8366a837468c3893>", 48
+	.size	".Lswitch.table.des_tool::command::status::show::<#8366a837468c3893>", 48
 
-	.type	".Lswitch.table.des_tool::command::status::finish::<#8366a837468c3893>.167.rel",@object
-	.section	".rodata..Lswitch.table.des_tool::command::status::finish::<#8366a837468c3893>.167.rel","a",@progbits
+	.type	".Lswitch.table.des_tool::command::status::show::<#8366a837468c3893>.165.rel",@object
+	.section	".rodata..Lswitch.table.des_tool::command::status::show::<#8366a837468c3893>.165.rel","a",@progbits
 	.p2align	2, 0x0
-".Lswitch.table.des_tool::command::status::finish::<#8366a837468c3893>.167.rel":
-	.word	.Lstatic.19-".Lswitch.table.des_tool::command::status::finish::<#8366a837468c3893>.167.rel"
-	.word	.Lstatic.20-".Lswitch.table.des_tool::command::status::finish::<#8366a837468c3893>.167.rel"
-	.word	.Lstatic.21-".Lswitch.table.des_tool::command::status::finish::<#8366a837468c3893>.167.rel"
-	.word	.Lstatic.22-".Lswitch.table.des_tool::command::status::finish::<#8366a837468c3893>.167.rel"
-	.word	.Lstatic.23-".Lswitch.table.des_tool::command::status::finish::<#8366a837468c3893>.167.rel"
-	.word	.Lstatic.24-".Lswitch.table.des_tool::command::status::finish::<#8366a837468c3893>.167.rel"
-	.size	".Lswitch.table.des_tool::command::status::finish::<#8366a837468c3893>.167.rel", 24
+".Lswitch.table.des_tool::command::status::show::<#8366a837468c3893>.165.rel":
+	.word	.Lstatic.19-".Lswitch.table.des_tool::command::status::show::<#8366a837468c3893>.165.rel"
+	.word	.Lstatic.20-".Lswitch.table.des_tool::command::status::show::<#8366a837468c3893>.165.rel"
+	.word	.Lstatic.21-".Lswitch.table.des_tool::command::status::show::<#8366a837468c3893>.165.rel"
+	.word	.Lstatic.22-".Lswitch.table.des_tool::command::status::show::<#8366a837468c3893>.165.rel"
+	.word	.Lstatic.23-".Lswitch.table.des_tool::command::status::show::<#8366a837468c3893>.165.rel"
+	.word	.Lstatic.24-".Lswitch.table.des_tool::command::status::show::<#8366a837468c3893>.165.rel"
+	.size	".Lswitch.table.des_tool::command::status::show::<#8366a837468c3893>.165.rel", 24
 
 	.ident	"rattle logic=dac8208d650f15bf3e2dc313a14fa4c783a3acf887bdfab66e1714b038d9e11b"
 	.section	".note.GNU-stack","",@progbits

@@ -18585,10 +18585,10 @@
 .Lfunc_end53:
 	.size	"des_context::each_key::decrypt_by::<#ae2c9cd179ca8b19>", .Lfunc_end53-"des_context::each_key::decrypt_by::<#ae2c9cd179ca8b19>"
 
-	.section	".text.des_context::calls::decrypt::<#d4313017509cde00>","ax",@progbits
+	.section	".text.des_context::calls::decrypt_by::<#d4313017509cde00>","ax",@progbits
 	.p2align	2
-	.type	"des_context::calls::decrypt::<#d4313017509cde00>",@function
-"des_context::calls::decrypt::<#d4313017509cde00>":
+	.type	"des_context::calls::decrypt_by::<#d4313017509cde00>",@function
+"des_context::calls::decrypt_by::<#d4313017509cde00>":
 	sub	sp, sp, #160
 	movi	v0.16b, #63
 	ldp	q1, q2, [x0]
@@ -18633,7 +18633,7 @@
 	add	sp, sp, #160
 	ret
 .Lfunc_end54:
-	.size	"des_context::calls::decrypt::<#d4313017509cde00>", .Lfunc_end54-"des_context::calls::decrypt::<#d4313017509cde00>"
+	.size	"des_context::calls::decrypt_by::<#d4313017509cde00>", .Lfunc_end54-"des_context::calls::decrypt_by::<#d4313017509cde00>"
 
 	.section	".text.des_fast::many::ciphers::answer_list::<#963ce8e2a0d72d32>","ax",@progbits
 	.p2align	2
@@ -18925,10 +18925,10 @@
 .Lfunc_end55:
 	.size	"des_fast::many::ciphers::answer_list::<#963ce8e2a0d72d32>", .Lfunc_end55-"des_fast::many::ciphers::answer_list::<#963ce8e2a0d72d32>"
 
-	.section	".text.des_context::calls::decrypt::<#5b45dfb188ff8f66>","ax",@progbits
+	.section	".text.des_context::calls::decrypt_by::<#5b45dfb188ff8f66>","ax",@progbits
 	.p2align	2
-	.type	"des_context::calls::decrypt::<#5b45dfb188ff8f66>",@function
-"des_context::calls::decrypt::<#5b45dfb188ff8f66>":
+	.type	"des_context::calls::decrypt_by::<#5b45dfb188ff8f66>",@function
+"des_context::calls::decrypt_by::<#5b45dfb188ff8f66>":
 	sub	sp, sp, #352
 	movi	v0.16b, #63
 	ldp	q1, q2, [x0]
@@ -19023,7 +19023,7 @@
 	add	sp, sp, #352
 	ret
 .Lfunc_end56:
-	.size	"des_context::calls::decrypt::<#5b45dfb188ff8f66>", .Lfunc_end56-"des_context::calls::decrypt::<#5b45dfb188ff8f66>"
+	.size	"des_context::calls::decrypt_by::<#5b45dfb188ff8f66>", .Lfunc_end56-"des_context::calls::decrypt_by::<#5b45dfb188ff8f66>"
 
 	.section	".text.des_fast::many::passes::ThreePassesDesByBatches::answer_by_batches::<#2eb1a170ccba6c38>","ax",@progbits
 	.p2align	2
@@ -19119,10 +19119,10 @@
 .Lfunc_end57:
 	.size	"des_fast::many::passes::ThreePassesDesByBatches::answer_by_batches::<#2eb1a170ccba6c38>", .Lfunc_end57-"des_fast::many::passes::ThreePassesDesByBatches::answer_by_batches::<#2eb1a170ccba6c38>"
 
-	.section	".text.des_context::calls::decrypt::<#d4f33991051d4a8f>","ax",@progbits
+	.section	".text.des_context::calls::decrypt_by::<#d4f33991051d4a8f>","ax",@progbits
 	.p2align	2
-	.type	"des_context::calls::decrypt::<#d4f33991051d4a8f>",@function
-"des_context::calls::decrypt::<#d4f33991051d4a8f>":
+	.type	"des_context::calls::decrypt_by::<#d4f33991051d4a8f>",@function
+"des_context::calls::decrypt_by::<#d4f33991051d4a8f>":
 	sub	sp, sp, #480
 	movi	v0.16b, #63
 	ldp	q1, q2, [x0]
@@ -19234,7 +19234,7 @@
 	add	sp, sp, #480
 	ret
 .Lfunc_end58:
-	.size	"des_context::calls::decrypt::<#d4f33991051d4a8f>", .Lfunc_end58-"des_context::calls::decrypt::<#d4f33991051d4a8f>"
+	.size	"des_context::calls::decrypt_by::<#d4f33991051d4a8f>", .Lfunc_end58-"des_context::calls::decrypt_by::<#d4f33991051d4a8f>"
 
 	.section	".text.des_payment::transaction_lists::initial_halves::<#2eb1a170ccba6c38>","ax",@progbits
 	.p2align	2
@@ -19883,10 +19883,10 @@
 .Lfunc_end60:
 	.size	"des_payment::transaction_lists::next_halves::<#2eb1a170ccba6c38>", .Lfunc_end60-"des_payment::transaction_lists::next_halves::<#2eb1a170ccba6c38>"
 
-	.section	".text.des_context::calls::chain::<#6d58b6c595547cf1>","ax",@progbits
+	.section	".text.des_context::calls::chain_by::<#6d58b6c595547cf1>","ax",@progbits
 	.p2align	2
-	.type	"des_context::calls::chain::<#6d58b6c595547cf1>",@function
-"des_context::calls::chain::<#6d58b6c595547cf1>":
+	.type	"des_context::calls::chain_by::<#6d58b6c595547cf1>",@function
+"des_context::calls::chain_by::<#6d58b6c595547cf1>":
 	sub	sp, sp, #192
 	movi	v0.16b, #63
 	ldp	q1, q2, [x0]
@@ -19946,7 +19946,7 @@
 	add	sp, sp, #192
 	ret
 .Lfunc_end61:
-	.size	"des_context::calls::chain::<#6d58b6c595547cf1>", .Lfunc_end61-"des_context::calls::chain::<#6d58b6c595547cf1>"
+	.size	"des_context::calls::chain_by::<#6d58b6c595547cf1>", .Lfunc_end61-"des_context::calls::chain_by::<#6d58b6c595547cf1>"
 
 	.section	.rodata.cst16,"aM",@progbits,16
 	.p2align	4, 0x0
@@ -20185,10 +20185,10 @@
 .Lfunc_end63:
 	.size	"des_fast::many::chains::chain::<#e422058a509118e2>", .Lfunc_end63-"des_fast::many::chains::chain::<#e422058a509118e2>"
 
-	.section	".text.des_context::calls::chain::<#a964bea78b4f5e89>","ax",@progbits
+	.section	".text.des_context::calls::chain_by::<#a964bea78b4f5e89>","ax",@progbits
 	.p2align	2
-	.type	"des_context::calls::chain::<#a964bea78b4f5e89>",@function
-"des_context::calls::chain::<#a964bea78b4f5e89>":
+	.type	"des_context::calls::chain_by::<#a964bea78b4f5e89>",@function
+"des_context::calls::chain_by::<#a964bea78b4f5e89>":
 	sub	sp, sp, #352
 	movi	v0.16b, #63
 	ldp	q1, q2, [x0]
@@ -20270,7 +20270,7 @@
 	add	sp, sp, #352
 	ret
 .Lfunc_end64:
-	.size	"des_context::calls::chain::<#a964bea78b4f5e89>", .Lfunc_end64-"des_context::calls::chain::<#a964bea78b4f5e89>"
+	.size	"des_context::calls::chain_by::<#a964bea78b4f5e89>", .Lfunc_end64-"des_context::calls::chain_by::<#a964bea78b4f5e89>"
 
 	.section	.rodata.cst16,"aM",@progbits,16
 	.p2align	4, 0x0
@@ -20426,10 +20426,10 @@
 .Lfunc_end66:
 	.size	"des_fast::many::chains::chain::<#49ec03381a209e09>", .Lfunc_end66-"des_fast::many::chains::chain::<#49ec03381a209e09>"
 
-	.section	".text.des_context::calls::chain::<#a4adf0adf34bdf0e>","ax",@progbits
+	.section	".text.des_context::calls::chain_by::<#a4adf0adf34bdf0e>","ax",@progbits
 	.p2align	2
-	.type	"des_context::calls::chain::<#a4adf0adf34bdf0e>",@function
-"des_context::calls::chain::<#a4adf0adf34bdf0e>":
+	.type	"des_context::calls::chain_by::<#a4adf0adf34bdf0e>",@function
+"des_context::calls::chain_by::<#a4adf0adf34bdf0e>":
 	sub	sp, sp, #480
 	movi	v0.16b, #63
 	ldp	q1, q2, [x0]
@@ -20528,7 +20528,7 @@
 	add	sp, sp, #480
 	ret
 .Lfunc_end67:
-	.size	"des_context::calls::chain::<#a4adf0adf34bdf0e>", .Lfunc_end67-"des_context::calls::chain::<#a4adf0adf34bdf0e>"
+	.size	"des_context::calls::chain_by::<#a4adf0adf34bdf0e>", .Lfunc_end67-"des_context::calls::chain_by::<#a4adf0adf34bdf0e>"
 
 	.section	".text.des_context::records::chain::<#e155a42fa7b9d598>","ax",@progbits
 	.p2align	2
@@ -21251,10 +21251,10 @@
 .Lfunc_end74:
 	.size	"des_context::each_key::encrypt_by::<#ae2c9cd179ca8b19>", .Lfunc_end74-"des_context::each_key::encrypt_by::<#ae2c9cd179ca8b19>"
 
-	.section	".text.des_context::calls::encrypt::<#d4313017509cde00>","ax",@progbits
+	.section	".text.des_context::calls::encrypt_by::<#d4313017509cde00>","ax",@progbits
 	.p2align	2
-	.type	"des_context::calls::encrypt::<#d4313017509cde00>",@function
-"des_context::calls::encrypt::<#d4313017509cde00>":
+	.type	"des_context::calls::encrypt_by::<#d4313017509cde00>",@function
+"des_context::calls::encrypt_by::<#d4313017509cde00>":
 	sub	sp, sp, #160
 	movi	v0.16b, #63
 	ldp	q1, q2, [x0]
@@ -21295,12 +21295,12 @@
 	add	sp, sp, #160
 	ret
 .Lfunc_end75:
-	.size	"des_context::calls::encrypt::<#d4313017509cde00>", .Lfunc_end75-"des_context::calls::encrypt::<#d4313017509cde00>"
+	.size	"des_context::calls::encrypt_by::<#d4313017509cde00>", .Lfunc_end75-"des_context::calls::encrypt_by::<#d4313017509cde00>"
 
-	.section	".text.des_context::calls::encrypt::<#5b45dfb188ff8f66>","ax",@progbits
+	.section	".text.des_context::calls::encrypt_by::<#5b45dfb188ff8f66>","ax",@progbits
 	.p2align	2
-	.type	"des_context::calls::encrypt::<#5b45dfb188ff8f66>",@function
-"des_context::calls::encrypt::<#5b45dfb188ff8f66>":
+	.type	"des_context::calls::encrypt_by::<#5b45dfb188ff8f66>",@function
+"des_context::calls::encrypt_by::<#5b45dfb188ff8f66>":
 	sub	sp, sp, #352
 	movi	v0.16b, #63
 	ldp	q1, q2, [x0]
@@ -21391,12 +21391,12 @@
 	add	sp, sp, #352
 	ret
 .Lfunc_end76:
-	.size	"des_context::calls::encrypt::<#5b45dfb188ff8f66>", .Lfunc_end76-"des_context::calls::encrypt::<#5b45dfb188ff8f66>"
+	.size	"des_context::calls::encrypt_by::<#5b45dfb188ff8f66>", .Lfunc_end76-"des_context::calls::encrypt_by::<#5b45dfb188ff8f66>"
 
-	.section	".text.des_context::calls::encrypt::<#d4f33991051d4a8f>","ax",@progbits
+	.section	".text.des_context::calls::encrypt_by::<#d4f33991051d4a8f>","ax",@progbits
 	.p2align	2
-	.type	"des_context::calls::encrypt::<#d4f33991051d4a8f>",@function
-"des_context::calls::encrypt::<#d4f33991051d4a8f>":
+	.type	"des_context::calls::encrypt_by::<#d4f33991051d4a8f>",@function
+"des_context::calls::encrypt_by::<#d4f33991051d4a8f>":
 	sub	sp, sp, #480
 	movi	v0.16b, #63
 	ldp	q1, q2, [x0]
@@ -21504,7 +21504,7 @@
 	add	sp, sp, #480
 	ret
 .Lfunc_end77:
-	.size	"des_context::calls::encrypt::<#d4f33991051d4a8f>", .Lfunc_end77-"des_context::calls::encrypt::<#d4f33991051d4a8f>"
+	.size	"des_context::calls::encrypt_by::<#d4f33991051d4a8f>", .Lfunc_end77-"des_context::calls::encrypt_by::<#d4f33991051d4a8f>"
 
 	.section	".text.des_context::contexts::init","ax",@progbits
 	.p2align	2
@@ -42164,13 +42164,13 @@ cukvashe_internal_decrypt_ecb:
 	b.eq	.LBB163_5
 	cmp	w8, #1
 	b.ne	.LBB163_6
-	bl	"des_context::calls::decrypt::<#5b45dfb188ff8f66>"
+	bl	"des_context::calls::decrypt_by::<#5b45dfb188ff8f66>"
 	b	.LBB163_7
 .LBB163_5:
-	bl	"des_context::calls::decrypt::<#d4f33991051d4a8f>"
+	bl	"des_context::calls::decrypt_by::<#d4f33991051d4a8f>"
 	b	.LBB163_7
 .LBB163_6:
-	bl	"des_context::calls::decrypt::<#d4313017509cde00>"
+	bl	"des_context::calls::decrypt_by::<#d4313017509cde00>"
 .LBB163_7:
 	mov	w8, wzr
 	ldp	x29, x30, [sp], #16
@@ -42266,13 +42266,13 @@ cukvashe_internal_decrypt_ecb_to:
 	b.eq	.LBB164_15
 	cmp	w8, #1
 	b.ne	.LBB164_16
-	bl	"des_context::calls::decrypt::<#5b45dfb188ff8f66>"
+	bl	"des_context::calls::decrypt_by::<#5b45dfb188ff8f66>"
 	b	.LBB164_17
 .LBB164_15:
-	bl	"des_context::calls::decrypt::<#d4f33991051d4a8f>"
+	bl	"des_context::calls::decrypt_by::<#d4f33991051d4a8f>"
 	b	.LBB164_17
 .LBB164_16:
-	bl	"des_context::calls::decrypt::<#d4313017509cde00>"
+	bl	"des_context::calls::decrypt_by::<#d4313017509cde00>"
 .LBB164_17:
 	mov	w8, wzr
 	ldp	x20, x19, [sp, #48]
@@ -42697,13 +42697,13 @@ cukvashe_internal_encrypt_cbc:
 	b.eq	.LBB166_5
 	cmp	w8, #1
 	b.ne	.LBB166_6
-	bl	"des_context::calls::chain::<#a964bea78b4f5e89>"
+	bl	"des_context::calls::chain_by::<#a964bea78b4f5e89>"
 	b	.LBB166_7
 .LBB166_5:
-	bl	"des_context::calls::chain::<#a4adf0adf34bdf0e>"
+	bl	"des_context::calls::chain_by::<#a4adf0adf34bdf0e>"
 	b	.LBB166_7
 .LBB166_6:
-	bl	"des_context::calls::chain::<#6d58b6c595547cf1>"
+	bl	"des_context::calls::chain_by::<#6d58b6c595547cf1>"
 .LBB166_7:
 	mov	w8, wzr
 	ldp	x29, x30, [sp], #16
@@ -42842,13 +42842,13 @@ cukvashe_internal_encrypt_cbc_to:
 	b.eq	.LBB168_15
 	cmp	w8, #1
 	b.ne	.LBB168_16
-	bl	"des_context::calls::chain::<#a964bea78b4f5e89>"
+	bl	"des_context::calls::chain_by::<#a964bea78b4f5e89>"
 	b	.LBB168_17
 .LBB168_15:
-	bl	"des_context::calls::chain::<#a4adf0adf34bdf0e>"
+	bl	"des_context::calls::chain_by::<#a4adf0adf34bdf0e>"
 	b	.LBB168_17
 .LBB168_16:
-	bl	"des_context::calls::chain::<#6d58b6c595547cf1>"
+	bl	"des_context::calls::chain_by::<#6d58b6c595547cf1>"
 .LBB168_17:
 	mov	w8, wzr
 	ldp	x20, x19, [sp, #48]
@@ -42941,13 +42941,13 @@ cukvashe_internal_encrypt_ecb:
 	b.eq	.LBB170_5
 	cmp	w8, #1
 	b.ne	.LBB170_6
-	bl	"des_context::calls::encrypt::<#5b45dfb188ff8f66>"
+	bl	"des_context::calls::encrypt_by::<#5b45dfb188ff8f66>"
 	b	.LBB170_7
 .LBB170_5:
-	bl	"des_context::calls::encrypt::<#d4f33991051d4a8f>"
+	bl	"des_context::calls::encrypt_by::<#d4f33991051d4a8f>"
 	b	.LBB170_7
 .LBB170_6:
-	bl	"des_context::calls::encrypt::<#d4313017509cde00>"
+	bl	"des_context::calls::encrypt_by::<#d4313017509cde00>"
 .LBB170_7:
 	mov	w8, wzr
 	ldp	x29, x30, [sp], #16
@@ -43043,13 +43043,13 @@ cukvashe_internal_encrypt_ecb_to:
 	b.eq	.LBB171_15
 	cmp	w8, #1
 	b.ne	.LBB171_16
-	bl	"des_context::calls::encrypt::<#5b45dfb188ff8f66>"
+	bl	"des_context::calls::encrypt_by::<#5b45dfb188ff8f66>"
 	b	.LBB171_17
 .LBB171_15:
-	bl	"des_context::calls::encrypt::<#d4f33991051d4a8f>"
+	bl	"des_context::calls::encrypt_by::<#d4f33991051d4a8f>"
 	b	.LBB171_17
 .LBB171_16:
-	bl	"des_context::calls::encrypt::<#d4313017509cde00>"
+	bl	"des_context::calls::encrypt_by::<#d4313017509cde00>"
 .LBB171_17:
 	mov	w8, wzr
 	ldp	x20, x19, [sp, #48]

@@ -52470,8 +52470,8 @@
 	.size	"des_context::each_key::decrypt_by::<#ae2c9cd179ca8b19>", .Lfunc_end53-"des_context::each_key::decrypt_by::<#ae2c9cd179ca8b19>"
 
 	.p2align	1
-	.type	"des_context::calls::decrypt::<#d4313017509cde00>",@function
-"des_context::calls::decrypt::<#d4313017509cde00>":
+	.type	"des_context::calls::decrypt_by::<#d4313017509cde00>",@function
+"des_context::calls::decrypt_by::<#d4313017509cde00>":
 	addi	sp, sp, -640
 	sd	ra, 632(sp)
 	sd	s0, 624(sp)
@@ -53017,7 +53017,7 @@
 	addi	sp, sp, 640
 	ret
 .Lfunc_end54:
-	.size	"des_context::calls::decrypt::<#d4313017509cde00>", .Lfunc_end54-"des_context::calls::decrypt::<#d4313017509cde00>"
+	.size	"des_context::calls::decrypt_by::<#d4313017509cde00>", .Lfunc_end54-"des_context::calls::decrypt_by::<#d4313017509cde00>"
 
 	.p2align	1
 	.type	"des_fast::many::ciphers::answer_list::<#963ce8e2a0d72d32>",@function
@@ -53263,8 +53263,8 @@
 	.size	"des_fast::many::ciphers::answer_list::<#963ce8e2a0d72d32>", .Lfunc_end55-"des_fast::many::ciphers::answer_list::<#963ce8e2a0d72d32>"
 
 	.p2align	1
-	.type	"des_context::calls::decrypt::<#5b45dfb188ff8f66>",@function
-"des_context::calls::decrypt::<#5b45dfb188ff8f66>":
+	.type	"des_context::calls::decrypt_by::<#5b45dfb188ff8f66>",@function
+"des_context::calls::decrypt_by::<#5b45dfb188ff8f66>":
 	addi	sp, sp, -1344
 	sd	ra, 1336(sp)
 	sd	s0, 1328(sp)
@@ -54467,7 +54467,7 @@
 	addi	sp, sp, 1344
 	ret
 .Lfunc_end56:
-	.size	"des_context::calls::decrypt::<#5b45dfb188ff8f66>", .Lfunc_end56-"des_context::calls::decrypt::<#5b45dfb188ff8f66>"
+	.size	"des_context::calls::decrypt_by::<#5b45dfb188ff8f66>", .Lfunc_end56-"des_context::calls::decrypt_by::<#5b45dfb188ff8f66>"
 
 	.p2align	1
 	.type	"des_fast::many::passes::ThreePassesDesByBatches::answer_by_batches::<#2eb1a170ccba6c38>",@function
@@ -54965,8 +54965,8 @@
 	.size	"des_fast::many::passes::ThreePassesDesByBatches::answer_by_batches::<#2eb1a170ccba6c38>", .Lfunc_end57-"des_fast::many::passes::ThreePassesDesByBatches::answer_by_batches::<#2eb1a170ccba6c38>"
 
 	.p2align	1
-	.type	"des_context::calls::decrypt::<#d4f33991051d4a8f>",@function
-"des_context::calls::decrypt::<#d4f33991051d4a8f>":
+	.type	"des_context::calls::decrypt_by::<#d4f33991051d4a8f>",@function
+"des_context::calls::decrypt_by::<#d4f33991051d4a8f>":
 	addi	sp, sp, -1984
 	sd	ra, 1976(sp)
 	sd	s0, 1968(sp)
@@ -56786,7 +56786,7 @@
 	addi	sp, sp, 1984
 	ret
 .Lfunc_end58:
-	.size	"des_context::calls::decrypt::<#d4f33991051d4a8f>", .Lfunc_end58-"des_context::calls::decrypt::<#d4f33991051d4a8f>"
+	.size	"des_context::calls::decrypt_by::<#d4f33991051d4a8f>", .Lfunc_end58-"des_context::calls::decrypt_by::<#d4f33991051d4a8f>"
 
 	.p2align	1
 	.type	"des_payment::transaction_lists::initial_halves::<#2eb1a170ccba6c38>",@function
@@ -57033,8 +57033,8 @@
 	.size	"des_payment::transaction_lists::initial_halves::<#2eb1a170ccba6c38>", .Lfunc_end59-"des_payment::transaction_lists::initial_halves::<#2eb1a170ccba6c38>"
 
 	.p2align	1
-	.type	"des_context::calls::chain::<#6d58b6c595547cf1>",@function
-"des_context::calls::chain::<#6d58b6c595547cf1>":
+	.type	"des_context::calls::chain_by::<#6d58b6c595547cf1>",@function
+"des_context::calls::chain_by::<#6d58b6c595547cf1>":
 	addi	sp, sp, -672
 	sd	ra, 664(sp)
 	sd	s0, 656(sp)
@@ -57668,7 +57668,7 @@
 	addi	sp, sp, 672
 	ret
 .Lfunc_end60:
-	.size	"des_context::calls::chain::<#6d58b6c595547cf1>", .Lfunc_end60-"des_context::calls::chain::<#6d58b6c595547cf1>"
+	.size	"des_context::calls::chain_by::<#6d58b6c595547cf1>", .Lfunc_end60-"des_context::calls::chain_by::<#6d58b6c595547cf1>"
 
 	.p2align	1
 	.type	"des_fast::many::chains::chain::<#1205c39ac9913442>",@function
@@ -58033,8 +58033,8 @@
 	.size	"des_fast::many::chains::chain::<#e422058a509118e2>", .Lfunc_end62-"des_fast::many::chains::chain::<#e422058a509118e2>"
 
 	.p2align	1
-	.type	"des_context::calls::chain::<#a964bea78b4f5e89>",@function
-"des_context::calls::chain::<#a964bea78b4f5e89>":
+	.type	"des_context::calls::chain_by::<#a964bea78b4f5e89>",@function
+"des_context::calls::chain_by::<#a964bea78b4f5e89>":
 	addi	sp, sp, -1360
 	sd	ra, 1352(sp)
 	sd	s0, 1344(sp)
@@ -59267,7 +59267,7 @@
 	addi	sp, sp, 1360
 	ret
 .Lfunc_end63:
-	.size	"des_context::calls::chain::<#a964bea78b4f5e89>", .Lfunc_end63-"des_context::calls::chain::<#a964bea78b4f5e89>"
+	.size	"des_context::calls::chain_by::<#a964bea78b4f5e89>", .Lfunc_end63-"des_context::calls::chain_by::<#a964bea78b4f5e89>"
 
 	.p2align	1
 	.type	"des_fast::many::chains::chain::<#8cc06965b64b4db9>",@function
@@ -59434,8 +59434,8 @@
 	.size	"des_fast::many::chains::chain::<#49ec03381a209e09>", .Lfunc_end65-"des_fast::many::chains::chain::<#49ec03381a209e09>"
 
 	.p2align	1
-	.type	"des_context::calls::chain::<#a4adf0adf34bdf0e>",@function
-"des_context::calls::chain::<#a4adf0adf34bdf0e>":
+	.type	"des_context::calls::chain_by::<#a4adf0adf34bdf0e>",@function
+"des_context::calls::chain_by::<#a4adf0adf34bdf0e>":
 	addi	sp, sp, -1984
 	sd	ra, 1976(sp)
 	sd	s0, 1968(sp)
@@ -61285,7 +61285,7 @@
 	addi	sp, sp, 1984
 	ret
 .Lfunc_end66:
-	.size	"des_context::calls::chain::<#a4adf0adf34bdf0e>", .Lfunc_end66-"des_context::calls::chain::<#a4adf0adf34bdf0e>"
+	.size	"des_context::calls::chain_by::<#a4adf0adf34bdf0e>", .Lfunc_end66-"des_context::calls::chain_by::<#a4adf0adf34bdf0e>"
 
 	.p2align	1
 	.type	"des_context::records::chain::<#e155a42fa7b9d598>",@function
@@ -65498,8 +65498,8 @@
 	.size	"des_context::each_key::encrypt_by::<#ae2c9cd179ca8b19>", .Lfunc_end73-"des_context::each_key::encrypt_by::<#ae2c9cd179ca8b19>"
 
 	.p2align	1
-	.type	"des_context::calls::encrypt::<#d4313017509cde00>",@function
-"des_context::calls::encrypt::<#d4313017509cde00>":
+	.type	"des_context::calls::encrypt_by::<#d4313017509cde00>",@function
+"des_context::calls::encrypt_by::<#d4313017509cde00>":
 	addi	sp, sp, -640
 	sd	ra, 632(sp)
 	sd	s0, 624(sp)
@@ -66044,11 +66044,11 @@
 	addi	sp, sp, 640
 	ret
 .Lfunc_end74:
-	.size	"des_context::calls::encrypt::<#d4313017509cde00>", .Lfunc_end74-"des_context::calls::encrypt::<#d4313017509cde00>"
+	.size	"des_context::calls::encrypt_by::<#d4313017509cde00>", .Lfunc_end74-"des_context::calls::encrypt_by::<#d4313017509cde00>"
 
 	.p2align	1
-	.type	"des_context::calls::encrypt::<#5b45dfb188ff8f66>",@function
-"des_context::calls::encrypt::<#5b45dfb188ff8f66>":
+	.type	"des_context::calls::encrypt_by::<#5b45dfb188ff8f66>",@function
+"des_context::calls::encrypt_by::<#5b45dfb188ff8f66>":
 	addi	sp, sp, -1344
 	sd	ra, 1336(sp)
 	sd	s0, 1328(sp)
@@ -67251,11 +67251,11 @@
 	addi	sp, sp, 1344
 	ret
 .Lfunc_end75:
-	.size	"des_context::calls::encrypt::<#5b45dfb188ff8f66>", .Lfunc_end75-"des_context::calls::encrypt::<#5b45dfb188ff8f66>"
+	.size	"des_context::calls::encrypt_by::<#5b45dfb188ff8f66>", .Lfunc_end75-"des_context::calls::encrypt_by::<#5b45dfb188ff8f66>"
 
 	.p2align	1
-	.type	"des_context::calls::encrypt::<#d4f33991051d4a8f>",@function
-"des_context::calls::encrypt::<#d4f33991051d4a8f>":
+	.type	"des_context::calls::encrypt_by::<#d4f33991051d4a8f>",@function
+"des_context::calls::encrypt_by::<#d4f33991051d4a8f>":
 	addi	sp, sp, -1984
 	sd	ra, 1976(sp)
 	sd	s0, 1968(sp)
@@ -69075,7 +69075,7 @@
 	addi	sp, sp, 1984
 	ret
 .Lfunc_end76:
-	.size	"des_context::calls::encrypt::<#d4f33991051d4a8f>", .Lfunc_end76-"des_context::calls::encrypt::<#d4f33991051d4a8f>"
+	.size	"des_context::calls::encrypt_by::<#d4f33991051d4a8f>", .Lfunc_end76-"des_context::calls::encrypt_by::<#d4f33991051d4a8f>"
 
 	.p2align	1
 	.type	"des_context::contexts::init",@function
@@ -129144,13 +129144,13 @@ cukvashe_internal_decrypt_ecb:
 	beq	a4, a5, .LBB157_5
 	li	a5, 1
 	bne	a4, a5, .LBB157_6
-	call	"des_context::calls::decrypt::<#5b45dfb188ff8f66>"
+	call	"des_context::calls::decrypt_by::<#5b45dfb188ff8f66>"
 	j	.LBB157_7
 .LBB157_5:
-	call	"des_context::calls::decrypt::<#d4f33991051d4a8f>"
+	call	"des_context::calls::decrypt_by::<#d4f33991051d4a8f>"
 	j	.LBB157_7
 .LBB157_6:
-	call	"des_context::calls::decrypt::<#d4313017509cde00>"
+	call	"des_context::calls::decrypt_by::<#d4313017509cde00>"
 .LBB157_7:
 	li	a6, 0
 	ld	ra, 8(sp)
@@ -129238,15 +129238,15 @@ cukvashe_internal_decrypt_ecb_to:
 	li	a4, 1
 	bne	a2, a4, .LBB158_11
 	mv	a2, s4
-	call	"des_context::calls::decrypt::<#5b45dfb188ff8f66>"
+	call	"des_context::calls::decrypt_by::<#5b45dfb188ff8f66>"
 	j	.LBB158_12
 .LBB158_10:
 	mv	a2, s4
-	call	"des_context::calls::decrypt::<#d4f33991051d4a8f>"
+	call	"des_context::calls::decrypt_by::<#d4f33991051d4a8f>"
 	j	.LBB158_12
 .LBB158_11:
 	mv	a2, s4
-	call	"des_context::calls::decrypt::<#d4313017509cde00>"
+	call	"des_context::calls::decrypt_by::<#d4313017509cde00>"
 .LBB158_12:
 	li	s0, 0
 .LBB158_13:
@@ -131882,13 +131882,13 @@ cukvashe_internal_encrypt_cbc:
 	beq	t0, a7, .LBB160_5
 	li	a5, 1
 	bne	t0, a5, .LBB160_6
-	call	"des_context::calls::chain::<#a964bea78b4f5e89>"
+	call	"des_context::calls::chain_by::<#a964bea78b4f5e89>"
 	j	.LBB160_7
 .LBB160_5:
-	call	"des_context::calls::chain::<#a4adf0adf34bdf0e>"
+	call	"des_context::calls::chain_by::<#a4adf0adf34bdf0e>"
 	j	.LBB160_7
 .LBB160_6:
-	call	"des_context::calls::chain::<#6d58b6c595547cf1>"
+	call	"des_context::calls::chain_by::<#6d58b6c595547cf1>"
 .LBB160_7:
 	li	a6, 0
 	ld	ra, 8(sp)
@@ -132028,15 +132028,15 @@ cukvashe_internal_encrypt_cbc_to:
 	li	a5, 1
 	bne	a3, a5, .LBB162_11
 	mv	a3, s3
-	call	"des_context::calls::chain::<#a964bea78b4f5e89>"
+	call	"des_context::calls::chain_by::<#a964bea78b4f5e89>"
 	j	.LBB162_12
 .LBB162_10:
 	mv	a3, s3
-	call	"des_context::calls::chain::<#a4adf0adf34bdf0e>"
+	call	"des_context::calls::chain_by::<#a4adf0adf34bdf0e>"
 	j	.LBB162_12
 .LBB162_11:
 	mv	a3, s3
-	call	"des_context::calls::chain::<#6d58b6c595547cf1>"
+	call	"des_context::calls::chain_by::<#6d58b6c595547cf1>"
 .LBB162_12:
 	li	s0, 0
 .LBB162_13:
@@ -132116,13 +132116,13 @@ cukvashe_internal_encrypt_ecb:
 	beq	a4, a5, .LBB164_5
 	li	a5, 1
 	bne	a4, a5, .LBB164_6
-	call	"des_context::calls::encrypt::<#5b45dfb188ff8f66>"
+	call	"des_context::calls::encrypt_by::<#5b45dfb188ff8f66>"
 	j	.LBB164_7
 .LBB164_5:
-	call	"des_context::calls::encrypt::<#d4f33991051d4a8f>"
+	call	"des_context::calls::encrypt_by::<#d4f33991051d4a8f>"
 	j	.LBB164_7
 .LBB164_6:
-	call	"des_context::calls::encrypt::<#d4313017509cde00>"
+	call	"des_context::calls::encrypt_by::<#d4313017509cde00>"
 .LBB164_7:
 	li	a6, 0
 	ld	ra, 8(sp)
@@ -132210,15 +132210,15 @@ cukvashe_internal_encrypt_ecb_to:
 	li	a4, 1
 	bne	a2, a4, .LBB165_11
 	mv	a2, s4
-	call	"des_context::calls::encrypt::<#5b45dfb188ff8f66>"
+	call	"des_context::calls::encrypt_by::<#5b45dfb188ff8f66>"
 	j	.LBB165_12
 .LBB165_10:
 	mv	a2, s4
-	call	"des_context::calls::encrypt::<#d4f33991051d4a8f>"
+	call	"des_context::calls::encrypt_by::<#d4f33991051d4a8f>"
 	j	.LBB165_12
 .LBB165_11:
 	mv	a2, s4
-	call	"des_context::calls::encrypt::<#d4313017509cde00>"
+	call	"des_context::calls::encrypt_by::<#d4313017509cde00>"
 .LBB165_12:
 	li	s0, 0
 .LBB165_13:

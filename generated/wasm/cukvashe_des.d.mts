@@ -1,4 +1,6 @@
-// The types of cukvashe_des.mjs, which says what each call does.
+// What each call of cukvashe_des.mjs does, with its errors and types. Lengths are in bytes. Besides the errors that are
+// named, a wrong type, an option of another name and an argument too many are a TypeError, and every call before `load`
+// has ended is NotLoaded.
 
 /** The version of the library. */
 export const version: string;
@@ -9,12 +11,14 @@ export const BLOCK_SIZE: 8;
 /** The bytes of a whole tag: 8. */
 export const TAG_SIZE: 8;
 
-/** Whether this engine has a 64-bit memory for WebAssembly, without which `load` throws NoMemory64. */
+/** Whether this engine has WebAssembly, without which `load` throws NotSupported. */
 export function isSupported(): boolean;
 
 /**
- * Loads the module: the file cukvashe_des.wasm beside cukvashe_des.mjs, or its bytes. Await it before any other call.
- * NoMemory64, ModuleMismatch.
+ * Loads the module beside cukvashe_des.mjs: cukvashe_des.wasm, or where the engine has no 64-bit memory for it
+ * cukvashe_des_32.wasm; or the bytes of one of them. Await it before any other call. NotSupported; ModuleMismatch,
+ * where the bytes are not those that cukvashe_des.mjs was built with. Where `crypto.subtle` is missing, as on pages by
+ * http, they are not compared.
  */
 export function load(module?: Uint8Array | ArrayBuffer): Promise<void>;
 
@@ -23,113 +27,117 @@ export type Digits = string | Uint8Array;
 
 // ---- Errors. No text of one tells a value that was given, only lengths
 
-/** What every error of the library is; `name` is that of its class. */
+/**
+ * What every error of the library is; `name` is that of its class. `message` has the sentence below, or says more:
+ * which length a call takes, and which it was given.
+ */
 export class CukvasheError extends Error {}
 /** A call came before `load` had ended. */
 export class NotLoaded extends CukvasheError {}
-/** The engine has no 64-bit memory for WebAssembly. */
-export class NoMemory64 extends CukvasheError {}
-/** The module is not the one that this file was built with. */
+/** The engine has no WebAssembly, or no 64-bit memory for the bytes that were given. */
+export class NotSupported extends CukvasheError {}
+/** The module is not one that cukvashe_des.mjs was built with. */
 export class ModuleMismatch extends CukvasheError {}
-/** A key has a length that no key of the cipher has. */
-export class KeyLength extends CukvasheError {}
-/** Data are not whole blocks of 8 bytes. */
-export class BlockLength extends CukvasheError {}
 /** An initialization vector does not have 8 bytes. */
 export class VectorLength extends CukvasheError {}
-/** There is no padding method of this name or number. */
-export class PaddingMethod extends CukvasheError {}
-/** Data do not end with the padding. */
-export class PaddingMismatch extends CukvasheError {}
 /** A key serial number does not have ten bytes. */
 export class SerialLength extends CukvasheError {}
-/** Numbers of elements do not agree: lists differ in length, or counts or lengths do not add up to what is given. */
-export class CountMismatch extends CukvasheError {}
-/** The weak key test refuses a key. */
-export class WeakKey extends CukvasheError {}
-/** A tag is not that of the message, or has fewer than 4 or more than 8 bytes. */
-export class TagMismatch extends CukvasheError {}
-/**
- * The cipher, MAC or terminal was closed, so that its key is gone; or it, or a decimalization table, is of before a call
- * of the module that did not end, as where the engine's stack ends within it: make it anew.
- */
-export class Closed extends CukvasheError {}
-/** The first digit of a PIN block is not that of the format. */
-export class Format extends CukvasheError {}
-/** A PIN does not have 4 to 12 digits, or the second digit of a PIN block is not the length of such a PIN. */
-export class PinLength extends CukvasheError {}
-/** A character of a PIN is not a digit, or a digit of the PIN of a PIN block is above 9. */
-export class PinDigit extends CukvasheError {}
-/** An account number has fewer digits than the call takes, or more than 19. */
-export class AccountLength extends CukvasheError {}
-/** A character of an account number is not a digit. */
-export class AccountDigit extends CukvasheError {}
-/** A fill digit of a PIN block is none of those of the format. */
-export class Fill extends CukvasheError {}
 /** There are not ten fill digits. */
 export class FillLength extends CukvasheError {}
-/** An expiry date does not have four digits. */
-export class ExpiryLength extends CukvasheError {}
-/** A character of an expiry date is not a digit. */
-export class ExpiryDigit extends CukvasheError {}
-/** A service code does not have three digits. */
-export class ServiceLength extends CukvasheError {}
-/** A character of a service code is not a digit. */
-export class ServiceDigit extends CukvasheError {}
+/** The weak key test refuses the key that components make. */
+export class WeakKey extends CukvasheError {}
 /** A terminal has had its last transaction. */
 export class NoSerial extends CukvasheError {}
 /** The state of a terminal does not have 346 bytes. */
 export class StateLength extends CukvasheError {}
-/** The index of a key pair is none of 1 to 6. */
+/**
+ * The cipher, MAC or terminal was closed, so that its key is gone; or it, or a decimalization table, is of before a
+ * call of the module that did not end, as where the engine's stack ends within it: make it anew.
+ */
+export class Closed extends CukvasheError {}
+// The errors of the statuses of cukvashe_des.h, with the sentence of each: made of it by bindings/statuses.
+/** The key does not have a length that the call takes. */
+export class KeyLength extends CukvasheError {}
+/** The length is not a multiple of 8 bytes. */
+export class BlockLength extends CukvasheError {}
+/** The padding method is not one that the call takes. */
+export class PaddingMethod extends CukvasheError {}
+/** The tag is not that of the message. */
+export class TagMismatch extends CukvasheError {}
+/** The first digit of the PIN block is not that of the format. */
+export class Format extends CukvasheError {}
+/** The PIN does not have 4 to 12 digits. */
+export class PinLength extends CukvasheError {}
+/** A character of the PIN is not a digit. */
+export class PinDigit extends CukvasheError {}
+/** The account number does not have 8 to 19 digits, for a PVV or a CVV 12 to 19. */
+export class AccountLength extends CukvasheError {}
+/** A character of the account number is not a digit. */
+export class AccountDigit extends CukvasheError {}
+/** A fill digit is not one that the format allows. */
+export class Fill extends CukvasheError {}
+/** The expiry date does not have four digits. */
+export class ExpiryLength extends CukvasheError {}
+/** A character of the expiry date is not a digit. */
+export class ExpiryDigit extends CukvasheError {}
+/** The service code does not have three digits. */
+export class ServiceLength extends CukvasheError {}
+/** A character of the service code is not a digit. */
+export class ServiceDigit extends CukvasheError {}
+/** The data do not end with the padding. */
+export class PaddingMismatch extends CukvasheError {}
+/** The numbers of elements do not agree: a count, or a sum of counts, and a length. */
+export class CountMismatch extends CukvasheError {}
+/** The index of the key pair is not 1 to 6. */
 export class KeyIndex extends CukvasheError {}
-/** A decimalization table does not have sixteen digits. */
+/** The decimalization table does not have sixteen digits. */
 export class TableLength extends CukvasheError {}
-/** A character of a decimalization table is not a digit. */
+/** A character of the decimalization table is not a digit. */
 export class TableDigit extends CukvasheError {}
-/** A decimalization table has fewer than eight different digits. */
+/** The decimalization table has fewer than eight different digits. */
 export class TableVariety extends CukvasheError {}
-/** A PIN is not the one. */
+/** The PIN is not the one. */
 export class WrongPin extends CukvasheError {}
-/** There is no translation of PIN blocks from this format. */
+/** There is no translation of PIN blocks from this format, only from 0, 1 and 3. */
 export class Formats extends CukvasheError {}
-/** Decrypted, a PIN block is not one of its format and account number. */
+/** Decrypted, the PIN block is not one of its format and account number. */
 export class PinBlock extends CukvasheError {}
-/** The sequence number of a card does not have two digits. */
+/** The sequence number does not have two digits. */
 export class SequenceLength extends CukvasheError {}
-/** A character of the sequence number of a card is not a digit. */
+/** A character of the sequence number is not a digit. */
 export class SequenceDigit extends CukvasheError {}
-/** Data of a card cryptogram do not have the number of bytes that the call takes. */
+/** The issuer's data have more than 8 bytes. */
 export class DataLength extends CukvasheError {}
-/** A protection key of key blocks does not have 16 or 24 bytes. */
+/** The protection key does not have 16 or 24 bytes. */
 export class ProtectionKeyLength extends CukvasheError {}
-/** A key block has another length than its header says, or more characters than a key block can have. */
+/** The key block is not as long as its header says, longer than 9999 characters, or too long for its buffer. */
 export class KeyBlockLength extends CukvasheError {}
-/** The version of a key block is none of A, B and C, or one is to be made of another than B and C. */
+/** The version of the key block is not one that the call takes. */
 export class KeyBlockVersion extends CukvasheError {}
-/** A key block's header does not end with two digits, 0 to 2, and 0, or a field is not letters and digits. */
+/** The header does not end with two digits, 0, 1 or 2, and 0, or a field to be written is not letters and digits. */
 export class KeyBlockField extends CukvasheError {}
 /**
- * The optional blocks of a key block can't be read, do not end at a multiple of eight characters, or are more than 99; or
- * one of a block that is to be made has a name that is not two letters or digits or a content that is not printable
- * ASCII, or is a PB that is not the last, or does not end at a multiple of eight characters.
+ * The optional blocks can't be read or written: a wrong length, name, content or PB, an end off a multiple of
+ * eight, or more than 99.
  */
 export class OptionalBlock extends CukvasheError {}
-/** The encrypted key of a key block does not have a length that it can have. */
+/** The encrypted key data do not have a length that they can have. */
 export class KeyDataLength extends CukvasheError {}
-/** A character of the encrypted key of a key block, or of its MAC, is none of 0 to 9 and A to F. */
+/** A character of the encrypted key data or the MAC is not 0 to 9 or A to F. */
 export class KeyBlockDigit extends CukvasheError {}
-/** The MAC is not that of a key block: the block was changed, or is under another protection key. */
+/** The MAC is not that of the key block. */
 export class KeyBlockMac extends CukvasheError {}
-/** The padding of the key of a key block does not have a length that it can have. */
+/** The padding of the key does not have 6, 14 or 22 bytes, or has more than 30 with the key. */
 export class PaddingLength extends CukvasheError {}
-/** There is no hash function of this name that the call takes. */
+/** The hash function is not one that the call takes. */
 export class HashName extends CukvasheError {}
-/** There is no iteration, or there are more than PBKDF2 counts. */
+/** The number of iterations is not 1 to 2^32 - 1. */
 export class IterationCount extends CukvasheError {}
-/** Data do not begin with Salted__. */
+/** The bytes do not begin with Salted__. */
 export class NotSalted extends CukvasheError {}
-/** Data end within the salt, or the salt of bytesToKey does not have 0 or 8 bytes. */
+/** The bytes end within the salt, or it does not have 0 or 8 bytes. */
 export class SaltLength extends CukvasheError {}
+// This ends what bindings/statuses made.
 
 // ---- Ciphers and MACs
 
@@ -139,32 +147,37 @@ declare abstract class Keyed {
 }
 
 /**
- * A block cipher under one key. Data are whole blocks of 8 bytes: `pad` and `unpad` make them of other data. KeyLength.
+ * A block cipher (FIPS 46-3) under one key, of `keySize` bytes. Data are whole blocks of 8 bytes: `pad` and `unpad`
+ * make them of other data. KeyLength.
  */
 declare abstract class Cipher extends Keyed {
   static readonly blockSize: 8;
   constructor(key: Uint8Array);
-  /** BlockLength. */
+  /** The data, each block of 8 bytes encrypted by itself. BlockLength. */
   encryptEcb(data: Uint8Array): Uint8Array;
-  /** BlockLength. */
+  /** The data, each block of 8 bytes decrypted by itself. BlockLength. */
   decryptEcb(data: Uint8Array): Uint8Array;
   /**
-   * For a record in pieces, the last block of the answer is the vector of the next piece. VectorLength, BlockLength.
+   * The data, encrypted by cipher block chaining from an initialization vector of 8 bytes. For a record in pieces, the
+   * last block of the answer is the vector of the next piece. VectorLength, BlockLength.
    */
-  encryptCbc(iv: Uint8Array, data: Uint8Array): Uint8Array;
-  /** For a record in pieces, the last block of `data` is the vector of the next piece. VectorLength, BlockLength. */
-  decryptCbc(iv: Uint8Array, data: Uint8Array): Uint8Array;
+  encryptCbc(data: Uint8Array, named: { iv: Uint8Array }): Uint8Array;
+  /**
+   * The data, decrypted by cipher block chaining from an initialization vector of 8 bytes. Padding stays. For a record
+   * in pieces, the last block of `data` is the vector of the next piece. VectorLength, BlockLength.
+   */
+  decryptCbc(data: Uint8Array, named: { iv: Uint8Array }): Uint8Array;
 }
 
-/** DES. */
+/** DES, under a key of 8 bytes. */
 export class Des extends Cipher {
   static readonly keySize: 8;
 }
-/** Triple DES (encrypt, decrypt, encrypt) with two parts. */
+/** Triple DES: encryption, decryption, encryption, under the two parts of a key of 16 bytes and the first again. */
 export class TdesEde2 extends Cipher {
   static readonly keySize: 16;
 }
-/** Triple DES (encrypt, decrypt, encrypt) with three parts. */
+/** Triple DES: encryption, decryption, encryption, under the three parts of a key of 24 bytes. */
 export class TdesEde3 extends Cipher {
   static readonly keySize: 24;
 }
@@ -174,15 +187,19 @@ declare abstract class Mac extends Keyed {
   static readonly digestSize: 8;
   /** Adds bytes to the message. */
   update(data: Uint8Array): this;
-  /** The tag of the message so far; the message may go on. To check a tag call verify. */
+  /** The tag of the message so far, 8 bytes; the message may go on. To check a tag call verify. */
   digest(): Uint8Array;
+  /** The tag as a string of 16 hexadecimal digits. */
   digest(encoding: "hex"): string;
   /**
-   * True for the whole tag; TagMismatch is thrown for anything else, so there is no answer false. verifyTruncatedLeft takes
-   * cut tags; in C, verify takes both.
+   * True for the whole tag of the message so far, 8 bytes; TagMismatch is thrown for anything else, so there is no
+   * answer false. verifyTruncatedLeft takes cut tags; in C, verify takes both.
    */
   verify(tag: Uint8Array): true;
-  /** True for the first 4 to 8 bytes of the tag; TagMismatch is thrown for anything else. */
+  /**
+   * True for the first 4 to 8 bytes of the tag; TagMismatch is thrown for anything else. Of 4 bytes one guess in 2^32
+   * is right: test the length too if somebody else chose it.
+   */
   verifyTruncatedLeft(tag: Uint8Array): true;
   /** A MAC that goes on from here by itself. */
   copy(): this;
@@ -198,27 +215,27 @@ declare abstract class Cmac extends Mac {
   constructor(key: Uint8Array, data?: Uint8Array);
 }
 
-/** CBC-MAC over DES. It is safe only where every message has one length. */
+/** CBC-MAC over DES, under a key of 8 bytes. It is safe only where every message has one length. */
 export class CbcMacDes extends PaddedMac {
   static readonly keySize: 8;
 }
-/** CBC-MAC over triple DES with two parts. It is safe only where every message has one length. */
+/** CBC-MAC over triple DES, under a key of 16 bytes. It is safe only where every message has one length. */
 export class CbcMacTdesEde2 extends PaddedMac {
   static readonly keySize: 16;
 }
-/** CBC-MAC over triple DES with three parts. It is safe only where every message has one length. */
+/** CBC-MAC over triple DES, under a key of 24 bytes. It is safe only where every message has one length. */
 export class CbcMacTdesEde3 extends PaddedMac {
   static readonly keySize: 24;
 }
-/** The retail MAC over DES (algorithm 3 of ISO/IEC 9797-1). */
+/** The retail MAC over DES (algorithm 3 of ISO/IEC 9797-1), under a key of 16 bytes, two keys. */
 export class RetailMacDes extends PaddedMac {
   static readonly keySize: 16;
 }
-/** CMAC over triple DES with two parts. */
+/** CMAC over triple DES, under a key of 16 bytes. */
 export class CmacTdesEde2 extends Cmac {
   static readonly keySize: 16;
 }
-/** CMAC over triple DES with three parts. */
+/** CMAC over triple DES, under a key of 24 bytes. */
 export class CmacTdesEde3 extends Cmac {
   static readonly keySize: 24;
 }
@@ -232,107 +249,225 @@ export type CmacClass = typeof CmacTdesEde2 | typeof CmacTdesEde3;
 
 // ---- Padding
 
-/** PaddingMethod. */
+/**
+ * The data with 1 to 8 bytes after them that make whole blocks: by "pkcs7" (RFC 5652, section 6.3) each the number of
+ * these bytes, by "iso7816" (ISO/IEC 7816-4) 80 in hexadecimal digits and then zeros. PaddingMethod.
+ */
 export function pad(data: Uint8Array, method: "pkcs7" | "iso7816"): Uint8Array;
-/** PaddingMethod, BlockLength, PaddingMismatch. */
+/**
+ * The data before the padding. PaddingMethod, BlockLength; PaddingMismatch where they do not end with it: an attacker
+ * who sends you data and learns which throw it, by a message or by the time taken, can decrypt. Verify a MAC first.
+ */
 export function unpad(data: Uint8Array, method: "pkcs7" | "iso7816"): Uint8Array;
 
 // ---- Keys
 
-/** KeyLength. */
+/**
+ * Whether a key of 8, 16 or 24 bytes is weak: a part of it has few different round keys, or two parts are one key.
+ * KeyLength.
+ */
 export function isWeakKey(key: Uint8Array): boolean;
-/** KeyLength. */
+/** The key of 8, 16 or 24 bytes with its parity bits, the lowest of each byte, set to odd parity. KeyLength. */
 export function withOddParity(key: Uint8Array): Uint8Array;
-/** KeyLength. */
+/**
+ * Whether two keys of one length, 8, 16 or 24 bytes, agree in all but their parity bits, and so are one key. KeyLength.
+ */
 export function equalButParity(first: Uint8Array, second: Uint8Array): boolean;
-/** KeyLength. */
+/**
+ * The check value of a key, three bytes: the first of the block of zeros encrypted. `cipher` is a class, as TdesEde2.
+ * KeyLength.
+ */
 export function checkValue(cipher: CipherClass, key: Uint8Array): Uint8Array;
-/** By the length of the key. KeyLength. */
+/**
+ * The check value of a key or component of 8, 16 or 24 bytes, by DES or, where it is longer, triple DES (EDE).
+ * KeyLength.
+ */
 export function keyCheckValue(key: Uint8Array): Uint8Array;
-/** The first two bytes of keyCheckValue. KeyLength. */
+/** The first two bytes of keyCheckValue, which some systems show. KeyLength. */
 export function shortKeyCheckValue(key: Uint8Array): Uint8Array;
-/** KeyLength, WeakKey. */
+/** The key that two or more components of 8, 16 or 24 bytes make: their xor, with odd parity. KeyLength, WeakKey. */
 export function combine(first: Uint8Array, second: Uint8Array, ...others: Uint8Array[]): Uint8Array;
 
-// ---- Keys of a transaction (DUKPT). KeyLength, SerialLength
+// ---- Keys of a transaction: DUKPT with triple DES (ANSI X9.24-1:2009). Keys have 16 bytes, key serial numbers ten
 
+/** The initial key of a terminal, from the base derivation key and a key serial number. KeyLength, SerialLength. */
 export function dukptInitialKey(base: Uint8Array, serial: Uint8Array): Uint8Array;
+/**
+ * The key of a transaction, from the terminal's initial key, not the base derivation key, and the transaction's key
+ * serial number. It takes every counter, and for 0 gives the initial key itself: ask dukptIsUsable first. KeyLength,
+ * SerialLength.
+ */
 export function dukptTransactionKey(initial: Uint8Array, serial: Uint8Array): Uint8Array;
+/** The key that encrypts PIN blocks, from the transaction's key. KeyLength. */
 export function dukptPinKey(transaction: Uint8Array): Uint8Array;
+/** The key that authenticates the request, or the response, from the transaction's key. KeyLength. */
 export function dukptMacKey(transaction: Uint8Array, isResponse?: boolean): Uint8Array;
+/** The key that encrypts the data of the request, or of the response, from the transaction's key. KeyLength. */
 export function dukptDataKey(transaction: Uint8Array, isResponse?: boolean): Uint8Array;
+/**
+ * The key of dukptDataKey without its last step: some terminals encrypt data under it. It reveals the transaction's
+ * other keys. KeyLength.
+ */
 export function dukptDataVariant(transaction: Uint8Array, isResponse?: boolean): Uint8Array;
-/** Null where there is none. */
+/** The next key serial number with at most ten one bits in its counter, or null where there is none. SerialLength. */
 export function dukptNextSerial(serial: Uint8Array): Uint8Array | null;
+/**
+ * Whether a transaction has this key serial number: its counter is not 0 and has at most ten one bits. SerialLength.
+ */
 export function dukptIsUsable(serial: Uint8Array): boolean;
 
-/** The terminal's side of DUKPT. KeyLength, SerialLength. */
+/**
+ * The terminal's side of DUKPT: the keys of its transactions to come, made of the initial key and any of its key serial
+ * numbers, whose counter plays no part. KeyLength, SerialLength.
+ */
 export class DukptTerminal extends Keyed {
   constructor(initial: Uint8Array, serial: Uint8Array);
-  /** StateLength. */
+  /** The terminal of a state. StateLength. */
   static fromState(state: Uint8Array): DukptTerminal;
-  /** Store `state()` before you use the key. NoSerial. */
+  /**
+   * The key serial number and the key of the next transaction, that of dukptTransactionKey, which the terminal then
+   * forgets. Store `state()` before you use the key, or a key is used twice. NoSerial after the last transaction, the
+   * 1,048,575th.
+   */
   nextKey(): { serial: Uint8Array; key: Uint8Array };
+  /**
+   * The state, 346 bytes, from which `fromState` goes on. It is secret: it has the keys of all transactions to come.
+   */
   state(): Uint8Array;
 }
 
-// ---- PIN blocks, PIN verification and card verification values. Errors are named for what is wrong, as PinLength or
-// AccountDigit
+// ---- PIN blocks (ISO 9564-1), 8 bytes. A PIN has 4 to 12 digits, an account number 8 to 19 with its check digit
 
+/** The PIN block of format 0. It is not encrypted. PinLength, PinDigit, AccountLength, AccountDigit. */
 export function pinEncode0(pin: Digits, account: Digits): Uint8Array;
-/** `transaction` is ten bytes from 0 to 15. */
+/**
+ * The PIN block of format 1. `transaction` is ten digits, bytes from 0 to 15, of which it uses the first ones that
+ * there is room for. PinLength, PinDigit, FillLength, Fill.
+ */
 export function pinEncode1(pin: Digits, transaction: Uint8Array): Uint8Array;
-/** `fill` is ten random bytes from 10 to 15. */
-export function pinEncode3(pin: Digits, account: Digits, fill: Uint8Array): Uint8Array;
-/** The error reveals something of the PIN: show it to nobody. */
-export function pinDecode0(block: Uint8Array, account: Digits): string;
-export function pinDecode1(block: Uint8Array): string;
-export function pinDecode3(block: Uint8Array, account: Digits): string;
+/** The PIN block of format 2, which goes to a card in clear. PinLength, PinDigit. */
 export function pinEncode2(pin: Digits): Uint8Array;
+/**
+ * The PIN block of format 3. `fill` is ten digits, random bytes from 10 to 15, of which it uses the first ones that
+ * there is room for. PinLength, PinDigit, AccountLength, AccountDigit, FillLength, Fill.
+ */
+export function pinEncode3(pin: Digits, account: Digits, fill: Uint8Array): Uint8Array;
+/**
+ * The PIN of a block of format 0. The error reveals something of the PIN: show it to nobody. BlockLength, Format,
+ * PinLength where the second digit is not the length of a PIN, PinDigit, Fill, AccountLength, AccountDigit.
+ */
+export function pinDecode0(block: Uint8Array, account: Digits): string;
+/** The PIN of a block of format 1. BlockLength, Format, PinLength, PinDigit. */
+export function pinDecode1(block: Uint8Array): string;
+/** The PIN of a block of format 2. BlockLength, Format, PinLength, PinDigit, Fill. */
 export function pinDecode2(block: Uint8Array): string;
-/** The keys of a translation, by name. */
+/** The PIN of a block of format 3. Errors as of pinDecode0. */
+export function pinDecode3(block: Uint8Array, account: Digits): string;
+/** The keys of a translation, of 8, 16 or 24 bytes, by name. */
 export interface TranslationKeys {
   incomingKey: Uint8Array;
   outgoingKey: Uint8Array;
 }
-/** From formats 0, 1 and 3. KeyLength, Formats, AccountLength, AccountDigit, and else PinBlock. */
+/**
+ * A block of format 0, 1 or 3 under the incoming key as the block of format 0 of its PIN under the outgoing key. The
+ * PIN does not come out. The account number is that of both blocks. KeyLength, Formats, AccountLength, AccountDigit,
+ * BlockLength; whatever else is wrong with the block is PinBlock.
+ */
 export function pinTranslateTo0(
   incomingFormat: 0 | 1 | 3, account: Digits, block: Uint8Array, keys: TranslationKeys,
 ): Uint8Array;
-/** From format 1. KeyLength, and else PinBlock. */
+/** A block of format 1 under another key; its transaction digits stay. KeyLength, BlockLength, PinBlock. */
 export function pinTranslateTo1(block: Uint8Array, keys: TranslationKeys): Uint8Array;
+/** As pinTranslateTo0, to a block of format 3, with ten fill digits as of pinEncode3. FillLength and Fill too. */
 export function pinTranslateTo3(
   incomingFormat: 0 | 1 | 3, account: Digits, fill: Uint8Array, block: Uint8Array, keys: TranslationKeys,
 ): Uint8Array;
-/** `index` is 1 to 6. */
+
+// ---- PIN verification
+
+/**
+ * The PIN verification value, four digits, under a key pair of 16 bytes with an index from 1 to 6, of an account number
+ * of 12 to 19 digits and the first four digits of a PIN. KeyLength, KeyIndex, AccountLength, AccountDigit, PinLength,
+ * PinDigit.
+ */
 export function pvv(key: Uint8Array, account: Digits, index: number, pin: Digits): string;
-/** True for the PIN; WrongPin is thrown for any other, so there is no answer false. */
+/**
+ * True for the PIN whose PIN verification value this is; WrongPin is thrown for any other, so there is no answer false.
+ * Count these: unlimited guesses find the PIN. Else errors as of pvv.
+ */
 export function pvvVerify(key: Uint8Array, account: Digits, index: number, pin: Digits, value: Digits): true;
 
-/** A decimalization table of sixteen digits. TableLength, TableDigit, TableVariety. */
+/**
+ * A decimalization table of sixteen decimal digits, those that stand for 0 to 15 in this order. An attacker who chooses
+ * the table finds PINs out. TableLength, TableDigit; TableVariety for fewer than eight different digits.
+ */
 export class DecimalTable {
   constructor(digits: Digits);
-  /** With any number of different digits. */
+  /** A table of any variety, for old systems that have one. TableLength, TableDigit. */
   static ofAnyVariety(digits: Digits): DecimalTable;
 }
+/**
+ * The natural PIN of 4 to 12 digits (IBM 3624): the first digits of the validation data, 8 bytes, encrypted under a key
+ * of 8, 16 or 24 bytes, each by the decimalization table. KeyLength, BlockLength, PinLength.
+ */
 export function naturalPin(key: Uint8Array, table: DecimalTable, validation: Uint8Array, length: number): string;
+/**
+ * The offset of a PIN: digit by digit, modulo ten, the PIN less the natural PIN. KeyLength, BlockLength, PinLength,
+ * PinDigit.
+ */
 export function pinOffset(key: Uint8Array, table: DecimalTable, validation: Uint8Array, pin: Digits): string;
-/** True for the PIN; WrongPin is thrown for any other. */
+/**
+ * True for the PIN whose offset this is; WrongPin is thrown for any other. Count these. Else errors as of pinOffset.
+ */
 export function pinOffsetVerify(
   key: Uint8Array, table: DecimalTable, validation: Uint8Array, pin: Digits, offset: Digits,
 ): true;
 
-// ---- Card cryptograms (EMV), the issuer's side. KeyLength, BlockLength, DataLength
+// ---- Card cryptograms (EMV 4.3, Book 2), the issuer's side. Keys have 16 bytes
 
+/**
+ * The key of a card (option A), with odd parity, from the issuer's key, an account number of 8 to 19 digits and a
+ * sequence number of two: "00" where the card has none. KeyLength, AccountLength, AccountDigit, SequenceLength,
+ * SequenceDigit.
+ */
 export function emvCardKey(issuer: Uint8Array, account: Digits, sequence: Digits): Uint8Array;
+/**
+ * The key of a card by option B, which differs where the account number has more than sixteen digits: take it if the
+ * card scheme asks for it. Errors as of emvCardKey.
+ */
 export function emvCardKeyB(issuer: Uint8Array, account: Digits, sequence: Digits): Uint8Array;
+/**
+ * The session key of a card's key, from eight bytes that are different for each session: for secure messaging the
+ * application cryptogram. The third of them plays no part. KeyLength, BlockLength.
+ */
 export function emvSessionKey(card: Uint8Array, block: Uint8Array): Uint8Array;
+/**
+ * The session key for application cryptograms, by the application transaction counter, two bytes. KeyLength,
+ * DataLength.
+ */
 export function emvApplicationKey(card: Uint8Array, counter: Uint8Array): Uint8Array;
+/**
+ * The application cryptogram of data under a session key, 8 bytes. To check one that a card sent call new
+ * RetailMacDes(session, 2, data).verify(cryptogram). KeyLength.
+ */
 export function emvApplicationCryptogram(session: Uint8Array, data: Uint8Array): Uint8Array;
+/**
+ * The issuer's response by method 1 to an application cryptogram, 8 bytes, with a response code of two bytes.
+ * KeyLength, BlockLength, DataLength.
+ */
 export function emvResponse1(session: Uint8Array, cryptogram: Uint8Array, code: Uint8Array): Uint8Array;
+/**
+ * The issuer's response by method 2, 4 bytes, with a card status update of four bytes and at most eight bytes of the
+ * issuer's. Errors as of emvResponse1.
+ */
 export function emvResponse2(
   session: Uint8Array, cryptogram: Uint8Array, status: Uint8Array, data?: Uint8Array,
 ): Uint8Array;
+/**
+ * The card verification value, three digits, under a key pair of 16 bytes, of an account number of 12 to 19 digits, an
+ * expiry date of four and a service code of three. KeyLength, AccountLength, AccountDigit, ExpiryLength, ExpiryDigit,
+ * ServiceLength, ServiceDigit.
+ */
 export function cvv(key: Uint8Array, account: Digits, expiry: Digits, service: Digits): string;
 
 // ---- Key blocks (TR-31)
@@ -348,77 +483,123 @@ interface KeyBlockHeader {
   exportability: string;
 }
 /**
- * ProtectionKeyLength, KeyBlockLength, KeyBlockVersion, KeyBlockField, OptionalBlock, KeyDataLength, KeyBlockDigit,
- * KeyBlockMac, KeyLength.
+ * The header and the key of a key block of version A, B or C, under a protection key of 16 or 24 bytes. Look at the
+ * header before you use the key. KeyBlockMac where the block was changed, or is under another key. ProtectionKeyLength,
+ * KeyBlockLength, KeyBlockVersion, KeyBlockField, OptionalBlock, KeyDataLength, KeyBlockDigit, KeyLength.
  */
 export function unwrapKeyBlock(
   protection: Uint8Array, block: string | Uint8Array,
 ): { header: KeyBlockHeader; key: Uint8Array };
 /**
- * The padding is random where it is not given; an option of another name is a TypeError. The content of an optional block
- * is printable ASCII. A block PB is added where one is needed; yours is taken only as the last. KeyBlockVersion,
- * OptionalBlock, ProtectionKeyLength, KeyBlockField, KeyLength, PaddingLength, KeyBlockLength.
+ * The key block of a key of 8, 16 or 24 bytes under a protection key of 16 or 24 bytes, of version B or C. `header` has
+ * the fields that unwrapKeyBlock gives; no call compares them with the key's length. `optional` has pairs of a name of
+ * two letters or digits and its content, printable ASCII, after which a block PB is added where they do not end at a
+ * multiple of eight characters, and taken only as the last, where with it they do: OptionalBlock. `padding` is 6, 14 or
+ * 22 random bytes that hide how long the key is: without it they come from the engine. KeyBlockVersion,
+ * ProtectionKeyLength, KeyBlockField, KeyLength, PaddingLength, KeyBlockLength.
  */
 export function wrapKeyBlock(
   protection: Uint8Array, header: KeyBlockHeader, key: Uint8Array,
   options?: { optional?: Iterable<[name: string, content: string]>; padding?: Uint8Array },
 ): string;
-/** Where its key may be: "0" in storage and exchange, "1" in storage only, "2" in exchange only. Nothing is authenticated. */
+/**
+ * Where the key of a key block may be, read with no key: "0" in storage and exchange, as wrapKeyBlock writes it, "1" in
+ * storage only, "2" in exchange only. Nothing of it is authenticated. Errors as of keyBlockHeader.
+ */
 export function keyBlockContext(block: string | Uint8Array): string;
-/** Nothing of it is authenticated. */
+/**
+ * The header of a key block, read with no key. Nothing of it is authenticated. KeyBlockLength, KeyBlockVersion,
+ * KeyBlockField, OptionalBlock, KeyDataLength, KeyBlockDigit.
+ */
 export function keyBlockHeader(block: string | Uint8Array): KeyBlockHeader;
-/** Nothing of them is authenticated. */
+/** The optional blocks of a key block, read with no key. Nothing is authenticated. Errors as of keyBlockHeader. */
 export function keyBlockOptionalBlocks(block: string | Uint8Array): [name: string, content: string][];
 
-// ---- Keys from passwords, which are bytes. HashName, IterationCount, KeyLength
+// ---- Keys from passwords, and what `openssl enc` encrypted under them. Passwords are bytes
 
+/**
+ * The key of `length` bytes of a password and a salt by PBKDF2 (RFC 8018) with HMAC. HashName, IterationCount,
+ * KeyLength.
+ */
 export function pbkdf2(
   hashName: "sha1" | "sha256", password: Uint8Array, salt: Uint8Array, iterations: number, length: number,
 ): Uint8Array;
 /**
- * The password stands before the salt, unlike in EVP_BytesToKey. `salt` has 8 bytes, without Salted__, or none.
- * SaltLength.
+ * The key, and after it the vector, of `length` bytes together, that OpenSSL's EVP_BytesToKey makes of a password and a
+ * salt with one iteration. A password is quick to guess by it: take it to read what others wrote. The password stands
+ * before the salt, unlike in EVP_BytesToKey. `salt` has 8 bytes, without Salted__, or none. HashName, SaltLength,
+ * KeyLength.
  */
 export function bytesToKey(
   hashName: "md5" | "sha1" | "sha256", password: Uint8Array, salt: Uint8Array, length: number,
 ): Uint8Array;
 /**
- * A file of `openssl enc`; an option of another name is a TypeError. NotSalted, SaltLength, BlockLength, and PaddingMismatch
- * of most wrong passwords.
+ * The plaintext of a file that `openssl enc` encrypted under a password: by -des-cbc, -des-ede-cbc or -des3, as
+ * `cipher` is the class Des, TdesEde2 or TdesEde3. `data` are the whole file, not Base64 (-a). `hashName` is that of
+ * -md, "sha256" if it is left out, "md5" before OpenSSL 1.1.0. `iterations` are those of -iter: 10000 if only -pbkdf2
+ * was given, and left out, not 1, if neither was; with them "sha1" or "sha256". A wrong password is PaddingMismatch,
+ * but for one in 256, which gives wrong bytes: nothing here authenticates. NotSalted, SaltLength, BlockLength,
+ * HashName, IterationCount.
  */
 export function openSalted(
   cipher: CipherClass, password: Uint8Array, data: Uint8Array,
   options?: { hashName?: "md5" | "sha1" | "sha256"; iterations?: number },
 ): Uint8Array;
 
-// ---- Lists: elements stand one after the other, without a gap. CountMismatch where numbers of elements do not agree
+// ---- Lists: elements stand one after the other, without a gap
 
+/**
+ * The blocks, each of 8 bytes encrypted under the key at its place. `cipher` is a class, as TdesEde2. KeyLength,
+ * BlockLength; CountMismatch where the numbers of keys and blocks differ.
+ */
 export function encryptEach(cipher: CipherClass, keys: Uint8Array, blocks: Uint8Array): Uint8Array;
+/** The blocks, each decrypted under the key at its place. Errors as of encryptEach. */
 export function decryptEach(cipher: CipherClass, keys: Uint8Array, blocks: Uint8Array): Uint8Array;
+/** The check values of keys, three bytes for each, as `checkValue` makes them. KeyLength. */
 export function checkValues(cipher: CipherClass, keys: Uint8Array): Uint8Array;
-export function dukptTransactionKeys(base: Uint8Array, serials: Uint8Array): Uint8Array;
-/** Record k has `counts[k]` blocks, not bytes. */
+/**
+ * The keys of transactions, of 16 bytes each, from the base derivation key and key serial numbers of ten bytes: what
+ * dukptTransactionKey makes of dukptInitialKey, for each. Such a key encrypts nothing itself: take dukptPinKey,
+ * dukptMacKey or dukptDataKey of it. KeyLength, SerialLength.
+ */
+export function dukptTransactionKeysFromBase(base: Uint8Array, serials: Uint8Array): Uint8Array;
+/**
+ * Records, each encrypted by cipher block chaining from a vector of its own: record k has `counts[k]` of the blocks,
+ * not bytes, one record after the other, and the k-th 8 bytes of `vectors`. `cipher` is one that has a key.
+ * VectorLength, BlockLength, CountMismatch.
+ */
 export function encryptCbcRecords(
-  cipher: Cipher, vectors: Uint8Array, counts: Iterable<number>, blocks: Uint8Array,
+  cipher: Cipher, blocks: Uint8Array, named: { vectors: Uint8Array; counts: Iterable<number> },
 ): Uint8Array;
+/** Records, each decrypted by cipher block chaining. Padding stays. Arguments and errors as of encryptCbcRecords. */
 export function decryptCbcRecords(
-  cipher: Cipher, vectors: Uint8Array, counts: Iterable<number>, blocks: Uint8Array,
+  cipher: Cipher, blocks: Uint8Array, named: { vectors: Uint8Array; counts: Iterable<number> },
 ): Uint8Array;
-/** Message k has `lengths[k]` bytes. */
+/**
+ * The tags, of 8 bytes each, of messages under one key: message k has `lengths[k]` of the bytes, one after the other.
+ * `mac` is a class, as RetailMacDes. KeyLength, PaddingMethod, CountMismatch.
+ */
 export function macs(
   mac: PaddedMacClass, key: Uint8Array, padding: 1 | 2, lengths: Iterable<number>, messages: Uint8Array,
 ): Uint8Array;
+/** As above, by CMAC, which takes no padding method. */
 export function macs(
   mac: CmacClass, key: Uint8Array, padding: null, lengths: Iterable<number>, messages: Uint8Array,
 ): Uint8Array;
+/** The tags of messages, each under the key at its place, as `macs` makes them under one. Errors as of macs. */
 export function macsEach(
   mac: PaddedMacClass, keys: Uint8Array, padding: 1 | 2, lengths: Iterable<number>, messages: Uint8Array,
 ): Uint8Array;
+/** As above, by CMAC, which takes no padding method. */
 export function macsEach(
   mac: CmacClass, keys: Uint8Array, padding: null, lengths: Iterable<number>, messages: Uint8Array,
 ): Uint8Array;
-/** The places of wrong tags. Ask `length`: an array without elements is true in an `if`. */
+/**
+ * The places of the tags, of 8 bytes each, that are not the one at their place in `expected`, the tags that `macs` or
+ * `macsEach` made. Every byte is compared. Ask `length`: an array without elements, where all are right, is true in an
+ * `if`. CountMismatch.
+ */
 export function wrongTags(tags: Uint8Array, expected: Uint8Array): number[];
 
-// What is not marked `export` above is a type, and not there at run time.
-export {};
+// What has no value at run time: types alone.
+export type { Cipher, KeyBlockHeader, Mac };

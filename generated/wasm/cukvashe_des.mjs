@@ -3,14 +3,16 @@
 //
 //     import { load, TdesEde3 } from "./cukvashe_des.mjs";
 //     await load();
-//     const plaintext = new TdesEde3(key).decryptCbc(iv, ciphertext);
+//     const plaintext = new TdesEde3(key).decryptCbc(ciphertext, { iv });
 //
 // Bytes come in and go out as Uint8Array, texts as strings of digits; names are those of the package for Python, and so
-// are the errors, each a CukvasheError of its own name. A wrong type is a TypeError. cukvashe_des.d.mts has the types.
+// are the errors, but for Error at their end, each a CukvasheError of its own name. A wrong type is a TypeError.
+// cukvashe_des.d.mts says what each call does, and has the types.
 //
-// Each call lays its arguments down in the module's memory, calls, copies the answer out, and wipes both and the
-// module's stack. The module asks for no memory and keeps no state: ciphers and MACs keep their contexts here, as
-// bytes.
+// Each call reads first what may run code of the caller's: classes, options, and numbers that an iterator gives. Then it
+// takes views of bytes, and then, in `inside`, where no such code runs, what an object keeps. So it answers as if that code
+// had run before it. It lays all down in the module's memory, calls, copies the answer out, and wipes both and the module's
+// stack. The module asks for no memory and keeps no state: ciphers and MACs keep their contexts here, as bytes.
 
 /** The version of this file, which is that of the module. */
 export const version = "0.1.0";
@@ -18,15 +20,15 @@ export const version = "0.1.0";
 export const BLOCK_SIZE = 8;
 export const TAG_SIZE = 8;
 
-// The SHA-256 of the module that this file was built with.
-const MODULE_SUM = "1597a441cdb48e17514fc6a6192ddea68c497b0952f497469f014f5139e59f69";
+// The SHA-256 of the modules that this file was built with: the one of a 64-bit memory, and the same of a 32-bit memory.
+const MODULE_SUM = "d1fe49cfb5a49ce908574ed8bc522d487e717c0ed0fa34972dbeca2ecdc0a227";
+const NARROW_SUM = "8c11497daf84d73b8f6433c1fd4f978834daea364c05cb0fc700d992e20c019c";
 
 // The bytes of the module's stack, which lies at its address 0. `build` links it so.
 const STACK_SIZE = 131072;
 
 // ---- Errors ---------------------------------------------------------------------------------------------------------
 
-/** What every error of the library is. No text of one tells a value that was given, only lengths. */
 export class CukvasheError extends Error {}
 
 /** An error of a name, which stays when a tool shortens the names of classes. */
@@ -38,7 +40,7 @@ function fault(name) {
 }
 
 export const NotLoaded = fault("NotLoaded");
-export const NoMemory64 = fault("NoMemory64");
+export const NotSupported = fault("NotSupported");
 export const ModuleMismatch = fault("ModuleMismatch");
 export const KeyLength = fault("KeyLength");
 export const BlockLength = fault("BlockLength");
@@ -183,6 +185,7 @@ const SENTENCES = [
 // The error of each status that is one by itself.
 const FAULTS = new Map([
   [KEY_LENGTH, KeyLength],
+  [BLOCKS, BlockLength],
   [PADDING_METHOD, PaddingMethod],
   [TAG, TagMismatch],
   [FORMAT, Format],
@@ -196,6 +199,7 @@ const FAULTS = new Map([
   [SERVICE_LENGTH, ServiceLength],
   [SERVICE_DIGIT, ServiceDigit],
   [PADDING, PaddingMismatch],
+  [COUNTS, CountMismatch],
   [KEY_INDEX, KeyIndex],
   [TABLE_LENGTH, TableLength],
   [TABLE_DIGIT, TableDigit],
@@ -235,7 +239,7 @@ function faultOf(status) {
   return new Fault(SENTENCES[status] + (TAKEN.get(status) ?? ""));
 }
 
-/** Throws the error of a status of the payment calls. */
+/** Throws the error of a status. */
 function check(status) {
   if (status !== OK) throw faultOf(status);
 }
@@ -243,12 +247,24 @@ function check(status) {
 // ---- Arguments: each is tested, and taken once, before anything is laid down ----------------------------------------
 
 // What every typed array has: a class that a caller derives may say otherwise.
-const typedArray = (name) => Object.getOwnPropertyDescriptor(Object.getPrototypeOf(Uint8Array.prototype), name).get;
-const [typedArrayName, bufferOf, offsetOf, lengthOf] = [Symbol.toStringTag, "buffer", "byteOffset", "length"].map(typedArray);
+const typedArray = Object.getPrototypeOf(Uint8Array.prototype);
+const getterOf = (name) => Object.getOwnPropertyDescriptor(typedArray, name).get;
+const [typedArrayName, bufferOf, offsetOf, lengthOf] = [Symbol.toStringTag, "buffer", "byteOffset", "length"].map(getterOf);
+const { at: elementAt } = typedArray;
 
 /** The bytes of a Uint8Array, as Buffer is one, from whatever window it came. */
 function bytesOf(data, what) {
+  if (typeof data === "string") {
+    throw new TypeError(`${what}: a Uint8Array is needed, as Buffer.from(digits, "hex") or Uint8Array.fromHex(digits) makes it`);
+  }
   if (typedArrayName.call(data) !== "Uint8Array") throw new TypeError(`${what}: a Uint8Array is needed`);
+  try {
+    // An array that lies outside its buffer has the length 0, and would pass for an empty one.
+    elementAt.call(data, 0);
+  } catch (error) {
+    if (!(error instanceof TypeError)) throw error;
+    throw new TypeError(`${what}: the buffer of the array was detached, or shrunk to less than the array`);
+  }
   return new Uint8Array(bufferOf.call(data), offsetOf.call(data), lengthOf.call(data));
 }
 
@@ -304,22 +320,37 @@ function textOf(text, what) {
   return Uint8Array.from(text, (character) => (character.codePointAt(0) < 128 ? character.codePointAt(0) : 63));
 }
 
-/**
- * An object of these names and of no others: a name that is spelled otherwise would pass for one that was left out.
- */
-function namedOf(what, object, ...names) {
-  if (Object.prototype.toString.call(object) !== "[object Object]") {
-    throw new TypeError(`${what}: an object of names is needed`);
-  }
+const isOfNames = (object) => Object.prototype.toString.call(object) === "[object Object]";
+
+/** Whether an object has no names but these: one that is spelled otherwise would pass for one that was left out. */
+function hasNoOther(object, names) {
   const given = Reflect.ownKeys(object);
   for (const name in object) given.push(name);
-  if (given.every((name) => names.includes(name))) return object;
+  return given.every((name) => names.includes(name));
+}
+
+/** An object of these names and of no others. */
+function namedOf(what, object, ...names) {
+  if (!isOfNames(object)) throw new TypeError(`${what}: an object of names is needed`);
+  if (hasNoOther(object, names)) return object;
   const listed = names.map((name) => `"${name}"`).join(", ").replace(/, ([^,]*)$/, " and $1");
   throw new TypeError(`${what}: the names are ${listed} alone`);
 }
 
 /** The options of a call. */
 const optionsOf = (options, ...names) => namedOf("options", options, ...names);
+
+/**
+ * What a call takes by these names, all of them, after its data. By its place a vector would pass for data of its length,
+ * and the data for a vector.
+ */
+function afterData(form, [options, ...more], ...names) {
+  if (more.length === 0 && isOfNames(options) && hasNoOther(options, names)) {
+    const values = names.map((name) => options[name]);
+    if (!values.includes(undefined)) return values;
+  }
+  throw new TypeError(`write ${form}: the data come first, the rest by name, and nothing else`);
+}
 
 /** Refuses arguments that a call does not have. Passed over, they would be taken for a part of its answer. */
 function refuseMore(more, text) {
@@ -399,11 +430,17 @@ class Workspace {
     }
   }
 
-  call(name, ...words) {
+  /** What a call answers: a status, a word for true or false, or nothing. */
+  ask(name, ...words) {
     this.#isInCall = true;
     const answer = this.#calls[`cukvashe_${name}`](...words);
     this.#isInCall = false;
     return answer;
+  }
+
+  /** Makes a call, and throws the error of its status. */
+  call(name, ...words) {
+    check(this.ask(name, ...words) ?? OK);
   }
 
   /** Room for a number of bytes, at an address that is good for anything. */
@@ -426,6 +463,20 @@ class Workspace {
   /** Lays bytes down in room that was made. */
   lay(at, bytes) {
     this.#bytes(Number(at), bytes.length).set(bytes);
+  }
+
+  /** What an object of a class keeps. A call sees it here alone, after the last code of the caller's has run. */
+  state(object, Base, what = "the object") {
+    const state = states.get(object);
+    if (state?.Base !== Base) {
+      const example = Base === Cipher ? "a cipher, such as new TdesEde2(key)," : "one that its class has made";
+      throw new TypeError(`${what}: ${example} is needed`);
+    }
+    if (state.context === null) throw new Closed("the object was closed");
+    if (state.maker !== this && state.maker.isSpoiled) {
+      throw new Closed("the object was closed by a call that did not end: make it anew");
+    }
+    return state;
   }
 
   /** Where the elements of a list are laid down, and how many there are. */
@@ -466,7 +517,7 @@ class Workspace {
     return new Uint8Array(this.#memory.buffer, at, size);
   }
 
-  // Engines older than the standard of 64-bit memories, such as Node 20's, take the number of pages as a Number.
+  // Of a 32-bit memory, and in engines older than the standard of 64-bit ones, the number of pages is a Number.
   #grow(pages) {
     try {
       this.#memory.grow(BigInt(pages));
@@ -498,12 +549,12 @@ function renew() {
   workspace = new Workspace(new WebAssembly.Instance(compiled, {}).exports);
 }
 
-/** What a call writes to room of a size, after its other arguments; a status of it is looked at. */
+/** What a call writes to room of a size, after its other arguments. */
 function written(size, name, lay) {
   return inside((memory) => {
     const words = lay(memory);
     const at = memory.room(size);
-    check(memory.call(name, ...words, at) ?? OK);
+    memory.call(name, ...words, at);
     return memory.taken(at, size);
   });
 }
@@ -521,14 +572,15 @@ function writtenText(size, name, lay) {
 // A module that has a 64-bit memory and nothing else.
 const OF_64_BITS = Uint8Array.of(0, 97, 115, 109, 1, 0, 0, 0, 5, 3, 1, 4, 1);
 
-/** Whether this engine has a 64-bit memory for WebAssembly, without which `load` throws NoMemory64. */
+const hasMemory64 = () => WebAssembly.validate(OF_64_BITS);
+
 export function isSupported() {
-  return typeof WebAssembly === "object" && WebAssembly.validate(OF_64_BITS);
+  return typeof WebAssembly === "object";
 }
 
-/** The bytes of the file cukvashe_des.wasm beside this one. */
+/** The bytes of the module beside this file that the engine can run. */
 async function fileBeside() {
-  const place = new URL("cukvashe_des.wasm", import.meta.url);
+  const place = new URL(hasMemory64() ? "cukvashe_des.wasm" : "cukvashe_des_32.wasm", import.meta.url);
   if (place.protocol === "file:" && typeof process === "object") {
     return (await import("node:fs/promises")).readFile(place);
   }
@@ -537,18 +589,18 @@ async function fileBeside() {
   return response.arrayBuffer();
 }
 
-/**
- * Loads the module: the file beside this one, or its bytes. Every other call throws NotLoaded before that. NoMemory64
- * where the engine has no 64-bit memory, ModuleMismatch where the bytes are not those that this file was built with;
- * where `crypto.subtle` is missing, as on pages by http, they are not compared.
- */
 export async function load(module) {
-  if (!isSupported()) throw new NoMemory64("this engine has no 64-bit memory for WebAssembly");
+  if (!isSupported()) throw new NotSupported("this engine has no WebAssembly");
   const given = module === undefined ? await fileBeside() : module;
   const bytes = (given instanceof ArrayBuffer ? new Uint8Array(given) : bytesOf(given, "the module")).slice();
   if (globalThis.crypto?.subtle !== undefined) {
-    const sum = new Uint8Array(await crypto.subtle.digest("SHA-256", bytes));
-    if (hexOf(sum) !== MODULE_SUM) throw new ModuleMismatch("the module is not the one that this file was built with");
+    const sum = hexOf(new Uint8Array(await crypto.subtle.digest("SHA-256", bytes)));
+    if (sum !== MODULE_SUM && sum !== NARROW_SUM) {
+      throw new ModuleMismatch("the module is not one that this file was built with");
+    }
+    if (sum === MODULE_SUM && !hasMemory64()) {
+      throw new NotSupported("this engine has no 64-bit memory for WebAssembly: load the bytes of cukvashe_des_32.wasm");
+    }
   }
   const { module: made, instance } = await WebAssembly.instantiate(bytes, {});
   compiled = made;
@@ -572,12 +624,16 @@ function contextAt({ words, algorithm }, at) {
   return algorithm === undefined ? [at, count] : [algorithm, at, count, at + 8n * count];
 }
 
-// Of each cipher, MAC and terminal its kind, its context, which is null once it was closed, and the instance that made it. No
+// Of each cipher, MAC, terminal and decimalization table its class, its kind, its context, which is null once it was
+// closed, and the instance that made it: of an instance in which a call did not end nobody knows what it had written. No
 // text of an object shows them.
 const states = new WeakMap();
 
-/** Keeps what the instance in use made of a key. */
-const keep = (object, kind, context) => states.set(object, { kind, context, maker: workspace });
+/** Keeps what the instance in use made, and gives the object. */
+function keep(object, Base, kind, context) {
+  states.set(object, { Base, kind, context, maker: workspace });
+  return object;
+}
 
 /** The kind of a class, which may be one that a caller made of ours. */
 function kindOf(Class, Base, what) {
@@ -587,38 +643,10 @@ function kindOf(Class, Base, what) {
   throw new TypeError(`${what}: a class is needed, such as ${Base === Cipher ? "TdesEde2" : "RetailMacDes"}`);
 }
 
-/** Refuses what an instance made in which a call did not end: nobody knows what such a one had written. */
-function refuseOfSpoiled({ maker }) {
-  if (maker?.isSpoiled) throw new Closed("the object was closed by a call that did not end: make it anew");
-}
-
-/** The kind and the context of a cipher or MAC. */
-function stateOf(object, Base) {
-  if (!(object instanceof Base) || !states.has(object)) {
-    const example = Base === Cipher ? "a cipher, such as new TdesEde2(key)" : "one that its class has made";
-    throw new TypeError(`the object: ${example}, is needed`);
-  }
-  const state = states.get(object);
-  if (state.context === null) throw new Closed("the object was closed");
-  refuseOfSpoiled(state);
-  return state;
-}
-
 // The last word of the calls that make a context, of one that is not quiet.
 const QUICK = 0;
 
-/** The context that a call makes of a key; null where a padding method is refused. */
-function contextOf(call, kind, size, key, ...padding) {
-  return inside((memory) => {
-    const at = memory.room(size);
-    const status = memory.call(call, ...contextAt(kind, at), ...memory.list(key), ...padding, QUICK);
-    return status === OK ? memory.taken(at, size) : null;
-  });
-}
-
-/** A cipher or MAC under one key. */
 class Keyed {
-  /** Forgets the key: the context is wiped. Every later call throws Closed. */
   close() {
     const state = states.get(this);
     if (state === undefined) return;
@@ -631,7 +659,6 @@ if (Symbol.dispose !== undefined) Object.defineProperty(Keyed.prototype, Symbol.
 
 // ---- Ciphers --------------------------------------------------------------------------------------------------------
 
-/** A block cipher under one key. Data are whole blocks of 8 bytes; `pad` and `unpad` make them of other data. */
 class Cipher extends Keyed {
   static blockSize = BLOCK_SIZE;
 
@@ -639,27 +666,32 @@ class Cipher extends Keyed {
     super();
     refuseMore(more, "a cipher takes a key alone, and neither a vector nor options");
     const kind = kindOf(new.target, Cipher, "a cipher");
-    keep(this, kind, contextOf("internal_init", kind, 8 * kind.words, keyOf(key, kind.keySize)));
+    const held = keyOf(key, kind.keySize);
+    const size = 8 * kind.words;
+    const context = inside((memory) => {
+      const at = memory.room(size);
+      memory.call("internal_init", ...contextAt(kind, at), ...memory.list(held), QUICK);
+      return memory.taken(at, size);
+    });
+    keep(this, Cipher, kind, context);
   }
 
-  /** The data, each block of 8 bytes encrypted by itself. */
   encryptEcb(data, ...more) {
     return ecb(this, "internal_encrypt_ecb", data, more);
   }
 
-  /** The data, each block of 8 bytes decrypted by itself. */
   decryptEcb(data, ...more) {
     return ecb(this, "internal_decrypt_ecb", data, more);
   }
 
-  /** The data, encrypted by cipher block chaining from an initialization vector of 8 bytes. */
-  encryptCbc(iv, data, ...more) {
-    return cbc(this, "internal_encrypt_cbc", iv, data, more);
+  encryptCbc(data, ...named) {
+    const [iv] = afterData("encryptCbc(data, { iv })", named, "iv");
+    return answered(this, "internal_encrypt_cbc", data, [vectorOf(iv)]);
   }
 
-  /** The data, decrypted by cipher block chaining from an initialization vector of 8 bytes. Padding stays. */
-  decryptCbc(iv, data, ...more) {
-    return cbc(this, "internal_decrypt_cbc", iv, data, more);
+  decryptCbc(data, ...named) {
+    const [iv] = afterData("decryptCbc(data, { iv })", named, "iv");
+    return answered(this, "internal_decrypt_cbc", data, [vectorOf(iv)]);
   }
 }
 
@@ -668,36 +700,28 @@ function ecb(cipher, call, data, more) {
   return answered(cipher, call, data, []);
 }
 
-function cbc(cipher, call, iv, data, more) {
-  refuseMore(more, "CBC takes a vector and data alone, and neither padding nor options");
-  return answered(cipher, call, data, [vectorOf(iv)]);
-}
-
 /** What a call makes of data, in place, with or without a vector. */
 function answered(cipher, call, data, vectors) {
-  const { kind, context } = stateOf(cipher, Cipher);
   const bytes = bytesOf(data, "data");
   return inside((memory) => {
+    const { kind, context } = memory.state(cipher, Cipher);
     const [at, length] = memory.list(bytes);
     const laid = [...contextAt(kind, memory.put(context)), ...vectors.map((vector) => memory.put(vector))];
-    if (memory.call(call, ...laid, at, length / BigInt(BLOCK_SIZE), length) !== OK) {
+    if (memory.ask(call, ...laid, at, length / BigInt(BLOCK_SIZE), length) !== OK) {
       throw new BlockLength(`${bytes.length} bytes are not whole blocks of ${BLOCK_SIZE}`);
     }
     return memory.taken(at, bytes.length);
   });
 }
 
-/** DES, under a key of 8 bytes. */
 export class Des extends Cipher {
   static keySize = 8;
 }
 
-/** Triple DES: encryption, decryption, encryption, under the two parts of a key of 16 bytes and the first again. */
 export class TdesEde2 extends Cipher {
   static keySize = 16;
 }
 
-/** Triple DES: encryption, decryption, encryption, under the three parts of a key of 24 bytes. */
 export class TdesEde3 extends Cipher {
   static keySize = 24;
 }
@@ -713,16 +737,14 @@ const cipherOf = (Class) => kindOf(Class, Cipher, "the first argument");
 
 const LEAST_TAG_SIZE = 4;
 
-/** A message authentication code of a message that comes in pieces. */
 class Mac extends Keyed {
   static digestSize = TAG_SIZE;
 
-  /** Adds bytes to the message. */
   update(data, ...more) {
     refuseMore(more, "update takes data alone");
-    const { kind, context } = stateOf(this, Mac);
     const bytes = bytesOf(data, "data");
     inside((memory) => {
+      const { kind, context } = memory.state(this, Mac);
       const at = memory.put(context);
       memory.call("internal_mac_update", ...contextAt(kind, at), ...memory.list(bytes));
       memory.take(at, context);
@@ -730,109 +752,96 @@ class Mac extends Keyed {
     return this;
   }
 
-  /**
-   * The tag of the message so far, 8 bytes, or as a string of "hex"; the message may go on. To check a tag call verify.
-   */
   digest(encoding) {
     if (encoding !== undefined && encoding !== "hex") throw new TypeError('digest takes no argument but "hex"');
-    const { kind, context } = stateOf(this, Mac);
-    const tag = written(TAG_SIZE, "internal_mac_final", (memory) => contextAt(kind, memory.put(context)));
+    const tag = written(TAG_SIZE, "internal_mac_final", (memory) => {
+      const { kind, context } = memory.state(this, Mac);
+      return contextAt(kind, memory.put(context));
+    });
     return encoding === "hex" ? hexOf(tag) : tag;
   }
 
-  /**
-   * True for the whole tag of the message so far, 8 bytes; TagMismatch is thrown for anything else. verifyTruncatedLeft
-   * takes cut tags; in C, verify takes both.
-   */
   verify(tag) {
     return accepted(this, tag, TAG_SIZE);
   }
 
-  /**
-   * True for the first 4 to 8 bytes of the tag; TagMismatch is thrown for anything else. Of 4 bytes one guess in 2^32 is
-   * right: test the length too if somebody else chose it.
-   */
   verifyTruncatedLeft(tag) {
     return accepted(this, tag, LEAST_TAG_SIZE);
   }
 
-  /** A MAC that goes on from here by itself. */
   copy() {
-    const { kind, context } = stateOf(this, Mac);
-    const other = Object.create(Object.getPrototypeOf(this));
-    keep(other, kind, context.slice());
-    return other;
+    return inside((memory) => {
+      const { kind, context } = memory.state(this, Mac);
+      return keep(Object.create(Object.getPrototypeOf(this)), Mac, kind, context.slice());
+    });
   }
 }
 
 function accepted(mac, tag, least) {
-  const { kind, context } = stateOf(mac, Mac);
   const bytes = bytesOf(tag, "a tag");
-  const lay = (memory) => [...contextAt(kind, memory.put(context)), ...memory.list(bytes)];
-  const status = inside((memory) => memory.call("internal_mac_verify", ...lay(memory)));
+  const status = inside((memory) => {
+    const { kind, context } = memory.state(mac, Mac);
+    return memory.ask("internal_mac_verify", ...contextAt(kind, memory.put(context)), ...memory.list(bytes));
+  });
   if (status !== OK || bytes.length < least) throw faultOf(TAG);
   return true;
 }
 
-/** The context of a MAC of no bytes, or null. */
-const macContextOf = (kind, key, padding) =>
-  contextOf("internal_mac_init", kind, 8 * (kind.words + MESSAGE_WORDS), key, padding);
+/** The context of a MAC under a key, of a message that begins with these bytes. */
+function macContextOf(kind, key, padding, bytes) {
+  const size = 8 * (kind.words + MESSAGE_WORDS);
+  return inside((memory) => {
+    const at = memory.room(size);
+    memory.call("internal_mac_init", ...contextAt(kind, at), ...memory.list(key), padding, QUICK);
+    memory.call("internal_mac_update", ...contextAt(kind, at), ...memory.list(bytes));
+    return memory.taken(at, size);
+  });
+}
 
-/** A MAC with a padding method of ISO/IEC 9797-1: 1, zeros, or 2, a one bit and zeros. */
 class PaddedMac extends Mac {
   constructor(key, padding, data = new Uint8Array(), ...more) {
     super();
     refuseMore(more, "a MAC takes a key, a padding method and data alone");
     const kind = kindOf(new.target, PaddedMac, "a MAC");
     const [held, method, bytes] = [keyOf(key, kind.keySize), paddingOf(padding), bytesOf(data, "data")];
-    const context = macContextOf(kind, held, method);
-    if (context === null) throw faultOf(PADDING_METHOD);
-    keep(this, kind, context);
-    this.update(bytes);
+    keep(this, Mac, kind, macContextOf(kind, held, method, bytes));
   }
 }
 
-// The padding of CMAC, which takes no other.
+// The number of CMAC, and its padding, since it takes no other.
+const CMAC = 5;
 const CMAC_PADDING = 2;
 
-/** CMAC, which needs no padding method. */
 class Cmac extends Mac {
   constructor(key, data = new Uint8Array(), ...more) {
     super();
     refuseMore(more, "CMAC takes a key and data alone");
     const kind = kindOf(new.target, Cmac, "a MAC");
     const [held, bytes] = [keyOf(key, kind.keySize), bytesOf(data, "data")];
-    keep(this, kind, macContextOf(kind, held, CMAC_PADDING));
-    this.update(bytes);
+    keep(this, Mac, kind, macContextOf(kind, held, CMAC_PADDING, bytes));
   }
 }
 
-/** CBC-MAC over DES, under a key of 8 bytes. It is safe only where every message has one length. */
 export class CbcMacDes extends PaddedMac {
   static keySize = 8;
 }
 
-/** CBC-MAC over triple DES, under a key of 16 bytes. It is safe only where every message has one length. */
 export class CbcMacTdesEde2 extends PaddedMac {
   static keySize = 16;
 }
 
-/** CBC-MAC over triple DES, under a key of 24 bytes. It is safe only where every message has one length. */
 export class CbcMacTdesEde3 extends PaddedMac {
   static keySize = 24;
 }
 
-/** The retail MAC over DES, under a key of 16 bytes, two keys. */
 export class RetailMacDes extends PaddedMac {
   static keySize = 16;
 }
 
-/** CMAC over triple DES, under a key of 16 bytes. */
 export class CmacTdesEde2 extends Cmac {
   static keySize = 16;
 }
 
-/** CMAC over triple DES, under a key of 24 bytes. */
 export class CmacTdesEde3 extends Cmac {
   static keySize = 24;
 }
@@ -841,8 +850,8 @@ kinds.set(CbcMacDes, { algorithm: 1, keySize: 8, words: 17 });
 kinds.set(CbcMacTdesEde2, { algorithm: 1, keySize: 16, words: 33 });
 kinds.set(CbcMacTdesEde3, { algorithm: 1, keySize: 24, words: 49 });
 kinds.set(RetailMacDes, { algorithm: 3, keySize: 16, words: 34 });
-kinds.set(CmacTdesEde2, { algorithm: 5, keySize: 16, words: 33 });
-kinds.set(CmacTdesEde3, { algorithm: 5, keySize: 24, words: 49 });
+kinds.set(CmacTdesEde2, { algorithm: CMAC, keySize: 16, words: 33 });
+kinds.set(CmacTdesEde3, { algorithm: CMAC, keySize: 24, words: 49 });
 
 // ---- Padding --------------------------------------------------------------------------------------------------------
 
@@ -854,10 +863,6 @@ function methodOf(method) {
   return METHODS.get(method);
 }
 
-/**
- * The data with 1 to 8 bytes after them that make whole blocks: by "pkcs7" (RFC 5652, section 6.3) each the number of
- * these bytes, by "iso7816" (ISO/IEC 7816-4) 80 in hexadecimal digits and then zeros.
- */
 export function pad(data, method) {
   const number = methodOf(method);
   const bytes = bytesOf(data, "data");
@@ -870,17 +875,13 @@ export function pad(data, method) {
   });
 }
 
-/**
- * The data before the padding. PaddingMismatch where they do not end with it: an attacker who sends you data and learns
- * which throw it, by a message or by the time taken, can decrypt. Verify a MAC first.
- */
 export function unpad(data, method) {
   const number = methodOf(method);
   const bytes = bytesOf(data, "data");
   return inside((memory) => {
     const [at, size] = memory.list(bytes);
     const length = memory.room(8);
-    const status = memory.call("unpad", at, size, number, length);
+    const status = memory.ask("unpad", at, size, number, length);
     if (status === BLOCKS) throw new BlockLength(`${bytes.length} bytes are not whole blocks of ${BLOCK_SIZE}`);
     check(status);
     return memory.taken(at, memory.word(length));
@@ -891,13 +892,11 @@ export function unpad(data, method) {
 
 const SIZES = [8, 16, 24];
 
-/** Whether a key of 8, 16 or 24 bytes is weak: a part of it has few different round keys, or two parts are one key. */
 export function isWeakKey(key) {
   const bytes = keyOf(key, ...SIZES);
-  return inside((memory) => memory.call("weak_key_test", ...memory.list(bytes))) === WEAK_KEY;
+  return inside((memory) => memory.ask("weak_key_test", ...memory.list(bytes))) === WEAK_KEY;
 }
 
-/** The key of 8, 16 or 24 bytes with its parity bits, the lowest of each byte, set to odd parity. */
 export function withOddParity(key) {
   const bytes = keyOf(key, ...SIZES);
   return inside((memory) => {
@@ -907,37 +906,30 @@ export function withOddParity(key) {
   });
 }
 
-/** Whether two keys of one length, 8, 16 or 24 bytes, agree in all but their parity bits, and so are one key. */
 export function equalButParity(first, second) {
   const one = keyOf(first, ...SIZES);
   const other = keyOf(second, one.length);
-  return inside((memory) => memory.call("internal_equal_but_parity", ...memory.list(one), ...memory.list(other))) !== 0;
+  return inside((memory) => memory.ask("internal_equal_but_parity", ...memory.list(one), ...memory.list(other))) !== 0;
 }
 
 const CHECK_VALUE_SIZE = 3;
 
-/**
- * The check value of a key, three bytes: the first of the block of zeros encrypted. `cipher` is a class, as TdesEde2.
- */
 export function checkValue(cipher, key) {
   const { keySize } = cipherOf(cipher);
   const bytes = keyOf(key, keySize);
   return written(CHECK_VALUE_SIZE, "internal_check_value", (memory) => [BigInt(keySize), ...memory.list(bytes)]);
 }
 
-/** The check value of a key or component of 8, 16 or 24 bytes, by DES or, where it is longer, triple DES (EDE). */
 export function keyCheckValue(key) {
   const bytes = keyOf(key, ...SIZES);
   return written(CHECK_VALUE_SIZE, "key_check_value", (memory) => memory.list(bytes));
 }
 
-/** The first two bytes of keyCheckValue, which some systems show. */
 export function shortKeyCheckValue(key) {
   const bytes = keyOf(key, ...SIZES);
   return written(2, "short_key_check_value", (memory) => memory.list(bytes));
 }
 
-/** The key that two or more components of 8, 16 or 24 bytes make: their xor, with odd parity. A weak one is WeakKey. */
 export function combine(first, second, ...others) {
   const one = keyOf(first, ...SIZES);
   const size = one.length;
@@ -948,7 +940,7 @@ export function combine(first, second, ...others) {
     const rest = memory.room(size * more.length);
     more.forEach((component, place) => memory.lay(rest + BigInt(size * place), component));
     const at = memory.room(size);
-    if (memory.call("internal_combine", ...laid, rest, BigInt(size * more.length), at, BigInt(size)) !== OK) {
+    if (memory.ask("internal_combine", ...laid, rest, BigInt(size * more.length), at, BigInt(size)) !== OK) {
       throw new WeakKey("the weak key test refuses the key that the components make");
     }
     return memory.taken(at, size);
@@ -966,68 +958,50 @@ function madeOf(name, key, lay) {
   return written(TRANSACTION_KEY_SIZE, name, (memory) => [memory.put(bytes), ...lay(memory)]);
 }
 
-/** The initial key of a terminal, from the base derivation key and a key serial number. */
 export function dukptInitialKey(base, serial) {
   const number = serialOf(serial);
   return madeOf("dukpt_initial_key", base, (memory) => [memory.put(number)]);
 }
 
-/**
- * The key of a transaction, from the terminal's initial key and the transaction's key serial number. It takes every
- * counter, and for 0 gives the initial key itself: ask dukptIsUsable first.
- */
 export function dukptTransactionKey(initial, serial) {
   const number = serialOf(serial);
   return madeOf("dukpt_transaction_key", initial, (memory) => [memory.put(number)]);
 }
 
-/** The key that encrypts PIN blocks, from the transaction's key. */
 export function dukptPinKey(transaction) {
   return madeOf("dukpt_pin_key", transaction, () => []);
 }
 
-/** The key that authenticates the request, or the response, from the transaction's key. */
 export function dukptMacKey(transaction, isResponse = false) {
   const word = responseOf(isResponse);
   return madeOf("dukpt_mac_key", transaction, () => [Number(word)]);
 }
 
-/** The key that encrypts the data of the request, or of the response, from the transaction's key. */
 export function dukptDataKey(transaction, isResponse = false) {
   const word = responseOf(isResponse);
   return madeOf("dukpt_data_key", transaction, () => [Number(word)]);
 }
 
-/**
- * The key of dukptDataKey without its last step: some terminals encrypt data under it. It reveals the transaction's
- * other keys.
- */
 export function dukptDataVariant(transaction, isResponse = false) {
   const word = responseOf(isResponse);
   return madeOf("dukpt_data_variant", transaction, () => [Number(word)]);
 }
 
-/** The next key serial number with at most ten one bits in its counter, or null where there is none. */
 export function dukptNextSerial(serial) {
   const number = serialOf(serial);
   return inside((memory) => {
     const [at, next] = [memory.put(number), memory.room(SERIAL_SIZE)];
-    return memory.call("dukpt_next_serial", at, next) === OK ? memory.taken(next, SERIAL_SIZE) : null;
+    return memory.ask("dukpt_next_serial", at, next) === OK ? memory.taken(next, SERIAL_SIZE) : null;
   });
 }
 
-/** Whether a transaction has this key serial number: its counter is not 0 and has at most ten one bits. */
 export function dukptIsUsable(serial) {
   const number = serialOf(serial);
-  return inside((memory) => memory.call("dukpt_is_usable", memory.put(number))) !== 0;
+  return inside((memory) => memory.ask("dukpt_is_usable", memory.put(number))) !== 0;
 }
 
 const STATE_SIZE = 346;
 
-/**
- * The terminal's side: the keys of its transactions to come, made of the initial key, 16 bytes, and any of its key
- * serial numbers, whose counter plays no part.
- */
 export class DukptTerminal extends Keyed {
   constructor(initial, serial) {
     super();
@@ -1037,28 +1011,22 @@ export class DukptTerminal extends Keyed {
       memory.call("dukpt_terminal_init", at, memory.put(key), memory.put(number));
       return memory.taken(at, STATE_SIZE);
     });
-    keep(this, null, context);
+    keep(this, DukptTerminal, null, context);
   }
 
-  /** The terminal of a state. */
   static fromState(state) {
-    const context = dataOf(state, STATE_SIZE, "the state of a terminal", "has", StateLength).slice();
-    const terminal = Object.create(this.prototype);
-    keep(terminal, null, context);
-    return terminal;
+    const { prototype } = this;
+    const bytes = dataOf(state, STATE_SIZE, "the state of a terminal", "has", StateLength);
+    const context = inside((memory) => memory.taken(memory.put(bytes), STATE_SIZE));
+    return keep(Object.create(prototype), DukptTerminal, null, context);
   }
 
-  /**
-   * The key serial number, `serial`, and the key, `key`, of the next transaction, that of dukptTransactionKey, which the
-   * terminal then forgets. Store `state()` before you use the key, or a key is used twice. NoSerial after the last
-   * transaction, the 1,048,575th.
-   */
   nextKey() {
-    const { context } = stateOf(this, DukptTerminal);
     return inside((memory) => {
+      const { context } = memory.state(this, DukptTerminal);
       const at = memory.put(context);
       const [serial, key] = [memory.room(SERIAL_SIZE), memory.room(TRANSACTION_KEY_SIZE)];
-      if (memory.call("dukpt_terminal_next_key", at, serial, key) !== OK) {
+      if (memory.ask("dukpt_terminal_next_key", at, serial, key) !== OK) {
         throw new NoSerial("the terminal has had its last transaction");
       }
       memory.take(at, context);
@@ -1066,9 +1034,8 @@ export class DukptTerminal extends Keyed {
     });
   }
 
-  /** The state, 346 bytes, from which `fromState` goes on. It is secret: it has the keys of all transactions to come. */
   state() {
-    return stateOf(this, DukptTerminal).context.slice();
+    return inside((memory) => memory.state(this, DukptTerminal).context.slice());
   }
 }
 
@@ -1077,95 +1044,70 @@ export class DukptTerminal extends Keyed {
 const PIN_SIZE = 13;
 const CVV_SIZE = 4;
 
-/**
- * The PIN block of format 0, 8 bytes, of a PIN of 4 to 12 digits and an account number of 8 to 19 with its check digit.
- * It is not encrypted.
- */
 export function pinEncode0(pin, account) {
   const [digits, number] = [textOf(pin, "a PIN"), textOf(account, "an account number")];
   return written(BLOCK_SIZE, "pin_encode_0", (memory) => [...memory.list(digits), ...memory.list(number)]);
 }
 
-/**
- * The PIN block of format 1 of a PIN and ten transaction digits, bytes from 0 to 15, of which it uses the first ones
- * that there is room for.
- */
 export function pinEncode1(pin, transaction) {
   const [digits, fill] = [textOf(pin, "a PIN"), fillOf(transaction)];
   return written(BLOCK_SIZE, "pin_encode_1", (memory) => [...memory.list(digits), memory.put(fill)]);
 }
 
-/** The PIN block of format 2 of a PIN, which goes to a card in clear. */
 export function pinEncode2(pin) {
   const digits = textOf(pin, "a PIN");
   return written(BLOCK_SIZE, "pin_encode_2", (memory) => memory.list(digits));
 }
 
-/**
- * The PIN block of format 3 of a PIN, an account number, and ten fill digits, random bytes from 10 to 15, of which it
- * uses the first ones that there is room for.
- */
 export function pinEncode3(pin, account, fill) {
   const [digits, number, random] = [textOf(pin, "a PIN"), textOf(account, "an account number"), fillOf(fill)];
   const lay = (memory) => [...memory.list(digits), ...memory.list(number), memory.put(random)];
   return written(BLOCK_SIZE, "pin_encode_3", lay);
 }
 
-/** The PIN of a block of format 0 and an account number. The error reveals something of the PIN: show it to nobody. */
 export function pinDecode0(block, account) {
   const [number, bytes] = [textOf(account, "an account number"), blockOf(block)];
   return writtenText(PIN_SIZE, "pin_decode_0", (memory) => [memory.put(bytes), ...memory.list(number)]);
 }
 
-/** The PIN of a block of format 1. */
 export function pinDecode1(block) {
   const bytes = blockOf(block);
   return writtenText(PIN_SIZE, "pin_decode_1", (memory) => [memory.put(bytes)]);
 }
 
-/** The PIN of a block of format 2. */
 export function pinDecode2(block) {
   const bytes = blockOf(block);
   return writtenText(PIN_SIZE, "pin_decode_2", (memory) => [memory.put(bytes)]);
 }
 
-/** The PIN of a block of format 3 and an account number. */
 export function pinDecode3(block, account) {
   const [number, bytes] = [textOf(account, "an account number"), blockOf(block)];
   return writtenText(PIN_SIZE, "pin_decode_3", (memory) => [memory.put(bytes), ...memory.list(number)]);
 }
 
-/**
- * Translates a block of format 0, 1 or 3 under the incoming key into the block of format 0 of its PIN under the outgoing
- * key. The PIN does not come out. Keys are `{ incomingKey, outgoingKey }`, of 8, 16 or 24 bytes. The account number is
- * that of both blocks. Whatever is wrong with the block is PinBlock.
- */
 export function pinTranslateTo0(incomingFormat, account, block, keys) {
   return written(BLOCK_SIZE, "pin_translate_to_0", translated(incomingFormat, account, [], block, keys));
 }
 
-/** A block of format 1 under another key; its transaction digits stay. */
 export function pinTranslateTo1(block, keys) {
-  const [laid, bytes] = [keysOf(keys), blockOf(block)];
-  const lay = (memory) => [...laid.flatMap((key) => memory.list(key)), memory.put(bytes)];
+  const { incomingKey, outgoingKey } = translationOf(keys);
+  const [incoming, outgoing, bytes] = [keyOf(incomingKey, ...SIZES), keyOf(outgoingKey, ...SIZES), blockOf(block)];
+  const lay = (memory) => [...memory.list(incoming), ...memory.list(outgoing), memory.put(bytes)];
   return written(BLOCK_SIZE, "pin_translate_to_1", lay);
 }
 
-/** As pinTranslateTo0, to a block of format 3, with ten fill digits as of pinEncode3. */
 export function pinTranslateTo3(incomingFormat, account, fill, block, keys) {
   return written(BLOCK_SIZE, "pin_translate_to_3", translated(incomingFormat, account, [fill], block, keys));
 }
 
-/** The incoming key and the outgoing one. */
-function keysOf(keys) {
-  const { incomingKey, outgoingKey } = optionsOf(keys, "incomingKey", "outgoingKey");
-  return [keyOf(incomingKey, ...SIZES), keyOf(outgoingKey, ...SIZES)];
-}
+/** The keys of a translation, by their names. */
+const translationOf = (keys) => optionsOf(keys, "incomingKey", "outgoingKey");
 
 /** What a translation takes, laid down. */
 function translated(incomingFormat, account, fills, block, keys) {
+  const { incomingKey, outgoingKey } = translationOf(keys);
   const [format, digits] = [numberOf(incomingFormat, 0, 3, "the incoming format"), fills.map(fillOf)];
-  const [incoming, outgoing] = keysOf(keys);
+  const [incoming, outgoing] = [keyOf(incomingKey, ...SIZES), keyOf(outgoingKey, ...SIZES)];
   const [number, bytes] = [textOf(account, "an account number"), blockOf(block)];
   return (memory) => [
     ...memory.list(incoming), format, ...memory.list(outgoing), ...memory.list(number),
@@ -1177,22 +1119,14 @@ function translated(incomingFormat, account, fills, block, keys) {
 
 const PVV_SIZE = 5;
 
-/**
- * The PIN verification value, four digits, under a key pair of 16 bytes with an index from 1 to 6, of an account number
- * of 12 to 19 digits and the first four digits of a PIN.
- */
 export function pvv(key, account, index, pin) {
   return writtenText(PVV_SIZE, "pvv", valueOf(key, account, index, pin));
 }
 
-/**
- * True for the PIN whose PIN verification value this is; WrongPin is thrown for any other. Count these: unlimited guesses
- * find the PIN.
- */
 export function pvvVerify(key, account, index, pin, value) {
   const lay = valueOf(key, account, index, pin);
   const kept = textOf(value, "a PIN verification value");
-  inside((memory) => check(memory.call("pvv_verify", ...lay(memory), ...memory.list(kept))));
+  inside((memory) => memory.call("pvv_verify", ...lay(memory), ...memory.list(kept)));
   return true;
 }
 
@@ -1205,70 +1139,54 @@ function valueOf(key, account, index, pin) {
 
 const TABLE_SIZE = 16;
 
-// Of each decimalization table its digits, and the instance that made it. No text of one shows them.
-const tables = new WeakMap();
-
-/**
- * A decimalization table of sixteen decimal digits, those that stand for 0 to 15 in this order; TableVariety for fewer
- * than eight different ones. An attacker who chooses the table finds PINs out.
- */
 export class DecimalTable {
   constructor(digits) {
-    tables.set(this, tableOf("decimal_table_init", digits));
+    keep(this, DecimalTable, null, tableOf("decimal_table_init", digits));
   }
 
-  /** A table of any variety, for old systems that have one. */
   static ofAnyVariety(digits) {
-    const table = Object.create(this.prototype);
-    tables.set(table, tableOf("decimal_table_init_any", digits));
-    return table;
+    const { prototype } = this;
+    return keep(Object.create(prototype), DecimalTable, null, tableOf("decimal_table_init_any", digits));
   }
 }
 
 /** The table that a call makes of digits. */
 function tableOf(call, digits) {
   const text = textOf(digits, "a decimalization table");
-  const taken = inside((memory) => {
+  return inside((memory) => {
     const at = memory.room(TABLE_SIZE);
-    check(memory.call(call, at, ...memory.list(text)));
+    memory.call(call, at, ...memory.list(text));
     return memory.taken(at, TABLE_SIZE);
   });
-  return { taken, maker: workspace };
 }
 
 /** A key, a decimalization table and validation data, sixteen digits in 8 bytes, as the calls below take them. */
 function naturalOf(key, table, validation) {
   const data = dataOf(validation, BLOCK_SIZE, "validation data", "have", BlockLength);
   const held = keyOf(key, ...SIZES);
-  if (!tables.has(table)) throw new TypeError("the decimalization table: a DecimalTable is needed");
-  const made = tables.get(table);
-  refuseOfSpoiled(made);
-  return (memory) => [...memory.list(held), memory.put(made.taken), memory.put(data)];
+  return (memory) => {
+    const { context } = memory.state(table, DecimalTable, "the decimalization table");
+    return [...memory.list(held), memory.put(context), memory.put(data)];
+  };
 }
 
-/**
- * The natural PIN of 4 to 12 digits: the first digits of the validation data, 8 bytes, encrypted under a key of 8, 16 or
- * 24 bytes, each by the decimalization table.
- */
 export function naturalPin(key, table, validation, length) {
   const lay = naturalOf(key, table, validation);
   const count = BigInt(numberOf(length, 4, 12, "the length of the PIN"));
   return writtenText(PIN_SIZE, "natural_pin", (memory) => [...lay(memory), count]);
 }
 
-/** The offset of a PIN: digit by digit, modulo ten, the PIN less the natural PIN. */
 export function pinOffset(key, table, validation, pin) {
   const lay = naturalOf(key, table, validation);
   const digits = textOf(pin, "a PIN");
   return writtenText(PIN_SIZE, "pin_offset", (memory) => [...lay(memory), ...memory.list(digits)]);
 }
 
-/** True for the PIN whose offset this is; WrongPin is thrown for any other. Count these. */
 export function pinOffsetVerify(key, table, validation, pin, offset) {
   const lay = naturalOf(key, table, validation);
   const texts = [textOf(pin, "a PIN"), textOf(offset, "an offset")];
   inside((memory) => {
-    check(memory.call("pin_offset_verify", ...lay(memory), ...texts.flatMap((text) => memory.list(text))));
+    memory.call("pin_offset_verify", ...lay(memory), ...texts.flatMap((text) => memory.list(text)));
   });
   return true;
 }
@@ -1283,47 +1201,29 @@ function cardKeyBy(name, issuer, account, sequence) {
   return written(16, name, (memory) => [memory.put(key), ...texts.flatMap((text) => memory.list(text))]);
 }
 
-/**
- * The key of a card (option A), with odd parity, from the issuer's key, an account number of 8 to 19 digits and a
- * sequence number of two: "00" where the card has none.
- */
 export function emvCardKey(issuer, account, sequence) {
   return cardKeyBy("emv_card_key", issuer, account, sequence);
 }
 
-/**
- * The key of a card by option B, which differs where the account number has more than sixteen digits: take it if the
- * card scheme asks for it.
- */
 export function emvCardKeyB(issuer, account, sequence) {
   return cardKeyBy("emv_card_key_b", issuer, account, sequence);
 }
 
-/**
- * The session key of a card's key, from eight bytes that are different for each session: for secure messaging the
- * application cryptogram. The third of them plays no part.
- */
 export function emvSessionKey(card, block) {
   const bytes = dataOf(block, BLOCK_SIZE, "the block of a session", "has", BlockLength);
   return madeOf("emv_session_key", card, (memory) => [memory.put(bytes)]);
 }
 
-/** The session key for application cryptograms, by the application transaction counter, two bytes. */
 export function emvApplicationKey(card, counter) {
   const bytes = dataOf(counter, 2, "a transaction counter", "has", DataLength);
   return madeOf("emv_application_key", card, (memory) => [memory.put(bytes)]);
 }
 
-/**
- * The application cryptogram of data under a session key, 8 bytes. To check one that a card sent call
- * new RetailMacDes(session, 2, data).verify(cryptogram).
- */
 export function emvApplicationCryptogram(session, data) {
   const [key, bytes] = [keyOf(session, 16), bytesOf(data, "data")];
   return written(BLOCK_SIZE, "emv_application_cryptogram", (memory) => [memory.put(key), ...memory.list(bytes)]);
 }
 
-/** The issuer's response by method 1 to an application cryptogram, 8 bytes, with a response code of two bytes. */
 export function emvResponse1(session, cryptogram, code) {
   const request = cryptogramOf(cryptogram);
   const word = dataOf(code, 2, "a response code", "has", DataLength);
@@ -1331,10 +1231,6 @@ export function emvResponse1(session, cryptogram, code) {
   return written(BLOCK_SIZE, "emv_response_1", (memory) => [memory.put(key), memory.put(request), memory.put(word)]);
 }
 
-/**
- * The issuer's response by method 2, 4 bytes, with a card status update of four bytes and at most eight bytes of the
- * issuer's.
- */
 export function emvResponse2(session, cryptogram, status, data = new Uint8Array()) {
   const request = cryptogramOf(cryptogram);
   const word = dataOf(status, 4, "a card status update", "has", DataLength);
@@ -1345,10 +1241,6 @@ export function emvResponse2(session, cryptogram, status, data = new Uint8Array(
 
 // ---- Card verification values
 
-/**
- * The card verification value, three digits, under a key pair of 16 bytes, of an account number of 12 to 19 digits, an
- * expiry date of four and a service code of three.
- */
 export function cvv(key, account, expiry, service) {
   const pair = keyOf(key, 16);
   const texts = [textOf(account, "an account number"), textOf(expiry, "an expiry date"), textOf(service, "a service code")];
@@ -1402,11 +1294,12 @@ function fieldsOf(header) {
 
 /** An optional block. The library tests its characters, and writes it in its shortest form. */
 function optionalText(pair) {
-  if (!Array.isArray(pair) || pair.length !== 2 || pair.some((part) => typeof part !== "string")) {
+  const parts = Array.isArray(pair) ? [...pair] : [];
+  if (parts.length !== 2 || parts.some((part) => typeof part !== "string")) {
     throw new TypeError("an optional block: a pair of its name and its content, two strings, is needed");
   }
   // A character that is not ASCII becomes one that the library refuses.
-  const [name, content] = pair.map((text) => text.replace(/[^\0-\x7f]/g, "\x7f"));
+  const [name, content] = parts.map((text) => text.replace(/[^\0-\x7f]/g, "\x7f"));
   if (name.length !== 2) throw new OptionalBlock("the name of an optional block has two characters, letters or digits");
   if (content.length > TOO_MANY_CHARACTERS) throw new KeyBlockLength("a key block has at most 9999 characters");
   return `${name}0002${(content.length + 10).toString(16).toUpperCase().padStart(4, "0")}${content}`;
@@ -1420,61 +1313,42 @@ function optionalOf(optional) {
   return asciiOf(Array.from(optional, optionalText).join(""));
 }
 
-/**
- * The header and the key, 8, 16 or 24 bytes, of a key block of version A, B or C, a string, under a protection key of 16
- * or 24 bytes. KeyBlockMac where the block was changed, or is under another key. Look at the header before you use the
- * key.
- */
 export function unwrapKeyBlock(protection, block) {
   const held = bytesOf(protection, "a protection key");
   const text = keyBlockOf(block);
   return inside((memory) => {
     const laid = [...memory.list(held), ...memory.list(text)];
     const [fields, key, length] = [FIELDS_SIZE, 24, 8].map((size) => memory.room(size));
-    check(memory.call("key_block_unwrap", ...laid, fields, key, length));
+    memory.call("key_block_unwrap", ...laid, fields, key, length);
     return { header: headerFrom(memory.taken(fields, FIELDS_SIZE)), key: memory.taken(key, memory.word(length)) };
   });
 }
 
-/**
- * The key block, a string, of a key of 8, 16 or 24 bytes under a protection key of 16 or 24 bytes, of version B or C.
- * `header` has the fields that unwrapKeyBlock gives; no call compares them with the key's length. Options are `optional`,
- * pairs of a name of two letters or digits and its content, printable ASCII, after which a block PB is added where they do
- * not end at a multiple of eight characters, and taken only as the last, where with it they do: OptionalBlock; and
- * `padding`, random bytes that hide how long the key is, 6, 14 or 22: without it they come from the engine. An option of
- * another name is a TypeError.
- */
 export function wrapKeyBlock(protection, header, key, options = {}) {
   const { optional = [], padding } = optionsOf(options, "optional", "padding");
-  const [held, bare] = [bytesOf(protection, "a protection key"), bytesOf(key, "a key")];
-  const given = padding === undefined ? null : bytesOf(padding, "the padding");
   const [fields, more] = [fieldsOf(header), optionalOf(optional)];
-  const hiding = given ?? crypto.getRandomValues(new Uint8Array(Math.max(0, KEY_DATA_SIZE - 2 - bare.length)));
+  const random = padding === undefined ? crypto.getRandomValues(new Uint8Array(KEY_DATA_SIZE - 2)) : null;
+  const [held, bare] = [bytesOf(protection, "a protection key"), bytesOf(key, "a key")];
+  const hiding = random?.subarray(bare.length) ?? bytesOf(padding, "the padding");
   return inside((memory) => {
     const laid = [...memory.list(held), memory.put(fields), ...[more, bare, hiding].flatMap((bytes) => memory.list(bytes))];
     const room = more.length + MORE_CHARACTERS;
     const [at, length] = [memory.room(room), memory.room(8)];
-    check(memory.call("key_block_wrap", ...laid, at, BigInt(room), length));
+    memory.call("key_block_wrap", ...laid, at, BigInt(room), length);
     return charactersOf(memory.taken(at, memory.word(length)));
   });
 }
 
-/** The header of a key block, read with no key. Nothing of it is authenticated. */
 export function keyBlockHeader(block) {
   const text = keyBlockOf(block);
   return headerFrom(written(FIELDS_SIZE, "key_block_header", (memory) => memory.list(text)));
 }
 
-/**
- * Where the key of a key block may be, read with no key: "0" in storage and exchange, as wrapKeyBlock writes it, "1" in
- * storage only, "2" in exchange only. Nothing of it is authenticated.
- */
 export function keyBlockContext(block) {
   const text = keyBlockOf(block);
   return charactersOf(written(1, "key_block_context", (memory) => memory.list(text)));
 }
 
-/** The optional blocks of a key block, pairs of a name and its content, read with no key. Nothing is authenticated. */
 export function keyBlockOptionalBlocks(block) {
   const text = keyBlockOf(block);
   return inside((memory) => {
@@ -1482,12 +1356,11 @@ export function keyBlockOptionalBlocks(block) {
     const [at, size] = memory.list(text);
     const [name, offset, length] = [memory.room(3), memory.room(8), memory.room(8)];
     for (;;) {
-      const status = memory.call("key_block_optional_block", at, size, BigInt(found.length), name, offset, length);
+      const status = memory.ask("key_block_optional_block", at, size, BigInt(found.length), name, offset, length);
       if (status === NO_OPTIONAL_BLOCK) return found;
       check(status);
-      const start = memory.word(offset);
-      const characters = text.subarray(start, start + memory.word(length));
-      found.push([charactersOf(memory.taken(name, 2)), charactersOf(characters)]);
+      const content = memory.taken(at + BigInt(memory.word(offset)), memory.word(length));
+      found.push([charactersOf(memory.taken(name, 2)), charactersOf(content)]);
     }
   });
 }
@@ -1525,33 +1398,21 @@ function derived(name, hash, password, salt, words, length) {
   return inside((memory) => {
     const at = memory.room(length);
     const laid = [...memory.list(secret), ...memory.list(grains), ...words, at, BigInt(length)];
-    const status = memory.call(name, hash, ...laid);
+    const status = memory.ask(name, hash, ...laid);
     if (status === SALT_LENGTH) throw new SaltLength(`the salt of bytesToKey has 0 or 8 bytes, not ${grains.length}`);
     check(status);
     return memory.taken(at, length);
   });
 }
 
-/** The key of `length` bytes of a password, as bytes, and a salt by PBKDF2 with HMAC over "sha1" or "sha256". */
 export function pbkdf2(hashName, password, salt, iterations, length) {
   return derived("pbkdf2", hashOf(hashName), password, salt, [iterationsOf(iterations)], derivedLengthOf(length));
 }
 
-/**
- * The key, and after it the vector, of `length` bytes together, that OpenSSL's EVP_BytesToKey makes of a password and a
- * salt of 8 bytes, or of none, with one iteration. A password is quick to guess by it: take it to read what others wrote.
- */
 export function bytesToKey(hashName, password, salt, length) {
   return derived("bytes_to_key", hashOf(hashName), password, salt, [], derivedLengthOf(length));
 }
 
-/**
- * The plaintext of a file that `openssl enc` encrypted under a password, as bytes: by -des-cbc, -des-ede-cbc or -des3, as
- * `cipher` is the class Des, TdesEde2 or TdesEde3. The data are the whole file, not Base64 (-a). Options are `hashName`,
- * that of -md, "sha256" by default, "md5" before OpenSSL 1.1.0; and `iterations`, those of -iter: 10000 if only -pbkdf2
- * was given, and left out, not 1, if neither was. An option of another name is a TypeError. A wrong password is
- * PaddingMismatch, but for one in 256, which gives wrong bytes: nothing here authenticates.
- */
 export function openSalted(cipher, password, data, options = {}) {
   const { hashName = "sha256", iterations } = optionsOf(options, "hashName", "iterations");
   const { keySize } = cipherOf(cipher);
@@ -1560,7 +1421,7 @@ export function openSalted(cipher, password, data, options = {}) {
   return inside((memory) => {
     const [plain, length] = [memory.room(bytes.length), memory.room(8)];
     const laid = [...memory.list(secret), ...memory.list(bytes), plain, BigInt(bytes.length), length];
-    const status = memory.call("internal_open_salted", BigInt(keySize), hash, count, ...laid);
+    const status = memory.ask("internal_open_salted", BigInt(keySize), hash, count, ...laid);
     if (status === BLOCKS) throw new BlockLength(`${bytes.length} bytes are not whole blocks of ${BLOCK_SIZE}`);
     check(status);
     return memory.taken(plain, memory.word(length));
@@ -1569,30 +1430,27 @@ export function openSalted(cipher, password, data, options = {}) {
 
 // ---- Lists: elements stand one after the other, without a gap -------------------------------------------------------
 
-/** The blocks, each of 8 bytes encrypted under the key at its place. `cipher` is a class, as TdesEde2. */
 export function encryptEach(cipher, keys, blocks) {
   return answeredEach("internal_encrypt_each", cipher, keys, blocks);
 }
 
-/** The blocks, each decrypted under the key at its place. */
 export function decryptEach(cipher, keys, blocks) {
   return answeredEach("internal_decrypt_each", cipher, keys, blocks);
 }
 
 function answeredEach(call, cipher, keys, blocks) {
-  const given = listOf(blocks, BLOCK_SIZE, BlockLength, "blocks");
   const { keySize } = cipherOf(cipher);
+  const given = listOf(blocks, BLOCK_SIZE, BlockLength, "blocks");
   const held = listOf(keys, keySize, KeyLength, "keys");
   return inside((memory) => {
     const [at, count] = memory.list(given, BLOCK_SIZE);
-    if (memory.call(call, BigInt(keySize), ...memory.list(held), at, count) !== OK) {
+    if (memory.ask(call, BigInt(keySize), ...memory.list(held), at, count) !== OK) {
       throw new CountMismatch("the numbers of keys and blocks differ");
     }
     return memory.taken(at, given.length);
   });
 }
 
-/** The check values of keys, three bytes for each, as `checkValue` makes them. */
 export function checkValues(cipher, keys) {
   const { keySize } = cipherOf(cipher);
   const held = listOf(keys, keySize, KeyLength, "keys");
@@ -1604,12 +1462,7 @@ export function checkValues(cipher, keys) {
   });
 }
 
-/**
- * The keys of transactions, of 16 bytes each, from the base derivation key and key serial numbers of ten bytes: what
- * dukptTransactionKey makes of dukptInitialKey, for each. Such a key encrypts nothing itself: take dukptPinKey,
- * dukptMacKey or dukptDataKey of it.
- */
-export function dukptTransactionKeys(base, serials) {
+export function dukptTransactionKeysFromBase(base, serials) {
   const key = keyOf(base, TRANSACTION_KEY_SIZE);
   const numbers = listOf(serials, SERIAL_SIZE, SerialLength, "key serial numbers");
   const count = numbers.length / SERIAL_SIZE;
@@ -1621,29 +1474,26 @@ export function dukptTransactionKeys(base, serials) {
   });
 }
 
-/**
- * Records, each encrypted by cipher block chaining from a vector of its own: record k has counts[k] of the blocks, one
- * record after the other, and the k-th 8 bytes of `vectors`. `cipher` is one that has a key.
- */
-export function encryptCbcRecords(cipher, vectors, counts, blocks) {
-  return recorded("internal_encrypt_cbc_records", cipher, vectors, counts, blocks);
+export function encryptCbcRecords(cipher, blocks, ...named) {
+  return recorded("encryptCbcRecords", "internal_encrypt_cbc_records", cipher, blocks, named);
 }
 
-/** Records, each decrypted by cipher block chaining. Padding stays. Arguments as of `encryptCbcRecords`. */
-export function decryptCbcRecords(cipher, vectors, counts, blocks) {
-  return recorded("internal_decrypt_cbc_records", cipher, vectors, counts, blocks);
+export function decryptCbcRecords(cipher, blocks, ...named) {
+  return recorded("decryptCbcRecords", "internal_decrypt_cbc_records", cipher, blocks, named);
 }
 
-function recorded(call, cipher, vectors, counts, blocks) {
-  const { kind, context } = stateOf(cipher, Cipher);
+function recorded(name, call, cipher, blocks, named) {
+  const form = `${name}(cipher, blocks, { vectors, counts })`;
+  const [vectors, counts] = afterData(form, named, "vectors", "counts");
   const sizes = numbersOf(counts, "counts");
   const chains = listOf(vectors, BLOCK_SIZE, VectorLength, "vectors");
   const given = listOf(blocks, BLOCK_SIZE, BlockLength, "blocks");
   if (chains.length / BLOCK_SIZE !== sizes.length) throw new CountMismatch("the numbers of vectors and counts differ");
   return inside((memory) => {
+    const { kind, context } = memory.state(cipher, Cipher);
     const [at, count] = memory.list(given, BLOCK_SIZE);
     const laid = [...contextAt(kind, memory.put(context)), ...memory.list(chains, BLOCK_SIZE)];
-    if (memory.call(call, ...laid, memory.words(sizes), BigInt(sizes.length), at, count) !== OK) {
+    if (memory.ask(call, ...laid, memory.words(sizes), BigInt(sizes.length), at, count) !== OK) {
       throw new CountMismatch("the counts do not add up to the number of blocks");
     }
     return memory.taken(at, given.length);
@@ -1653,7 +1503,7 @@ function recorded(call, cipher, vectors, counts, blocks) {
 /** The kind of a class of MACs, with the number of its padding method. */
 function macsOf(Class, padding) {
   const kind = kindOf(Class, Mac, "the first argument");
-  if (Class.prototype instanceof Cmac) {
+  if (kind.algorithm === CMAC) {
     if (padding !== null) throw new TypeError("the padding method: CMAC takes none, so give null");
     return { ...kind, method: CMAC_PADDING };
   }
@@ -1678,41 +1528,31 @@ function tagsOf(call, { algorithm, method }, lay, lengths, bytes) {
   });
 }
 
-/** The lengths of messages that stand one after the other, and their bytes. */
-function messagesOf(lengths, messages) {
+/** The bytes of messages of these lengths, which stand one after the other. */
+function messagesOf(messages, lengths) {
   const bytes = bytesOf(messages, "messages");
-  const numbers = numbersOf(lengths, "lengths");
-  if (numbers.reduce((sum, length) => sum + length, 0) !== bytes.length) {
-    throw new CountMismatch("the lengths do not add up to the messages");
-  }
-  return [numbers, bytes];
+  if (lengths.reduce((sum, length) => sum + length, 0) === bytes.length) return bytes;
+  throw new CountMismatch("the lengths do not add up to the messages");
 }
 
-/**
- * The tags, of 8 bytes each, of messages under one key: message k has lengths[k] of the bytes, one after the other.
- * `mac` is a class, as RetailMacDes; the padding method is 1 or 2, of CMAC null.
- */
 export function macs(mac, key, padding, lengths, messages) {
   const kind = macsOf(mac, padding);
+  const numbers = numbersOf(lengths, "lengths");
   const held = keyOf(key, kind.keySize);
-  const [numbers, bytes] = messagesOf(lengths, messages);
+  const bytes = messagesOf(messages, numbers);
   return tagsOf("internal_macs", kind, (memory) => memory.list(held), numbers, bytes);
 }
 
-/** The tags of messages, each under the key at its place, as `macs` makes them under one. */
 export function macsEach(mac, keys, padding, lengths, messages) {
   const kind = macsOf(mac, padding);
+  const numbers = numbersOf(lengths, "lengths");
   const held = listOf(keys, kind.keySize, KeyLength, "keys");
-  const [numbers, bytes] = messagesOf(lengths, messages);
+  const bytes = messagesOf(messages, numbers);
   if (held.length / kind.keySize !== numbers.length) throw new CountMismatch("the numbers of keys and messages differ");
   const lay = (memory) => [BigInt(kind.keySize), ...memory.list(held)];
   return tagsOf("internal_macs_each", kind, lay, numbers, bytes);
 }
 
-/**
- * The places of the tags, of 8 bytes each, that are not the one at their place in `expected`, the tags that `macs` or
- * `macsEach` made: an array without elements where all are right. Every byte is compared.
- */
 export function wrongTags(tags, expected) {
   const [given, wanted] = [tags, expected].map((list) => listOf(list, TAG_SIZE, CountMismatch, "tags"));
   if (given.length !== wanted.length) throw new CountMismatch("the numbers of tags and expected tags differ");

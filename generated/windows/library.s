@@ -21313,7 +21313,7 @@
 	popq	%r15
 	retq
 
-	.def	"des_context::calls::decrypt::<#d4313017509cde00>";
+	.def	"des_context::calls::decrypt_by::<#d4313017509cde00>";
 	.scl	3;
 	.type	32;
 	.endef
@@ -21323,7 +21323,7 @@
 	.zero	16,63
 	.text
 	.p2align	4
-"des_context::calls::decrypt::<#d4313017509cde00>":
+"des_context::calls::decrypt_by::<#d4313017509cde00>":
 	subq	$184, %rsp
 	movq	%r9, %rax
 	movups	(%rcx), %xmm0
@@ -21826,7 +21826,7 @@
 	popq	%r15
 	jmp	"des_fast::lists::answer::<#e422058a509118e2>"
 
-	.def	"des_context::calls::decrypt::<#5b45dfb188ff8f66>";
+	.def	"des_context::calls::decrypt_by::<#5b45dfb188ff8f66>";
 	.scl	3;
 	.type	32;
 	.endef
@@ -21836,7 +21836,7 @@
 	.zero	16,63
 	.text
 	.p2align	4
-"des_context::calls::decrypt::<#5b45dfb188ff8f66>":
+"des_context::calls::decrypt_by::<#5b45dfb188ff8f66>":
 	pushq	%rsi
 	pushq	%rdi
 	pushq	%rbp
@@ -22044,7 +22044,7 @@
 	popq	%r15
 	retq
 
-	.def	"des_context::calls::decrypt::<#d4f33991051d4a8f>";
+	.def	"des_context::calls::decrypt_by::<#d4f33991051d4a8f>";
 	.scl	3;
 	.type	32;
 	.endef
@@ -22054,7 +22054,7 @@
 	.zero	16,63
 	.text
 	.p2align	4
-"des_context::calls::decrypt::<#d4f33991051d4a8f>":
+"des_context::calls::decrypt_by::<#d4f33991051d4a8f>":
 	pushq	%rsi
 	pushq	%rdi
 	pushq	%rbp
@@ -22775,7 +22775,7 @@
 	popq	%r15
 	retq
 
-	.def	"des_context::calls::chain::<#6d58b6c595547cf1>";
+	.def	"des_context::calls::chain_by::<#6d58b6c595547cf1>";
 	.scl	3;
 	.type	32;
 	.endef
@@ -22785,7 +22785,7 @@
 	.zero	16,63
 	.text
 	.p2align	4
-"des_context::calls::chain::<#6d58b6c595547cf1>":
+"des_context::calls::chain_by::<#6d58b6c595547cf1>":
 	pushq	%rsi
 	pushq	%rdi
 	pushq	%rbx
@@ -23044,7 +23044,7 @@
 	popq	%rsi
 	retq
 
-	.def	"des_context::calls::chain::<#a964bea78b4f5e89>";
+	.def	"des_context::calls::chain_by::<#a964bea78b4f5e89>";
 	.scl	3;
 	.type	32;
 	.endef
@@ -23054,7 +23054,7 @@
 	.zero	16,63
 	.text
 	.p2align	4
-"des_context::calls::chain::<#a964bea78b4f5e89>":
+"des_context::calls::chain_by::<#a964bea78b4f5e89>":
 	pushq	%rsi
 	pushq	%rdi
 	pushq	%rbx
@@ -23217,7 +23217,7 @@
 	popq	%rsi
 	retq
 
-	.def	"des_context::calls::chain::<#a4adf0adf34bdf0e>";
+	.def	"des_context::calls::chain_by::<#a4adf0adf34bdf0e>";
 	.scl	3;
 	.type	32;
 	.endef
@@ -23227,7 +23227,7 @@
 	.zero	16,63
 	.text
 	.p2align	4
-"des_context::calls::chain::<#a4adf0adf34bdf0e>":
+"des_context::calls::chain_by::<#a4adf0adf34bdf0e>":
 	pushq	%rsi
 	pushq	%rdi
 	pushq	%rbx
@@ -24065,7 +24065,7 @@
 	popq	%r15
 	retq
 
-	.def	"des_context::calls::encrypt::<#d4313017509cde00>";
+	.def	"des_context::calls::encrypt_by::<#d4313017509cde00>";
 	.scl	3;
 	.type	32;
 	.endef
@@ -24075,7 +24075,7 @@
 	.zero	16,63
 	.text
 	.p2align	4
-"des_context::calls::encrypt::<#d4313017509cde00>":
+"des_context::calls::encrypt_by::<#d4313017509cde00>":
 	subq	$184, %rsp
 	movq	%r9, %rax
 	movups	(%rcx), %xmm0
@@ -24121,7 +24121,7 @@
 	addq	$184, %rsp
 	retq
 
-	.def	"des_context::calls::encrypt::<#5b45dfb188ff8f66>";
+	.def	"des_context::calls::encrypt_by::<#5b45dfb188ff8f66>";
 	.scl	3;
 	.type	32;
 	.endef
@@ -24131,7 +24131,7 @@
 	.zero	16,63
 	.text
 	.p2align	4
-"des_context::calls::encrypt::<#5b45dfb188ff8f66>":
+"des_context::calls::encrypt_by::<#5b45dfb188ff8f66>":
 	pushq	%rsi
 	pushq	%rdi
 	pushq	%rbp
@@ -24241,7 +24241,7 @@
 	popq	%rsi
 	retq
 
-	.def	"des_context::calls::encrypt::<#d4f33991051d4a8f>";
+	.def	"des_context::calls::encrypt_by::<#d4f33991051d4a8f>";
 	.scl	3;
 	.type	32;
 	.endef
@@ -24251,7 +24251,7 @@
 	.zero	16,63
 	.text
 	.p2align	4
-"des_context::calls::encrypt::<#d4f33991051d4a8f>":
+"des_context::calls::encrypt_by::<#d4f33991051d4a8f>":
 	pushq	%rsi
 	pushq	%rdi
 	pushq	%rbp
@@ -50000,13 +50000,13 @@ cukvashe_internal_decrypt_ecb:
 	movzbl	%al, %eax
 	cmpl	$1, %eax
 	jne	.LBB163_3
-	callq	"des_context::calls::decrypt::<#5b45dfb188ff8f66>"
+	callq	"des_context::calls::decrypt_by::<#5b45dfb188ff8f66>"
 	jmp	.LBB163_6
 .LBB163_5:
-	callq	"des_context::calls::decrypt::<#d4f33991051d4a8f>"
+	callq	"des_context::calls::decrypt_by::<#d4f33991051d4a8f>"
 	jmp	.LBB163_6
 .LBB163_3:
-	callq	"des_context::calls::decrypt::<#d4313017509cde00>"
+	callq	"des_context::calls::decrypt_by::<#d4313017509cde00>"
 .LBB163_6:
 	xorl	%eax, %eax
 .LBB163_7:
@@ -50134,14 +50134,14 @@ cukvashe_internal_decrypt_ecb_to:
 	movq	%rsi, %r8
 	cmpl	$1, %eax
 	jne	.LBB164_21
-	callq	"des_context::calls::decrypt::<#5b45dfb188ff8f66>"
+	callq	"des_context::calls::decrypt_by::<#5b45dfb188ff8f66>"
 	jmp	.LBB164_22
 .LBB164_20:
 	movq	%rsi, %r8
-	callq	"des_context::calls::decrypt::<#d4f33991051d4a8f>"
+	callq	"des_context::calls::decrypt_by::<#d4f33991051d4a8f>"
 	jmp	.LBB164_22
 .LBB164_21:
-	callq	"des_context::calls::decrypt::<#d4313017509cde00>"
+	callq	"des_context::calls::decrypt_by::<#d4313017509cde00>"
 .LBB164_22:
 	xorl	%eax, %eax
 .LBB164_23:
@@ -50618,15 +50618,15 @@ cukvashe_internal_encrypt_cbc:
 	cmpl	$1, %eax
 	jne	.LBB166_3
 	movq	%r10, 32(%rsp)
-	callq	"des_context::calls::chain::<#a964bea78b4f5e89>"
+	callq	"des_context::calls::chain_by::<#a964bea78b4f5e89>"
 	jmp	.LBB166_6
 .LBB166_5:
 	movq	%r10, 32(%rsp)
-	callq	"des_context::calls::chain::<#a4adf0adf34bdf0e>"
+	callq	"des_context::calls::chain_by::<#a4adf0adf34bdf0e>"
 	jmp	.LBB166_6
 .LBB166_3:
 	movq	%r10, 32(%rsp)
-	callq	"des_context::calls::chain::<#6d58b6c595547cf1>"
+	callq	"des_context::calls::chain_by::<#6d58b6c595547cf1>"
 .LBB166_6:
 	xorl	%eax, %eax
 .LBB166_7:
@@ -50834,17 +50834,17 @@ cukvashe_internal_encrypt_cbc_to:
 	jne	.LBB168_21
 	movq	%rdi, 32(%rsp)
 	movq	%rsi, %r9
-	callq	"des_context::calls::chain::<#a964bea78b4f5e89>"
+	callq	"des_context::calls::chain_by::<#a964bea78b4f5e89>"
 	jmp	.LBB168_22
 .LBB168_20:
 	movq	%rdi, 32(%rsp)
 	movq	%rsi, %r9
-	callq	"des_context::calls::chain::<#a4adf0adf34bdf0e>"
+	callq	"des_context::calls::chain_by::<#a4adf0adf34bdf0e>"
 	jmp	.LBB168_22
 .LBB168_21:
 	movq	%rdi, 32(%rsp)
 	movq	%rsi, %r9
-	callq	"des_context::calls::chain::<#6d58b6c595547cf1>"
+	callq	"des_context::calls::chain_by::<#6d58b6c595547cf1>"
 .LBB168_22:
 	xorl	%eax, %eax
 .LBB168_23:
@@ -50952,13 +50952,13 @@ cukvashe_internal_encrypt_ecb:
 	movzbl	%al, %eax
 	cmpl	$1, %eax
 	jne	.LBB170_3
-	callq	"des_context::calls::encrypt::<#5b45dfb188ff8f66>"
+	callq	"des_context::calls::encrypt_by::<#5b45dfb188ff8f66>"
 	jmp	.LBB170_6
 .LBB170_5:
-	callq	"des_context::calls::encrypt::<#d4f33991051d4a8f>"
+	callq	"des_context::calls::encrypt_by::<#d4f33991051d4a8f>"
 	jmp	.LBB170_6
 .LBB170_3:
-	callq	"des_context::calls::encrypt::<#d4313017509cde00>"
+	callq	"des_context::calls::encrypt_by::<#d4313017509cde00>"
 .LBB170_6:
 	xorl	%eax, %eax
 .LBB170_7:
@@ -51086,14 +51086,14 @@ cukvashe_internal_encrypt_ecb_to:
 	movq	%rsi, %r8
 	cmpl	$1, %eax
 	jne	.LBB171_21
-	callq	"des_context::calls::encrypt::<#5b45dfb188ff8f66>"
+	callq	"des_context::calls::encrypt_by::<#5b45dfb188ff8f66>"
 	jmp	.LBB171_22
 .LBB171_20:
 	movq	%rsi, %r8
-	callq	"des_context::calls::encrypt::<#d4f33991051d4a8f>"
+	callq	"des_context::calls::encrypt_by::<#d4f33991051d4a8f>"
 	jmp	.LBB171_22
 .LBB171_21:
-	callq	"des_context::calls::encrypt::<#d4313017509cde00>"
+	callq	"des_context::calls::encrypt_by::<#d4313017509cde00>"
 .LBB171_22:
 	xorl	%eax, %eax
 .LBB171_23:

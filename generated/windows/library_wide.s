@@ -11445,7 +11445,7 @@
 	popq	%r15
 	retq
 
-	.def	"des_context::calls::decrypt::<#3ea51471f767f882>";
+	.def	"des_context::calls::decrypt_by::<#3ea51471f767f882>";
 	.scl	3;
 	.type	32;
 	.endef
@@ -11455,7 +11455,7 @@
 	.quad	4557430888798830399
 	.text
 	.p2align	4
-"des_context::calls::decrypt::<#3ea51471f767f882>":
+"des_context::calls::decrypt_by::<#3ea51471f767f882>":
 	subq	$184, %rsp
 	vbroadcastsd	.LCPI32_0(%rip), %ymm0
 	vandps	(%rcx), %ymm0, %ymm1
@@ -11992,7 +11992,7 @@
 	popq	%r15
 	jmp	"des_fast::lists::answer::<#e422058a509118e2>"
 
-	.def	"des_context::calls::decrypt::<#c4a0e64fb9aebe88>";
+	.def	"des_context::calls::decrypt_by::<#c4a0e64fb9aebe88>";
 	.scl	3;
 	.type	32;
 	.endef
@@ -12002,7 +12002,7 @@
 	.quad	4557430888798830399
 	.text
 	.p2align	4
-"des_context::calls::decrypt::<#c4a0e64fb9aebe88>":
+"des_context::calls::decrypt_by::<#c4a0e64fb9aebe88>":
 	pushq	%rsi
 	pushq	%rdi
 	pushq	%rbp
@@ -12180,7 +12180,7 @@
 	popq	%r15
 	retq
 
-	.def	"des_context::calls::decrypt::<#8c58e364122b4949>";
+	.def	"des_context::calls::decrypt_by::<#8c58e364122b4949>";
 	.scl	3;
 	.type	32;
 	.endef
@@ -12190,7 +12190,7 @@
 	.quad	4557430888798830399
 	.text
 	.p2align	4
-"des_context::calls::decrypt::<#8c58e364122b4949>":
+"des_context::calls::decrypt_by::<#8c58e364122b4949>":
 	pushq	%rsi
 	pushq	%rdi
 	pushq	%rbp
@@ -14548,7 +14548,7 @@
 	popq	%r15
 	retq
 
-	.def	"des_context::calls::encrypt::<#3ea51471f767f882>";
+	.def	"des_context::calls::encrypt_by::<#3ea51471f767f882>";
 	.scl	3;
 	.type	32;
 	.endef
@@ -14558,7 +14558,7 @@
 	.quad	4557430888798830399
 	.text
 	.p2align	4
-"des_context::calls::encrypt::<#3ea51471f767f882>":
+"des_context::calls::encrypt_by::<#3ea51471f767f882>":
 	subq	$184, %rsp
 	vbroadcastsd	.LCPI47_0(%rip), %ymm0
 	vandps	(%rcx), %ymm0, %ymm1
@@ -14589,7 +14589,7 @@
 	addq	$184, %rsp
 	retq
 
-	.def	"des_context::calls::encrypt::<#c4a0e64fb9aebe88>";
+	.def	"des_context::calls::encrypt_by::<#c4a0e64fb9aebe88>";
 	.scl	3;
 	.type	32;
 	.endef
@@ -14599,7 +14599,7 @@
 	.quad	4557430888798830399
 	.text
 	.p2align	4
-"des_context::calls::encrypt::<#c4a0e64fb9aebe88>":
+"des_context::calls::encrypt_by::<#c4a0e64fb9aebe88>":
 	pushq	%rsi
 	pushq	%rdi
 	pushq	%rbp
@@ -14679,7 +14679,7 @@
 	popq	%rsi
 	retq
 
-	.def	"des_context::calls::encrypt::<#8c58e364122b4949>";
+	.def	"des_context::calls::encrypt_by::<#8c58e364122b4949>";
 	.scl	3;
 	.type	32;
 	.endef
@@ -14689,7 +14689,7 @@
 	.quad	4557430888798830399
 	.text
 	.p2align	4
-"des_context::calls::encrypt::<#8c58e364122b4949>":
+"des_context::calls::encrypt_by::<#8c58e364122b4949>":
 	pushq	%rsi
 	pushq	%rdi
 	pushq	%rbp
@@ -21371,13 +21371,13 @@ cukvashe_wide_decrypt_ecb:
 	movzbl	%al, %eax
 	cmpl	$1, %eax
 	jne	.LBB71_3
-	callq	"des_context::calls::decrypt::<#c4a0e64fb9aebe88>"
+	callq	"des_context::calls::decrypt_by::<#c4a0e64fb9aebe88>"
 	jmp	.LBB71_6
 .LBB71_5:
-	callq	"des_context::calls::decrypt::<#8c58e364122b4949>"
+	callq	"des_context::calls::decrypt_by::<#8c58e364122b4949>"
 	jmp	.LBB71_6
 .LBB71_3:
-	callq	"des_context::calls::decrypt::<#3ea51471f767f882>"
+	callq	"des_context::calls::decrypt_by::<#3ea51471f767f882>"
 .LBB71_6:
 	xorl	%eax, %eax
 .LBB71_7:
@@ -21515,16 +21515,16 @@ cukvashe_wide_decrypt_ecb_to:
 	cmpl	$1, %eax
 	jne	.LBB72_27
 	vzeroupper
-	callq	"des_context::calls::decrypt::<#c4a0e64fb9aebe88>"
+	callq	"des_context::calls::decrypt_by::<#c4a0e64fb9aebe88>"
 	jmp	.LBB72_28
 .LBB72_26:
 	movq	%rsi, %r8
 	vzeroupper
-	callq	"des_context::calls::decrypt::<#8c58e364122b4949>"
+	callq	"des_context::calls::decrypt_by::<#8c58e364122b4949>"
 	jmp	.LBB72_28
 .LBB72_27:
 	vzeroupper
-	callq	"des_context::calls::decrypt::<#3ea51471f767f882>"
+	callq	"des_context::calls::decrypt_by::<#3ea51471f767f882>"
 .LBB72_28:
 	xorl	%eax, %eax
 .LBB72_29:
@@ -22150,13 +22150,13 @@ cukvashe_wide_encrypt_ecb:
 	movzbl	%al, %eax
 	cmpl	$1, %eax
 	jne	.LBB76_3
-	callq	"des_context::calls::encrypt::<#c4a0e64fb9aebe88>"
+	callq	"des_context::calls::encrypt_by::<#c4a0e64fb9aebe88>"
 	jmp	.LBB76_6
 .LBB76_5:
-	callq	"des_context::calls::encrypt::<#8c58e364122b4949>"
+	callq	"des_context::calls::encrypt_by::<#8c58e364122b4949>"
 	jmp	.LBB76_6
 .LBB76_3:
-	callq	"des_context::calls::encrypt::<#3ea51471f767f882>"
+	callq	"des_context::calls::encrypt_by::<#3ea51471f767f882>"
 .LBB76_6:
 	xorl	%eax, %eax
 .LBB76_7:
@@ -22294,16 +22294,16 @@ cukvashe_wide_encrypt_ecb_to:
 	cmpl	$1, %eax
 	jne	.LBB77_27
 	vzeroupper
-	callq	"des_context::calls::encrypt::<#c4a0e64fb9aebe88>"
+	callq	"des_context::calls::encrypt_by::<#c4a0e64fb9aebe88>"
 	jmp	.LBB77_28
 .LBB77_26:
 	movq	%rsi, %r8
 	vzeroupper
-	callq	"des_context::calls::encrypt::<#8c58e364122b4949>"
+	callq	"des_context::calls::encrypt_by::<#8c58e364122b4949>"
 	jmp	.LBB77_28
 .LBB77_27:
 	vzeroupper
-	callq	"des_context::calls::encrypt::<#3ea51471f767f882>"
+	callq	"des_context::calls::encrypt_by::<#3ea51471f767f882>"
 .LBB77_28:
 	xorl	%eax, %eax
 .LBB77_29:

@@ -21004,10 +21004,10 @@
 	.p2align	4, 0x0
 .LCPI54_0:
 	.zero	16,63
-	.section	".text.des_context::calls::decrypt::<#d4313017509cde00>","ax",@progbits
+	.section	".text.des_context::calls::decrypt_by::<#d4313017509cde00>","ax",@progbits
 	.p2align	4
-	.type	"des_context::calls::decrypt::<#d4313017509cde00>",@function
-"des_context::calls::decrypt::<#d4313017509cde00>":
+	.type	"des_context::calls::decrypt_by::<#d4313017509cde00>",@function
+"des_context::calls::decrypt_by::<#d4313017509cde00>":
 	subq	$152, %rsp
 	movups	(%rdi), %xmm0
 	movaps	.LCPI54_0(%rip), %xmm1
@@ -21056,7 +21056,7 @@
 	addq	$152, %rsp
 	retq
 .Lfunc_end54:
-	.size	"des_context::calls::decrypt::<#d4313017509cde00>", .Lfunc_end54-"des_context::calls::decrypt::<#d4313017509cde00>"
+	.size	"des_context::calls::decrypt_by::<#d4313017509cde00>", .Lfunc_end54-"des_context::calls::decrypt_by::<#d4313017509cde00>"
 
 	.section	".text.des_fast::many::ciphers::answer_list::<#963ce8e2a0d72d32>","ax",@progbits
 	.p2align	4
@@ -21515,10 +21515,10 @@
 	.p2align	4, 0x0
 .LCPI56_0:
 	.zero	16,63
-	.section	".text.des_context::calls::decrypt::<#5b45dfb188ff8f66>","ax",@progbits
+	.section	".text.des_context::calls::decrypt_by::<#5b45dfb188ff8f66>","ax",@progbits
 	.p2align	4
-	.type	"des_context::calls::decrypt::<#5b45dfb188ff8f66>",@function
-"des_context::calls::decrypt::<#5b45dfb188ff8f66>":
+	.type	"des_context::calls::decrypt_by::<#5b45dfb188ff8f66>",@function
+"des_context::calls::decrypt_by::<#5b45dfb188ff8f66>":
 	pushq	%rbp
 	pushq	%r15
 	pushq	%r14
@@ -21630,7 +21630,7 @@
 	popq	%rbp
 	retq
 .Lfunc_end56:
-	.size	"des_context::calls::decrypt::<#5b45dfb188ff8f66>", .Lfunc_end56-"des_context::calls::decrypt::<#5b45dfb188ff8f66>"
+	.size	"des_context::calls::decrypt_by::<#5b45dfb188ff8f66>", .Lfunc_end56-"des_context::calls::decrypt_by::<#5b45dfb188ff8f66>"
 
 	.section	".text.des_fast::many::passes::ThreePassesDesByBatches::answer_by_batches::<#2eb1a170ccba6c38>","ax",@progbits
 	.p2align	4
@@ -21733,10 +21733,10 @@
 	.p2align	4, 0x0
 .LCPI58_0:
 	.zero	16,63
-	.section	".text.des_context::calls::decrypt::<#d4f33991051d4a8f>","ax",@progbits
+	.section	".text.des_context::calls::decrypt_by::<#d4f33991051d4a8f>","ax",@progbits
 	.p2align	4
-	.type	"des_context::calls::decrypt::<#d4f33991051d4a8f>",@function
-"des_context::calls::decrypt::<#d4f33991051d4a8f>":
+	.type	"des_context::calls::decrypt_by::<#d4f33991051d4a8f>",@function
+"des_context::calls::decrypt_by::<#d4f33991051d4a8f>":
 	pushq	%rbp
 	pushq	%r15
 	pushq	%r14
@@ -21873,7 +21873,7 @@
 	popq	%rbp
 	retq
 .Lfunc_end58:
-	.size	"des_context::calls::decrypt::<#d4f33991051d4a8f>", .Lfunc_end58-"des_context::calls::decrypt::<#d4f33991051d4a8f>"
+	.size	"des_context::calls::decrypt_by::<#d4f33991051d4a8f>", .Lfunc_end58-"des_context::calls::decrypt_by::<#d4f33991051d4a8f>"
 
 	.section	.rodata.cst16,"aM",@progbits,16
 	.p2align	4, 0x0
@@ -22478,10 +22478,10 @@
 	.p2align	4, 0x0
 .LCPI61_0:
 	.zero	16,63
-	.section	".text.des_context::calls::chain::<#6d58b6c595547cf1>","ax",@progbits
+	.section	".text.des_context::calls::chain_by::<#6d58b6c595547cf1>","ax",@progbits
 	.p2align	4
-	.type	"des_context::calls::chain::<#6d58b6c595547cf1>",@function
-"des_context::calls::chain::<#6d58b6c595547cf1>":
+	.type	"des_context::calls::chain_by::<#6d58b6c595547cf1>",@function
+"des_context::calls::chain_by::<#6d58b6c595547cf1>":
 	pushq	%r15
 	pushq	%r14
 	pushq	%rbx
@@ -22549,7 +22549,7 @@
 	popq	%r15
 	retq
 .Lfunc_end61:
-	.size	"des_context::calls::chain::<#6d58b6c595547cf1>", .Lfunc_end61-"des_context::calls::chain::<#6d58b6c595547cf1>"
+	.size	"des_context::calls::chain_by::<#6d58b6c595547cf1>", .Lfunc_end61-"des_context::calls::chain_by::<#6d58b6c595547cf1>"
 
 	.section	".text.des_fast::many::chains::chain::<#1205c39ac9913442>","ax",@progbits
 	.p2align	4
@@ -22742,10 +22742,10 @@
 	.p2align	4, 0x0
 .LCPI64_0:
 	.zero	16,63
-	.section	".text.des_context::calls::chain::<#a964bea78b4f5e89>","ax",@progbits
+	.section	".text.des_context::calls::chain_by::<#a964bea78b4f5e89>","ax",@progbits
 	.p2align	4
-	.type	"des_context::calls::chain::<#a964bea78b4f5e89>",@function
-"des_context::calls::chain::<#a964bea78b4f5e89>":
+	.type	"des_context::calls::chain_by::<#a964bea78b4f5e89>",@function
+"des_context::calls::chain_by::<#a964bea78b4f5e89>":
 	pushq	%r15
 	pushq	%r14
 	pushq	%rbx
@@ -22845,7 +22845,7 @@
 	popq	%r15
 	retq
 .Lfunc_end64:
-	.size	"des_context::calls::chain::<#a964bea78b4f5e89>", .Lfunc_end64-"des_context::calls::chain::<#a964bea78b4f5e89>"
+	.size	"des_context::calls::chain_by::<#a964bea78b4f5e89>", .Lfunc_end64-"des_context::calls::chain_by::<#a964bea78b4f5e89>"
 
 	.section	".text.des_fast::many::chains::chain::<#8cc06965b64b4db9>","ax",@progbits
 	.p2align	4
@@ -22911,10 +22911,10 @@
 	.p2align	4, 0x0
 .LCPI67_0:
 	.zero	16,63
-	.section	".text.des_context::calls::chain::<#a4adf0adf34bdf0e>","ax",@progbits
+	.section	".text.des_context::calls::chain_by::<#a4adf0adf34bdf0e>","ax",@progbits
 	.p2align	4
-	.type	"des_context::calls::chain::<#a4adf0adf34bdf0e>",@function
-"des_context::calls::chain::<#a4adf0adf34bdf0e>":
+	.type	"des_context::calls::chain_by::<#a4adf0adf34bdf0e>",@function
+"des_context::calls::chain_by::<#a4adf0adf34bdf0e>":
 	pushq	%r15
 	pushq	%r14
 	pushq	%rbx
@@ -23037,7 +23037,7 @@
 	popq	%r15
 	retq
 .Lfunc_end67:
-	.size	"des_context::calls::chain::<#a4adf0adf34bdf0e>", .Lfunc_end67-"des_context::calls::chain::<#a4adf0adf34bdf0e>"
+	.size	"des_context::calls::chain_by::<#a4adf0adf34bdf0e>", .Lfunc_end67-"des_context::calls::chain_by::<#a4adf0adf34bdf0e>"
 
 	.section	.rodata.cst16,"aM",@progbits,16
 	.p2align	4, 0x0
@@ -23749,10 +23749,10 @@
 	.p2align	4, 0x0
 .LCPI75_0:
 	.zero	16,63
-	.section	".text.des_context::calls::encrypt::<#d4313017509cde00>","ax",@progbits
+	.section	".text.des_context::calls::encrypt_by::<#d4313017509cde00>","ax",@progbits
 	.p2align	4
-	.type	"des_context::calls::encrypt::<#d4313017509cde00>",@function
-"des_context::calls::encrypt::<#d4313017509cde00>":
+	.type	"des_context::calls::encrypt_by::<#d4313017509cde00>",@function
+"des_context::calls::encrypt_by::<#d4313017509cde00>":
 	subq	$152, %rsp
 	movups	(%rdi), %xmm0
 	movaps	.LCPI75_0(%rip), %xmm1
@@ -23799,16 +23799,16 @@
 	addq	$152, %rsp
 	retq
 .Lfunc_end75:
-	.size	"des_context::calls::encrypt::<#d4313017509cde00>", .Lfunc_end75-"des_context::calls::encrypt::<#d4313017509cde00>"
+	.size	"des_context::calls::encrypt_by::<#d4313017509cde00>", .Lfunc_end75-"des_context::calls::encrypt_by::<#d4313017509cde00>"
 
 	.section	.rodata.cst16,"aM",@progbits,16
 	.p2align	4, 0x0
 .LCPI76_0:
 	.zero	16,63
-	.section	".text.des_context::calls::encrypt::<#5b45dfb188ff8f66>","ax",@progbits
+	.section	".text.des_context::calls::encrypt_by::<#5b45dfb188ff8f66>","ax",@progbits
 	.p2align	4
-	.type	"des_context::calls::encrypt::<#5b45dfb188ff8f66>",@function
-"des_context::calls::encrypt::<#5b45dfb188ff8f66>":
+	.type	"des_context::calls::encrypt_by::<#5b45dfb188ff8f66>",@function
+"des_context::calls::encrypt_by::<#5b45dfb188ff8f66>":
 	pushq	%rbp
 	pushq	%r15
 	pushq	%r14
@@ -23918,16 +23918,16 @@
 	popq	%rbp
 	retq
 .Lfunc_end76:
-	.size	"des_context::calls::encrypt::<#5b45dfb188ff8f66>", .Lfunc_end76-"des_context::calls::encrypt::<#5b45dfb188ff8f66>"
+	.size	"des_context::calls::encrypt_by::<#5b45dfb188ff8f66>", .Lfunc_end76-"des_context::calls::encrypt_by::<#5b45dfb188ff8f66>"
 
 	.section	.rodata.cst16,"aM",@progbits,16
 	.p2align	4, 0x0
 .LCPI77_0:
 	.zero	16,63
-	.section	".text.des_context::calls::encrypt::<#d4f33991051d4a8f>","ax",@progbits
+	.section	".text.des_context::calls::encrypt_by::<#d4f33991051d4a8f>","ax",@progbits
 	.p2align	4
-	.type	"des_context::calls::encrypt::<#d4f33991051d4a8f>",@function
-"des_context::calls::encrypt::<#d4f33991051d4a8f>":
+	.type	"des_context::calls::encrypt_by::<#d4f33991051d4a8f>",@function
+"des_context::calls::encrypt_by::<#d4f33991051d4a8f>":
 	pushq	%rbp
 	pushq	%r15
 	pushq	%r14
@@ -24062,7 +24062,7 @@
 	popq	%rbp
 	retq
 .Lfunc_end77:
-	.size	"des_context::calls::encrypt::<#d4f33991051d4a8f>", .Lfunc_end77-"des_context::calls::encrypt::<#d4f33991051d4a8f>"
+	.size	"des_context::calls::encrypt_by::<#d4f33991051d4a8f>", .Lfunc_end77-"des_context::calls::encrypt_by::<#d4f33991051d4a8f>"
 
 	.section	".text.des_context::contexts::init","ax",@progbits
 	.p2align	4
@@ -49286,13 +49286,13 @@ cukvashe_internal_decrypt_ecb:
 	movzbl	%al, %eax
 	cmpl	$1, %eax
 	jne	.LBB163_3
-	callq	"des_context::calls::decrypt::<#5b45dfb188ff8f66>"
+	callq	"des_context::calls::decrypt_by::<#5b45dfb188ff8f66>"
 	jmp	.LBB163_6
 .LBB163_5:
-	callq	"des_context::calls::decrypt::<#d4f33991051d4a8f>"
+	callq	"des_context::calls::decrypt_by::<#d4f33991051d4a8f>"
 	jmp	.LBB163_6
 .LBB163_3:
-	callq	"des_context::calls::decrypt::<#d4313017509cde00>"
+	callq	"des_context::calls::decrypt_by::<#d4313017509cde00>"
 .LBB163_6:
 	xorl	%eax, %eax
 .LBB163_7:
@@ -49416,14 +49416,14 @@ cukvashe_internal_decrypt_ecb_to:
 	movq	%rbx, %rdx
 	cmpl	$1, %eax
 	jne	.LBB164_21
-	callq	"des_context::calls::decrypt::<#5b45dfb188ff8f66>"
+	callq	"des_context::calls::decrypt_by::<#5b45dfb188ff8f66>"
 	jmp	.LBB164_22
 .LBB164_20:
 	movq	%rbx, %rdx
-	callq	"des_context::calls::decrypt::<#d4f33991051d4a8f>"
+	callq	"des_context::calls::decrypt_by::<#d4f33991051d4a8f>"
 	jmp	.LBB164_22
 .LBB164_21:
-	callq	"des_context::calls::decrypt::<#d4313017509cde00>"
+	callq	"des_context::calls::decrypt_by::<#d4313017509cde00>"
 .LBB164_22:
 	xorl	%eax, %eax
 .LBB164_23:
@@ -49900,13 +49900,13 @@ cukvashe_internal_encrypt_cbc:
 	movzbl	%al, %eax
 	cmpl	$1, %eax
 	jne	.LBB166_3
-	callq	"des_context::calls::chain::<#a964bea78b4f5e89>"
+	callq	"des_context::calls::chain_by::<#a964bea78b4f5e89>"
 	jmp	.LBB166_6
 .LBB166_5:
-	callq	"des_context::calls::chain::<#a4adf0adf34bdf0e>"
+	callq	"des_context::calls::chain_by::<#a4adf0adf34bdf0e>"
 	jmp	.LBB166_6
 .LBB166_3:
-	callq	"des_context::calls::chain::<#6d58b6c595547cf1>"
+	callq	"des_context::calls::chain_by::<#6d58b6c595547cf1>"
 .LBB166_6:
 	xorl	%eax, %eax
 .LBB166_7:
@@ -50108,14 +50108,14 @@ cukvashe_internal_encrypt_cbc_to:
 	movq	%rbx, %rcx
 	cmpl	$1, %eax
 	jne	.LBB168_21
-	callq	"des_context::calls::chain::<#a964bea78b4f5e89>"
+	callq	"des_context::calls::chain_by::<#a964bea78b4f5e89>"
 	jmp	.LBB168_22
 .LBB168_20:
 	movq	%rbx, %rcx
-	callq	"des_context::calls::chain::<#a4adf0adf34bdf0e>"
+	callq	"des_context::calls::chain_by::<#a4adf0adf34bdf0e>"
 	jmp	.LBB168_22
 .LBB168_21:
-	callq	"des_context::calls::chain::<#6d58b6c595547cf1>"
+	callq	"des_context::calls::chain_by::<#6d58b6c595547cf1>"
 .LBB168_22:
 	xorl	%eax, %eax
 .LBB168_23:
@@ -50219,13 +50219,13 @@ cukvashe_internal_encrypt_ecb:
 	movzbl	%al, %eax
 	cmpl	$1, %eax
 	jne	.LBB170_3
-	callq	"des_context::calls::encrypt::<#5b45dfb188ff8f66>"
+	callq	"des_context::calls::encrypt_by::<#5b45dfb188ff8f66>"
 	jmp	.LBB170_6
 .LBB170_5:
-	callq	"des_context::calls::encrypt::<#d4f33991051d4a8f>"
+	callq	"des_context::calls::encrypt_by::<#d4f33991051d4a8f>"
 	jmp	.LBB170_6
 .LBB170_3:
-	callq	"des_context::calls::encrypt::<#d4313017509cde00>"
+	callq	"des_context::calls::encrypt_by::<#d4313017509cde00>"
 .LBB170_6:
 	xorl	%eax, %eax
 .LBB170_7:
@@ -50349,14 +50349,14 @@ cukvashe_internal_encrypt_ecb_to:
 	movq	%rbx, %rdx
 	cmpl	$1, %eax
 	jne	.LBB171_21
-	callq	"des_context::calls::encrypt::<#5b45dfb188ff8f66>"
+	callq	"des_context::calls::encrypt_by::<#5b45dfb188ff8f66>"
 	jmp	.LBB171_22
 .LBB171_20:
 	movq	%rbx, %rdx
-	callq	"des_context::calls::encrypt::<#d4f33991051d4a8f>"
+	callq	"des_context::calls::encrypt_by::<#d4f33991051d4a8f>"
 	jmp	.LBB171_22
 .LBB171_21:
-	callq	"des_context::calls::encrypt::<#d4313017509cde00>"
+	callq	"des_context::calls::encrypt_by::<#d4313017509cde00>"
 .LBB171_22:
 	xorl	%eax, %eax
 .LBB171_23:

@@ -11337,10 +11337,10 @@
 	.p2align	3, 0x0
 .LCPI32_0:
 	.quad	4557430888798830399
-	.section	".text.des_context::calls::decrypt::<#3ea51471f767f882>","ax",@progbits
+	.section	".text.des_context::calls::decrypt_by::<#3ea51471f767f882>","ax",@progbits
 	.p2align	4
-	.type	"des_context::calls::decrypt::<#3ea51471f767f882>",@function
-"des_context::calls::decrypt::<#3ea51471f767f882>":
+	.type	"des_context::calls::decrypt_by::<#3ea51471f767f882>",@function
+"des_context::calls::decrypt_by::<#3ea51471f767f882>":
 	subq	$152, %rsp
 	vbroadcastsd	.LCPI32_0(%rip), %ymm0
 	vandps	(%rdi), %ymm0, %ymm1
@@ -11374,7 +11374,7 @@
 	addq	$152, %rsp
 	retq
 .Lfunc_end32:
-	.size	"des_context::calls::decrypt::<#3ea51471f767f882>", .Lfunc_end32-"des_context::calls::decrypt::<#3ea51471f767f882>"
+	.size	"des_context::calls::decrypt_by::<#3ea51471f767f882>", .Lfunc_end32-"des_context::calls::decrypt_by::<#3ea51471f767f882>"
 
 	.section	".text.des_fast::many::ciphers::answer_list::<#9ba624b03e4922b8>","ax",@progbits
 	.p2align	4
@@ -11884,10 +11884,10 @@
 	.p2align	3, 0x0
 .LCPI34_0:
 	.quad	4557430888798830399
-	.section	".text.des_context::calls::decrypt::<#c4a0e64fb9aebe88>","ax",@progbits
+	.section	".text.des_context::calls::decrypt_by::<#c4a0e64fb9aebe88>","ax",@progbits
 	.p2align	4
-	.type	"des_context::calls::decrypt::<#c4a0e64fb9aebe88>",@function
-"des_context::calls::decrypt::<#c4a0e64fb9aebe88>":
+	.type	"des_context::calls::decrypt_by::<#c4a0e64fb9aebe88>",@function
+"des_context::calls::decrypt_by::<#c4a0e64fb9aebe88>":
 	pushq	%rbp
 	pushq	%r15
 	pushq	%r14
@@ -11969,7 +11969,7 @@
 	popq	%rbp
 	retq
 .Lfunc_end34:
-	.size	"des_context::calls::decrypt::<#c4a0e64fb9aebe88>", .Lfunc_end34-"des_context::calls::decrypt::<#c4a0e64fb9aebe88>"
+	.size	"des_context::calls::decrypt_by::<#c4a0e64fb9aebe88>", .Lfunc_end34-"des_context::calls::decrypt_by::<#c4a0e64fb9aebe88>"
 
 	.section	".text.des_fast::many::passes::ThreePassesDesByBatches::answer_by_batches::<#336421e3ca4bafb2>","ax",@progbits
 	.p2align	4
@@ -12076,10 +12076,10 @@
 	.p2align	3, 0x0
 .LCPI36_0:
 	.quad	4557430888798830399
-	.section	".text.des_context::calls::decrypt::<#8c58e364122b4949>","ax",@progbits
+	.section	".text.des_context::calls::decrypt_by::<#8c58e364122b4949>","ax",@progbits
 	.p2align	4
-	.type	"des_context::calls::decrypt::<#8c58e364122b4949>",@function
-"des_context::calls::decrypt::<#8c58e364122b4949>":
+	.type	"des_context::calls::decrypt_by::<#8c58e364122b4949>",@function
+"des_context::calls::decrypt_by::<#8c58e364122b4949>":
 	pushq	%rbp
 	pushq	%r15
 	pushq	%r14
@@ -12170,7 +12170,7 @@
 	popq	%rbp
 	retq
 .Lfunc_end36:
-	.size	"des_context::calls::decrypt::<#8c58e364122b4949>", .Lfunc_end36-"des_context::calls::decrypt::<#8c58e364122b4949>"
+	.size	"des_context::calls::decrypt_by::<#8c58e364122b4949>", .Lfunc_end36-"des_context::calls::decrypt_by::<#8c58e364122b4949>"
 
 	.section	.rodata.cst32,"aM",@progbits,32
 	.p2align	5, 0x0
@@ -14461,10 +14461,10 @@
 	.p2align	3, 0x0
 .LCPI47_0:
 	.quad	4557430888798830399
-	.section	".text.des_context::calls::encrypt::<#3ea51471f767f882>","ax",@progbits
+	.section	".text.des_context::calls::encrypt_by::<#3ea51471f767f882>","ax",@progbits
 	.p2align	4
-	.type	"des_context::calls::encrypt::<#3ea51471f767f882>",@function
-"des_context::calls::encrypt::<#3ea51471f767f882>":
+	.type	"des_context::calls::encrypt_by::<#3ea51471f767f882>",@function
+"des_context::calls::encrypt_by::<#3ea51471f767f882>":
 	subq	$152, %rsp
 	vbroadcastsd	.LCPI47_0(%rip), %ymm0
 	vandps	(%rdi), %ymm0, %ymm1
@@ -14496,16 +14496,16 @@
 	addq	$152, %rsp
 	retq
 .Lfunc_end47:
-	.size	"des_context::calls::encrypt::<#3ea51471f767f882>", .Lfunc_end47-"des_context::calls::encrypt::<#3ea51471f767f882>"
+	.size	"des_context::calls::encrypt_by::<#3ea51471f767f882>", .Lfunc_end47-"des_context::calls::encrypt_by::<#3ea51471f767f882>"
 
 	.section	.rodata.cst8,"aM",@progbits,8
 	.p2align	3, 0x0
 .LCPI48_0:
 	.quad	4557430888798830399
-	.section	".text.des_context::calls::encrypt::<#c4a0e64fb9aebe88>","ax",@progbits
+	.section	".text.des_context::calls::encrypt_by::<#c4a0e64fb9aebe88>","ax",@progbits
 	.p2align	4
-	.type	"des_context::calls::encrypt::<#c4a0e64fb9aebe88>",@function
-"des_context::calls::encrypt::<#c4a0e64fb9aebe88>":
+	.type	"des_context::calls::encrypt_by::<#c4a0e64fb9aebe88>",@function
+"des_context::calls::encrypt_by::<#c4a0e64fb9aebe88>":
 	pushq	%rbp
 	pushq	%r15
 	pushq	%r14
@@ -14585,16 +14585,16 @@
 	popq	%rbp
 	retq
 .Lfunc_end48:
-	.size	"des_context::calls::encrypt::<#c4a0e64fb9aebe88>", .Lfunc_end48-"des_context::calls::encrypt::<#c4a0e64fb9aebe88>"
+	.size	"des_context::calls::encrypt_by::<#c4a0e64fb9aebe88>", .Lfunc_end48-"des_context::calls::encrypt_by::<#c4a0e64fb9aebe88>"
 
 	.section	.rodata.cst8,"aM",@progbits,8
 	.p2align	3, 0x0
 .LCPI49_0:
 	.quad	4557430888798830399
-	.section	".text.des_context::calls::encrypt::<#8c58e364122b4949>","ax",@progbits
+	.section	".text.des_context::calls::encrypt_by::<#8c58e364122b4949>","ax",@progbits
 	.p2align	4
-	.type	"des_context::calls::encrypt::<#8c58e364122b4949>",@function
-"des_context::calls::encrypt::<#8c58e364122b4949>":
+	.type	"des_context::calls::encrypt_by::<#8c58e364122b4949>",@function
+"des_context::calls::encrypt_by::<#8c58e364122b4949>":
 	pushq	%rbp
 	pushq	%r15
 	pushq	%r14
@@ -14683,7 +14683,7 @@
 	popq	%rbp
 	retq
 .Lfunc_end49:
-	.size	"des_context::calls::encrypt::<#8c58e364122b4949>", .Lfunc_end49-"des_context::calls::encrypt::<#8c58e364122b4949>"
+	.size	"des_context::calls::encrypt_by::<#8c58e364122b4949>", .Lfunc_end49-"des_context::calls::encrypt_by::<#8c58e364122b4949>"
 
 	.section	".text.des_context::mac_lists::macs_by::<#336421e3ca4bafb2>","ax",@progbits
 	.p2align	4
@@ -21224,13 +21224,13 @@ cukvashe_wide_decrypt_ecb:
 	movzbl	%al, %eax
 	cmpl	$1, %eax
 	jne	.LBB71_3
-	callq	"des_context::calls::decrypt::<#c4a0e64fb9aebe88>"
+	callq	"des_context::calls::decrypt_by::<#c4a0e64fb9aebe88>"
 	jmp	.LBB71_6
 .LBB71_5:
-	callq	"des_context::calls::decrypt::<#8c58e364122b4949>"
+	callq	"des_context::calls::decrypt_by::<#8c58e364122b4949>"
 	jmp	.LBB71_6
 .LBB71_3:
-	callq	"des_context::calls::decrypt::<#3ea51471f767f882>"
+	callq	"des_context::calls::decrypt_by::<#3ea51471f767f882>"
 .LBB71_6:
 	xorl	%eax, %eax
 .LBB71_7:
@@ -21364,16 +21364,16 @@ cukvashe_wide_decrypt_ecb_to:
 	cmpl	$1, %eax
 	jne	.LBB72_27
 	vzeroupper
-	callq	"des_context::calls::decrypt::<#c4a0e64fb9aebe88>"
+	callq	"des_context::calls::decrypt_by::<#c4a0e64fb9aebe88>"
 	jmp	.LBB72_28
 .LBB72_26:
 	movq	%rbx, %rdx
 	vzeroupper
-	callq	"des_context::calls::decrypt::<#8c58e364122b4949>"
+	callq	"des_context::calls::decrypt_by::<#8c58e364122b4949>"
 	jmp	.LBB72_28
 .LBB72_27:
 	vzeroupper
-	callq	"des_context::calls::decrypt::<#3ea51471f767f882>"
+	callq	"des_context::calls::decrypt_by::<#3ea51471f767f882>"
 .LBB72_28:
 	xorl	%eax, %eax
 .LBB72_29:
@@ -22005,13 +22005,13 @@ cukvashe_wide_encrypt_ecb:
 	movzbl	%al, %eax
 	cmpl	$1, %eax
 	jne	.LBB76_3
-	callq	"des_context::calls::encrypt::<#c4a0e64fb9aebe88>"
+	callq	"des_context::calls::encrypt_by::<#c4a0e64fb9aebe88>"
 	jmp	.LBB76_6
 .LBB76_5:
-	callq	"des_context::calls::encrypt::<#8c58e364122b4949>"
+	callq	"des_context::calls::encrypt_by::<#8c58e364122b4949>"
 	jmp	.LBB76_6
 .LBB76_3:
-	callq	"des_context::calls::encrypt::<#3ea51471f767f882>"
+	callq	"des_context::calls::encrypt_by::<#3ea51471f767f882>"
 .LBB76_6:
 	xorl	%eax, %eax
 .LBB76_7:
@@ -22145,16 +22145,16 @@ cukvashe_wide_encrypt_ecb_to:
 	cmpl	$1, %eax
 	jne	.LBB77_27
 	vzeroupper
-	callq	"des_context::calls::encrypt::<#c4a0e64fb9aebe88>"
+	callq	"des_context::calls::encrypt_by::<#c4a0e64fb9aebe88>"
 	jmp	.LBB77_28
 .LBB77_26:
 	movq	%rbx, %rdx
 	vzeroupper
-	callq	"des_context::calls::encrypt::<#8c58e364122b4949>"
+	callq	"des_context::calls::encrypt_by::<#8c58e364122b4949>"
 	jmp	.LBB77_28
 .LBB77_27:
 	vzeroupper
-	callq	"des_context::calls::encrypt::<#3ea51471f767f882>"
+	callq	"des_context::calls::encrypt_by::<#3ea51471f767f882>"
 .LBB77_28:
 	xorl	%eax, %eax
 .LBB77_29:

@@ -18846,7 +18846,7 @@ LBB53_7:
 	ret
 
 	.p2align	2
-"_des_context::calls::decrypt::<#d4313017509cde00>":
+"_des_context::calls::decrypt_by::<#d4313017509cde00>":
 	sub	sp, sp, #160
 	stp	x29, x30, [sp, #144]
 	mov	x8, x3
@@ -19174,7 +19174,7 @@ LBB55_7:
 	b	"_des_fast::lists::answer::<#e422058a509118e2>"
 
 	.p2align	2
-"_des_context::calls::decrypt::<#5b45dfb188ff8f66>":
+"_des_context::calls::decrypt_by::<#5b45dfb188ff8f66>":
 	sub	sp, sp, #352
 	stp	x22, x21, [sp, #304]
 	stp	x20, x19, [sp, #320]
@@ -19356,7 +19356,7 @@ LBB57_5:
 	ret
 
 	.p2align	2
-"_des_context::calls::decrypt::<#d4f33991051d4a8f>":
+"_des_context::calls::decrypt_by::<#d4f33991051d4a8f>":
 	sub	sp, sp, #496
 	stp	d9, d8, [sp, #432]
 	stp	x22, x21, [sp, #448]
@@ -20105,7 +20105,7 @@ LBB60_33:
 	.loh AdrpAdd	Lloh316, Lloh317
 
 	.p2align	2
-"_des_context::calls::chain::<#6d58b6c595547cf1>":
+"_des_context::calls::chain_by::<#6d58b6c595547cf1>":
 	sub	sp, sp, #192
 	stp	x22, x21, [sp, #144]
 	stp	x20, x19, [sp, #160]
@@ -20428,7 +20428,7 @@ LBB63_4:
 	.loh AdrpLdr	Lloh328, Lloh330
 
 	.p2align	2
-"_des_context::calls::chain::<#a964bea78b4f5e89>":
+"_des_context::calls::chain_by::<#a964bea78b4f5e89>":
 	sub	sp, sp, #352
 	stp	x22, x21, [sp, #304]
 	stp	x20, x19, [sp, #320]
@@ -20695,7 +20695,7 @@ LBB66_4:
 	.loh AdrpLdr	Lloh348, Lloh349
 
 	.p2align	2
-"_des_context::calls::chain::<#a4adf0adf34bdf0e>":
+"_des_context::calls::chain_by::<#a4adf0adf34bdf0e>":
 	sub	sp, sp, #496
 	stp	d9, d8, [sp, #432]
 	stp	x22, x21, [sp, #448]
@@ -21506,7 +21506,7 @@ LBB74_7:
 	ret
 
 	.p2align	2
-"_des_context::calls::encrypt::<#d4313017509cde00>":
+"_des_context::calls::encrypt_by::<#d4313017509cde00>":
 	sub	sp, sp, #160
 	stp	x29, x30, [sp, #144]
 	mov	x8, x3
@@ -21547,7 +21547,7 @@ LBB75_3:
 	ret
 
 	.p2align	2
-"_des_context::calls::encrypt::<#5b45dfb188ff8f66>":
+"_des_context::calls::encrypt_by::<#5b45dfb188ff8f66>":
 	sub	sp, sp, #352
 	stp	x22, x21, [sp, #304]
 	stp	x20, x19, [sp, #320]
@@ -21639,7 +21639,7 @@ LBB76_7:
 	ret
 
 	.p2align	2
-"_des_context::calls::encrypt::<#d4f33991051d4a8f>":
+"_des_context::calls::encrypt_by::<#d4f33991051d4a8f>":
 	sub	sp, sp, #496
 	stp	d9, d8, [sp, #432]
 	stp	x22, x21, [sp, #448]
@@ -43044,13 +43044,13 @@ _cukvashe_internal_decrypt_ecb:
 	b.eq	LBB163_5
 	cmp	w8, #1
 	b.ne	LBB163_6
-	bl	"_des_context::calls::decrypt::<#5b45dfb188ff8f66>"
+	bl	"_des_context::calls::decrypt_by::<#5b45dfb188ff8f66>"
 	b	LBB163_7
 LBB163_5:
-	bl	"_des_context::calls::decrypt::<#d4f33991051d4a8f>"
+	bl	"_des_context::calls::decrypt_by::<#d4f33991051d4a8f>"
 	b	LBB163_7
 LBB163_6:
-	bl	"_des_context::calls::decrypt::<#d4313017509cde00>"
+	bl	"_des_context::calls::decrypt_by::<#d4313017509cde00>"
 LBB163_7:
 	mov	w8, wzr
 	ldp	x29, x30, [sp], #16
@@ -43141,13 +43141,13 @@ LBB164_12:
 	b.eq	LBB164_15
 	cmp	w8, #1
 	b.ne	LBB164_16
-	bl	"_des_context::calls::decrypt::<#5b45dfb188ff8f66>"
+	bl	"_des_context::calls::decrypt_by::<#5b45dfb188ff8f66>"
 	b	LBB164_17
 LBB164_15:
-	bl	"_des_context::calls::decrypt::<#d4f33991051d4a8f>"
+	bl	"_des_context::calls::decrypt_by::<#d4f33991051d4a8f>"
 	b	LBB164_17
 LBB164_16:
-	bl	"_des_context::calls::decrypt::<#d4313017509cde00>"
+	bl	"_des_context::calls::decrypt_by::<#d4313017509cde00>"
 LBB164_17:
 	mov	w8, wzr
 	mov	w0, w8
@@ -43577,13 +43577,13 @@ _cukvashe_internal_encrypt_cbc:
 	b.eq	LBB166_5
 	cmp	w8, #1
 	b.ne	LBB166_6
-	bl	"_des_context::calls::chain::<#a964bea78b4f5e89>"
+	bl	"_des_context::calls::chain_by::<#a964bea78b4f5e89>"
 	b	LBB166_7
 LBB166_5:
-	bl	"_des_context::calls::chain::<#a4adf0adf34bdf0e>"
+	bl	"_des_context::calls::chain_by::<#a4adf0adf34bdf0e>"
 	b	LBB166_7
 LBB166_6:
-	bl	"_des_context::calls::chain::<#6d58b6c595547cf1>"
+	bl	"_des_context::calls::chain_by::<#6d58b6c595547cf1>"
 LBB166_7:
 	mov	w8, wzr
 	ldp	x29, x30, [sp], #16
@@ -43713,13 +43713,13 @@ LBB168_12:
 	b.eq	LBB168_15
 	cmp	w8, #1
 	b.ne	LBB168_16
-	bl	"_des_context::calls::chain::<#a964bea78b4f5e89>"
+	bl	"_des_context::calls::chain_by::<#a964bea78b4f5e89>"
 	b	LBB168_17
 LBB168_15:
-	bl	"_des_context::calls::chain::<#a4adf0adf34bdf0e>"
+	bl	"_des_context::calls::chain_by::<#a4adf0adf34bdf0e>"
 	b	LBB168_17
 LBB168_16:
-	bl	"_des_context::calls::chain::<#6d58b6c595547cf1>"
+	bl	"_des_context::calls::chain_by::<#6d58b6c595547cf1>"
 LBB168_17:
 	mov	w8, wzr
 	mov	w0, w8
@@ -43803,13 +43803,13 @@ _cukvashe_internal_encrypt_ecb:
 	b.eq	LBB170_5
 	cmp	w8, #1
 	b.ne	LBB170_6
-	bl	"_des_context::calls::encrypt::<#5b45dfb188ff8f66>"
+	bl	"_des_context::calls::encrypt_by::<#5b45dfb188ff8f66>"
 	b	LBB170_7
 LBB170_5:
-	bl	"_des_context::calls::encrypt::<#d4f33991051d4a8f>"
+	bl	"_des_context::calls::encrypt_by::<#d4f33991051d4a8f>"
 	b	LBB170_7
 LBB170_6:
-	bl	"_des_context::calls::encrypt::<#d4313017509cde00>"
+	bl	"_des_context::calls::encrypt_by::<#d4313017509cde00>"
 LBB170_7:
 	mov	w8, wzr
 	ldp	x29, x30, [sp], #16
@@ -43900,13 +43900,13 @@ LBB171_12:
 	b.eq	LBB171_15
 	cmp	w8, #1
 	b.ne	LBB171_16
-	bl	"_des_context::calls::encrypt::<#5b45dfb188ff8f66>"
+	bl	"_des_context::calls::encrypt_by::<#5b45dfb188ff8f66>"
 	b	LBB171_17
 LBB171_15:
-	bl	"_des_context::calls::encrypt::<#d4f33991051d4a8f>"
+	bl	"_des_context::calls::encrypt_by::<#d4f33991051d4a8f>"
 	b	LBB171_17
 LBB171_16:
-	bl	"_des_context::calls::encrypt::<#d4313017509cde00>"
+	bl	"_des_context::calls::encrypt_by::<#d4313017509cde00>"
 LBB171_17:
 	mov	w8, wzr
 	mov	w0, w8

@@ -20773,7 +20773,7 @@ LCPI54_0:
 	.space	16,63
 	.section	__TEXT,__text,regular,pure_instructions
 	.p2align	4
-"_des_context::calls::decrypt::<#d4313017509cde00>":
+"_des_context::calls::decrypt_by::<#d4313017509cde00>":
 	subq	$152, %rsp
 	movups	(%rdi), %xmm0
 	movaps	LCPI54_0(%rip), %xmm1
@@ -21275,7 +21275,7 @@ LCPI56_0:
 	.space	16,63
 	.section	__TEXT,__text,regular,pure_instructions
 	.p2align	4
-"_des_context::calls::decrypt::<#5b45dfb188ff8f66>":
+"_des_context::calls::decrypt_by::<#5b45dfb188ff8f66>":
 	pushq	%rbp
 	pushq	%r15
 	pushq	%r14
@@ -21484,7 +21484,7 @@ LCPI58_0:
 	.space	16,63
 	.section	__TEXT,__text,regular,pure_instructions
 	.p2align	4
-"_des_context::calls::decrypt::<#d4f33991051d4a8f>":
+"_des_context::calls::decrypt_by::<#d4f33991051d4a8f>":
 	pushq	%rbp
 	pushq	%r15
 	pushq	%r14
@@ -22208,7 +22208,7 @@ LCPI61_0:
 	.space	16,63
 	.section	__TEXT,__text,regular,pure_instructions
 	.p2align	4
-"_des_context::calls::chain::<#6d58b6c595547cf1>":
+"_des_context::calls::chain_by::<#6d58b6c595547cf1>":
 	pushq	%r15
 	pushq	%r14
 	pushq	%rbx
@@ -22461,7 +22461,7 @@ LCPI64_0:
 	.space	16,63
 	.section	__TEXT,__text,regular,pure_instructions
 	.p2align	4
-"_des_context::calls::chain::<#a964bea78b4f5e89>":
+"_des_context::calls::chain_by::<#a964bea78b4f5e89>":
 	pushq	%r15
 	pushq	%r14
 	pushq	%rbx
@@ -22619,7 +22619,7 @@ LCPI67_0:
 	.space	16,63
 	.section	__TEXT,__text,regular,pure_instructions
 	.p2align	4
-"_des_context::calls::chain::<#a4adf0adf34bdf0e>":
+"_des_context::calls::chain_by::<#a4adf0adf34bdf0e>":
 	pushq	%r15
 	pushq	%r14
 	pushq	%rbx
@@ -23421,7 +23421,7 @@ LCPI75_0:
 	.space	16,63
 	.section	__TEXT,__text,regular,pure_instructions
 	.p2align	4
-"_des_context::calls::encrypt::<#d4313017509cde00>":
+"_des_context::calls::encrypt_by::<#d4313017509cde00>":
 	subq	$152, %rsp
 	movups	(%rdi), %xmm0
 	movaps	LCPI75_0(%rip), %xmm1
@@ -23474,7 +23474,7 @@ LCPI76_0:
 	.space	16,63
 	.section	__TEXT,__text,regular,pure_instructions
 	.p2align	4
-"_des_context::calls::encrypt::<#5b45dfb188ff8f66>":
+"_des_context::calls::encrypt_by::<#5b45dfb188ff8f66>":
 	pushq	%rbp
 	pushq	%r15
 	pushq	%r14
@@ -23590,7 +23590,7 @@ LCPI77_0:
 	.space	16,63
 	.section	__TEXT,__text,regular,pure_instructions
 	.p2align	4
-"_des_context::calls::encrypt::<#d4f33991051d4a8f>":
+"_des_context::calls::encrypt_by::<#d4f33991051d4a8f>":
 	pushq	%rbp
 	pushq	%r15
 	pushq	%r14
@@ -48576,13 +48576,13 @@ _cukvashe_internal_decrypt_ecb:
 	movzbl	%al, %eax
 	cmpl	$1, %eax
 	jne	LBB163_3
-	callq	"_des_context::calls::decrypt::<#5b45dfb188ff8f66>"
+	callq	"_des_context::calls::decrypt_by::<#5b45dfb188ff8f66>"
 	jmp	LBB163_6
 LBB163_5:
-	callq	"_des_context::calls::decrypt::<#d4f33991051d4a8f>"
+	callq	"_des_context::calls::decrypt_by::<#d4f33991051d4a8f>"
 	jmp	LBB163_6
 LBB163_3:
-	callq	"_des_context::calls::decrypt::<#d4313017509cde00>"
+	callq	"_des_context::calls::decrypt_by::<#d4313017509cde00>"
 LBB163_6:
 	xorl	%eax, %eax
 LBB163_7:
@@ -48702,14 +48702,14 @@ LBB164_17:
 	movq	%rbx, %rdx
 	cmpl	$1, %eax
 	jne	LBB164_21
-	callq	"_des_context::calls::decrypt::<#5b45dfb188ff8f66>"
+	callq	"_des_context::calls::decrypt_by::<#5b45dfb188ff8f66>"
 	jmp	LBB164_22
 LBB164_20:
 	movq	%rbx, %rdx
-	callq	"_des_context::calls::decrypt::<#d4f33991051d4a8f>"
+	callq	"_des_context::calls::decrypt_by::<#d4f33991051d4a8f>"
 	jmp	LBB164_22
 LBB164_21:
-	callq	"_des_context::calls::decrypt::<#d4313017509cde00>"
+	callq	"_des_context::calls::decrypt_by::<#d4313017509cde00>"
 LBB164_22:
 	xorl	%eax, %eax
 LBB164_23:
@@ -49171,13 +49171,13 @@ _cukvashe_internal_encrypt_cbc:
 	movzbl	%al, %eax
 	cmpl	$1, %eax
 	jne	LBB166_3
-	callq	"_des_context::calls::chain::<#a964bea78b4f5e89>"
+	callq	"_des_context::calls::chain_by::<#a964bea78b4f5e89>"
 	jmp	LBB166_6
 LBB166_5:
-	callq	"_des_context::calls::chain::<#a4adf0adf34bdf0e>"
+	callq	"_des_context::calls::chain_by::<#a4adf0adf34bdf0e>"
 	jmp	LBB166_6
 LBB166_3:
-	callq	"_des_context::calls::chain::<#6d58b6c595547cf1>"
+	callq	"_des_context::calls::chain_by::<#6d58b6c595547cf1>"
 LBB166_6:
 	xorl	%eax, %eax
 LBB166_7:
@@ -49371,14 +49371,14 @@ LBB168_17:
 	movq	%rbx, %rcx
 	cmpl	$1, %eax
 	jne	LBB168_21
-	callq	"_des_context::calls::chain::<#a964bea78b4f5e89>"
+	callq	"_des_context::calls::chain_by::<#a964bea78b4f5e89>"
 	jmp	LBB168_22
 LBB168_20:
 	movq	%rbx, %rcx
-	callq	"_des_context::calls::chain::<#a4adf0adf34bdf0e>"
+	callq	"_des_context::calls::chain_by::<#a4adf0adf34bdf0e>"
 	jmp	LBB168_22
 LBB168_21:
-	callq	"_des_context::calls::chain::<#6d58b6c595547cf1>"
+	callq	"_des_context::calls::chain_by::<#6d58b6c595547cf1>"
 LBB168_22:
 	xorl	%eax, %eax
 LBB168_23:
@@ -49474,13 +49474,13 @@ _cukvashe_internal_encrypt_ecb:
 	movzbl	%al, %eax
 	cmpl	$1, %eax
 	jne	LBB170_3
-	callq	"_des_context::calls::encrypt::<#5b45dfb188ff8f66>"
+	callq	"_des_context::calls::encrypt_by::<#5b45dfb188ff8f66>"
 	jmp	LBB170_6
 LBB170_5:
-	callq	"_des_context::calls::encrypt::<#d4f33991051d4a8f>"
+	callq	"_des_context::calls::encrypt_by::<#d4f33991051d4a8f>"
 	jmp	LBB170_6
 LBB170_3:
-	callq	"_des_context::calls::encrypt::<#d4313017509cde00>"
+	callq	"_des_context::calls::encrypt_by::<#d4313017509cde00>"
 LBB170_6:
 	xorl	%eax, %eax
 LBB170_7:
@@ -49600,14 +49600,14 @@ LBB171_17:
 	movq	%rbx, %rdx
 	cmpl	$1, %eax
 	jne	LBB171_21
-	callq	"_des_context::calls::encrypt::<#5b45dfb188ff8f66>"
+	callq	"_des_context::calls::encrypt_by::<#5b45dfb188ff8f66>"
 	jmp	LBB171_22
 LBB171_20:
 	movq	%rbx, %rdx
-	callq	"_des_context::calls::encrypt::<#d4f33991051d4a8f>"
+	callq	"_des_context::calls::encrypt_by::<#d4f33991051d4a8f>"
 	jmp	LBB171_22
 LBB171_21:
-	callq	"_des_context::calls::encrypt::<#d4313017509cde00>"
+	callq	"_des_context::calls::encrypt_by::<#d4313017509cde00>"
 LBB171_22:
 	xorl	%eax, %eax
 LBB171_23:

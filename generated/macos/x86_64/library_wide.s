@@ -11189,7 +11189,7 @@ LCPI32_0:
 	.quad	4557430888798830399
 	.section	__TEXT,__text,regular,pure_instructions
 	.p2align	4
-"_des_context::calls::decrypt::<#3ea51471f767f882>":
+"_des_context::calls::decrypt_by::<#3ea51471f767f882>":
 	subq	$152, %rsp
 	vbroadcastsd	LCPI32_0(%rip), %ymm0
 	vandps	(%rdi), %ymm0, %ymm1
@@ -11725,7 +11725,7 @@ LCPI34_0:
 	.quad	4557430888798830399
 	.section	__TEXT,__text,regular,pure_instructions
 	.p2align	4
-"_des_context::calls::decrypt::<#c4a0e64fb9aebe88>":
+"_des_context::calls::decrypt_by::<#c4a0e64fb9aebe88>":
 	pushq	%rbp
 	pushq	%r15
 	pushq	%r14
@@ -11908,7 +11908,7 @@ LCPI36_0:
 	.quad	4557430888798830399
 	.section	__TEXT,__text,regular,pure_instructions
 	.p2align	4
-"_des_context::calls::decrypt::<#8c58e364122b4949>":
+"_des_context::calls::decrypt_by::<#8c58e364122b4949>":
 	pushq	%rbp
 	pushq	%r15
 	pushq	%r14
@@ -14236,7 +14236,7 @@ LCPI47_0:
 	.quad	4557430888798830399
 	.section	__TEXT,__text,regular,pure_instructions
 	.p2align	4
-"_des_context::calls::encrypt::<#3ea51471f767f882>":
+"_des_context::calls::encrypt_by::<#3ea51471f767f882>":
 	subq	$152, %rsp
 	vbroadcastsd	LCPI47_0(%rip), %ymm0
 	vandps	(%rdi), %ymm0, %ymm1
@@ -14274,7 +14274,7 @@ LCPI48_0:
 	.quad	4557430888798830399
 	.section	__TEXT,__text,regular,pure_instructions
 	.p2align	4
-"_des_context::calls::encrypt::<#c4a0e64fb9aebe88>":
+"_des_context::calls::encrypt_by::<#c4a0e64fb9aebe88>":
 	pushq	%rbp
 	pushq	%r15
 	pushq	%r14
@@ -14360,7 +14360,7 @@ LCPI49_0:
 	.quad	4557430888798830399
 	.section	__TEXT,__text,regular,pure_instructions
 	.p2align	4
-"_des_context::calls::encrypt::<#8c58e364122b4949>":
+"_des_context::calls::encrypt_by::<#8c58e364122b4949>":
 	pushq	%rbp
 	pushq	%r15
 	pushq	%r14
@@ -20834,13 +20834,13 @@ _cukvashe_wide_decrypt_ecb:
 	movzbl	%al, %eax
 	cmpl	$1, %eax
 	jne	LBB71_3
-	callq	"_des_context::calls::decrypt::<#c4a0e64fb9aebe88>"
+	callq	"_des_context::calls::decrypt_by::<#c4a0e64fb9aebe88>"
 	jmp	LBB71_6
 LBB71_5:
-	callq	"_des_context::calls::decrypt::<#8c58e364122b4949>"
+	callq	"_des_context::calls::decrypt_by::<#8c58e364122b4949>"
 	jmp	LBB71_6
 LBB71_3:
-	callq	"_des_context::calls::decrypt::<#3ea51471f767f882>"
+	callq	"_des_context::calls::decrypt_by::<#3ea51471f767f882>"
 LBB71_6:
 	xorl	%eax, %eax
 LBB71_7:
@@ -20970,16 +20970,16 @@ LBB72_23:
 	cmpl	$1, %eax
 	jne	LBB72_27
 	vzeroupper
-	callq	"_des_context::calls::decrypt::<#c4a0e64fb9aebe88>"
+	callq	"_des_context::calls::decrypt_by::<#c4a0e64fb9aebe88>"
 	jmp	LBB72_28
 LBB72_26:
 	movq	%rbx, %rdx
 	vzeroupper
-	callq	"_des_context::calls::decrypt::<#8c58e364122b4949>"
+	callq	"_des_context::calls::decrypt_by::<#8c58e364122b4949>"
 	jmp	LBB72_28
 LBB72_27:
 	vzeroupper
-	callq	"_des_context::calls::decrypt::<#3ea51471f767f882>"
+	callq	"_des_context::calls::decrypt_by::<#3ea51471f767f882>"
 LBB72_28:
 	xorl	%eax, %eax
 LBB72_29:
@@ -21590,13 +21590,13 @@ _cukvashe_wide_encrypt_ecb:
 	movzbl	%al, %eax
 	cmpl	$1, %eax
 	jne	LBB76_3
-	callq	"_des_context::calls::encrypt::<#c4a0e64fb9aebe88>"
+	callq	"_des_context::calls::encrypt_by::<#c4a0e64fb9aebe88>"
 	jmp	LBB76_6
 LBB76_5:
-	callq	"_des_context::calls::encrypt::<#8c58e364122b4949>"
+	callq	"_des_context::calls::encrypt_by::<#8c58e364122b4949>"
 	jmp	LBB76_6
 LBB76_3:
-	callq	"_des_context::calls::encrypt::<#3ea51471f767f882>"
+	callq	"_des_context::calls::encrypt_by::<#3ea51471f767f882>"
 LBB76_6:
 	xorl	%eax, %eax
 LBB76_7:
@@ -21726,16 +21726,16 @@ LBB77_23:
 	cmpl	$1, %eax
 	jne	LBB77_27
 	vzeroupper
-	callq	"_des_context::calls::encrypt::<#c4a0e64fb9aebe88>"
+	callq	"_des_context::calls::encrypt_by::<#c4a0e64fb9aebe88>"
 	jmp	LBB77_28
 LBB77_26:
 	movq	%rbx, %rdx
 	vzeroupper
-	callq	"_des_context::calls::encrypt::<#8c58e364122b4949>"
+	callq	"_des_context::calls::encrypt_by::<#8c58e364122b4949>"
 	jmp	LBB77_28
 LBB77_27:
 	vzeroupper
-	callq	"_des_context::calls::encrypt::<#3ea51471f767f882>"
+	callq	"_des_context::calls::encrypt_by::<#3ea51471f767f882>"
 LBB77_28:
 	xorl	%eax, %eax
 LBB77_29:
