@@ -1,6 +1,9 @@
 -- Base64 (RFC 4648, section 4) in lines, as a stream gives it, a byte after another: the characters that the lines have
 -- without the blanks at their ends, and the line of the first character that can't stand where it does.
-use Rattle.std.specs.Prelude.{ℕ, ◌+◌, ◌%◌, ◌-◌, ◌^◌, min, ◌==◌, ◌&&◌, ◌||◌, Bool, true, false, not, if◌then◌else◌, List, [], ◌∷◌, Option, Some, None, option_map}
+use Rattle.std.specs.Prelude.{◌≡◌, ◌≢◌, ℕ, ◌+◌, ◌%◌, ◌-◌, ◌^◌, min, ◌==◌, ◌&&◌, ◌||◌, Bool, true, false, not, if◌then◌else◌, List, [], ◌∷◌, Option, Some, None, option_map, Result, Ok, Err}
+use Rattle.std.specs.IoError.{error_kind}
+use Rattle.std.specs.declared.io.Error.{Error}
+use Rattle.std.specs.declared.io.ErrorKind.TheVariants.{InvalidData}
 use Rattle.std.specs.Char.{is_ascii_alphanumeric, is_ascii_whitespace}
 use Rattle.base64.specs.declared.engine.general_purpose.GeneralPurpose.{GeneralPurpose}
 use Rattle.base64.specs.GeneralPurpose.{decoded_of}
@@ -96,6 +99,12 @@ module _ {R : Type 0} (remaining : R → Option (List ℕ)) where
   -- the same, and whether the text decodes
   abbrev pub outlook_on : Base64Reader R → Outlook
   outlook_on reader = outlook characters_remaining reader.decoder
+
+-- a read that fails by what is no Base64 is marked, and no other
+abbrev pub MarksFault : (old : Bool) → Result ℕ Error → (new : Bool) → Type 0
+MarksFault old (Ok count) new = new ≡ old
+MarksFault old (Err error) new =
+    (error_kind error ≡ InvalidData → new ≡ true) × (error_kind error ≢ InvalidData → new ≡ old)
 
 -- the bytes that a text encodes, where it is Base64 as an engine decodes it
 abbrev pub bytes_of : GeneralPurpose → List ℕ → Option (List ℕ)

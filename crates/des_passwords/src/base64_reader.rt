@@ -1,10 +1,10 @@
 //! Base64 (RFC 4648, section 4) in lines, decoded as it is read.
 
-ghost use Rattle.std.specs.Prelude.{◌≡◌, ◌≤◌, ◌++◌, length, take, Ok, option_map, option_and_then};
+ghost use Rattle.std.specs.Prelude.{◌≡◌, ◌≤◌, ◌++◌, ◌↔◌, true, false, length, IsSome, take, Ok, option_map, option_and_then};
 ghost use Rattle.std.specs.Io.{ReadsAtMost};
 ghost use Rattle.std.specs.Io.KnownBytes.{ReadConsumes};
 ghost use Rattle.base64.specs.Read.{IsInvalid};
-ghost use Rattle.des_passwords.specs.Base64Streams.{after as after_byte, after_all, after_blank, after_character, beginning, bytes_of, bytes_remaining, can_stand, character_of, characters_from, characters_remaining, is_symbol as is_symbol_of, outlook_on};
+ghost use Rattle.des_passwords.specs.Base64Streams.{after as after_byte, after_all, after_blank, after_character, beginning, bytes_of, bytes_remaining, can_stand, character_of, characters_from, characters_remaining, is_symbol as is_symbol_of, MarksFault, outlook_on};
 
 use base64::engine::general_purpose::GeneralPurpose;
 use base64::read::DecoderReader;
@@ -143,9 +143,9 @@ fn squeeze(position: &mut Position, text: &mut [u8]) -> usize
     kept
 }
 
-/// A reader of the characters of Base64 that another reader gives in lines.
+// A reader of the characters of Base64 that another reader gives in lines.
 #[derive(Drop)]
-pub struct Characters<R> {
+struct Characters<R> {
     inner: R,
     position: Position,
 }
@@ -181,6 +181,7 @@ impl<'e, R: Read> Base64Reader<'e, R> {
     pub fn new(reader: R, engine: &'e GeneralPurpose) -> Base64Reader<'e, R>
         ensures bytes { bytes_remaining R.remaining result
             ≡ option_and_then (bytes_of engine.now) (R.remaining reader) }
+        ensures sound { result.is_malformed ≡ false }
         ensures outlook { outlook_on R.remaining result ≡ option_map (bytes_of engine.now) (R.remaining reader) }
     {
         let characters = Characters {
@@ -198,7 +199,9 @@ impl<'e, R: Read + Drop> Base64Reader<'e, R> {
     /// Ends the reader. Gives the number of the line at fault, counted from 1, where what was read is
     /// no Base64: that of the first character that can't stand where it does, or of the last one,
     /// where characters are missing or bits are left over.
-    pub fn line_of_fault(self) -> Option<u64> {
+    pub fn line_of_fault(self) -> Option<u64>
+        ensures { IsSome result ↔ (self.entry.is_malformed ≡ true) }
+    {
         if !self.is_malformed {
             return None;
         }
@@ -217,11 +220,13 @@ impl<'e, R: Read> Read for Base64Reader<'e, R> {
         // A text that is no Base64 never comes to a clean end.
         ensures invalid { IsInvalid (outlook_on R.remaining self.old)
             → IsInvalid (outlook_on R.remaining self.new) × (result ≡ Ok 0 → length buf.new ≡ 0) }
+        ensures marked { MarksFault self.old.is_malformed result self.new.is_malformed }
     {
         let outcome = self.decoder.read(buf);
         if let Err(error) = &outcome {
-            if error.kind() == ErrorKind::InvalidData {
-                self.is_malformed = true;
+            match error.kind() {
+                ErrorKind::InvalidData => self.is_malformed = true,
+                _ => {}
             }
         }
         outcome
