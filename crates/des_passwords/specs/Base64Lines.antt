@@ -1,7 +1,6 @@
 -- Base64 (RFC 4648, section 4) in lines of any length. What the lines have without the blanks at their ends is read one
 -- after the other: the bytes, or the number of the line at fault.
-use Rattle.std.specs.Prelude.{◌≡◌, ℕ, ◌+◌, ◌-◌, List, [], ◌∷◌, ◌++◌, length, codes, Result, Ok, Err, nat_lt, if◌then◌else◌}
-use Rattle.std.specs.Fmt.{decimal}
+use Rattle.std.specs.Prelude.{◌≡◌, ℕ, ◌+◌, ◌-◌, List, [], ◌∷◌, ◌++◌, length, Result, Ok, Err, nat_lt, if◌then◌else◌}
 use Rattle.std.specs.List.{flat_map}
 use Rattle.base64.specs.Engines.{standard}
 use Rattle.base64.specs.GeneralPurpose.{decode_of}
@@ -46,7 +45,3 @@ IsFault OutOfMemory read = Unit {0}
 abbrev pub Gives : {X Y : Type 0} → (X → Y) → Result X Base64Error → Result Y ℕ → Type 0
 Gives view (Ok x) read = read ≡ Ok (view x)
 Gives view (Err e) read = IsFault e read
-
-abbrev pub text_of : Base64Error → List ℕ
-text_of (Line n) = codes "line " ++ decimal n ++ codes " is no Base64"
-text_of OutOfMemory = codes "out of memory"

@@ -1,4 +1,4 @@
-//! Base64 (RFC 4648, section 4) in lines, as PEM has it, and `base64` and `openssl enc -a` write it.
+//! Base64 (RFC 4648, section 4) in lines, as PEM has it.
 
 ghost use Rattle.std.specs.Prelude.{◌≡◌, ℕ, ◌+◌, ◌<◌, ◌^◌, List, length, IfOk};
 ghost use Rattle.base64.specs.Engines.{standard};
@@ -10,34 +10,15 @@ use crate::text_lines::{first_line, trimmed};
 use base64::engine::general_purpose::STANDARD;
 use base64::{DecodeAllocError, DecodeError};
 use std::alloc::{AllocError, Global};
-use std::error::Error;
-use std::fmt;
 
-/// Why lines are not read as Base64.
-#[derive(Clone, Copy, Debug, PartialEq, Eq)]
-pub enum Base64Error {
-    /// The line of this number, counted from 1, has a character that is no Base64 there, or the
-    /// last one, where characters are missing.
+// Why lines are not read as Base64.
+#[derive(Clone, Copy)]
+pub(crate) enum Base64Error {
+    // The line of this number, counted from 1, has a character that is no Base64 there, or the last
+    // one, where characters are missing.
     Line(usize),
-    /// Memory ran out.
     OutOfMemory,
 }
-
-impl fmt::Display for Base64Error {
-    ghost use Rattle.std.specs.Prelude.{Some};
-    ghost use Rattle.des_passwords.specs.Base64Lines.{text_of};
-
-    ghost output = { λ error. Some (text_of error) };
-
-    fn fmt<W: fmt::Write>(&self, f: &mut fmt::Formatter<W>) -> fmt::Result {
-        match self {
-            Base64Error::Line(line) => write!(f, "line {line} is no Base64"),
-            Base64Error::OutOfMemory => f.write_str("out of memory"),
-        }
-    }
-}
-
-impl Error for Base64Error {}
 
 impl From<AllocError> for Base64Error {
     ghost use Rattle.std.specs.Prelude.{◌≡◌};
@@ -94,7 +75,9 @@ fn line_at(number: usize, place: usize, text: &[u8]) -> usize
     number
 }
 
-// The bytes of a text whose first line has this number.
+// The bytes of a text whose first line has this number. A line of any length ends with LF or CRLF;
+// blanks at its end are passed over, and so is a line with nothing else. A group of four characters
+// may go on in the next line.
 pub(crate) fn decode_lines(
     alloc: Global,
     number: usize,
@@ -117,19 +100,4 @@ pub(crate) fn decode_lines(
             Err(Base64Error::Line(line_at(number, place, text)))
         }
     }
-}
-
-/// Decodes Base64 in lines of any length, as `base64` and `openssl enc -a` write it. A line ends
-/// with LF or CRLF; blanks at its end are passed over, and so is a line with nothing else. A group
-/// of four characters may go on in the next line. The error names the line of the first character
-/// at fault, or of the last one where characters are missing.
-pub fn decode_base64(alloc: Global, text: &[u8]) -> Result<Vec<u8>, Base64Error>
-    ensures read { Gives (λ bytes. bytes.items) result (bytes_in 1 (lines_of text.now)) }
-    ensures spelled { IfOk result
-        (λ bytes. encode_of standard bytes.items ≡ characters_in (lines_of text.now)) }
-    ensures accepted { (bytes : List ℕ) → IsBytes bytes
-        → encode_of standard bytes ≡ characters_in (lines_of text.now)
-        → Gives (λ read. read.items) result (Ok bytes) }
-{
-    decode_lines(alloc, 1, text)
 }

@@ -7,7 +7,7 @@
 //! iteration makes a password quick to guess: write nothing new by them.
 #![tactic(auto)]
 
-pub mod base64_lines;
+mod base64_lines;
 pub mod base64_reader;
 pub mod bytes_to_key;
 mod der;
@@ -22,7 +22,6 @@ pub mod salted;
 mod text_lines;
 mod xored;
 
-pub use base64_lines::{Base64Error, decode_base64};
 pub use base64_reader::Base64Reader;
 pub use derivation::{Derivation, KeyAndVector};
 pub use encrypted_keys::{

@@ -1,12 +1,9 @@
-//! HMAC, which the derivations of keys are made of, at published values; and the texts of errors of
-//! `des_passwords` that name a line.
+//! HMAC, which the derivations of keys are made of, at published values.
 
-use des_passwords::pem::PemError;
-use des_passwords::{Base64Error, HashFunction, Hmac, KeyFileError};
+use des_passwords::{HashFunction, Hmac};
 use md5::Md5;
 use sha1::Sha1;
 use sha2::Sha256;
-use std::test::Fail;
 
 // Whether this is the tag of a message that comes in two pieces.
 fn is_tag<H: HashFunction>(key: &[u8], message: &[u8], tag: &[u8]) -> bool {
@@ -75,14 +72,4 @@ fn tags_are_published(rt: HostRuntime) {
     assert!(rt; tags_by_md5_are_published());
     assert!(rt; tags_by_sha1_are_published());
     assert!(rt; tags_by_sha256_are_published());
-}
-
-#[test]
-fn errors_name_lines(rt: HostRuntime) -> Result<(), Fail> {
-    let (pem, base64) = (PemError::Base64(7), Base64Error::Line(12));
-    let text = format!(in rt.alloc(); "{pem}, {base64}, {}", KeyFileError::Cipher(b""))?;
-    assert!(rt;
-        text.as_str() == "line 7 is no Base64, line 12 is no Base64, the cipher is not DES-EDE3-CBC"
-    );
-    Ok(())
 }
