@@ -1,44 +1,61 @@
 //! Translation of PIN blocks (ISO 9564-1): from one key to another, and from one format to another. The PIN does not come out.
 //!
 //! ```
-//! use cukvashe_des::payment::translation::{translate, Format::Format0, Format::Format3};
+//! use cukvashe_des::payment::translation::{translate, Incoming, Outgoing};
 //!
 //! let incoming = 0x0123456789abcdeffedcba9876543210u128.to_be_bytes();
 //! let outgoing = 0x89e88cf7931444f334bd7547fc3f380cu128.to_be_bytes();
 //! let fill = [10, 11, 12, 13, 14, 15, 10, 11, 12, 13];
 //! let block = 0xc03d21cdbcb0c58bu64.to_be_bytes();
-//! let translated = translate(&incoming, Format0, &outgoing, Format3, b"4012345678909", &fill, &block)?;
+//! let format = Outgoing::Format3 { fill };
+//! let translated = translate(&incoming, Incoming::Format0, &outgoing, format, b"4012345678909", &block)?;
 //! assert_eq!(translated, 0xba041cb9b3034d36u64.to_be_bytes());
 //! # Ok::<(), cukvashe_des::payment::TranslationError>(())
 //! ```
 
 use crate::error::sentences;
 use crate::ffi;
-use crate::statuses::{sentence, ACCOUNT_DIGIT, ACCOUNT_LENGTH, FILL, FORMATS, KEY_LENGTH, OK, PIN_BLOCK};
+use crate::statuses::{sentence, ACCOUNT_DIGIT, ACCOUNT_LENGTH, FILL, KEY_LENGTH, OK, PIN_BLOCK};
 use crate::Block;
 use core::ffi::c_int;
 
-/// A format of PIN blocks.
+/// The format of a PIN block that comes in.
+#[non_exhaustive]
 #[derive(Clone, Copy, Debug, PartialEq, Eq)]
-pub enum Format {
+pub enum Incoming {
     /// With an account number.
-    Format0 = 0,
+    Format0,
     /// With transaction digits.
-    Format1 = 1,
-    /// For a card, in clear.
-    Format2 = 2,
+    Format1,
     /// With an account number and fill digits.
-    Format3 = 3,
+    Format3,
+}
+
+/// The format of the PIN block that is made: with an account number, and with fill digits where it has them.
+///
+/// ```compile_fail,E0533
+/// let format = cukvashe_des::payment::translation::Outgoing::Format3;
+/// ```
+#[non_exhaustive]
+#[derive(Clone, Copy, Debug, PartialEq, Eq)]
+pub enum Outgoing {
+    /// The account number alone.
+    Format0,
+    /// With ten fill digits from 10 to 15, of which it uses the first ones that fill it to sixteen digits: take them from a source of
+    /// randomness.
+    Format3 {
+        /// The digits.
+        fill: [u8; 10],
+    },
 }
 
 /// Why a PIN block is not translated. The first of them is reported, in this order. Whatever is wrong with the block itself is
 /// one error, since its faults would reveal PINs.
+#[non_exhaustive]
 #[derive(Clone, Copy, Debug, PartialEq, Eq)]
 pub enum TranslationError {
     /// One of the keys does not have 8, 16 or 24 bytes.
     KeyLength,
-    /// [`translate`] does not go from the one format to the other.
-    Formats,
     /// The account number does not have 8 to 19 digits.
     AccountLength,
     /// A character of the account number is not a digit.
@@ -51,7 +68,6 @@ pub enum TranslationError {
 
 sentences!(TranslationError:
     TranslationError::KeyLength => "a key does not have 8, 16 or 24 bytes",
-    TranslationError::Formats => "there is no translation from the one format to the other",
     TranslationError::AccountLength => "the account number does not have 8 to 19 digits",
     TranslationError::AccountDigit => sentence(ACCOUNT_DIGIT),
     TranslationError::Fill => sentence(FILL),
@@ -61,22 +77,20 @@ sentences!(TranslationError:
 /// Translates a PIN block that is encrypted under one key, of 8, 16 or 24 bytes, into the block of the same PIN that is encrypted
 /// under another: by DES, or by triple DES in the EDE form.
 ///
-/// It goes from the formats 0, 1 and 3 to the formats 0 and 3; for 1 to 1 there is [`translate_format_1`]. The account number, a
-/// text of 8 to 19 digits with the check digit, is that of both blocks, and the fill digits, from 10 to 15, are those of an outgoing
-/// block of format 3.
+/// For a block of format 1 that stays one there is [`translate_format_1`]. The account number, a text of 8 to 19 digits with the check
+/// digit, is that of both blocks.
 pub fn translate(
     incoming: &[u8],
-    from: Format,
+    from: Incoming,
     outgoing: &[u8],
-    to: Format,
+    to: Outgoing,
     account: &[u8],
-    fill: &[u8; 10],
     block: &Block,
 ) -> Result<Block, TranslationError> {
-    // It does not go to formats 1 and 2, as it does not from format 2, which the library refuses.
-    let number = match to {
-        Format::Format0 | Format::Format3 => from as c_int,
-        Format::Format1 | Format::Format2 => Format::Format2 as c_int,
+    let number = match from {
+        Incoming::Format0 => 0,
+        Incoming::Format1 => 1,
+        Incoming::Format3 => 3,
     };
     let mut translated = [0; 8];
     let (key, key_length, other, other_length) = (incoming.as_ptr(), incoming.len(), outgoing.as_ptr(), outgoing.len());
@@ -84,7 +98,7 @@ pub fn translate(
     // SAFETY: the pointers are of references, those of keys and the text good for their lengths, and don't overlap what is written.
     let status = unsafe {
         match to {
-            Format::Format3 => ffi::cukvashe_pin_translate_to_3(
+            Outgoing::Format3 { fill } => ffi::cukvashe_pin_translate_to_3(
                 key,
                 key_length,
                 number,
@@ -92,11 +106,11 @@ pub fn translate(
                 other_length,
                 text,
                 length,
-                fill,
+                &fill,
                 block,
                 made,
             ),
-            _ => ffi::cukvashe_pin_translate_to_0(
+            Outgoing::Format0 => ffi::cukvashe_pin_translate_to_0(
                 key,
                 key_length,
                 number,
@@ -136,7 +150,6 @@ fn answer_of(status: c_int, translated: Block) -> Result<Block, TranslationError
     match status {
         OK => Ok(translated),
         KEY_LENGTH => Err(TranslationError::KeyLength),
-        FORMATS => Err(TranslationError::Formats),
         ACCOUNT_LENGTH => Err(TranslationError::AccountLength),
         ACCOUNT_DIGIT => Err(TranslationError::AccountDigit),
         PIN_BLOCK => Err(TranslationError::Block),

@@ -157,16 +157,16 @@ const OF_1_SINGLE: u64 = 0x824daa361d7dc65a;
 #[test]
 fn blocks_are_translated() {
     let (pair, other) = (pair(), other());
-    let (zero, one, three) = (Format::Format0, Format::Format1, Format::Format3);
+    let three = Outgoing::Format3 { fill: FILL };
     for (incoming, from, outgoing, to, block, translated) in [
-        (&pair[..], zero, &other[..], zero, OF_0, OF_0_OTHER),
-        (&pair, zero, &other, three, OF_0, OF_3_OTHER),
-        (&other, three, &pair, zero, OF_3_OTHER, OF_0),
-        (&other, three, &other, three, OF_3_OTHER, OF_3_OTHER),
-        (&pair[..8], one, &pair, zero, OF_1_SINGLE, OF_0),
-        (&pair[..8], one, &other, three, OF_1_SINGLE, OF_3_OTHER),
+        (&pair[..], Incoming::Format0, &other[..], Outgoing::Format0, OF_0, OF_0_OTHER),
+        (&pair, Incoming::Format0, &other, three, OF_0, OF_3_OTHER),
+        (&other, Incoming::Format3, &pair, Outgoing::Format0, OF_3_OTHER, OF_0),
+        (&other, Incoming::Format3, &other, three, OF_3_OTHER, OF_3_OTHER),
+        (&pair[..8], Incoming::Format1, &pair, Outgoing::Format0, OF_1_SINGLE, OF_0),
+        (&pair[..8], Incoming::Format1, &other, three, OF_1_SINGLE, OF_3_OTHER),
     ] {
-        let made = translate(incoming, from, outgoing, to, ACCOUNT, &FILL, &block.to_be_bytes());
+        let made = translate(incoming, from, outgoing, to, ACCOUNT, &block.to_be_bytes());
         assert_eq!(made, Ok(translated.to_be_bytes()));
     }
 }
@@ -196,35 +196,32 @@ fn blocks_of_format_1_are_translated() {
 }
 
 /// What a translation from the pair to the other key gives.
-fn translated(from: Format, to: Format, account: &[u8], fill: &[u8; 10], block: u64) -> Option<TranslationError> {
-    translate(&pair(), from, &other(), to, account, fill, &block.to_be_bytes()).err()
+fn translated(from: Incoming, to: Outgoing, account: &[u8], block: u64) -> Option<TranslationError> {
+    translate(&pair(), from, &other(), to, account, &block.to_be_bytes()).err()
 }
 
+/// The key's fault comes first, then that of the account number, then that of the fill digits.
 #[test]
 fn translations_are_refused() {
-    let formats = [Format::Format0, Format::Format1, Format::Format2, Format::Format3];
-    for (from, to) in formats.into_iter().flat_map(|from| formats.map(|to| (from, to))) {
+    let to = [Outgoing::Format0, Outgoing::Format3 { fill: [0; 10] }];
+    let from = [Incoming::Format0, Incoming::Format1, Incoming::Format3];
+    for (from, to) in from.into_iter().flat_map(|from| to.map(|to| (from, to))) {
         for length in LENGTHS.filter(|length| ![8, 16, 24].contains(length)) {
             let key = vec![1; length];
             for (incoming, outgoing) in [(&key[..], &pair()[..]), (&pair(), &key)] {
-                let made = translate(incoming, from, outgoing, to, b"", &[0; 10], &[0; 8]);
+                let made = translate(incoming, from, outgoing, to, b"", &[0; 8]);
                 assert_eq!(made, Err(TranslationError::KeyLength));
             }
         }
-        if from == Format::Format2 || to == Format::Format1 || to == Format::Format2 {
-            assert_eq!(translated(from, to, b"", &[0; 10], OF_0), Some(TranslationError::Formats));
-        } else {
-            assert_eq!(translated(from, to, b"1234567", &[0; 10], OF_0), Some(TranslationError::AccountLength));
-            assert_eq!(translated(from, to, &[b'1'; 20], &[0; 10], OF_0), Some(TranslationError::AccountLength));
-            assert_eq!(translated(from, to, b"1234567:", &[0; 10], OF_0), Some(TranslationError::AccountDigit));
-        }
+        assert_eq!(translated(from, to, b"1234567", OF_0), Some(TranslationError::AccountLength));
+        assert_eq!(translated(from, to, &[b'1'; 20], OF_0), Some(TranslationError::AccountLength));
+        assert_eq!(translated(from, to, b"1234567:", OF_0), Some(TranslationError::AccountDigit));
     }
     for (place, digit) in (0..10).flat_map(|place| [9, 16].map(|digit| (place, digit))) {
         let mut fill = FILL;
         fill[place] = digit;
-        let made = translated(Format::Format0, Format::Format3, ACCOUNT, &fill, OF_0);
+        let made = translated(Incoming::Format0, Outgoing::Format3 { fill }, ACCOUNT, OF_0);
         assert_eq!(made, Some(TranslationError::Fill));
-        assert_eq!(translated(Format::Format0, Format::Format0, ACCOUNT, &fill, OF_0), None);
     }
 }
 
@@ -243,10 +240,10 @@ fn blocks_have_one_fault() {
     ] {
         let mut block = digits.to_be_bytes();
         cipher.encrypt_block(&mut block);
-        for to in [Format::Format0, Format::Format3] {
-            assert_eq!(translated(Format::Format0, to, ACCOUNT, &FILL, u64::from_be_bytes(block)), fault);
+        for to in [Outgoing::Format0, Outgoing::Format3 { fill: FILL }] {
+            assert_eq!(translated(Incoming::Format0, to, ACCOUNT, u64::from_be_bytes(block)), fault);
         }
     }
-    let made = translated(Format::Format0, Format::Format0, b"4012345678919", &FILL, OF_0);
+    let made = translated(Incoming::Format0, Outgoing::Format0, b"4012345678919", OF_0);
     assert_eq!(made, Some(TranslationError::Block));
 }

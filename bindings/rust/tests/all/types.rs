@@ -232,7 +232,6 @@ fn errors_are_sentences() {
         (Box::new(VerificationError::TableVariety), "the decimalization table has fewer than eight different digits"),
         (Box::new(VerificationError::WrongPin), "the PIN is not the one"),
         (Box::new(TranslationError::KeyLength), "a key does not have 8, 16 or 24 bytes"),
-        (Box::new(TranslationError::Formats), "there is no translation from the one format to the other"),
         (Box::new(TranslationError::AccountLength), "the account number does not have 8 to 19 digits"),
         (Box::new(TranslationError::AccountDigit), "a character of the account number is not a digit"),
         (Box::new(TranslationError::Fill), "a fill digit is not one that the format allows"),
