@@ -1,16 +1,15 @@
 //! The errors of ciphers and keys, and how errors are written.
 
-use crate::statuses::{sentence, COUNTS, WEAK_KEY};
-use core::fmt;
+use crate::statuses::{sentence, COUNTS, KEY_LENGTH, WEAK_KEY};
 
-/// Writes an error as a sentence, and what more there is to say after it.
+/// Writes an error as a sentence.
 macro_rules! sentences {
-    ($type:ident: $($value:path => $text:expr $(; $more:literal)?,)*) => {
+    ($type:ident: $($value:path => $text:expr,)*) => {
         impl core::fmt::Display for $type {
             fn fmt(&self, f: &mut core::fmt::Formatter<'_>) -> core::fmt::Result {
-                match self {
-                    $($value => write!(f, concat!("{}" $(, $more)?), $text),)*
-                }
+                f.write_str(match self {
+                    $($value => $text,)*
+                })
             }
         }
 
@@ -20,19 +19,16 @@ macro_rules! sentences {
 
 pub(crate) use sentences;
 
-/// The error of a key whose length is not the key size.
+/// The error of a key whose length is none that the call takes.
 #[derive(Clone, Copy, Debug, PartialEq, Eq)]
 pub struct InvalidLength;
 
-impl fmt::Display for InvalidLength {
-    fn fmt(&self, f: &mut fmt::Formatter<'_>) -> fmt::Result {
-        f.write_str("the key does not have the key size")
-    }
-}
-
-impl core::error::Error for InvalidLength {}
+sentences!(InvalidLength:
+    InvalidLength => sentence(KEY_LENGTH),
+);
 
 /// Why a cipher refuses data. Nothing was changed.
+#[non_exhaustive]
 #[derive(Clone, Copy, Debug, PartialEq, Eq)]
 pub enum DataError {
     /// The data are not whole blocks of 8 bytes.
@@ -51,15 +47,12 @@ sentences!(DataError:
 #[derive(Clone, Copy, Debug, PartialEq, Eq)]
 pub struct CountsDiffer;
 
-impl fmt::Display for CountsDiffer {
-    fn fmt(&self, f: &mut fmt::Formatter<'_>) -> fmt::Result {
-        f.write_str(sentence(COUNTS))
-    }
-}
-
-impl core::error::Error for CountsDiffer {}
+sentences!(CountsDiffer:
+    CountsDiffer => sentence(COUNTS),
+);
 
 /// Why a key does not pass the weak key test.
+#[non_exhaustive]
 #[derive(Clone, Copy, Debug, PartialEq, Eq)]
 pub enum KeyTestError {
     /// The key is weak, or has two parts that are one key.

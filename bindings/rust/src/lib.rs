@@ -177,6 +177,7 @@ macro_rules! cipher {
 
         impl $name {
             /// The cipher of a key of as many bytes as its size, weak or not.
+            #[must_use]
             pub fn new(key: &[u8; $key_size]) -> Self {
                 let mut cipher = $name { context: ffi::$name::empty() };
                 // SAFETY: the pointers are of references, good for their lengths, and don't overlap. The status is 0,
@@ -188,6 +189,7 @@ macro_rules! cipher {
             /// The quiet cipher of a key, which answers as that of `new`: no call of it, or of a clone, reads a table at an
             /// index that depends on the key or the data. A single block and CBC encryption take two to two and a
             /// half times as long.
+            #[must_use]
             pub fn new_quiet(key: &[u8; $key_size]) -> Self {
                 let mut cipher = $name { context: ffi::$name::empty() };
                 // SAFETY: as of `new`.
@@ -353,6 +355,7 @@ pub fn weak_key_test(key: &[u8]) -> Result<(), KeyTestError> {
 /// ```
 /// assert_eq!(cukvashe_des::with_odd_parity(&[0, 1, 2, 3, 4, 5, 6, 7]), [1, 1, 2, 2, 4, 4, 7, 7]);
 /// ```
+#[must_use]
 pub fn with_odd_parity<const SIZE: usize>(key: &[u8; SIZE]) -> [u8; SIZE] {
     let mut changed = *key;
     // SAFETY: the pointer is of a reference, good for its length.
@@ -372,6 +375,7 @@ pub fn with_odd_parity<const SIZE: usize>(key: &[u8; SIZE]) -> [u8; SIZE] {
 /// ```compile_fail,E0080
 /// cukvashe_des::equal_but_parity(&[0; 7], &[0; 7]);
 /// ```
+#[must_use]
 pub fn equal_but_parity<const SIZE: usize>(first: &[u8; SIZE], second: &[u8; SIZE]) -> bool {
     const { assert!(SIZE % 8 == 0, "a key has whole parts of 8 bytes") };
     // SAFETY: the pointers are of references, good for the length, which are only read.

@@ -18,6 +18,7 @@ use crate::ffi;
 use crate::statuses::{sentence, BLOCKS, OK, PADDING};
 
 /// How data become whole blocks, by 1 to 8 bytes after them.
+#[non_exhaustive]
 #[derive(Clone, Copy, Debug, PartialEq, Eq)]
 pub enum Method {
     /// PKCS#7 (RFC 5652, section 6.3): each byte is their number.
@@ -41,6 +42,7 @@ impl Method {
 pub struct NoRoom;
 
 /// Why no padding is taken off.
+#[non_exhaustive]
 #[derive(Clone, Copy, Debug, PartialEq, Eq)]
 pub enum UnpadError {
     /// The data are not whole blocks of 8 bytes.

@@ -21,6 +21,7 @@ use core::ffi::c_int;
 
 /// How `openssl enc` derives key and vector from a password and a salt: by `EVP_BytesToKey` with one iteration, or by PBKDF2 under
 /// `-pbkdf2` or `-iter`. The hash function is that of `-md`.
+#[non_exhaustive]
 #[derive(Clone, Copy, Debug, PartialEq, Eq)]
 pub enum Derivation {
     /// `-md md5`, which OpenSSL took before version 1.1.0.
@@ -36,6 +37,7 @@ pub enum Derivation {
 }
 
 /// Why no key is derived.
+#[non_exhaustive]
 #[derive(Clone, Copy, Debug, PartialEq, Eq)]
 pub enum DeriveError {
     /// There has to be one iteration at least.
@@ -53,6 +55,7 @@ sentences!(DeriveError:
 );
 
 /// Why a file is not opened. The first of them is reported, in this order. Tell nobody who sends you files which fault they have.
+#[non_exhaustive]
 #[derive(Clone, Copy, Debug, PartialEq, Eq)]
 pub enum OpenError {
     /// The bytes do not begin with `Salted__`.

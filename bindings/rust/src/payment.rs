@@ -141,6 +141,7 @@ combine!(
 // SAFETY of each call below: the pointers are of references to arrays of the lengths that it takes, and don't overlap.
 
 /// The initial key of a terminal, from the base derivation key and a key serial number.
+#[must_use]
 pub fn initial_key(base: &[u8; 16], serial: &[u8; 10]) -> [u8; 16] {
     let mut key = [0; 16];
     unsafe { ffi::cukvashe_dukpt_initial_key(base, serial, &mut key) };
@@ -149,6 +150,7 @@ pub fn initial_key(base: &[u8; 16], serial: &[u8; 10]) -> [u8; 16] {
 
 /// The key of a transaction, from the terminal's initial key and the transaction's key serial number. It takes every counter,
 /// and for 0 gives the initial key itself: ask [`is_usable`] first.
+#[must_use]
 pub fn transaction_key(initial: &[u8; 16], serial: &[u8; 10]) -> [u8; 16] {
     let mut key = [0; 16];
     unsafe { ffi::cukvashe_dukpt_transaction_key(initial, serial, &mut key) };
@@ -166,6 +168,7 @@ pub fn transaction_keys(base: &[u8; 16], serials: &[[u8; 10]], keys: &mut [[u8; 
 }
 
 /// The key that encrypts PIN blocks, from the transaction's key.
+#[must_use]
 pub fn pin_key(transaction: &[u8; 16]) -> [u8; 16] {
     let mut key = [0; 16];
     unsafe { ffi::cukvashe_dukpt_pin_key(transaction, &mut key) };
@@ -173,6 +176,7 @@ pub fn pin_key(transaction: &[u8; 16]) -> [u8; 16] {
 }
 
 /// The key that authenticates a message, from the transaction's key.
+#[must_use]
 pub fn mac_key(transaction: &[u8; 16], message: Message) -> [u8; 16] {
     let mut key = [0; 16];
     unsafe { ffi::cukvashe_dukpt_mac_key(transaction, message == Message::Response, &mut key) };
@@ -180,6 +184,7 @@ pub fn mac_key(transaction: &[u8; 16], message: Message) -> [u8; 16] {
 }
 
 /// The key that encrypts the data of a message, from the transaction's key.
+#[must_use]
 pub fn data_key(transaction: &[u8; 16], message: Message) -> [u8; 16] {
     let mut key = [0; 16];
     unsafe { ffi::cukvashe_dukpt_data_key(transaction, message == Message::Response, &mut key) };
@@ -188,6 +193,7 @@ pub fn data_key(transaction: &[u8; 16], message: Message) -> [u8; 16] {
 
 /// The data variant of the transaction's key for a message: the key that [`data_key`] makes, without its last step. Some terminals
 /// encrypt data under it; it reveals the transaction's other keys.
+#[must_use]
 pub fn data_variant(transaction: &[u8; 16], message: Message) -> [u8; 16] {
     let mut key = [0; 16];
     unsafe { ffi::cukvashe_dukpt_data_variant(transaction, message == Message::Response, &mut key) };
@@ -195,11 +201,13 @@ pub fn data_variant(transaction: &[u8; 16], message: Message) -> [u8; 16] {
 }
 
 /// Whether a transaction has this key serial number: its counter is not 0 and has at most ten one bits.
+#[must_use]
 pub fn is_usable(serial: &[u8; 10]) -> bool {
     unsafe { ffi::cukvashe_dukpt_is_usable(serial) }
 }
 
 /// The next key serial number with at most ten one bits in its counter, if there is one.
+#[must_use]
 pub fn next_serial(serial: &[u8; 10]) -> Option<[u8; 10]> {
     let mut next = [0; 10];
     let status = unsafe { ffi::cukvashe_dukpt_next_serial(serial, &mut next) };

@@ -7,6 +7,7 @@ use crate::statuses::{
 };
 
 /// Why there is no card verification value. The first of them is reported, in this order.
+#[non_exhaustive]
 #[derive(Clone, Copy, Debug, PartialEq, Eq)]
 pub enum CvvError {
     /// The account number does not have 12 to 19 digits.

@@ -22,6 +22,7 @@ use crate::ffi;
 use crate::statuses::{sentence, ACCOUNT_DIGIT, ACCOUNT_LENGTH, DATA_LENGTH, OK, SEQUENCE_DIGIT, SEQUENCE_LENGTH};
 
 /// Why there is no key of a card, or no response to it. The first of them is reported, in this order.
+#[non_exhaustive]
 #[derive(Clone, Copy, Debug, PartialEq, Eq)]
 pub enum EmvError {
     /// The account number does not have 8 to 19 digits.
@@ -81,6 +82,7 @@ pub fn card_key_b(issuer: &[u8; 16], account: &[u8], sequence: &[u8]) -> Result<
 
 /// The session key of a card's key by the common derivation (A1.3), from eight bytes that are different for each session: for secure
 /// messaging the application cryptogram. Their third byte plays no part.
+#[must_use]
 pub fn session_key(card: &[u8; 16], block: &[u8; 8]) -> [u8; 16] {
     let mut key = [0; 16];
     unsafe { ffi::cukvashe_emv_session_key(card, block, &mut key) };
@@ -88,6 +90,7 @@ pub fn session_key(card: &[u8; 16], block: &[u8; 8]) -> [u8; 16] {
 }
 
 /// The session key for application cryptograms, by the application transaction counter, two bytes.
+#[must_use]
 pub fn application_key(card: &[u8; 16], counter: &[u8; 2]) -> [u8; 16] {
     let mut key = [0; 16];
     unsafe { ffi::cukvashe_emv_application_key(card, counter, &mut key) };
@@ -96,6 +99,7 @@ pub fn application_key(card: &[u8; 16], counter: &[u8; 2]) -> [u8; 16] {
 
 /// The application cryptogram of bytes under a session key (8.1.2): the retail MAC with padding method 2. To check one that a card
 /// sent, call `verify` of [`RetailMacDes`](crate::mac::RetailMacDes), and do not compare by `==`.
+#[must_use]
 pub fn application_cryptogram(session: &[u8; 16], bytes: &[u8]) -> [u8; 8] {
     let mut cryptogram = [0; 8];
     unsafe { ffi::cukvashe_emv_application_cryptogram(session, bytes.as_ptr(), bytes.len(), &mut cryptogram) };
@@ -103,6 +107,7 @@ pub fn application_cryptogram(session: &[u8; 16], bytes: &[u8]) -> [u8; 8] {
 }
 
 /// The response by method 1 (8.2.1) to an application cryptogram, with a response code of two bytes, ASCII characters.
+#[must_use]
 pub fn response_1(session: &[u8; 16], cryptogram: &[u8; 8], code: &[u8; 2]) -> [u8; 8] {
     let mut response = [0; 8];
     unsafe { ffi::cukvashe_emv_response_1(session, cryptogram, code, &mut response) };

@@ -26,6 +26,7 @@ use crate::statuses::{
 use core::fmt;
 
 /// Why a key block is not made, or a block holds no key. Of a block that is read the first of them is reported, in this order.
+#[non_exhaustive]
 #[derive(Clone, Copy, Debug, PartialEq, Eq)]
 pub enum KeyBlockError {
     /// The protection key does not have 16 or 24 bytes.
@@ -151,6 +152,7 @@ pub struct BlockKey {
 
 impl BlockKey {
     /// Its bytes.
+    #[must_use]
     pub fn bytes(&self) -> &[u8] {
         &self.bytes[..self.count]
     }

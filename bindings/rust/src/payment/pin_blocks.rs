@@ -10,6 +10,7 @@ use core::fmt;
 /// Why a PIN block is not made, or a block holds no PIN. The first of them is reported: where a block is made, of the PIN,
 /// then of the account number, then of the fill digits; where one is read, of the account number, then in the order of the
 /// block's digits. The fault of a block that is read reveals something of its PIN: show it to nobody.
+#[non_exhaustive]
 #[derive(Clone, Copy, Debug, PartialEq, Eq)]
 pub enum PinError {
     /// The block's first digit is not that of the format.
@@ -83,6 +84,7 @@ impl Pin {
     }
 
     /// Its ASCII digits.
+    #[must_use]
     pub fn text(&self) -> &[u8] {
         self.text.split(|digit| *digit == 0).next().unwrap_or(&[])
     }
@@ -126,6 +128,7 @@ pub fn encode_format_1(pin: &Pin, transaction: &[u8; 10]) -> Result<Block, PinEr
 }
 
 /// The block of format 2 of a PIN, which goes to a card in clear.
+#[must_use]
 pub fn encode_format_2(pin: &Pin) -> Block {
     let (pin, mut block) = (pin.text(), [0; 8]);
     // There is no fault, since the text is that of a PIN.

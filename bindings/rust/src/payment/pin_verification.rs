@@ -28,6 +28,7 @@ use core::fmt;
 
 /// Why there is no PIN verification value, natural PIN, offset or decimalization table, or why a PIN is not accepted. The first of
 /// them is reported, in this order.
+#[non_exhaustive]
 #[derive(Clone, Copy, Debug, PartialEq, Eq)]
 pub enum VerificationError {
     /// The account number does not have 12 to 19 digits.

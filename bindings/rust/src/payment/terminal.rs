@@ -28,6 +28,7 @@ impl Terminal {
     pub const STATE_SIZE: usize = 346;
 
     /// The terminal of an initial key, before its first transaction. The counter of the key serial number plays no part.
+    #[must_use]
     pub fn new(initial: &[u8; 16], serial: &[u8; 10]) -> Terminal {
         let mut terminal = Terminal::empty();
         // SAFETY: the pointers are of references, and don't overlap.
@@ -43,6 +44,7 @@ impl Terminal {
     /// The key serial number and the key of the next transaction, that of [`transaction_key`](super::transaction_key), which the
     /// terminal then forgets. Store the state before you use the key, or a key is used twice. `None` after the last transaction,
     /// the 1,048,575th.
+    #[must_use = "the terminal has forgotten the key"]
     pub fn next_key(&mut self) -> Option<([u8; 10], [u8; 16])> {
         let (mut serial, mut key) = ([0; 10], [0; 16]);
         // SAFETY: the pointers are of references, and don't overlap.
@@ -51,11 +53,13 @@ impl Terminal {
     }
 
     /// The key serial number of the last transaction; before the first its counter is 0.
+    #[must_use]
     pub fn serial(&self) -> &[u8; 10] {
         &self.state.serial
     }
 
     /// The state, from which `from_state` goes on. It is secret: it has the keys of all transactions to come.
+    #[must_use]
     pub fn state(&self) -> [u8; Self::STATE_SIZE] {
         let mut state = [0; Self::STATE_SIZE];
         let (serial, keys) = state.split_at_mut(10);
@@ -65,6 +69,7 @@ impl Terminal {
     }
 
     /// The terminal of a state.
+    #[must_use]
     pub fn from_state(state: &[u8; Self::STATE_SIZE]) -> Terminal {
         let mut terminal = Terminal::empty();
         let (serial, keys) = state.split_at(10);

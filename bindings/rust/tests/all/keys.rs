@@ -50,7 +50,7 @@ fn padded(data: &[u8], method: Method) -> Vec<u8> {
     let count = 8 - data.len() % 8;
     let padding = match method {
         Method::Pkcs7 => vec![count as u8; count],
-        Method::Iso7816 => [&[0x80], &vec![0; count - 1][..]].concat(),
+        _ => [&[0x80], &vec![0; count - 1][..]].concat(),
     };
     [data, &padding].concat()
 }

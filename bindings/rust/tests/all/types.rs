@@ -8,7 +8,9 @@ use cukvashe_des::payment::*;
 use cukvashe_des::*;
 use std::error::Error;
 use std::fmt::Debug;
+use std::fs;
 use std::mem::{size_of, MaybeUninit};
+use std::path::{Path, PathBuf};
 use std::slice;
 
 /// Calls a macro with each type that holds a secret, and a value of it.
@@ -194,10 +196,32 @@ fn secrets_have_no_equality() {
     <Terminal as Without<_>>::answer();
 }
 
+/// The Rust files below a folder of the crate.
+fn sources(folder: &Path) -> Vec<PathBuf> {
+    let entries = fs::read_dir(folder).unwrap().map(|entry| entry.unwrap().path());
+    entries.flat_map(|path| if path.is_dir() { sources(&path) } else { vec![path] }).collect()
+}
+
+/// A variant more breaks no caller, but of what has no third one.
+#[test]
+fn enums_may_grow() {
+    let (mut count, closed) = (0, ["Message"]);
+    for file in sources(&Path::new(env!("CARGO_MANIFEST_DIR")).join("src")) {
+        let text = fs::read_to_string(&file).unwrap();
+        for (before, after) in text.match_indices("\npub enum ").map(|(at, _)| text.split_at(at)) {
+            let name = after.split_whitespace().nth(2).unwrap();
+            let mut attributes = before.lines().rev().take_while(|line| line.starts_with("#["));
+            assert_ne!(attributes.any(|line| line == "#[non_exhaustive]"), closed.contains(&name), "{name}");
+            count += 1;
+        }
+    }
+    assert!(count > closed.len());
+}
+
 #[test]
 fn errors_are_sentences() {
     let errors: Vec<(Box<dyn Error + Send + Sync>, &str)> = vec![
-        (Box::new(InvalidLength), "the key does not have the key size"),
+        (Box::new(InvalidLength), "the key does not have a length that the call takes"),
         (Box::new(DataError::NotBlocks), "the data are not whole blocks of 8 bytes"),
         (Box::new(DataError::LengthsDiffer), "input and output differ in length"),
         (
