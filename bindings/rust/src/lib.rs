@@ -15,7 +15,7 @@
 //! Ciphers take whole blocks of 8 bytes, as slices of bytes or of [`Block`]s: [`padding`] makes them of other data, [`mac`]
 //! authenticates messages, and [`payment`] has check values, keys of components and of transactions, PIN blocks, their translation
 //! and PIN verification, key blocks, card cryptograms and card verification values. [`KeyForEach`] takes lists in which each block
-//! has a key of its own, and [`passwords`] opens files of `openssl enc`.
+//! has a key of its own, [`Cipher`] keys whose length is known at run time only, and [`passwords`] opens files of `openssl enc`.
 //!
 //! `new_quiet` of each cipher and MAC makes one under which the library reads no table at an index that depends on the key or the
 //! data, which other programs on the processor could learn. That is tested of the library on x86-64, not of this crate.
@@ -27,6 +27,7 @@
 #![no_std]
 #![warn(missing_docs)]
 
+mod cipher;
 mod each_key;
 mod error;
 mod ffi;
@@ -36,6 +37,7 @@ pub mod passwords;
 pub mod payment;
 mod statuses;
 
+pub use cipher::Cipher;
 pub use each_key::KeyForEach;
 pub use error::{CountsDiffer, DataError, InvalidLength, KeyTestError};
 
@@ -64,11 +66,11 @@ pub type Block = [u8; 8];
 /// # Ok::<(), DataError>(())
 /// ```
 pub trait BlockCipher: Clone + fmt::Debug {
-    /// The key size in bytes.
-    const KEY_SIZE: usize;
-
-    /// The cipher of a key of `KEY_SIZE` bytes, weak or not.
+    /// The cipher of a key that has a length which the cipher takes, weak or not.
     fn new_from_slice(key: &[u8]) -> Result<Self, InvalidLength>;
+
+    /// The quiet cipher of such a key: no call of it, or of a clone, reads a table at an index that depends on the key or the data.
+    fn new_quiet_from_slice(key: &[u8]) -> Result<Self, InvalidLength>;
 
     /// Encrypts each block of the data by itself, in place.
     fn encrypt_ecb(&self, data: &mut [u8]) -> Result<(), DataError>;
@@ -176,6 +178,9 @@ macro_rules! cipher {
         }
 
         impl $name {
+            /// The key size in bytes.
+            pub const KEY_SIZE: usize = $key_size;
+
             /// The cipher of a key of as many bytes as its size, weak or not.
             #[must_use]
             pub fn new(key: &[u8; $key_size]) -> Self {
@@ -201,10 +206,12 @@ macro_rules! cipher {
         // SAFETY of each call below: the context is one that `init` wrote, and the other pointers are of references, good
         // for the length of the data, which don't overlap where one may be written.
         impl BlockCipher for $name {
-            const KEY_SIZE: usize = $key_size;
-
             fn new_from_slice(key: &[u8]) -> Result<Self, InvalidLength> {
                 key.try_into().map(Self::new).map_err(|_| InvalidLength)
+            }
+
+            fn new_quiet_from_slice(key: &[u8]) -> Result<Self, InvalidLength> {
+                key.try_into().map(Self::new_quiet).map_err(|_| InvalidLength)
             }
 
             fn encrypt_ecb(&self, data: &mut [u8]) -> Result<(), DataError> {

@@ -6,17 +6,22 @@
 //! `macs_each`, of many messages, read none: for speed, sort messages of very different lengths.
 //!
 //! ```
-//! use cukvashe_des::mac::{Mac, MacError, Method2, RetailMacDes};
+//! use cukvashe_des::mac::{Mac, MacError, Padding, RetailMacDes};
 //!
 //! let key = 0x0123456789abcdeffedcba9876543210u128.to_be_bytes();
-//! let mut mac = RetailMacDes::<Method2>::new_from_slice(&key)?;
+//! let mut mac = RetailMacDes::new(&key, Padding::Method2);
 //! mac.update(b"Now is the time ");
 //! mac.update(b"for it");
 //! let tag = 0x5a692ce64f404145u64.to_be_bytes();
 //! assert_eq!(mac.tag(), tag);
 //! assert_eq!(mac.verify_tag(&tag), Ok(()));
 //! assert_eq!(mac.verify_tag(&[0; 8]), Err(MacError));
-//! # Ok::<(), cukvashe_des::InvalidLength>(())
+//! ```
+//!
+//! A MAC that has padding methods is made with one, and none is taken for granted:
+//!
+//! ```compile_fail,E0061
+//! cukvashe_des::mac::RetailMacDes::new(&[7; 16]);
 //! ```
 
 use crate::each_key::count_of_both;
@@ -24,8 +29,8 @@ use crate::error::{sentences, CountsDiffer};
 use crate::ffi::{self, Message};
 use crate::statuses::{sentence, OK, TAG};
 use crate::InvalidLength;
+use core::ffi::c_int;
 use core::fmt;
-use core::marker::PhantomData;
 use core::ptr;
 
 /// The error of a tag that is not the one of the message.
@@ -36,57 +41,34 @@ sentences!(MacError:
     MacError => sentence(TAG),
 );
 
-mod sealed {
-    /// What no other crate can say of its types.
-    pub trait Sealed {}
-
-    impl Sealed for super::Method1 {}
-    impl Sealed for super::Method2 {}
+/// A padding method of CBC-MAC and of the retail MAC.
+#[non_exhaustive]
+#[derive(Clone, Copy, Debug, PartialEq, Eq)]
+pub enum Padding {
+    /// As few zeros as make whole blocks, one block at least.
+    Method1,
+    /// A one bit, and then as few zeros as make whole blocks.
+    Method2,
 }
 
-/// A padding method: [`Method1`] or [`Method2`], and no other.
-///
-/// ```compile_fail,E0277
-/// #[derive(Clone)]
-/// struct Method3;
-///
-/// impl cukvashe_des::mac::Padding for Method3 {
-///     const METHOD: i32 = 3;
-/// }
-/// ```
-pub trait Padding: Clone + sealed::Sealed {
-    /// Its number.
-    const METHOD: i32;
+impl Padding {
+    /// The number by which the library knows it.
+    fn number(self) -> c_int {
+        match self {
+            Padding::Method1 => ffi::MAC_PADDING_1,
+            Padding::Method2 => ffi::MAC_PADDING_2,
+        }
+    }
 }
 
-/// Padding method 1: as few zeros as make whole blocks, one block at least.
-#[derive(Clone)]
-pub struct Method1;
-
-impl Padding for Method1 {
-    const METHOD: i32 = ffi::MAC_PADDING_1;
-}
-
-/// Padding method 2: a one bit, and then as few zeros as make whole blocks.
-#[derive(Clone)]
-pub struct Method2;
-
-impl Padding for Method2 {
-    const METHOD: i32 = ffi::MAC_PADDING_2;
-}
-
-/// A message authentication code with tags of 8 bytes. A clone goes on by itself, and `Debug` writes no part of it.
-pub trait Mac: Clone + fmt::Debug {
-    /// The key size in bytes.
-    const KEY_SIZE: usize;
-
-    /// The state of the message of no bytes under a key of `KEY_SIZE` bytes.
-    fn new_from_slice(key: &[u8]) -> Result<Self, InvalidLength>;
-
+/// A message authentication code with tags of 8 bytes. `Debug` writes no part of it. Take `&mut dyn Mac` of a MAC that is known at
+/// run time only.
+pub trait Mac: fmt::Debug {
     /// Adds bytes to the message. However it is cut into pieces, its tag is the same.
     fn update(&mut self, bytes: &[u8]);
 
     /// The tag of the message so far, which may go on. To check a tag call `verify_tag`: `==` may stop at the first wrong byte.
+    #[must_use]
     fn tag(&self) -> [u8; 8];
 
     /// Accepts the first 4 to 8 bytes of the tag of the message so far, and nothing else. Pass as many as both sides agreed on, not
@@ -101,64 +83,88 @@ pub trait Mac: Clone + fmt::Debug {
 
     /// As `tag`, of a state that ends here. It is moved to this call, which wipes it; where it was, as in a `Box`, its bytes stay:
     /// call `tag` there, and drop it.
-    fn finalize(self) -> [u8; 8] {
+    #[must_use]
+    fn finalize(self) -> [u8; 8]
+    where
+        Self: Sized,
+    {
         self.tag()
     }
 
     /// As `verify_tag_truncated_left`, of a state that ends here, with what `finalize` says of moves.
-    fn verify_truncated_left(self, tag: &[u8]) -> Result<(), MacError> {
+    fn verify_truncated_left(self, tag: &[u8]) -> Result<(), MacError>
+    where
+        Self: Sized,
+    {
         self.verify_tag_truncated_left(tag)
     }
 
     /// As `verify_tag`, of a state that ends here, with what `finalize` says of moves.
-    fn verify(self, tag: &[u8; 8]) -> Result<(), MacError> {
+    fn verify(self, tag: &[u8; 8]) -> Result<(), MacError>
+    where
+        Self: Sized,
+    {
         self.verify_tag(tag)
-    }
-
-    /// The tag of a whole message.
-    fn mac(key: &[u8], bytes: &[u8]) -> Result<[u8; 8], InvalidLength> {
-        let mut state = Self::new_from_slice(key)?;
-        state.update(bytes);
-        Ok(state.tag())
     }
 }
 
-/// A MAC: its type, its context, and its calls of the library. In brackets stand its parameter and what `init` takes more.
+/// A MAC: its type, its context, and its calls of the library. In brackets stands its padding method, if it has one.
 macro_rules! mac {
     ($(#[$doc:meta])* $name:ident [$($padding:ident)?], $key_size:literal, $init:ident, $init_quiet:ident, $update:ident,
      $finalize:ident, $verify:ident) => {
         $(#[$doc])*
+        /// A clone goes on by itself.
         #[derive(Clone)]
-        pub struct $name$(<$padding: Padding>)? {
+        pub struct $name {
             context: ffi::$name,
-            padding: PhantomData<($($padding,)?)>,
         }
 
-        impl$(<$padding: Padding>)? $name$(<$padding>)? {
-            /// The quiet state of the message of no bytes under a key: no call of it, or of a clone, reads a table at an
-            /// index that depends on the key or the message. It takes two to two and a half times as long.
-            pub fn new_quiet(key: &[u8; $key_size]) -> Self {
-                let mut mac = $name { context: ffi::$name::empty(), padding: PhantomData };
+        impl $name {
+            /// The key size in bytes.
+            pub const KEY_SIZE: usize = $key_size;
+
+            /// The state of the message of no bytes under a key of as many bytes as its size.
+            #[must_use]
+            pub fn new(key: &[u8; $key_size] $(, $padding: Padding)?) -> Self {
+                let mut mac = $name { context: ffi::$name::empty() };
                 // SAFETY: the pointers are of references, good for their lengths, and don't overlap. The status is 0, since
                 // the key has its length, and there is a padding of each method.
-                unsafe { ffi::$init_quiet(&mut mac.context, key.as_ptr(), key.len() $(, $padding::METHOD)?) };
+                unsafe { ffi::$init(&mut mac.context, key.as_ptr(), key.len() $(, $padding.number())?) };
                 mac
+            }
+
+            /// The quiet state of the message of no bytes under a key: no call of it, or of a clone, reads a table at an
+            /// index that depends on the key or the message. It takes two to two and a half times as long.
+            #[must_use]
+            pub fn new_quiet(key: &[u8; $key_size] $(, $padding: Padding)?) -> Self {
+                let mut mac = $name { context: ffi::$name::empty() };
+                // SAFETY: as of `new`.
+                unsafe { ffi::$init_quiet(&mut mac.context, key.as_ptr(), key.len() $(, $padding.number())?) };
+                mac
+            }
+
+            /// As `new`, of a slice, which must have as many bytes as the key size.
+            pub fn new_from_slice(key: &[u8] $(, $padding: Padding)?) -> Result<Self, InvalidLength> {
+                key.try_into().map(|key| Self::new(key $(, $padding)?)).map_err(|_| InvalidLength)
+            }
+
+            /// As `new_quiet`, of a slice, which must have as many bytes as the key size.
+            pub fn new_quiet_from_slice(key: &[u8] $(, $padding: Padding)?) -> Result<Self, InvalidLength> {
+                key.try_into().map(|key| Self::new_quiet(key $(, $padding)?)).map_err(|_| InvalidLength)
+            }
+
+            /// The tag of a whole message.
+            #[must_use]
+            pub fn mac(key: &[u8; $key_size], $($padding: Padding,)? message: &[u8]) -> [u8; 8] {
+                let mut mac = Self::new(key $(, $padding)?);
+                mac.update(message);
+                mac.tag()
             }
         }
 
         // SAFETY of each call below: the context is one that `init` wrote, and the other pointers are of references, good
         // for their lengths, which don't overlap where one may be written.
-        impl$(<$padding: Padding>)? Mac for $name$(<$padding>)? {
-            const KEY_SIZE: usize = $key_size;
-
-            fn new_from_slice(key: &[u8]) -> Result<Self, InvalidLength> {
-                let mut mac = $name { context: ffi::$name::empty(), padding: PhantomData };
-                match unsafe { ffi::$init(&mut mac.context, key.as_ptr(), key.len() $(, $padding::METHOD)?) } {
-                    OK => Ok(mac),
-                    _ => Err(InvalidLength),
-                }
-            }
-
+        impl Mac for $name {
             fn update(&mut self, bytes: &[u8]) {
                 unsafe { ffi::$update(&mut self.context, bytes.as_ptr(), bytes.len()) }
             }
@@ -177,7 +183,7 @@ macro_rules! mac {
             }
         }
 
-        impl$(<$padding: Padding>)? fmt::Debug for $name$(<$padding>)? {
+        impl fmt::Debug for $name {
             fn fmt(&self, f: &mut fmt::Formatter<'_>) -> fmt::Result {
                 f.write_str(concat!(stringify!($name), " { ... }"))
             }
@@ -187,22 +193,22 @@ macro_rules! mac {
 
 mac!(
     /// CBC-MAC over DES.
-    CbcMacDes [P], 8, cukvashe_cbc_mac_des_init, cukvashe_cbc_mac_des_init_quiet, cukvashe_cbc_mac_des_update,
+    CbcMacDes [padding], 8, cukvashe_cbc_mac_des_init, cukvashe_cbc_mac_des_init_quiet, cukvashe_cbc_mac_des_update,
     cukvashe_cbc_mac_des_final, cukvashe_cbc_mac_des_verify
 );
 mac!(
     /// CBC-MAC over triple DES, EDE with two keys.
-    CbcMacTdesEde2 [P], 16, cukvashe_cbc_mac_tdes_ede2_init, cukvashe_cbc_mac_tdes_ede2_init_quiet, cukvashe_cbc_mac_tdes_ede2_update,
+    CbcMacTdesEde2 [padding], 16, cukvashe_cbc_mac_tdes_ede2_init, cukvashe_cbc_mac_tdes_ede2_init_quiet, cukvashe_cbc_mac_tdes_ede2_update,
     cukvashe_cbc_mac_tdes_ede2_final, cukvashe_cbc_mac_tdes_ede2_verify
 );
 mac!(
     /// CBC-MAC over triple DES, EDE with three keys.
-    CbcMacTdesEde3 [P], 24, cukvashe_cbc_mac_tdes_ede3_init, cukvashe_cbc_mac_tdes_ede3_init_quiet, cukvashe_cbc_mac_tdes_ede3_update,
+    CbcMacTdesEde3 [padding], 24, cukvashe_cbc_mac_tdes_ede3_init, cukvashe_cbc_mac_tdes_ede3_init_quiet, cukvashe_cbc_mac_tdes_ede3_update,
     cukvashe_cbc_mac_tdes_ede3_final, cukvashe_cbc_mac_tdes_ede3_verify
 );
 mac!(
     /// The retail MAC over DES, with two keys.
-    RetailMacDes [P], 16, cukvashe_retail_mac_des_init, cukvashe_retail_mac_des_init_quiet, cukvashe_retail_mac_des_update,
+    RetailMacDes [padding], 16, cukvashe_retail_mac_des_init, cukvashe_retail_mac_des_init_quiet, cukvashe_retail_mac_des_update,
     cukvashe_retail_mac_des_final, cukvashe_retail_mac_des_verify
 );
 mac!(
@@ -233,14 +239,19 @@ fn in_groups(messages: &[&[u8]], tags: &mut [[u8; 8]], call: impl Fn(usize, *con
 /// The call of many messages under one key.
 macro_rules! macs {
     ($name:ident [$($padding:ident)?], $size:literal, $call:ident) => {
-        impl$(<$padding: Padding>)? $name$(<$padding>)? {
+        impl $name {
             /// Writes the tag of each message at its place; where messages and tags differ in number, the tags stay.
-            pub fn macs(key: &[u8; $size], messages: &[&[u8]], tags: &mut [[u8; 8]]) -> Result<(), CountsDiffer> {
+            pub fn macs(
+                key: &[u8; $size],
+                $($padding: Padding,)?
+                messages: &[&[u8]],
+                tags: &mut [[u8; 8]],
+            ) -> Result<(), CountsDiffer> {
                 count_of_both(messages, tags)?;
                 in_groups(messages, tags, |_, held, tags, count| {
                     // SAFETY: the pointers are of references to as many elements as the count says, which don't overlap; a
                     // status is 0, since there is a padding of each method.
-                    unsafe { ffi::$call(key.as_ptr(), $($padding::METHOD,)? held, tags, count) };
+                    unsafe { ffi::$call(key.as_ptr(), $($padding.number(),)? held, tags, count) };
                 });
                 Ok(())
             }
@@ -251,10 +262,11 @@ macro_rules! macs {
 /// The call of many messages under a key for each.
 macro_rules! macs_each {
     ($name:ident [$($padding:ident)?], $size:literal, $call:ident) => {
-        impl$(<$padding: Padding>)? $name$(<$padding>)? {
+        impl $name {
             /// Writes the tag of each message at its place, under the key there; where the lists differ in length, the tags stay.
             pub fn macs_each(
                 keys: &[[u8; $size]],
+                $($padding: Padding,)?
                 messages: &[&[u8]],
                 tags: &mut [[u8; 8]],
             ) -> Result<(), CountsDiffer> {
@@ -263,7 +275,7 @@ macro_rules! macs_each {
                 in_groups(messages, tags, |from, held, tags, count| {
                     let keys = keys[from..].as_flattened().as_ptr();
                     // SAFETY: as of `macs`.
-                    unsafe { ffi::$call(keys, $($padding::METHOD,)? held, tags, count) };
+                    unsafe { ffi::$call(keys, $($padding.number(),)? held, tags, count) };
                 });
                 Ok(())
             }
@@ -271,16 +283,16 @@ macro_rules! macs_each {
     };
 }
 
-macs!(CbcMacDes[P], 8, cukvashe_cbc_mac_des_macs);
-macs!(CbcMacTdesEde2[P], 16, cukvashe_cbc_mac_tdes_ede2_macs);
-macs!(CbcMacTdesEde3[P], 24, cukvashe_cbc_mac_tdes_ede3_macs);
-macs!(RetailMacDes[P], 16, cukvashe_retail_mac_des_macs);
+macs!(CbcMacDes[padding], 8, cukvashe_cbc_mac_des_macs);
+macs!(CbcMacTdesEde2[padding], 16, cukvashe_cbc_mac_tdes_ede2_macs);
+macs!(CbcMacTdesEde3[padding], 24, cukvashe_cbc_mac_tdes_ede3_macs);
+macs!(RetailMacDes[padding], 16, cukvashe_retail_mac_des_macs);
 macs!(CmacTdesEde2 [], 16, cukvashe_cmac_tdes_ede2_macs);
 macs!(CmacTdesEde3 [], 24, cukvashe_cmac_tdes_ede3_macs);
-macs_each!(CbcMacDes[P], 8, cukvashe_cbc_mac_des_macs_each);
-macs_each!(CbcMacTdesEde2[P], 16, cukvashe_cbc_mac_tdes_ede2_macs_each);
-macs_each!(CbcMacTdesEde3[P], 24, cukvashe_cbc_mac_tdes_ede3_macs_each);
-macs_each!(RetailMacDes[P], 16, cukvashe_retail_mac_des_macs_each);
+macs_each!(CbcMacDes[padding], 8, cukvashe_cbc_mac_des_macs_each);
+macs_each!(CbcMacTdesEde2[padding], 16, cukvashe_cbc_mac_tdes_ede2_macs_each);
+macs_each!(CbcMacTdesEde3[padding], 24, cukvashe_cbc_mac_tdes_ede3_macs_each);
+macs_each!(RetailMacDes[padding], 16, cukvashe_retail_mac_des_macs_each);
 macs_each!(CmacTdesEde2 [], 16, cukvashe_cmac_tdes_ede2_macs_each);
 macs_each!(CmacTdesEde3 [], 24, cukvashe_cmac_tdes_ede3_macs_each);
 

@@ -2,7 +2,7 @@
 //! application cryptogram and the responses. A key has 16 bytes.
 //!
 //! ```
-//! use cukvashe_des::mac::{Mac, Method2, RetailMacDes};
+//! use cukvashe_des::mac::{Mac, Padding, RetailMacDes};
 //! use cukvashe_des::payment::emv::{application_cryptogram, application_key, card_key};
 //!
 //! let issuer = 0x0123456789abcdeffedcba9876543210u128.to_be_bytes();
@@ -13,7 +13,7 @@
 //!
 //! // Of a cryptogram that a card sent:
 //! let sent = 0x94c5b7e3c27950aau64.to_be_bytes();
-//! assert!(RetailMacDes::<Method2>::new_quiet(&session).verify(&sent).is_ok());
+//! assert!(RetailMacDes::new_quiet(&session, Padding::Method2).verify(&sent).is_ok());
 //! # Ok::<(), cukvashe_des::payment::EmvError>(())
 //! ```
 

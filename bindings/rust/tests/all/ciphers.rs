@@ -85,9 +85,13 @@ fn chains<C: BlockCipher>(name: &str, new: fn(&[u8]) -> C) {
     }
 }
 
-/// The cipher of a key of the cipher's size.
+/// The cipher of a key of the cipher's size, and the quiet one.
 fn quick<C: BlockCipher>(key: &[u8]) -> C {
     C::new_from_slice(key).unwrap()
+}
+
+fn quiet<C: BlockCipher>(key: &[u8]) -> C {
+    C::new_quiet_from_slice(key).unwrap()
 }
 
 #[test]
@@ -101,11 +105,20 @@ fn ciphers_answer() {
 
 #[test]
 fn quiet_ciphers_answer() {
-    answers("des", |key| Des::new_quiet(key.try_into().unwrap()));
-    answers("ede2", |key| TdesEde2::new_quiet(key.try_into().unwrap()));
-    answers("ede3", |key| TdesEde3::new_quiet(key.try_into().unwrap()));
-    chains("des-cbc", |key| Des::new_quiet(key.try_into().unwrap()));
-    chains("ede3-cbc", |key| TdesEde3::new_quiet(key.try_into().unwrap()));
+    answers::<Des>("des", quiet);
+    answers::<TdesEde2>("ede2", quiet);
+    answers::<TdesEde3>("ede3", quiet);
+    chains::<Des>("des-cbc", quiet);
+    chains::<TdesEde3>("ede3-cbc", quiet);
+}
+
+/// The key's length chooses the cipher.
+#[test]
+fn chosen_ciphers_answer() {
+    for new in [quick::<Cipher>, quiet::<Cipher>] {
+        ["des", "ede2", "ede3"].into_iter().for_each(|name| answers(name, new));
+        ["des-cbc", "ede3-cbc"].into_iter().for_each(|name| chains(name, new));
+    }
 }
 
 /// A cipher of an array is that of the slice.
@@ -118,23 +131,28 @@ fn ciphers_of_arrays_answer() {
         electronic_codebook(&new(&key), TEXT, &answer);
     }
     same(Des::new);
+    same(Des::new_quiet);
     same(TdesEde2::new);
+    same(TdesEde2::new_quiet);
     same(TdesEde3::new);
+    same(TdesEde3::new_quiet);
 }
 
-fn refuses_keys<C: BlockCipher>(size: usize) {
-    assert_eq!(C::KEY_SIZE, size);
-    for length in LENGTHS.chain([48, 64, 256 + size]) {
-        let made = C::new_from_slice(&vec![1; length]);
-        assert_eq!(made.err(), (length != size).then_some(InvalidLength));
+fn refuses_keys<C: BlockCipher>(sizes: &[usize]) {
+    for length in LENGTHS.chain([48, 64]).chain(sizes.iter().map(|size| 256 + size)) {
+        let (key, refused) = (vec![1; length], (!sizes.contains(&length)).then_some(InvalidLength));
+        assert_eq!(C::new_from_slice(&key).err(), refused);
+        assert_eq!(C::new_quiet_from_slice(&key).err(), refused);
     }
 }
 
 #[test]
 fn lengths_of_keys_are_refused() {
-    refuses_keys::<Des>(8);
-    refuses_keys::<TdesEde2>(16);
-    refuses_keys::<TdesEde3>(24);
+    assert_eq!([Des::KEY_SIZE, TdesEde2::KEY_SIZE, TdesEde3::KEY_SIZE], [8, 16, 24]);
+    refuses_keys::<Des>(&[8]);
+    refuses_keys::<TdesEde2>(&[16]);
+    refuses_keys::<TdesEde3>(&[24]);
+    refuses_keys::<Cipher>(&[8, 16, 24]);
 }
 
 /// A refused call changes neither data nor vector.
@@ -183,7 +201,9 @@ fn lengths_of_data_are_refused() {
     refuses_data(&Des::new_from_slice(&KEY[..8]).unwrap());
     refuses_data(&TdesEde2::new_from_slice(&KEY[..16]).unwrap());
     refuses_data(&TdesEde3::new(&KEY));
+    refuses_data(&Cipher::new_from_slice(&KEY).unwrap());
     refuses_two_lengths(&Des::new_from_slice(&KEY[..8]).unwrap());
     refuses_two_lengths(&TdesEde2::new_from_slice(&KEY[..16]).unwrap());
     refuses_two_lengths(&TdesEde3::new(&KEY));
+    refuses_two_lengths(&Cipher::new_from_slice(&KEY).unwrap());
 }

@@ -1,12 +1,12 @@
 //! Calls for lists, beside the calls of one, at each count; and numbers of elements that do not agree.
 
 use crate::common::{COUNTS, KEY, TEXT};
+use cukvashe_des::mac::Padding::{Method1, Method2};
 use cukvashe_des::mac::{
-    compare_tags, CbcMacDes, CbcMacTdesEde2, CbcMacTdesEde3, CmacTdesEde2, CmacTdesEde3, Mac, Method1, Method2,
-    RetailMacDes,
+    compare_tags, CbcMacDes, CbcMacTdesEde2, CbcMacTdesEde3, CmacTdesEde2, CmacTdesEde3, RetailMacDes,
 };
 use cukvashe_des::payment::{initial_key, transaction_key, transaction_keys, CheckValue};
-use cukvashe_des::{Block, BlockCipher, CountsDiffer, Des, KeyForEach, TdesEde2, TdesEde3};
+use cukvashe_des::{Block, BlockCipher, Cipher, CountsDiffer, Des, KeyForEach, TdesEde2, TdesEde3};
 
 /// Arrays of bytes that differ from place to place.
 fn some<const SIZE: usize>(count: usize, first: usize) -> Vec<[u8; SIZE]> {
@@ -75,8 +75,8 @@ fn transactions_of_lists_answer() {
     }
 }
 
-fn records_answer<C: BlockCipher>() {
-    let cipher = C::new_from_slice(&KEY[..C::KEY_SIZE]).unwrap();
+fn records_answer<C: BlockCipher>(size: usize) {
+    let cipher = C::new_from_slice(&KEY[..size]).unwrap();
     for records in COUNTS {
         let counts: Vec<usize> = (0..records).map(|k| if k == records / 2 { 40 } else { k % 5 }).collect();
         let (vectors, plain) = (some::<8>(records, 1), some::<8>(counts.iter().sum(), 77));
@@ -115,51 +115,53 @@ fn refuses_records<C: BlockCipher>(cipher: &C, vectors: usize, counts: &[usize],
 
 #[test]
 fn lists_of_records_answer() {
-    records_answer::<Des>();
-    records_answer::<TdesEde2>();
-    records_answer::<TdesEde3>();
+    records_answer::<Des>(8);
+    records_answer::<TdesEde2>(16);
+    records_answer::<TdesEde3>(24);
+    records_answer::<Cipher>(24);
 }
 
-type EachOf<const SIZE: usize> = fn(&[[u8; SIZE]], &[&[u8]], &mut [[u8; 8]]) -> Result<(), CountsDiffer>;
-type OneOf<const SIZE: usize> = fn(&[u8; SIZE], &[&[u8]], &mut [[u8; 8]]) -> Result<(), CountsDiffer>;
-
-fn macs_answer<M: Mac, const SIZE: usize>(each: EachOf<SIZE>, one: OneOf<SIZE>) {
-    let text = some::<8>(20, 3).concat();
-    for count in COUNTS {
-        let keys = some::<SIZE>(count, 1);
-        let messages: Vec<&[u8]> = (0..count).map(|k| &text[k % 40..k % 40 + k % 41]).collect();
-        let wanted: Vec<_> = keys.iter().zip(&messages).map(|(key, text)| M::mac(key, text).unwrap()).collect();
-        let mut tags = some::<8>(count, 5);
-        assert_eq!(each(&keys, &messages, &mut tags), Ok(()));
-        assert_eq!(tags, wanted);
-        let mut more = some::<8>(count + 1, 5);
-        assert_eq!(each(&keys, &messages, &mut more), Err(CountsDiffer));
-        let mut stays = vec![[3; 8]; count];
-        assert_eq!(each(&some::<SIZE>(count + 1, 1), &messages, &mut stays), Err(CountsDiffer));
-        assert!(count == 0 || each(&keys[1..], &messages, &mut stays) == Err(CountsDiffer));
-        assert_eq!(stays, vec![[3; 8]; count]);
-        assert_eq!(more, some::<8>(count + 1, 5));
-        let Some(key) = keys.first() else { continue };
-        assert_eq!(one(key, &messages, &mut tags), Ok(()));
-        let wanted: Vec<_> = messages.iter().map(|text| M::mac(key, text).unwrap()).collect();
-        assert_eq!(tags, wanted);
-        assert_eq!(one(key, &messages, &mut more), Err(CountsDiffer));
-        assert_eq!(more, some::<8>(count + 1, 5));
-    }
+/// The calls of lists of messages of a MAC and a padding method, beside its call of one.
+macro_rules! macs_answer {
+    ($mac:ident, $size:literal $(, $padding:expr)?) => {
+        let text = some::<8>(20, 3).concat();
+        for count in COUNTS {
+            let keys = some::<$size>(count, 1);
+            let messages: Vec<&[u8]> = (0..count).map(|k| &text[k % 40..k % 40 + k % 41]).collect();
+            let wanted: Vec<_> =
+                keys.iter().zip(&messages).map(|(key, text)| $mac::mac(key, $($padding,)? text)).collect();
+            let mut tags = some::<8>(count, 5);
+            assert_eq!($mac::macs_each(&keys, $($padding,)? &messages, &mut tags), Ok(()));
+            assert_eq!(tags, wanted);
+            let mut more = some::<8>(count + 1, 5);
+            assert_eq!($mac::macs_each(&keys, $($padding,)? &messages, &mut more), Err(CountsDiffer));
+            let (mut stays, other) = (vec![[3; 8]; count], some::<$size>(count + 1, 1));
+            for keys in [&other[..], &keys[..count / 2]].into_iter().filter(|keys| keys.len() != count) {
+                assert_eq!($mac::macs_each(keys, $($padding,)? &messages, &mut stays), Err(CountsDiffer));
+            }
+            assert_eq!((stays, &more), (vec![[3; 8]; count], &some::<8>(count + 1, 5)));
+            let Some(key) = keys.first() else { continue };
+            assert_eq!($mac::macs(key, $($padding,)? &messages, &mut tags), Ok(()));
+            let wanted: Vec<_> = messages.iter().map(|text| $mac::mac(key, $($padding,)? text)).collect();
+            assert_eq!(tags, wanted);
+            assert_eq!($mac::macs(key, $($padding,)? &messages, &mut more), Err(CountsDiffer));
+            assert_eq!(more, some::<8>(count + 1, 5));
+        }
+    };
 }
 
 #[test]
 fn lists_of_messages_answer() {
-    macs_answer::<CbcMacDes<Method1>, 8>(CbcMacDes::<Method1>::macs_each, CbcMacDes::<Method1>::macs);
-    macs_answer::<CbcMacDes<Method2>, 8>(CbcMacDes::<Method2>::macs_each, CbcMacDes::<Method2>::macs);
-    macs_answer::<CbcMacTdesEde2<Method1>, 16>(CbcMacTdesEde2::<Method1>::macs_each, CbcMacTdesEde2::<Method1>::macs);
-    macs_answer::<CbcMacTdesEde2<Method2>, 16>(CbcMacTdesEde2::<Method2>::macs_each, CbcMacTdesEde2::<Method2>::macs);
-    macs_answer::<CbcMacTdesEde3<Method1>, 24>(CbcMacTdesEde3::<Method1>::macs_each, CbcMacTdesEde3::<Method1>::macs);
-    macs_answer::<CbcMacTdesEde3<Method2>, 24>(CbcMacTdesEde3::<Method2>::macs_each, CbcMacTdesEde3::<Method2>::macs);
-    macs_answer::<RetailMacDes<Method1>, 16>(RetailMacDes::<Method1>::macs_each, RetailMacDes::<Method1>::macs);
-    macs_answer::<RetailMacDes<Method2>, 16>(RetailMacDes::<Method2>::macs_each, RetailMacDes::<Method2>::macs);
-    macs_answer::<CmacTdesEde2, 16>(CmacTdesEde2::macs_each, CmacTdesEde2::macs);
-    macs_answer::<CmacTdesEde3, 24>(CmacTdesEde3::macs_each, CmacTdesEde3::macs);
+    macs_answer!(CbcMacDes, 8, Method1);
+    macs_answer!(CbcMacDes, 8, Method2);
+    macs_answer!(CbcMacTdesEde2, 16, Method1);
+    macs_answer!(CbcMacTdesEde2, 16, Method2);
+    macs_answer!(CbcMacTdesEde3, 24, Method1);
+    macs_answer!(CbcMacTdesEde3, 24, Method2);
+    macs_answer!(RetailMacDes, 16, Method1);
+    macs_answer!(RetailMacDes, 16, Method2);
+    macs_answer!(CmacTdesEde2, 16);
+    macs_answer!(CmacTdesEde3, 24);
 }
 
 /// Of each three tags two have one bit that is wrong, at any place.

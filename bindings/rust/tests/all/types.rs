@@ -19,10 +19,10 @@ macro_rules! each_secret {
         $call!(Des, Des::new_from_slice(&KEY[..8]).unwrap());
         $call!(TdesEde2, TdesEde2::new_from_slice(&KEY[..16]).unwrap());
         $call!(TdesEde3, TdesEde3::new(&KEY));
-        $call!(CbcMacDes, CbcMacDes::<Method1>::new_from_slice(&KEY[..8]).unwrap());
-        $call!(CbcMacTdesEde2, CbcMacTdesEde2::<Method2>::new_from_slice(&KEY[..16]).unwrap());
-        $call!(CbcMacTdesEde3, CbcMacTdesEde3::<Method1>::new_from_slice(&KEY).unwrap());
-        $call!(RetailMacDes, RetailMacDes::<Method2>::new_from_slice(&KEY[..16]).unwrap());
+        $call!(CbcMacDes, CbcMacDes::new_from_slice(&KEY[..8], Padding::Method1).unwrap());
+        $call!(CbcMacTdesEde2, CbcMacTdesEde2::new_from_slice(&KEY[..16], Padding::Method2).unwrap());
+        $call!(CbcMacTdesEde3, CbcMacTdesEde3::new_from_slice(&KEY, Padding::Method1).unwrap());
+        $call!(RetailMacDes, RetailMacDes::new_from_slice(&KEY[..16], Padding::Method2).unwrap());
         $call!(CmacTdesEde2, CmacTdesEde2::new_from_slice(&KEY[..16]).unwrap());
         $call!(CmacTdesEde3, CmacTdesEde3::new_from_slice(&KEY).unwrap());
         $call!(Pin, Pin::new(b"123456789012").unwrap());
@@ -73,12 +73,25 @@ fn quiet_ones_are_not_quick() {
     differ(Des::new(one), Des::new_quiet(one));
     differ(TdesEde2::new(two), TdesEde2::new_quiet(two));
     differ(TdesEde3::new(&KEY), TdesEde3::new_quiet(&KEY));
-    differ(CbcMacDes::<Method1>::new_from_slice(one).unwrap(), CbcMacDes::new_quiet(one));
-    differ(CbcMacTdesEde2::<Method2>::new_from_slice(two).unwrap(), CbcMacTdesEde2::new_quiet(two));
-    differ(CbcMacTdesEde3::<Method1>::new_from_slice(&KEY).unwrap(), CbcMacTdesEde3::new_quiet(&KEY));
-    differ(RetailMacDes::<Method2>::new_from_slice(two).unwrap(), RetailMacDes::new_quiet(two));
-    differ(CmacTdesEde2::new_from_slice(two).unwrap(), CmacTdesEde2::new_quiet(two));
-    differ(CmacTdesEde3::new_from_slice(&KEY).unwrap(), CmacTdesEde3::new_quiet(&KEY));
+    for padding in [Padding::Method1, Padding::Method2] {
+        differ(CbcMacDes::new(one, padding), CbcMacDes::new_quiet(one, padding));
+        differ(CbcMacTdesEde2::new(two, padding), CbcMacTdesEde2::new_quiet(two, padding));
+        differ(CbcMacTdesEde3::new(&KEY, padding), CbcMacTdesEde3::new_quiet(&KEY, padding));
+        differ(RetailMacDes::new(two, padding), RetailMacDes::new_quiet(two, padding));
+    }
+    differ(CmacTdesEde2::new(two), CmacTdesEde2::new_quiet(two));
+    differ(CmacTdesEde3::new(&KEY), CmacTdesEde3::new_quiet(&KEY));
+    let slices = (CmacTdesEde3::new_from_slice(&KEY), CmacTdesEde3::new_quiet_from_slice(&KEY));
+    differ(slices.0.unwrap(), slices.1.unwrap());
+    for size in [8, 16, 24] {
+        let key = &KEY[..size];
+        match (Cipher::new_from_slice(key).unwrap(), Cipher::new_quiet_from_slice(key).unwrap()) {
+            (Cipher::Des(quick), Cipher::Des(quiet)) if size == 8 => differ(quick, quiet),
+            (Cipher::TdesEde2(quick), Cipher::TdesEde2(quiet)) if size == 16 => differ(quick, quiet),
+            (Cipher::TdesEde3(quick), Cipher::TdesEde3(quiet)) if size == 24 => differ(quick, quiet),
+            others => panic!("{others:?}"),
+        }
+    }
 }
 
 /// Drops a value, and looks at the bytes where it was.
@@ -122,12 +135,22 @@ fn is_wiped_in_a_box<M: Mac>(mut mac: Box<M>) {
 
 #[test]
 fn macs_are_used_in_a_box() {
-    is_wiped_in_a_box(Box::new(CbcMacDes::<Method1>::new_from_slice(&KEY[..8]).unwrap()));
-    is_wiped_in_a_box(Box::new(CbcMacTdesEde2::<Method2>::new_from_slice(&KEY[..16]).unwrap()));
-    is_wiped_in_a_box(Box::new(CbcMacTdesEde3::<Method1>::new_from_slice(&KEY).unwrap()));
-    is_wiped_in_a_box(Box::new(RetailMacDes::<Method2>::new_from_slice(&KEY[..16]).unwrap()));
+    is_wiped_in_a_box(Box::new(CbcMacDes::new_from_slice(&KEY[..8], Padding::Method1).unwrap()));
+    is_wiped_in_a_box(Box::new(CbcMacTdesEde2::new_from_slice(&KEY[..16], Padding::Method2).unwrap()));
+    is_wiped_in_a_box(Box::new(CbcMacTdesEde3::new_from_slice(&KEY, Padding::Method1).unwrap()));
+    is_wiped_in_a_box(Box::new(RetailMacDes::new_from_slice(&KEY[..16], Padding::Method2).unwrap()));
     is_wiped_in_a_box(Box::new(CmacTdesEde2::new_from_slice(&KEY[..16]).unwrap()));
     is_wiped_in_a_box(Box::new(CmacTdesEde3::new_from_slice(&KEY).unwrap()));
+}
+
+/// Of a cipher that its key's length chose no more is shown than which one it is.
+#[test]
+fn chosen_ciphers_are_no_different() {
+    let ciphers = [8, 16, 24].map(|size| Cipher::new_from_slice(&KEY[..size]).unwrap());
+    ciphers.iter().for_each(shared_by_threads);
+    assert_eq!(format!("{ciphers:?}"), "[Des(Des { ... }), TdesEde2(TdesEde2 { ... }), TdesEde3(TdesEde3 { ... })]");
+    let made = [Des::new(&[7; 8]).into(), TdesEde2::new(&[7; 16]).into(), TdesEde3::new(&[7; 24]).into()];
+    assert!(matches!(made, [Cipher::Des(_), Cipher::TdesEde2(_), Cipher::TdesEde3(_)]));
 }
 
 /// A terminal has no clone, which would give its keys again; the rest is as of the others.
@@ -185,10 +208,11 @@ fn secrets_have_no_equality() {
     <Des as Without<_>>::answer();
     <TdesEde2 as Without<_>>::answer();
     <TdesEde3 as Without<_>>::answer();
-    <CbcMacDes<Method1> as Without<_>>::answer();
-    <CbcMacTdesEde2<Method1> as Without<_>>::answer();
-    <CbcMacTdesEde3<Method1> as Without<_>>::answer();
-    <RetailMacDes<Method1> as Without<_>>::answer();
+    <Cipher as Without<_>>::answer();
+    <CbcMacDes as Without<_>>::answer();
+    <CbcMacTdesEde2 as Without<_>>::answer();
+    <CbcMacTdesEde3 as Without<_>>::answer();
+    <RetailMacDes as Without<_>>::answer();
     <CmacTdesEde2 as Without<_>>::answer();
     <CmacTdesEde3 as Without<_>>::answer();
     <BlockKey as Without<_>>::answer();
