@@ -1,31 +1,6 @@
-//! DES and triple DES (FIPS 46-3): safe types, tested, over the library `libcukvashe_des`, whose exports are proved.
-//!
-//! ```
-//! use cukvashe_des::{BlockCipher, TdesEde3};
-//!
-//! // NIST Special Publication 800-67, appendix B.
-//! let key = [0x0123456789abcdefu64, 0x23456789abcdef01, 0x456789abcdef0123].map(u64::to_be_bytes);
-//! let cipher = TdesEde3::new_from_slice(key.as_flattened())?;
-//! let mut data = *b"The qufck brown fox jump";
-//! cipher.encrypt_ecb(&mut data)?;
-//! assert_eq!(data[..8], 0xa826fd8ce53b855f_u64.to_be_bytes());
-//! # Ok::<(), Box<dyn std::error::Error>>(())
-//! ```
-//!
-//! Ciphers take whole blocks of 8 bytes, as slices of bytes or of [`Block`]s: [`padding`] makes them of other data, [`mac`]
-//! authenticates messages, and [`payment`] has check values, keys of components and of transactions, PIN blocks, their translation
-//! and PIN verification, key blocks, card cryptograms and card verification values. [`KeyForEach`] takes lists in which each block
-//! has a key of its own, [`Cipher`] keys whose length is known at run time only, and [`passwords`] opens files of `openssl enc`.
-//!
-//! `new_quiet` of each cipher and MAC makes one under which the library reads no table at an index that depends on the key or the
-//! data, which other programs on the processor could learn. That is tested of the library on x86-64, not of this crate.
-//!
-//! The crate needs no `std` and allocates no memory. Ciphers, MACs and PINs can be shared by threads, and are wiped when they
-//! are dropped. A move may leave a copy behind that is not wiped. A value in a `Box` stays where it is as long as you use it by
-//! reference: of a MAC call `tag` and the calls named `verify_tag` there, since `finalize` and those named `verify` move it out.
-//! Keys that you pass or get are yours to wipe.
+#![doc = include_str!("../README.md")]
 #![no_std]
-#![warn(missing_docs)]
+#![deny(missing_docs)]
 
 mod cipher;
 mod each_key;
