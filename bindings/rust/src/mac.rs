@@ -77,8 +77,11 @@ pub trait Mac: fmt::Debug {
 
     /// Accepts the whole tag of the message so far, and nothing else. `verify_tag_truncated_left` takes cut tags; in C, `verify`
     /// takes both.
-    fn verify_tag(&self, tag: &[u8; 8]) -> Result<(), MacError> {
-        self.verify_tag_truncated_left(tag)
+    fn verify_tag(&self, tag: &[u8]) -> Result<(), MacError> {
+        match tag.len() {
+            8 => self.verify_tag_truncated_left(tag),
+            _ => Err(MacError),
+        }
     }
 
     /// As `tag`, of a state that ends here. It is moved to this call, which wipes it; where it was, as in a `Box`, its bytes stay:
@@ -100,7 +103,7 @@ pub trait Mac: fmt::Debug {
     }
 
     /// As `verify_tag`, of a state that ends here, with what `finalize` says of moves.
-    fn verify(self, tag: &[u8; 8]) -> Result<(), MacError>
+    fn verify(self, tag: &[u8]) -> Result<(), MacError>
     where
         Self: Sized,
     {

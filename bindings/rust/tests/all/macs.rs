@@ -39,6 +39,8 @@ fn refuses_tags<M: Mac + Clone>(begun: &M, message: &[u8], tag: Block) {
         let accepted = mac.verify_tag_truncated_left(&long[..length]);
         assert_eq!(accepted, if (4..=8).contains(&length) { Ok(()) } else { Err(MacError) });
         assert_eq!(mac.clone().verify_truncated_left(&long[..length]), accepted);
+        let whole = if length == 8 { Ok(()) } else { Err(MacError) };
+        assert_eq!((mac.verify_tag(&long[..length]), mac.clone().verify(&long[..length])), (whole, whole));
     }
     for place in 0..8 {
         let mut turned = tag;
