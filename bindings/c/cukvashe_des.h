@@ -10,11 +10,10 @@
  *
  * LENGTHS
  *
- * Every length and size is in bytes, every count in elements: keys, messages, records, or blocks of 8 bytes. Calls with
- * a count alone (check_values, macs, macs_each, transaction_keys, compare_tags, combine) read or write past a buffer if
- * you give bytes. Bit 1 of FIPS 46-3 is the highest bit of the first byte. Bytes and texts may stand at any address,
- * all else where its type may. Texts that you pass need no zero byte; after those that calls write stands one, which no
- * length counts.
+ * Every length and size is in bytes, every count in elements: keys, messages, records, or blocks of 8 bytes. A list of
+ * bytes has both, and a pair that does not agree is refused (CUKVASHE_ERR_COUNTS). Bit 1 of FIPS 46-3 is the highest
+ * bit of the first byte. Bytes and texts may stand at any address, all else where its type may. Texts that you pass
+ * need no zero byte; after those that calls write stands one, which no length counts.
  *
  * POINTERS
  *
@@ -52,8 +51,8 @@
  * A call that is given or gives a key, a password or a PIN writes zeros over the stack that it used. Calls with a
  * context, except init and init_quiet, do not: they may leave round keys and parts of blocks there. Registers are not
  * wiped: a signal may store parts of keys, and so may lazy binding, so link the static library with -z now. A call uses
- * at most 27,000 bytes of the stack; transaction_keys and calls of records and of many messages at most 66,000. Sizes
- * and zeros are tested on Linux.
+ * at most 27,000 bytes of the stack; transaction_keys_from_base and calls of records and of many messages at most
+ * 66,000. Sizes and zeros are tested on Linux.
  *
  * WHAT IS PROVED
  *
@@ -495,48 +494,62 @@ CUKVASHE_CHECK int cukvashe_cmac_tdes_ede3_verify(const cukvashe_cmac_tdes_ede3 
 /*
  * MESSAGE AUTHENTICATION CODES OF MANY MESSAGES
  *
- * int cukvashe_MAC_macs(const uint8_t *key, int method, const cukvashe_message *messages, uint8_t *tags, size_t count)
- * int cukvashe_MAC_macs_each(const uint8_t *keys, int method, const cukvashe_message *messages, uint8_t *tags,
- *                            size_t count)
- * void cukvashe_CMAC_macs(const uint8_t *key, const cukvashe_message *messages, uint8_t *tags, size_t count)
- * void cukvashe_CMAC_macs_each(const uint8_t *keys, const cukvashe_message *messages, uint8_t *tags, size_t count)
+ * int cukvashe_MAC_macs(const uint8_t *key, size_t key_length, int method, const cukvashe_message *messages,
+ *                       uint8_t *tags, size_t tags_length, size_t count)
+ * int cukvashe_MAC_macs_each(const uint8_t *keys, size_t keys_length, int method, const cukvashe_message *messages,
+ *                            uint8_t *tags, size_t tags_length, size_t count)
  *
- * Writes the tags, of 8 bytes each, of `count` messages; MAC is a CBC-MAC or retail_mac_des, CMAC is cmac_tdes_ede2 or
- * cmac_tdes_ede3. `macs` takes one key for all, `macs_each` a key for each message, one after the other. Keys have the
- * MAC's key size. Errors: CUKVASHE_ERR_PADDING_METHOD.
+ * Writes the tags, of 8 bytes each, of `count` messages. `macs` takes one key for all, `macs_each` a key of the MAC's
+ * key size for each message, one after the other. CMAC takes no `method`. Errors: CUKVASHE_ERR_KEY_LENGTH of `macs`;
+ * _COUNTS if `keys_length` or `tags_length` is not that of `count` keys or tags; _PADDING_METHOD.
  *
- * void cukvashe_compare_tags(const uint8_t *tags, const uint8_t *expected, bool *right, size_t count)
+ * int cukvashe_compare_tags(const uint8_t *tags, size_t tags_length, const uint8_t *expected, size_t expected_length,
+ *                           bool *right, size_t count)
  *
  * Writes for each of `count` whole tags whether it is the one at its place in `expected`, which macs or macs_each made.
+ * Errors: CUKVASHE_ERR_COUNTS if `tags_length` or `expected_length` is not that of `count` tags.
  */
 typedef struct {
   const uint8_t *bytes;
   size_t length;
 } cukvashe_message;
 
-CUKVASHE_CHECK int cukvashe_cbc_mac_des_macs(const uint8_t *key, int method, const cukvashe_message *messages,
-                                             uint8_t *tags, size_t count);
-CUKVASHE_CHECK int cukvashe_cbc_mac_des_macs_each(const uint8_t *keys, int method, const cukvashe_message *messages,
-                                                  uint8_t *tags, size_t count);
-CUKVASHE_CHECK int cukvashe_cbc_mac_tdes_ede2_macs(const uint8_t *key, int method, const cukvashe_message *messages,
-                                                   uint8_t *tags, size_t count);
-CUKVASHE_CHECK int cukvashe_cbc_mac_tdes_ede2_macs_each(const uint8_t *keys, int method,
-                                                        const cukvashe_message *messages, uint8_t *tags, size_t count);
-CUKVASHE_CHECK int cukvashe_cbc_mac_tdes_ede3_macs(const uint8_t *key, int method, const cukvashe_message *messages,
-                                                   uint8_t *tags, size_t count);
-CUKVASHE_CHECK int cukvashe_cbc_mac_tdes_ede3_macs_each(const uint8_t *keys, int method,
-                                                        const cukvashe_message *messages, uint8_t *tags, size_t count);
-CUKVASHE_CHECK int cukvashe_retail_mac_des_macs(const uint8_t *key, int method, const cukvashe_message *messages,
-                                                uint8_t *tags, size_t count);
-CUKVASHE_CHECK int cukvashe_retail_mac_des_macs_each(const uint8_t *keys, int method, const cukvashe_message *messages,
-                                                     uint8_t *tags, size_t count);
-void cukvashe_cmac_tdes_ede2_macs(const uint8_t *key, const cukvashe_message *messages, uint8_t *tags, size_t count);
-void cukvashe_cmac_tdes_ede2_macs_each(const uint8_t *keys, const cukvashe_message *messages, uint8_t *tags,
-                                       size_t count);
-void cukvashe_cmac_tdes_ede3_macs(const uint8_t *key, const cukvashe_message *messages, uint8_t *tags, size_t count);
-void cukvashe_cmac_tdes_ede3_macs_each(const uint8_t *keys, const cukvashe_message *messages, uint8_t *tags,
-                                       size_t count);
-void cukvashe_compare_tags(const uint8_t *tags, const uint8_t *expected, bool *right, size_t count);
+CUKVASHE_CHECK int cukvashe_cbc_mac_des_macs(const uint8_t *key, size_t key_length, int method,
+                                             const cukvashe_message *messages, uint8_t *tags, size_t tags_length,
+                                             size_t count);
+CUKVASHE_CHECK int cukvashe_cbc_mac_des_macs_each(const uint8_t *keys, size_t keys_length, int method,
+                                                  const cukvashe_message *messages, uint8_t *tags, size_t tags_length,
+                                                  size_t count);
+CUKVASHE_CHECK int cukvashe_cbc_mac_tdes_ede2_macs(const uint8_t *key, size_t key_length, int method,
+                                                   const cukvashe_message *messages, uint8_t *tags, size_t tags_length,
+                                                   size_t count);
+CUKVASHE_CHECK int cukvashe_cbc_mac_tdes_ede2_macs_each(const uint8_t *keys, size_t keys_length, int method,
+                                                        const cukvashe_message *messages, uint8_t *tags,
+                                                        size_t tags_length, size_t count);
+CUKVASHE_CHECK int cukvashe_cbc_mac_tdes_ede3_macs(const uint8_t *key, size_t key_length, int method,
+                                                   const cukvashe_message *messages, uint8_t *tags, size_t tags_length,
+                                                   size_t count);
+CUKVASHE_CHECK int cukvashe_cbc_mac_tdes_ede3_macs_each(const uint8_t *keys, size_t keys_length, int method,
+                                                        const cukvashe_message *messages, uint8_t *tags,
+                                                        size_t tags_length, size_t count);
+CUKVASHE_CHECK int cukvashe_retail_mac_des_macs(const uint8_t *key, size_t key_length, int method,
+                                                const cukvashe_message *messages, uint8_t *tags, size_t tags_length,
+                                                size_t count);
+CUKVASHE_CHECK int cukvashe_retail_mac_des_macs_each(const uint8_t *keys, size_t keys_length, int method,
+                                                     const cukvashe_message *messages, uint8_t *tags,
+                                                     size_t tags_length, size_t count);
+CUKVASHE_CHECK int cukvashe_cmac_tdes_ede2_macs(const uint8_t *key, size_t key_length, const cukvashe_message *messages,
+                                                uint8_t *tags, size_t tags_length, size_t count);
+CUKVASHE_CHECK int cukvashe_cmac_tdes_ede2_macs_each(const uint8_t *keys, size_t keys_length,
+                                                     const cukvashe_message *messages, uint8_t *tags,
+                                                     size_t tags_length, size_t count);
+CUKVASHE_CHECK int cukvashe_cmac_tdes_ede3_macs(const uint8_t *key, size_t key_length, const cukvashe_message *messages,
+                                                uint8_t *tags, size_t tags_length, size_t count);
+CUKVASHE_CHECK int cukvashe_cmac_tdes_ede3_macs_each(const uint8_t *keys, size_t keys_length,
+                                                     const cukvashe_message *messages, uint8_t *tags,
+                                                     size_t tags_length, size_t count);
+CUKVASHE_CHECK int cukvashe_compare_tags(const uint8_t *tags, size_t tags_length, const uint8_t *expected,
+                                         size_t expected_length, bool *right, size_t count);
 
 /*
  * CHECK VALUES AND COMPONENTS
@@ -548,30 +561,36 @@ void cukvashe_compare_tags(const uint8_t *tags, const uint8_t *expected, bool *r
  * The check value of a key or component: the first three bytes of the block of zeros, encrypted under it by NAME, or by
  * the cipher of its length, 8, 16 or 24 bytes. `short` gives the first two. Errors: CUKVASHE_ERR_KEY_LENGTH.
  *
- * void cukvashe_NAME_check_values(const uint8_t *keys, uint8_t *values, size_t count)
+ * int cukvashe_NAME_check_values(const uint8_t *keys, size_t keys_length, uint8_t *values, size_t values_length,
+ *                                size_t count)
  *
- * The check values, of 3 bytes each, of `count` keys of the cipher, one after the other.
+ * The check values, of 3 bytes each, of `count` keys of the cipher, one after the other. Errors: CUKVASHE_ERR_COUNTS if
+ * `keys_length` or `values_length` is not that of `count` keys or values.
  *
  * int cukvashe_combine_SIZE(const uint8_t first[SIZE], const uint8_t second[SIZE], const uint8_t *others,
- *                           size_t others_count, uint8_t key[SIZE])
+ *                           size_t others_length, size_t others_count, uint8_t key[SIZE])
  *
  * The key of SIZE bytes, 8, 16 or 24, that two or more components make: their xor, with odd parity. `others` are
- * `others_count` more components, one after the other. Branches on the key. Errors: CUKVASHE_ERR_WEAK_KEY.
+ * `others_count` more components, one after the other. Branches on the key. Errors: CUKVASHE_ERR_COUNTS if
+ * `others_length` is not that of `others_count` components; _WEAK_KEY.
  */
 CUKVASHE_CHECK int cukvashe_des_check_value(const uint8_t *key, size_t key_length, uint8_t value[3]);
 CUKVASHE_CHECK int cukvashe_tdes_ede2_check_value(const uint8_t *key, size_t key_length, uint8_t value[3]);
 CUKVASHE_CHECK int cukvashe_tdes_ede3_check_value(const uint8_t *key, size_t key_length, uint8_t value[3]);
 CUKVASHE_CHECK int cukvashe_key_check_value(const uint8_t *key, size_t key_length, uint8_t value[3]);
 CUKVASHE_CHECK int cukvashe_short_key_check_value(const uint8_t *key, size_t key_length, uint8_t value[2]);
-void cukvashe_des_check_values(const uint8_t *keys, uint8_t *values, size_t count);
-void cukvashe_tdes_ede2_check_values(const uint8_t *keys, uint8_t *values, size_t count);
-void cukvashe_tdes_ede3_check_values(const uint8_t *keys, uint8_t *values, size_t count);
+CUKVASHE_CHECK int cukvashe_des_check_values(const uint8_t *keys, size_t keys_length, uint8_t *values,
+                                             size_t values_length, size_t count);
+CUKVASHE_CHECK int cukvashe_tdes_ede2_check_values(const uint8_t *keys, size_t keys_length, uint8_t *values,
+                                                   size_t values_length, size_t count);
+CUKVASHE_CHECK int cukvashe_tdes_ede3_check_values(const uint8_t *keys, size_t keys_length, uint8_t *values,
+                                                   size_t values_length, size_t count);
 CUKVASHE_CHECK int cukvashe_combine_8(const uint8_t first[8], const uint8_t second[8], const uint8_t *others,
-                                      size_t others_count, uint8_t key[8]);
+                                      size_t others_length, size_t others_count, uint8_t key[8]);
 CUKVASHE_CHECK int cukvashe_combine_16(const uint8_t first[16], const uint8_t second[16], const uint8_t *others,
-                                       size_t others_count, uint8_t key[16]);
+                                       size_t others_length, size_t others_count, uint8_t key[16]);
 CUKVASHE_CHECK int cukvashe_combine_24(const uint8_t first[24], const uint8_t second[24], const uint8_t *others,
-                                       size_t others_count, uint8_t key[24]);
+                                       size_t others_length, size_t others_count, uint8_t key[24]);
 
 /*
  * KEYS OF A TRANSACTION (DUKPT)
@@ -585,8 +604,9 @@ CUKVASHE_CHECK int cukvashe_combine_24(const uint8_t first[24], const uint8_t se
  * data_key those that authenticate and encrypt data of the request or, if `is_response`, of the response. data_variant
  * leaves out the last step of data_key, as some terminals do: its key reveals the transaction's other keys.
  *
- * transaction_keys writes, for each of `count` key serial numbers, one after the other, what transaction_key makes of
- * initial_key of the base derivation key.
+ * transaction_keys_from_base takes the base derivation key, not the initial key, and writes for each of `count` key
+ * serial numbers, one after the other, what transaction_key makes of initial_key. Errors: CUKVASHE_ERR_COUNTS if
+ * `serials_length` or `keys_length` is not that of `count` key serial numbers or keys.
  *
  * A transaction's counter is not 0 and has at most ten one bits: is_usable says whether that holds. The other counters
  * have keys here too, counter 0 the initial key itself: so ask is_usable of each key serial number that you are sent.
@@ -594,7 +614,9 @@ CUKVASHE_CHECK int cukvashe_combine_24(const uint8_t first[24], const uint8_t se
  */
 void cukvashe_dukpt_initial_key(const uint8_t base[16], const uint8_t serial[10], uint8_t key[16]);
 void cukvashe_dukpt_transaction_key(const uint8_t initial[16], const uint8_t serial[10], uint8_t key[16]);
-void cukvashe_dukpt_transaction_keys(const uint8_t base[16], const uint8_t *serials, uint8_t *keys, size_t count);
+CUKVASHE_CHECK int cukvashe_dukpt_transaction_keys_from_base(const uint8_t base[16], const uint8_t *serials,
+                                                             size_t serials_length, uint8_t *keys, size_t keys_length,
+                                                             size_t count);
 void cukvashe_dukpt_pin_key(const uint8_t transaction[16], uint8_t key[16]);
 void cukvashe_dukpt_mac_key(const uint8_t transaction[16], bool is_response, uint8_t key[16]);
 void cukvashe_dukpt_data_key(const uint8_t transaction[16], bool is_response, uint8_t key[16]);

@@ -40,8 +40,19 @@ static bool takes_wide(size_t count) { return count > MOST_NARROW && processor_i
 /* A call with a list of blocks beside another list. The exports compare the numbers of elements. */
 #define OF_BLOCKS(CALL) (length % CUKVASHE_BLOCK_SIZE != 0 ? CUKVASHE_ERR_BLOCKS : CALL)
 
-/* Lists under a key for each block. The count is compared here first: multiplied by the size of a key it could overflow. */
-#define OF_KEYS_AND_BLOCKS(CALL) OF_BLOCKS(count != BLOCKS ? CUKVASHE_ERR_COUNTS : CALL)
+/* Whether `length` bytes are `count` elements of a size. It divides, since a product could overflow. */
+static bool are_elements(size_t count, size_t size, size_t length) {
+  return length % size == 0 && length / size == count;
+}
+
+/* A call with lists that have a count and a length in bytes, which must agree. */
+#define OF_COUNTS(AGREE, CALL) ((AGREE) ? (CALL) : CUKVASHE_ERR_COUNTS)
+
+/* Lists under a key for each block. */
+#define OF_KEYS_AND_BLOCKS(CALL) OF_BLOCKS(OF_COUNTS(count == BLOCKS, CALL))
+
+/* Lists of messages under one key. The exports take keys of the MAC's size alone. */
+#define OF_KEY(SIZE, CALL) (key_length != (SIZE) ? CUKVASHE_ERR_KEY_LENGTH : (CALL))
 
 /* Calls with a context. From a buffer to itself is the call in place: the exports of two buffers take two that do not overlap. */
 #define DEFINE_CIPHER(NAME, WORDS)                                                                                    \
@@ -106,9 +117,11 @@ DEFINE_CIPHER(tdes_ede3, 49)
         OF_KEYS_AND_BLOCKS(CHOOSE(count, decrypt_each, KEY_SIZE, keys, count * KEY_SIZE, blocks, count)))             \
   WIPES(int, NAME##_check_value, CHECK_VALUE, (const uint8_t *key, size_t key_length, uint8_t value[3]),              \
         cukvashe_internal_check_value(KEY_SIZE, key, key_length, value))                                              \
-  WIPES_VOID(NAME##_check_values, BY_WIDTH(count, VALUES, VALUES_WIDE),                                               \
-             (const uint8_t *keys, uint8_t *values, size_t count),                                                    \
-             CHOOSE(count, check_values, KEY_SIZE, keys, count * KEY_SIZE, values, count))                            \
+  WIPES(int, NAME##_check_values, BY_WIDTH(count, VALUES, VALUES_WIDE),                                               \
+        (const uint8_t *keys, size_t keys_length, uint8_t *values, size_t values_length, size_t count),               \
+        OF_COUNTS(are_elements(count, KEY_SIZE, keys_length) &&                                                       \
+                      are_elements(count, CUKVASHE_CHECK_VALUE_SIZE, values_length),                                  \
+                  CHOOSE(count, check_values, KEY_SIZE, keys, keys_length, values, count)))                           \
   WIPES(int, NAME##_open_salted, OPEN,                                                                                \
         (int hash, size_t iterations, const uint8_t *password, size_t password_length, const uint8_t *bytes,          \
          size_t length, uint8_t *plain, size_t room, size_t *plain_length),                                           \
@@ -138,6 +151,14 @@ DEFINE_MAC(retail_mac_des, ALGORITHM_RETAIL_MAC, 34)
 DEFINE_MAC(cmac_tdes_ede2, ALGORITHM_CMAC, 33)
 DEFINE_MAC(cmac_tdes_ede3, ALGORITHM_CMAC, 49)
 
+/* The tags of messages under one key, and under a key for each. */
+#define MACS_OF(KEY_SIZE, ALGORITHM, PADDING)                                                                         \
+  OF_KEY(KEY_SIZE, OF_COUNTS(are_elements(count, CUKVASHE_TAG_SIZE, tags_length),                                     \
+                             CHOOSE(count, macs, ALGORITHM, PADDING, key, KEY_SIZE, messages, count, tags, count)))
+#define MACS_OF_EACH(KEY_SIZE, ALGORITHM, PADDING)                                                                    \
+  OF_COUNTS(are_elements(count, KEY_SIZE, keys_length) && are_elements(count, CUKVASHE_TAG_SIZE, tags_length),        \
+            CHOOSE(count, macs_each, ALGORITHM, PADDING, KEY_SIZE, keys, keys_length, messages, count, tags, count))
+
 /* The calls of MACs with keys, with a padding method and without one. */
 #define DEFINE_MAC_OF_KEYS(NAME, ALGORITHM, WORDS, KEY_SIZE, INIT, MACS, MACS_WIDE, EACH, EACH_WIDE)                  \
   WIPES(int, NAME##_init, INIT, (cukvashe_##NAME * context, const uint8_t *key, size_t key_length, int method),       \
@@ -147,12 +168,13 @@ DEFINE_MAC(cmac_tdes_ede3, ALGORITHM_CMAC, 49)
         cukvashe_internal_mac_init(ALGORITHM, context->words, WORDS, context->words + WORDS, key, key_length,         \
                                    (uint32_t)method, true))                                                           \
   WIPES(int, NAME##_macs, BY_WIDTH(count, MACS, MACS_WIDE),                                                           \
-        (const uint8_t *key, int method, const cukvashe_message *messages, uint8_t *tags, size_t count),              \
-        CHOOSE(count, macs, ALGORITHM, (uint32_t)method, key, KEY_SIZE, messages, count, tags, count))                \
+        (const uint8_t *key, size_t key_length, int method, const cukvashe_message *messages, uint8_t *tags,          \
+         size_t tags_length, size_t count),                                                                           \
+        MACS_OF(KEY_SIZE, ALGORITHM, (uint32_t)method))                                                               \
   WIPES(int, NAME##_macs_each, BY_WIDTH(count, EACH, EACH_WIDE),                                                      \
-        (const uint8_t *keys, int method, const cukvashe_message *messages, uint8_t *tags, size_t count),             \
-        CHOOSE(count, macs_each, ALGORITHM, (uint32_t)method, KEY_SIZE, keys, count * KEY_SIZE, messages, count,      \
-               tags, count))
+        (const uint8_t *keys, size_t keys_length, int method, const cukvashe_message *messages, uint8_t *tags,        \
+         size_t tags_length, size_t count),                                                                           \
+        MACS_OF_EACH(KEY_SIZE, ALGORITHM, (uint32_t)method))
 
 DEFINE_MAC_OF_KEYS(cbc_mac_des, ALGORITHM_CBC_MAC, 17, 8, 576, 25936, 36736, 19360, 27872)
 DEFINE_MAC_OF_KEYS(cbc_mac_tdes_ede2, ALGORITHM_CBC_MAC, 33, 16, 576, 14352, 21824, 21536, 30144)
@@ -166,24 +188,31 @@ DEFINE_MAC_OF_KEYS(retail_mac_des, ALGORITHM_RETAIL_MAC, 34, 16, 576, 15328, 217
   WIPES(int, NAME##_init_quiet, INIT, (cukvashe_##NAME * context, const uint8_t *key, size_t key_length),             \
         cukvashe_internal_mac_init(ALGORITHM_CMAC, context->words, WORDS, context->words + WORDS, key, key_length,    \
                                    CUKVASHE_MAC_PADDING_2, true))                                                     \
-  WIPES_VOID(NAME##_macs, BY_WIDTH(count, MACS, MACS_WIDE),                                                           \
-             (const uint8_t *key, const cukvashe_message *messages, uint8_t *tags, size_t count),                     \
-             CHOOSE(count, macs, ALGORITHM_CMAC, CUKVASHE_MAC_PADDING_2, key, KEY_SIZE, messages, count, tags, count))\
-  WIPES_VOID(NAME##_macs_each, BY_WIDTH(count, EACH, EACH_WIDE),                                                      \
-             (const uint8_t *keys, const cukvashe_message *messages, uint8_t *tags, size_t count),                    \
-             CHOOSE(count, macs_each, ALGORITHM_CMAC, CUKVASHE_MAC_PADDING_2, KEY_SIZE, keys, count * KEY_SIZE,       \
-                    messages, count, tags, count))
+  WIPES(int, NAME##_macs, BY_WIDTH(count, MACS, MACS_WIDE),                                                           \
+        (const uint8_t *key, size_t key_length, const cukvashe_message *messages, uint8_t *tags, size_t tags_length,  \
+         size_t count),                                                                                               \
+        MACS_OF(KEY_SIZE, ALGORITHM_CMAC, CUKVASHE_MAC_PADDING_2))                                                    \
+  WIPES(int, NAME##_macs_each, BY_WIDTH(count, EACH, EACH_WIDE),                                                      \
+        (const uint8_t *keys, size_t keys_length, const cukvashe_message *messages, uint8_t *tags,                    \
+         size_t tags_length, size_t count),                                                                           \
+        MACS_OF_EACH(KEY_SIZE, ALGORITHM_CMAC, CUKVASHE_MAC_PADDING_2))
 
 DEFINE_CMAC_OF_KEYS(cmac_tdes_ede2, 33, 16, 576, 14384, 21872, 21552, 30240)
 DEFINE_CMAC_OF_KEYS(cmac_tdes_ede3, 49, 24, 576, 16208, 23696, 21552, 27984)
 
-void cukvashe_compare_tags(const uint8_t *tags, const uint8_t *expected, bool *right, size_t count) {
-  (void)cukvashe_internal_compare_tags(tags, count, expected, count, right, count);
+int cukvashe_compare_tags(const uint8_t *tags, size_t tags_length, const uint8_t *expected, size_t expected_length,
+                          bool *right, size_t count) {
+  return OF_COUNTS(are_elements(count, CUKVASHE_TAG_SIZE, tags_length) &&
+                       are_elements(count, CUKVASHE_TAG_SIZE, expected_length),
+                   cukvashe_internal_compare_tags(tags, count, expected, count, right, count));
 }
 
-WIPES_VOID(dukpt_transaction_keys, BY_WIDTH(count, 40352, 42048),
-           (const uint8_t base[16], const uint8_t *serials, uint8_t *keys, size_t count),
-           CHOOSE(count, dukpt_transaction_keys, base, serials, count, keys, count))
+WIPES(int, dukpt_transaction_keys_from_base, BY_WIDTH(count, 40352, 42048),
+      (const uint8_t base[16], const uint8_t *serials, size_t serials_length, uint8_t *keys, size_t keys_length,
+       size_t count),
+      OF_COUNTS(are_elements(count, CUKVASHE_DUKPT_SERIAL_SIZE, serials_length) &&
+                    are_elements(count, CUKVASHE_DUKPT_KEY_SIZE, keys_length),
+                CHOOSE(count, dukpt_transaction_keys, base, serials, count, keys, count)))
 
 int cukvashe_pad(uint8_t *buffer, size_t length, size_t capacity, int method, size_t *padded_length) {
   return cukvashe_internal_pad(buffer, capacity, length, method, padded_length);
@@ -194,9 +223,10 @@ WIPES(bool, equal_but_parity, 32, (const uint8_t *first, const uint8_t *second, 
 
 #define DEFINE_COMBINE(SIZE, STACK)                                                                                   \
   WIPES(int, combine_##SIZE, STACK,                                                                                   \
-        (const uint8_t first[SIZE], const uint8_t second[SIZE], const uint8_t *others, size_t others_count,           \
-         uint8_t key[SIZE]),                                                                                          \
-        cukvashe_internal_combine(first, SIZE, second, SIZE, others, others_count * SIZE, key, SIZE))
+        (const uint8_t first[SIZE], const uint8_t second[SIZE], const uint8_t *others, size_t others_length,          \
+         size_t others_count, uint8_t key[SIZE]),                                                                     \
+        OF_COUNTS(are_elements(others_count, SIZE, others_length),                                                    \
+                  cukvashe_internal_combine(first, SIZE, second, SIZE, others, others_length, key, SIZE)))
 
 DEFINE_COMBINE(8, 304)
 DEFINE_COMBINE(16, 304)

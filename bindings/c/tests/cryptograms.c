@@ -94,7 +94,7 @@ static void answers_cryptograms(void) {
   CHECK(cukvashe_retail_mac_des_init_quiet(&mac, session, sizeof session, CUKVASHE_MAC_PADDING_2) == CUKVASHE_OK);
   cukvashe_retail_mac_des_update(&mac, data, sizeof data);
   CHECK(cukvashe_retail_mac_des_verify(&mac, cryptogram, 8) == CUKVASHE_OK);
-  cukvashe_compare_tags(cryptogram, cryptogram, &right, 1);
+  CHECK(cukvashe_compare_tags(cryptogram, 8, cryptogram, 8, &right, 1) == CUKVASHE_OK);
   CHECK(right);
   cukvashe_emv_application_cryptogram(session, NULL, 0, cryptogram);
   CHECK(are(cryptogram, 8, "94c5b7e3c27950aa"));

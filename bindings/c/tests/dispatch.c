@@ -268,8 +268,16 @@ static size_t number;
     CHECK(cukvashe_##NAME##_decrypt_cbc_records(&NAME, iv, sizes, count, output, length) == status && calls == 0);    \
   }                                                                                                                   \
   static void NAME##_of_count(size_t count) {                                                                         \
-    cukvashe_##NAME##_check_values(input, output, count);                                                             \
+    CHECK(cukvashe_##NAME##_check_values(input, KEY_SIZE * count, output, 3 * count, count) == STATUS);               \
     WAS_WIPED(width_of(count), "check_values", KEY_SIZE, A(input), KEY_SIZE * count, A(output), count);               \
+  }                                                                                                                   \
+  static void NAME##_refuses_count(size_t count, size_t more) {                                                       \
+    const int status = CUKVASHE_ERR_COUNTS;                                                                           \
+    CHECK(cukvashe_##NAME##_check_values(input, KEY_SIZE * count + more, output, 3 * count, count) == status);        \
+    CHECK(cukvashe_##NAME##_check_values(input, KEY_SIZE * count, output, 3 * count + more, count) == status);        \
+    CHECK(cukvashe_combine_##KEY_SIZE(base, iv, input, KEY_SIZE * count + more, count, output) == status);            \
+    CHECK(calls == 0);                                                                                                \
+    wipes = 0;                                                                                                        \
   }                                                                                                                   \
   static void NAME##_of_key(void) {                                                                                   \
     CHECK(sizeof NAME == 8 * WORDS);                                                                                  \
@@ -281,7 +289,7 @@ static size_t number;
     WAS_WIPED("internal", "check_value", KEY_SIZE, A(base), 5, A(output));                                            \
     CHECK(cukvashe_##NAME##_open_salted(9, 10, base, 11, input, 12, output, 13, &number) == STATUS);                  \
     WAS_WIPED("internal", "open_salted", KEY_SIZE, 9, 10, A(base), 11, A(input), 12, A(output), 13, A(&number));      \
-    CHECK(cukvashe_combine_##KEY_SIZE(base, iv, input, 5, output) == STATUS);                                         \
+    CHECK(cukvashe_combine_##KEY_SIZE(base, iv, input, 5 * KEY_SIZE, 5, output) == STATUS);                           \
     WAS_WIPED("internal", "combine", A(base), KEY_SIZE, A(iv), KEY_SIZE, A(input), 5 * KEY_SIZE, A(output), KEY_SIZE);\
   }
 
@@ -306,24 +314,39 @@ CIPHER(tdes_ede3, 49, 24)
     CHECK(cukvashe_##NAME##_verify(&NAME, input, 6) == STATUS);                                                       \
     WAS("internal", "mac_verify", ALGORITHM, context, WORDS, message, A(input), 6);                                   \
   }
+/* Whatever the padding method, if there is one. */
+#define MACS_REFUSE(NAME, KEY_SIZE, ...)                                                                              \
+  static void NAME##_refuses_count(size_t count, size_t more) {                                                       \
+    const int status = CUKVASHE_ERR_COUNTS;                                                                           \
+    const size_t keys = KEY_SIZE * count, tags = 8 * count;                                                           \
+    CHECK(cukvashe_##NAME##_macs(base, KEY_SIZE, __VA_ARGS__ messages, output, tags + more, count) == status);        \
+    CHECK(cukvashe_##NAME##_macs_each(base, keys + more, __VA_ARGS__ messages, output, tags, count) == status);       \
+    CHECK(cukvashe_##NAME##_macs_each(base, keys, __VA_ARGS__ messages, output, tags + more, count) == status);       \
+    CHECK(cukvashe_##NAME##_macs(base, KEY_SIZE + 1, __VA_ARGS__ messages, output, tags + more, count) ==             \
+          CUKVASHE_ERR_KEY_LENGTH);                                                                                   \
+    CHECK(calls == 0);                                                                                                \
+    wipes = 0;                                                                                                        \
+  }
 #define MAC(NAME, ALGORITHM, WORDS, KEY_SIZE)                                                                         \
   MAC_OF(NAME, ALGORITHM, WORDS, KEY_SIZE, 7, , 7)                                                                    \
   static void NAME##_of_count(size_t count) {                                                                         \
-    CHECK(cukvashe_##NAME##_macs(base, 7, messages, output, count) == STATUS);                                        \
+    CHECK(cukvashe_##NAME##_macs(base, KEY_SIZE, 7, messages, output, 8 * count, count) == STATUS);                   \
     WAS_WIPED(width_of(count), "macs", ALGORITHM, 7, A(base), KEY_SIZE, A(messages), count, A(output), count);        \
-    CHECK(cukvashe_##NAME##_macs_each(base, 7, messages, output, count) == STATUS);                                   \
+    CHECK(cukvashe_##NAME##_macs_each(base, KEY_SIZE * count, 7, messages, output, 8 * count, count) == STATUS);      \
     WAS_WIPED(width_of(count), "macs_each", ALGORITHM, 7, KEY_SIZE, A(base), KEY_SIZE * count, A(messages), count,    \
               A(output), count);                                                                                      \
-  }
+  }                                                                                                                   \
+  MACS_REFUSE(NAME, KEY_SIZE, 7, )
 #define CMAC(NAME, WORDS, KEY_SIZE)                                                                                   \
   MAC_OF(NAME, 5, WORDS, KEY_SIZE, 2, )                                                                               \
   static void NAME##_of_count(size_t count) {                                                                         \
-    cukvashe_##NAME##_macs(base, messages, output, count);                                                            \
+    CHECK(cukvashe_##NAME##_macs(base, KEY_SIZE, messages, output, 8 * count, count) == STATUS);                      \
     WAS_WIPED(width_of(count), "macs", 5, 2, A(base), KEY_SIZE, A(messages), count, A(output), count);                \
-    cukvashe_##NAME##_macs_each(base, messages, output, count);                                                       \
+    CHECK(cukvashe_##NAME##_macs_each(base, KEY_SIZE * count, messages, output, 8 * count, count) == STATUS);         \
     WAS_WIPED(width_of(count), "macs_each", 5, 2, KEY_SIZE, A(base), KEY_SIZE * count, A(messages), count, A(output), \
               count);                                                                                                 \
-  }
+  }                                                                                                                   \
+  MACS_REFUSE(NAME, KEY_SIZE, )
 
 MAC(cbc_mac_des, 1, 17, 8)
 MAC(cbc_mac_tdes_ede2, 1, 33, 16)
@@ -349,10 +372,46 @@ static void hands_on_count(size_t count) {
   retail_mac_des_of_count(count);
   cmac_tdes_ede2_of_count(count);
   cmac_tdes_ede3_of_count(count);
-  cukvashe_dukpt_transaction_keys(base, input, output, count);
+  CHECK(cukvashe_dukpt_transaction_keys_from_base(base, input, 10 * count, output, 16 * count, count) == STATUS);
   WAS_WIPED(width_of(count), "dukpt_transaction_keys", A(base), A(input), count, A(output), count);
-  cukvashe_compare_tags(base, input, right, count);
+  CHECK(cukvashe_compare_tags(base, 8 * count, input, 8 * count, right, count) == STATUS);
   WAS("internal", "compare_tags", A(base), count, A(input), count, A(right), count);
+}
+
+/* A count whose elements have another length goes no further. */
+static void refuses_count(size_t count, size_t more) {
+  static bool right[1];
+  const int status = CUKVASHE_ERR_COUNTS;
+  des_refuses_count(count, more);
+  tdes_ede2_refuses_count(count, more);
+  tdes_ede3_refuses_count(count, more);
+  cbc_mac_des_refuses_count(count, more);
+  cbc_mac_tdes_ede2_refuses_count(count, more);
+  cbc_mac_tdes_ede3_refuses_count(count, more);
+  retail_mac_des_refuses_count(count, more);
+  cmac_tdes_ede2_refuses_count(count, more);
+  cmac_tdes_ede3_refuses_count(count, more);
+  CHECK(cukvashe_dukpt_transaction_keys_from_base(base, input, 10 * count + more, output, 16 * count, count) == status);
+  CHECK(cukvashe_dukpt_transaction_keys_from_base(base, input, 10 * count, output, 16 * count + more, count) == status);
+  CHECK(cukvashe_compare_tags(base, 8 * count + more, input, 8 * count, right, count) == status);
+  CHECK(cukvashe_compare_tags(base, 8 * count, input, 8 * count + more, right, count) == status);
+  CHECK(calls == 0);
+  wipes = 0;
+}
+
+/* Lengths that differ by less than an element, or by some; and counts that times a size are no number of 64 bits, or a small one. */
+static void refuses_counts(void) {
+  static const size_t counts[] = {0, 1, 2, MOST_NARROW, MOST_NARROW + 1, (size_t)1 << 32};
+  static const size_t more[] = {1, 2, 7, 8, 24, 240};
+  for (size_t i = 0; i < sizeof counts / sizeof *counts; i++)
+    for (size_t j = 0; j < sizeof more / sizeof *more; j++) {
+      refuses_count(counts[i], more[j]);
+      if (counts[i] > 0) refuses_count(counts[i], SIZE_MAX);
+    }
+  for (size_t count = (size_t)1 << 61; count != 0; count <<= 1)
+    for (size_t less = 0; less < 2; less++) refuses_count(count + 1 - less, 0);
+  refuses_count(SIZE_MAX / 3 + 1, 0);
+  refuses_count(SIZE_MAX, 0);
 }
 
 /* Lists of blocks: a length that is not whole blocks goes no further. Nor does a count of keys that is not that of the blocks, since it
@@ -458,8 +517,9 @@ int main(int count, char **words) {
   for (size_t length = 0; length <= most; length++) hands_on_blocks(length / 8, length);
   CHECK(questions == 0);
   for (size_t i = 0; i < sizeof lengths / sizeof *lengths; i++) hands_on(lengths[i]);
-  for (size_t i = 0; i < sizeof lengths / sizeof *lengths; i++) hands_on_count(lengths[i]);
+  for (size_t i = 0; i < sizeof lengths / sizeof *lengths && lengths[i] <= SIZE_MAX / 24; i++) hands_on_count(lengths[i]);
   hands_on_count(MOST_NARROW + 1);
+  refuses_counts();
   for (size_t i = 0; i < sizeof lengths / sizeof *lengths; i++) hands_on_any_blocks(lengths[i]);
   CHECK(questions == HAS_WIDE);
   hands_on_the_rest();

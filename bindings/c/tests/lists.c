@@ -5,7 +5,7 @@
 enum { PAINT = 0xa5, MORE = 24 };
 
 typedef int of_each(const uint8_t *keys, size_t count, uint8_t *blocks, size_t length);
-typedef void of_values(const uint8_t *keys, uint8_t *values, size_t count);
+typedef int of_values(const uint8_t *keys, size_t keys_length, uint8_t *values, size_t values_length, size_t count);
 
 /* The calls of a cipher. */
 struct lists {
@@ -54,7 +54,7 @@ static void answers_each(int n, size_t count) {
   CHECK(lists[n].decrypt_each(keys, count, put(answers, 8 * count), 8 * count) == CUKVASHE_OK && is(plain, 8 * count));
   for (size_t i = 0; i < count; i++)
     CHECK(cipher->check_value(keys + cipher->key_size * i, cipher->key_size, values + 3 * i) == CUKVASHE_OK);
-  lists[n].check_values(keys, put(plain, 3 * count), count);
+  CHECK(lists[n].check_values(keys, cipher->key_size * count, put(plain, 3 * count), 3 * count, count) == CUKVASHE_OK);
   CHECK(is(values, 3 * count));
 }
 
@@ -99,7 +99,7 @@ static void answers_known_blocks(void) {
     CHECK(memcmp(plain + 8 * places[i], answer, 8) == 0);
     CHECK(cukvashe_tdes_ede3_decrypt_each(keys, 300, plain, 2400) == CUKVASHE_OK);
     CHECK(memcmp(plain + 8 * places[i], block, 8) == 0);
-    cukvashe_tdes_ede3_check_values(keys, plain, 300);
+    CHECK(cukvashe_tdes_ede3_check_values(keys, 7200, plain, 900, 300) == CUKVASHE_OK);
     CHECK(memcmp(plain + 3 * places[i], value, 3) == 0);
   }
 }
@@ -109,10 +109,10 @@ static void nothing_of_nothing(void) {
   for (int n = 0; n < CIPHERS; n++) {
     CHECK(lists[n].encrypt_each(NULL, 0, NULL, 0) == CUKVASHE_OK);
     CHECK(lists[n].decrypt_each(NULL, 0, NULL, 0) == CUKVASHE_OK);
-    lists[n].check_values(NULL, NULL, 0);
+    CHECK(lists[n].check_values(NULL, 0, NULL, 0, 0) == CUKVASHE_OK);
   }
-  cukvashe_dukpt_transaction_keys(base, NULL, NULL, 0);
-  cukvashe_compare_tags(NULL, NULL, NULL, 0);
+  CHECK(cukvashe_dukpt_transaction_keys_from_base(base, NULL, 0, NULL, 0, 0) == CUKVASHE_OK);
+  CHECK(cukvashe_compare_tags(NULL, 0, NULL, 0, NULL, 0) == CUKVASHE_OK);
 }
 
 /* Transactions of random terminals, some of them with counters that have any number of ones, beside the calls of one. */
@@ -127,7 +127,7 @@ static void answers_transactions(size_t count) {
     cukvashe_dukpt_transaction_key(initial, serials + 10 * i, wanted + 16 * i);
   }
   put(wanted, 0);
-  cukvashe_dukpt_transaction_keys(base, serials, room + MORE, count);
+  CHECK(cukvashe_dukpt_transaction_keys_from_base(base, serials, 10 * count, room + MORE, 16 * count, count) == CUKVASHE_OK);
   CHECK(is(wanted, 16 * count));
 }
 
@@ -142,7 +142,7 @@ static void answers_known_transactions(void) {
   uint8_t base[16], made[48], wanted[48];
   put_words(base, base_words, 2);
   put_words(wanted, words, 6);
-  cukvashe_dukpt_transaction_keys(base, serials[0], made, 3);
+  CHECK(cukvashe_dukpt_transaction_keys_from_base(base, serials[0], sizeof serials, made, sizeof made, 3) == CUKVASHE_OK);
   CHECK(memcmp(made, wanted, sizeof made) == 0);
 }
 
@@ -241,21 +241,20 @@ static void refuses_records(int n, size_t count) {
   refuses_record_of(n, sizes, count, length, length, CUKVASHE_ERR_COUNTS);
 }
 
-typedef int macs_of(const uint8_t *keys, int method, const cukvashe_message *messages, uint8_t *tags, size_t count);
+typedef int macs_of(const uint8_t *keys, size_t keys_length, int method, const cukvashe_message *messages, uint8_t *tags,
+                    size_t tags_length, size_t count);
 
-/* CMAC takes no padding method, and has no status. */
+/* CMAC takes no padding method. */
 #define CMACS(name)                                                                                                   \
-  static int name##_macs(const uint8_t *key, int method, const cukvashe_message *messages, uint8_t *tags,             \
-                         size_t count) {                                                                              \
+  static int name##_macs(const uint8_t *key, size_t key_length, int method, const cukvashe_message *messages,         \
+                         uint8_t *tags, size_t tags_length, size_t count) {                                           \
     (void)method;                                                                                                     \
-    cukvashe_##name##_macs(key, messages, tags, count);                                                               \
-    return CUKVASHE_OK;                                                                                               \
+    return cukvashe_##name##_macs(key, key_length, messages, tags, tags_length, count);                               \
   }                                                                                                                   \
-  static int name##_macs_each(const uint8_t *keys, int method, const cukvashe_message *messages, uint8_t *tags,       \
-                              size_t count) {                                                                         \
+  static int name##_macs_each(const uint8_t *keys, size_t keys_length, int method, const cukvashe_message *messages,  \
+                              uint8_t *tags, size_t tags_length, size_t count) {                                      \
     (void)method;                                                                                                     \
-    cukvashe_##name##_macs_each(keys, messages, tags, count);                                                         \
-    return CUKVASHE_OK;                                                                                               \
+    return cukvashe_##name##_macs_each(keys, keys_length, messages, tags, tags_length, count);                        \
   }
 
 CMACS(cmac_tdes_ede2)
@@ -301,11 +300,12 @@ static void answers_macs(size_t count) {
     for (int method = 1; method <= 1 + macs[n].is_padded; method++)
       for (int each = 0; each < 2; each++) {
         macs_of *call = tags_of[n][each];
+        const size_t size = macs[n].key_size * (each ? count : 1);
         put_tags(&macs[n], each, method, messages, count);
-        CHECK(call(keys, method, messages, put(plain, 0), count) == CUKVASHE_OK && is(tags, 8 * count));
+        CHECK(call(keys, size, method, messages, put(plain, 0), 8 * count, count) == CUKVASHE_OK && is(tags, 8 * count));
         if (!macs[n].is_padded) continue;
-        CHECK(call(keys, 0, messages, put(plain, 0), count) == CUKVASHE_ERR_PADDING_METHOD && is(plain, 0));
-        CHECK(call(keys, 3, messages, put(plain, 0), count) == CUKVASHE_ERR_PADDING_METHOD && is(plain, 0));
+        CHECK(call(keys, size, 0, messages, put(plain, 0), 8 * count, count) == CUKVASHE_ERR_PADDING_METHOD && is(plain, 0));
+        CHECK(call(keys, size, 3, messages, put(plain, 0), 8 * count, count) == CUKVASHE_ERR_PADDING_METHOD && is(plain, 0));
       }
 }
 
@@ -321,10 +321,10 @@ static void verifies_tags(size_t count) {
   static bool right[LONGEST + 2];
   put_expected(count);
   memset(right, true, sizeof right);
-  cukvashe_compare_tags(tags, plain, right + 1, count);
+  CHECK(cukvashe_compare_tags(tags, 8 * count, plain, 8 * count, right + 1, count) == CUKVASHE_OK);
   for (size_t i = 0; i < count; i++) CHECK(right[i + 1] == (i % 3 == 0));
   memset(right, false, sizeof right);
-  cukvashe_compare_tags(plain, tags, right + 1, count);
+  CHECK(cukvashe_compare_tags(plain, 8 * count, tags, 8 * count, right + 1, count) == CUKVASHE_OK);
   for (size_t i = 0; i < count; i++) CHECK(right[i + 1] == (i % 3 == 0));
   CHECK(!right[0] && !right[count + 1]);
 }

@@ -47,13 +47,13 @@ static void combines(void) {
   for (int i = 0; i < 3; i++)
     for (int byte = 0; byte < 16; byte++) components[3][byte] ^= components[i][byte];
   components[3][5] ^= 1; /* parity is set */
-  CHECK(cukvashe_combine_16(components[0], components[1], components[2], 2, key) == CUKVASHE_OK);
+  CHECK(cukvashe_combine_16(components[0], components[1], components[2], 32, 2, key) == CUKVASHE_OK);
   CHECK(are(key, 16, "0123456789abcdeffedcba9876543210"));
   memcpy(same, key, sizeof same);
-  CHECK(cukvashe_combine_16(key, key, NULL, 0, components[0]) == CUKVASHE_ERR_WEAK_KEY);
-  CHECK(cukvashe_combine_8(key, key, NULL, 0, same) == CUKVASHE_ERR_WEAK_KEY && memcmp(same, key, sizeof same) == 0);
+  CHECK(cukvashe_combine_16(key, key, NULL, 0, 0, components[0]) == CUKVASHE_ERR_WEAK_KEY);
+  CHECK(cukvashe_combine_8(key, key, NULL, 0, 0, same) == CUKVASHE_ERR_WEAK_KEY && memcmp(same, key, sizeof same) == 0);
   memset(components[0], 0, 16);
-  CHECK(cukvashe_combine_8(key, components[0], NULL, 0, same + 8) == CUKVASHE_OK && memcmp(same + 8, key, 8) == 0);
+  CHECK(cukvashe_combine_8(key, components[0], NULL, 0, 0, same + 8) == CUKVASHE_OK && memcmp(same + 8, key, 8) == 0);
 }
 
 /* By hand: the xor of the first two is 11 33 .. ff, of which each byte has an even number of ones: its lowest bit turns. */
@@ -62,8 +62,8 @@ static void sets_parity(void) {
   put(components[0], "1010101010101010");
   put(components[1], "0123456789abcdef");
   put(components[2], "8000000000000000");
-  CHECK(cukvashe_combine_8(components[0], components[1], NULL, 0, key) == CUKVASHE_OK && are(key, 8, "1032547698badcfe"));
-  CHECK(cukvashe_combine_8(components[0], components[1], components[2], 1, key) == CUKVASHE_OK);
+  CHECK(cukvashe_combine_8(components[0], components[1], NULL, 0, 0, key) == CUKVASHE_OK && are(key, 8, "1032547698badcfe"));
+  CHECK(cukvashe_combine_8(components[0], components[1], components[2], 8, 1, key) == CUKVASHE_OK);
   CHECK(are(key, 8, "9132547698badcfe"));
 }
 
@@ -455,9 +455,9 @@ static void takes_null_pointers(void) {
   random_bytes(other, sizeof other);
   memset(fill, 10, sizeof fill);
   memset(block, 0, sizeof block);
-  CHECK(cukvashe_combine_8(key, other, NULL, 0, made) == CUKVASHE_OK);
-  CHECK(cukvashe_combine_16(key, other, NULL, 0, made) == CUKVASHE_OK);
-  CHECK(cukvashe_combine_24(key, other, NULL, 0, made) == CUKVASHE_OK);
+  CHECK(cukvashe_combine_8(key, other, NULL, 0, 0, made) == CUKVASHE_OK);
+  CHECK(cukvashe_combine_16(key, other, NULL, 0, 0, made) == CUKVASHE_OK);
+  CHECK(cukvashe_combine_24(key, other, NULL, 0, 0, made) == CUKVASHE_OK);
   CHECK(cukvashe_pin_encode_0(NULL, 0, NULL, 0, block) == CUKVASHE_ERR_PIN_LENGTH);
   CHECK(cukvashe_pin_encode_1(NULL, 0, fill, block) == CUKVASHE_ERR_PIN_LENGTH);
   CHECK(cukvashe_pin_encode_2(NULL, 0, block) == CUKVASHE_ERR_PIN_LENGTH);

@@ -125,6 +125,94 @@ static void refuses_macs(const struct mac *mac) {
   CHECK(mac->verify(&context, NULL, 0) == CUKVASHE_ERR_TAG);
 }
 
+/* The calls of lists that have a count beside their lengths in bytes: two lists, or one. */
+enum { MANY = 300 };
+
+static uint8_t given[24 * MANY], made[24 * MANY];
+static bool answers[24 * MANY];
+static cukvashe_message messages[24 * MANY];
+
+typedef int of_lists(size_t first, size_t second, size_t count);
+
+#define LISTS(NAME, CALL)                                                                                             \
+  static int NAME(size_t first, size_t second, size_t count) {                                                        \
+    (void)second;                                                                                                     \
+    return CALL;                                                                                                      \
+  }
+#define LISTS_OF_CIPHER(NAME, SIZE)                                                                                   \
+  LISTS(NAME##_values, cukvashe_##NAME##_check_values(given, first, made, second, count))                             \
+  LISTS(combine_##SIZE, cukvashe_combine_##SIZE(given, given + 1, given, first, count, made))
+#define LISTS_OF_MAC(NAME, SIZE)                                                                                      \
+  LISTS(NAME##_tags, cukvashe_##NAME##_macs(given, SIZE, CUKVASHE_MAC_PADDING_2, messages, made, first, count))       \
+  LISTS(NAME##_each, cukvashe_##NAME##_macs_each(given, first, CUKVASHE_MAC_PADDING_2, messages, made, second, count))
+#define LISTS_OF_CMAC(NAME, SIZE)                                                                                     \
+  LISTS(NAME##_tags, cukvashe_##NAME##_macs(given, SIZE, messages, made, first, count))                               \
+  LISTS(NAME##_each, cukvashe_##NAME##_macs_each(given, first, messages, made, second, count))
+
+LISTS_OF_CIPHER(des, 8)
+LISTS_OF_CIPHER(tdes_ede2, 16)
+LISTS_OF_CIPHER(tdes_ede3, 24)
+LISTS_OF_MAC(cbc_mac_des, 8)
+LISTS_OF_MAC(cbc_mac_tdes_ede2, 16)
+LISTS_OF_MAC(cbc_mac_tdes_ede3, 24)
+LISTS_OF_MAC(retail_mac_des, 16)
+LISTS_OF_CMAC(cmac_tdes_ede2, 16)
+LISTS_OF_CMAC(cmac_tdes_ede3, 24)
+LISTS(transactions, cukvashe_dukpt_transaction_keys_from_base(given, given, first, made, second, count))
+LISTS(compared, cukvashe_compare_tags(given, first, given, second, answers, count))
+
+/* Each with the sizes of its elements; 0 where there is no second list. */
+static const struct {
+  of_lists *call;
+  size_t first, second;
+} lists[] = {
+    {des_values, 8, 3},           {tdes_ede2_values, 16, 3},      {tdes_ede3_values, 24, 3},
+    {combine_8, 8, 0},            {combine_16, 16, 0},            {combine_24, 24, 0},
+    {cbc_mac_des_tags, 8, 0},     {cbc_mac_tdes_ede2_tags, 8, 0}, {cbc_mac_tdes_ede3_tags, 8, 0},
+    {retail_mac_des_tags, 8, 0},  {cmac_tdes_ede2_tags, 8, 0},    {cmac_tdes_ede3_tags, 8, 0},
+    {cbc_mac_des_each, 8, 8},     {cbc_mac_tdes_ede2_each, 16, 8}, {cbc_mac_tdes_ede3_each, 24, 8},
+    {retail_mac_des_each, 16, 8}, {cmac_tdes_ede2_each, 16, 8},   {cmac_tdes_ede3_each, 24, 8},
+    {transactions, 10, 16},       {compared, 8, 8},
+};
+
+/* Bytes where a count is asked for, counts where bytes are, one more or less, and counts whose bytes are no number of 64 bits: refused,
+   and nothing is changed. What agrees is taken. */
+static void refuses_lists(void) {
+  static const size_t counts[] = {1, 2, 128, 129, MANY};
+  const size_t huge = (size_t)1 << 61;
+  random_bytes(given, sizeof given);
+  for (size_t n = 0; n < sizeof lists / sizeof *lists; n++)
+    for (size_t i = 0; i < sizeof counts / sizeof *counts; i++) {
+      const size_t count = counts[i], first = lists[n].first * count, second = lists[n].second * count;
+      const size_t tried[][3] = {{count, count, count},      {first, second, first},        {count, count, first},
+                                 {first, second, count + 1}, {first, second, count - 1},    {first + 1, second, count},
+                                 {first - 1, second, count}, {first, second, count + huge}, {first, second, SIZE_MAX},
+                                 {0, 0, huge},               {first, second, 0},            {SIZE_MAX, SIZE_MAX, count},
+                                 {SIZE_MAX, SIZE_MAX, SIZE_MAX}};
+      const size_t of_second[][3] = {{first, count, count}, {first, second + 1, count}, {first, second - 1, count},
+                                     {first, 0, count},     {first, SIZE_MAX, count},   {first, second + huge, count}};
+      memset(made, PAINT, sizeof made);
+      memset(answers, true, sizeof answers);
+      for (size_t at = 0; at < sizeof tried / sizeof *tried; at++)
+        CHECK(seen(lists[n].call(tried[at][0], tried[at][1], tried[at][2])) == CUKVASHE_ERR_COUNTS);
+      for (size_t at = 0; lists[n].second > 0 && at < sizeof of_second / sizeof *of_second; at++)
+        CHECK(lists[n].call(of_second[at][0], of_second[at][1], of_second[at][2]) == CUKVASHE_ERR_COUNTS);
+      CHECK(is_painted(made, sizeof made));
+      for (size_t at = 0; at < sizeof answers; at++) CHECK(answers[at]);
+      CHECK(lists[n].call(first, second, count) == CUKVASHE_OK);
+    }
+}
+
+/* The key of all messages has the size of the MAC's keys; that is looked at before the counts. */
+static void refuses_keys_of_messages(void) {
+  for (size_t length = 0; length <= MOST; length++) {
+    const int wanted = length == 16 ? CUKVASHE_ERR_COUNTS : CUKVASHE_ERR_KEY_LENGTH;
+    CHECK(cukvashe_retail_mac_des_macs(given, length, 3, messages, made, 8, 2) == wanted);
+    CHECK(cukvashe_cmac_tdes_ede2_macs(given, length, messages, made, 8, 2) == wanted);
+  }
+  CHECK(cukvashe_retail_mac_des_macs(given, 16, 3, messages, made, 16, 2) == CUKVASHE_ERR_PADDING_METHOD);
+}
+
 /* The statuses of the calls that have no context. What they are for is tested with the calls. */
 static void returns_statuses(void) {
   static const uint8_t key[16] = {0}, fill[10] = {0};
@@ -312,6 +400,8 @@ int main(void) {
     takes_lengths(&ciphers[n]);
   }
   for (int n = 0; n < MACS; n++) refuses_macs(&macs[n]);
+  refuses_lists();
+  refuses_keys_of_messages();
   returns_statuses();
   returns_statuses_of_pins_and_cards();
   returns_statuses_of_key_blocks();

@@ -150,20 +150,20 @@ static void records_and_messages(uint8_t *keys, size_t count) {
   RECORDS(tdes_ede2, init, 16);
   RECORDS(tdes_ede3, init, 24);
   RECORDS(tdes_ede3, init_quiet, 24);
-  CHECK(cukvashe_cbc_mac_des_macs(keys, CUKVASHE_MAC_PADDING_1, messages, other, count) == CUKVASHE_OK);
-  CHECK(cukvashe_cbc_mac_tdes_ede2_macs(keys, CUKVASHE_MAC_PADDING_2, messages, other, count) == CUKVASHE_OK);
-  CHECK(cukvashe_cbc_mac_tdes_ede3_macs(keys, CUKVASHE_MAC_PADDING_1, messages, other, count) == CUKVASHE_OK);
-  CHECK(cukvashe_cbc_mac_des_macs_each(keys, CUKVASHE_MAC_PADDING_1, messages, other, count) == CUKVASHE_OK);
-  CHECK(cukvashe_cbc_mac_tdes_ede2_macs_each(keys, CUKVASHE_MAC_PADDING_2, messages, other, count) == CUKVASHE_OK);
-  CHECK(cukvashe_cbc_mac_tdes_ede3_macs_each(keys, CUKVASHE_MAC_PADDING_1, messages, other, count) == CUKVASHE_OK);
-  CHECK(cukvashe_retail_mac_des_macs(keys, CUKVASHE_MAC_PADDING_1, messages, other, count) == CUKVASHE_OK);
-  CHECK(cukvashe_retail_mac_des_macs_each(keys, CUKVASHE_MAC_PADDING_2, messages, other, count) == CUKVASHE_OK);
-  cukvashe_cmac_tdes_ede2_macs(keys, messages, other, count);
-  cukvashe_cmac_tdes_ede2_macs_each(keys, messages, other, count);
-  cukvashe_cmac_tdes_ede3_macs(keys, messages, other, count);
-  cukvashe_cmac_tdes_ede3_macs_each(keys, messages, other, count);
+  CHECK(cukvashe_cbc_mac_des_macs(keys, 8, CUKVASHE_MAC_PADDING_1, messages, other, 8 * count, count) == CUKVASHE_OK);
+  CHECK(cukvashe_cbc_mac_tdes_ede2_macs(keys, 16, CUKVASHE_MAC_PADDING_2, messages, other, 8 * count, count) == CUKVASHE_OK);
+  CHECK(cukvashe_cbc_mac_tdes_ede3_macs(keys, 24, CUKVASHE_MAC_PADDING_1, messages, other, 8 * count, count) == CUKVASHE_OK);
+  CHECK(cukvashe_cbc_mac_des_macs_each(keys, 8 * count, CUKVASHE_MAC_PADDING_1, messages, other, 8 * count, count) == CUKVASHE_OK);
+  CHECK(cukvashe_cbc_mac_tdes_ede2_macs_each(keys, 16 * count, CUKVASHE_MAC_PADDING_2, messages, other, 8 * count, count) == CUKVASHE_OK);
+  CHECK(cukvashe_cbc_mac_tdes_ede3_macs_each(keys, 24 * count, CUKVASHE_MAC_PADDING_1, messages, other, 8 * count, count) == CUKVASHE_OK);
+  CHECK(cukvashe_retail_mac_des_macs(keys, 16, CUKVASHE_MAC_PADDING_1, messages, other, 8 * count, count) == CUKVASHE_OK);
+  CHECK(cukvashe_retail_mac_des_macs_each(keys, 16 * count, CUKVASHE_MAC_PADDING_2, messages, other, 8 * count, count) == CUKVASHE_OK);
+  CHECK(cukvashe_cmac_tdes_ede2_macs(keys, 16, messages, other, 8 * count, count) == CUKVASHE_OK);
+  CHECK(cukvashe_cmac_tdes_ede2_macs_each(keys, 16 * count, messages, other, 8 * count, count) == CUKVASHE_OK);
+  CHECK(cukvashe_cmac_tdes_ede3_macs(keys, 24, messages, other, 8 * count, count) == CUKVASHE_OK);
+  CHECK(cukvashe_cmac_tdes_ede3_macs_each(keys, 24 * count, messages, other, 8 * count, count) == CUKVASHE_OK);
   static bool right[MOST_BLOCKS];
-  cukvashe_compare_tags(data, other, right, count);
+  CHECK(cukvashe_compare_tags(data, 8 * count, other, 8 * count, right, count) == CUKVASHE_OK);
 }
 
 /* Lists of any length under keys of their own, check values, and keys of transactions. Key serial numbers are no secret. */
@@ -181,11 +181,11 @@ static void lists_of_keys(void) {
     CHECK(cukvashe_tdes_ede2_decrypt_each(keys, count, data, 8 * count) == CUKVASHE_OK);
     CHECK(cukvashe_tdes_ede3_encrypt_each(keys, count, data, 8 * count) == CUKVASHE_OK);
     CHECK(cukvashe_tdes_ede3_decrypt_each(keys, count, data, 8 * count) == CUKVASHE_OK);
-    cukvashe_des_check_values(keys, data, count);
-    cukvashe_tdes_ede2_check_values(keys, data, count);
-    cukvashe_tdes_ede3_check_values(keys, data, count);
+    CHECK(cukvashe_des_check_values(keys, 8 * count, data, 3 * count, count) == CUKVASHE_OK);
+    CHECK(cukvashe_tdes_ede2_check_values(keys, 16 * count, data, 3 * count, count) == CUKVASHE_OK);
+    CHECK(cukvashe_tdes_ede3_check_values(keys, 24 * count, data, 3 * count, count) == CUKVASHE_OK);
     for (size_t j = 0; j < sizeof data; j++) data[j] = (uint8_t)j;
-    cukvashe_dukpt_transaction_keys(base, data, keys, count);
+    CHECK(cukvashe_dukpt_transaction_keys_from_base(base, data, 10 * count, keys, 16 * count, count) == CUKVASHE_OK);
     records_and_messages(keys, count);
   }
 }

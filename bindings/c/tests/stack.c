@@ -77,9 +77,9 @@ static void of_key(const struct work *work) {
     case 0: returned = cukvashe_weak_key_test(key, 24); break;
     case 1: cukvashe_set_odd_parity(key, 24); break;
     case 2: returned = cukvashe_equal_but_parity(key, others, 24); break;
-    case 3: returned = cukvashe_combine_8(key, blocks, others, 2, iv); break;
-    case 4: returned = cukvashe_combine_16(key, blocks, others + 16, 2, others); break;
-    case 5: returned = cukvashe_combine_24(key, blocks, others + 24, 2, others); break;
+    case 3: returned = cukvashe_combine_8(key, blocks, others, 16, 2, iv); break;
+    case 4: returned = cukvashe_combine_16(key, blocks, others + 16, 32, 2, others); break;
+    case 5: returned = cukvashe_combine_24(key, blocks, others + 24, 48, 2, others); break;
     case 6: cukvashe_dukpt_initial_key(key, serial, others); break;
     case 7: cukvashe_dukpt_transaction_key(key, serial, others); break;
     case 8: cukvashe_dukpt_pin_key(key, others); break;
@@ -115,10 +115,10 @@ static void of_list(const struct work *work) {
     case 3: returned = cukvashe_des_decrypt_each(keys, count, blocks, 8 * count); break;
     case 4: returned = cukvashe_tdes_ede2_decrypt_each(keys, count, blocks, 8 * count); break;
     case 5: returned = cukvashe_tdes_ede3_decrypt_each(keys, count, blocks, 8 * count); break;
-    case 6: cukvashe_des_check_values(keys, blocks, count); break;
-    case 7: cukvashe_tdes_ede2_check_values(keys, blocks, count); break;
-    case 8: cukvashe_tdes_ede3_check_values(keys, blocks, count); break;
-    default: cukvashe_dukpt_transaction_keys(key, blocks, keys, work->count / 2); break;
+    case 6: returned = cukvashe_des_check_values(keys, 8 * count, blocks, 3 * count, count); break;
+    case 7: returned = cukvashe_tdes_ede2_check_values(keys, 16 * count, blocks, 3 * count, count); break;
+    case 8: returned = cukvashe_tdes_ede3_check_values(keys, 24 * count, blocks, 3 * count, count); break;
+    default: returned = cukvashe_dukpt_transaction_keys_from_base(key, blocks, 10 * (count / 2), keys, 16 * (count / 2), count / 2); break;
   }
 }
 
@@ -141,19 +141,19 @@ static void of_record(const struct work *work) {
     case 3: returned = cukvashe_des_decrypt_cbc_records(&context.des, blocks, sizes, count, others, 8 * count); break;
     case 4: returned = cukvashe_tdes_ede2_decrypt_cbc_records(&context.tdes_ede2, blocks, sizes, count, others, 8 * count); break;
     case 5: returned = cukvashe_tdes_ede3_decrypt_cbc_records(&context.tdes_ede3, blocks, sizes, count, others, 8 * count); break;
-    case 6: returned = cukvashe_cbc_mac_des_macs(key, 1, messages, others, count); break;
-    case 7: returned = cukvashe_cbc_mac_tdes_ede2_macs(key, 1, messages, others, count); break;
-    case 8: returned = cukvashe_cbc_mac_tdes_ede3_macs(key, 2, messages, others, count); break;
-    case 9: returned = cukvashe_cbc_mac_des_macs_each(keys, 1, messages, others, count); break;
-    case 10: returned = cukvashe_cbc_mac_tdes_ede2_macs_each(keys, 1, messages, others, count); break;
-    case 11: returned = cukvashe_cbc_mac_tdes_ede3_macs_each(keys, 2, messages, others, count); break;
-    case 12: returned = cukvashe_retail_mac_des_macs(key, 2, messages, others, count); break;
-    case 13: returned = cukvashe_retail_mac_des_macs_each(keys, 2, messages, others, count); break;
-    case 14: cukvashe_cmac_tdes_ede2_macs(key, messages, others, count); break;
-    case 15: cukvashe_cmac_tdes_ede2_macs_each(keys, messages, others, count); break;
-    case 16: cukvashe_cmac_tdes_ede3_macs(key, messages, others, count); break;
-    case 17: cukvashe_cmac_tdes_ede3_macs_each(keys, messages, others, count); break;
-    default: cukvashe_compare_tags(blocks, others, right, count); break;
+    case 6: returned = cukvashe_cbc_mac_des_macs(key, 8, 1, messages, others, 8 * count, count); break;
+    case 7: returned = cukvashe_cbc_mac_tdes_ede2_macs(key, 16, 1, messages, others, 8 * count, count); break;
+    case 8: returned = cukvashe_cbc_mac_tdes_ede3_macs(key, 24, 2, messages, others, 8 * count, count); break;
+    case 9: returned = cukvashe_cbc_mac_des_macs_each(keys, 8 * count, 1, messages, others, 8 * count, count); break;
+    case 10: returned = cukvashe_cbc_mac_tdes_ede2_macs_each(keys, 16 * count, 1, messages, others, 8 * count, count); break;
+    case 11: returned = cukvashe_cbc_mac_tdes_ede3_macs_each(keys, 24 * count, 2, messages, others, 8 * count, count); break;
+    case 12: returned = cukvashe_retail_mac_des_macs(key, 16, 2, messages, others, 8 * count, count); break;
+    case 13: returned = cukvashe_retail_mac_des_macs_each(keys, 16 * count, 2, messages, others, 8 * count, count); break;
+    case 14: returned = cukvashe_cmac_tdes_ede2_macs(key, 16, messages, others, 8 * count, count); break;
+    case 15: returned = cukvashe_cmac_tdes_ede2_macs_each(keys, 16 * count, messages, others, 8 * count, count); break;
+    case 16: returned = cukvashe_cmac_tdes_ede3_macs(key, 24, messages, others, 8 * count, count); break;
+    case 17: returned = cukvashe_cmac_tdes_ede3_macs_each(keys, 24 * count, messages, others, 8 * count, count); break;
+    default: returned = cukvashe_compare_tags(blocks, 8 * count, others, 8 * count, right, count); break;
   }
 }
 

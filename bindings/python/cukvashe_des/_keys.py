@@ -17,7 +17,7 @@ KEY_SIZES = (8, 16, 24)
 _weak_key_test = function("weak_key_test", INT, POINTER, SIZE)
 _set_odd_parity = function("set_odd_parity", None, POINTER, SIZE)
 _equal_but_parity = function("equal_but_parity", BOOL, POINTER, POINTER, SIZE)
-_combine = {size: function(f"combine_{size}", INT, POINTER, POINTER, POINTER, SIZE, POINTER) for size in KEY_SIZES}
+_combine = {size: function(f"combine_{size}", INT, POINTER, POINTER, POINTER, SIZE, SIZE, POINTER) for size in KEY_SIZES}
 _initial_key = function("dukpt_initial_key", None, POINTER, POINTER, POINTER)
 _transaction_key = function("dukpt_transaction_key", None, POINTER, POINTER, POINTER)
 _pin_key = function("dukpt_pin_key", None, POINTER, POINTER)
@@ -89,7 +89,7 @@ def combine(first: ReadableBuffer, second: ReadableBuffer, *others: ReadableBuff
             for at, component in enumerate(others):
                 with key_of(component, size) as held:
                     ctypes.memmove(ctypes.byref(more, at * size), held, size)
-            status = _combine[size](one, other, more, len(others), key)
+            status = _combine[size](one, other, more, len(more), len(others), key)
     if status == WEAK_KEY:
         raise WeakKeyError("the weak key test refuses the key that the components make")
     check(status)

@@ -10,7 +10,8 @@ from typing import AbstractSet, Any, Iterable, Iterator, List, Mapping, Optional
 
 from ._ciphers import Cipher, class_of, vectors_by_name
 from ._data import BLOCK_SIZE, Kind, bytes_from, in_order, is_writable, kept_apart, key_of, lent, no_text, pointer_to, room, row_size
-from ._faults import BlockLengthError, CountMismatchError, Error, KeyLengthError, SerialLengthError, VectorLengthError, fault_of
+from ._faults import BlockLengthError, CountMismatchError, Error, KeyLengthError, SerialLengthError, VectorLengthError
+from ._faults import check, fault_of
 from ._library import INT, POINTER, SIZE, function
 from ._macs import TAG_SIZE, Mac, mac_class_of
 from ._statuses import OK, PADDING_METHOD
@@ -24,7 +25,8 @@ _EACH = {
     for call in ("encrypt_each", "decrypt_each")
 }
 _VALUES = {
-    name: function(f"{name}_check_values", None, POINTER, POINTER, SIZE) for name in ("des", "tdes_ede2", "tdes_ede3")
+    name: function(f"{name}_check_values", INT, POINTER, SIZE, POINTER, SIZE, SIZE)
+    for name in ("des", "tdes_ede2", "tdes_ede3")
 }
 _RECORDS = {
     (name, call): function(f"{name}_{call}", INT, POINTER, POINTER, POINTER, SIZE, POINTER, SIZE)
@@ -32,17 +34,17 @@ _RECORDS = {
     for call in ("encrypt_cbc_records", "decrypt_cbc_records")
 }
 _MACS = {
-    name + call: function(f"{name}{call}", INT, POINTER, INT, POINTER, POINTER, SIZE)
+    name + call: function(f"{name}{call}", INT, POINTER, SIZE, INT, POINTER, POINTER, SIZE, SIZE)
     for name in ("cbc_mac_des", "cbc_mac_tdes_ede2", "cbc_mac_tdes_ede3", "retail_mac_des")
     for call in ("_macs", "_macs_each")
 }
 _CMACS = {
-    name + call: function(f"{name}{call}", None, POINTER, POINTER, POINTER, SIZE)
+    name + call: function(f"{name}{call}", INT, POINTER, SIZE, POINTER, POINTER, SIZE, SIZE)
     for name in ("cmac_tdes_ede2", "cmac_tdes_ede3")
     for call in ("_macs", "_macs_each")
 }
-_compare_tags = function("compare_tags", None, POINTER, POINTER, POINTER, SIZE)
-_transaction_keys = function("dukpt_transaction_keys", None, POINTER, POINTER, POINTER, SIZE)
+_compare_tags = function("compare_tags", INT, POINTER, SIZE, POINTER, SIZE, POINTER, SIZE)
+_transaction_keys = function("dukpt_transaction_keys_from_base", INT, POINTER, POINTER, SIZE, POINTER, SIZE, SIZE)
 
 
 def _count_of(length: int, size: int, fault: Type[Error], elements: str) -> int:
@@ -132,7 +134,7 @@ def check_values(cipher: Type[Cipher], keys: ReadableBuffer) -> bytes:
     kind = class_of(cipher)
     with _list_of(keys, kind.key_size, KeyLengthError, "keys") as (start, count):
         values = room(_CHECK_VALUE_SIZE * count)
-        _VALUES[kind.name](start, values, count)
+        check(_VALUES[kind.name](start, kind.key_size * count, values, len(values), count))
     return bytes(values)
 
 
@@ -147,7 +149,7 @@ def dukpt_transaction_keys_from_base(base: ReadableBuffer, serials: ReadableBuff
     numbers = _list_of(serials, _SERIAL_SIZE, SerialLengthError, "key serial numbers")
     with key_of(base, _TRANSACTION_KEY_SIZE) as held, numbers as (start, count):
         keys = room(_TRANSACTION_KEY_SIZE * count)
-        _transaction_keys(held, start, keys, count)
+        check(_transaction_keys(held, start, _SERIAL_SIZE * count, keys, len(keys), count))
     return bytes_from(keys)
 
 
@@ -239,13 +241,13 @@ def _mac_of(mac: Type[Mac], padding: Optional[int]) -> Kind:
     return kind
 
 
-def _write_tags(call: str, keys: Any, padding: Optional[int], pairs: array[int], tags: Any) -> None:
-    """Takes keys, a padding method or None, messages and the room of their tags to a call."""
-    messages, count = pointer_to(pairs) if pairs else None, len(pairs) // 2
+def _write_tags(call: str, keys: Any, length: int, padding: Optional[int], pairs: array[int], tags: Any) -> None:
+    """Takes keys of a length, a padding method or None, messages and the room of their tags to a call."""
+    of_tags = pointer_to(pairs) if pairs else None, tags, len(tags), len(pairs) // 2
     if padding is None:
-        _CMACS[call](keys, messages, tags, count)
-    elif _MACS[call](keys, padding, messages, tags, count) != OK:
-        raise fault_of(PADDING_METHOD)
+        check(_CMACS[call](keys, length, *of_tags))
+    else:
+        check(_MACS[call](keys, length, padding, *of_tags))
 
 
 def macs(
@@ -260,7 +262,7 @@ def macs(
     with key_of(key, made.key_size) as held, _lent_bytes(messages) as (start, length):
         pairs = _messages_of(start or 0, length, lengths)
         tags = room(len(pairs) // 2 * TAG_SIZE)
-        _write_tags(made.name + "_macs", held, padding, pairs, tags)
+        _write_tags(made.name + "_macs", held, len(held), padding, pairs, tags)
     return bytes(tags)
 
 
@@ -276,7 +278,7 @@ def macs_each(
         if count != len(pairs) // 2:
             raise CountMismatchError("the numbers of keys and messages differ")
         tags = room(count * TAG_SIZE)
-        _write_tags(made.name + "_macs_each", first, padding, pairs, tags)
+        _write_tags(made.name + "_macs_each", first, made.key_size * count, padding, pairs, tags)
     return bytes(tags)
 
 
@@ -290,5 +292,6 @@ def wrong_tags(tags: ReadableBuffer, expected: ReadableBuffer) -> List[int]:
             if count != expected_count:
                 raise CountMismatchError("the numbers of tags and expected tags differ")
             right = room(count)
-            _compare_tags(start, other, right, count)
+            length = TAG_SIZE * count
+            check(_compare_tags(start, length, other, length, right, count))
     return [place for place, answer in enumerate(right) if not answer]

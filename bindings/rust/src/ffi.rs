@@ -147,19 +147,29 @@ extern "C" {
     ) -> c_int;
     pub fn cukvashe_cbc_mac_des_macs(
         key: *const u8,
+        key_length: usize,
         method: c_int,
         messages: *const Message,
         tags: *mut u8,
+        tags_length: usize,
         count: usize,
     ) -> c_int;
     pub fn cukvashe_cbc_mac_des_macs_each(
         keys: *const u8,
+        keys_length: usize,
         method: c_int,
         messages: *const Message,
         tags: *mut u8,
+        tags_length: usize,
         count: usize,
     ) -> c_int;
-    pub fn cukvashe_des_check_values(keys: *const u8, values: *mut u8, count: usize);
+    pub fn cukvashe_des_check_values(
+        keys: *const u8,
+        keys_length: usize,
+        values: *mut u8,
+        values_length: usize,
+        count: usize,
+    ) -> c_int;
 
     pub fn cukvashe_tdes_ede2_init(context: *mut TdesEde2, key: *const u8, key_length: usize) -> c_int;
     pub fn cukvashe_tdes_ede2_init_quiet(context: *mut TdesEde2, key: *const u8, key_length: usize) -> c_int;
@@ -224,19 +234,29 @@ extern "C" {
     ) -> c_int;
     pub fn cukvashe_cbc_mac_tdes_ede2_macs(
         key: *const u8,
+        key_length: usize,
         method: c_int,
         messages: *const Message,
         tags: *mut u8,
+        tags_length: usize,
         count: usize,
     ) -> c_int;
     pub fn cukvashe_cbc_mac_tdes_ede2_macs_each(
         keys: *const u8,
+        keys_length: usize,
         method: c_int,
         messages: *const Message,
         tags: *mut u8,
+        tags_length: usize,
         count: usize,
     ) -> c_int;
-    pub fn cukvashe_tdes_ede2_check_values(keys: *const u8, values: *mut u8, count: usize);
+    pub fn cukvashe_tdes_ede2_check_values(
+        keys: *const u8,
+        keys_length: usize,
+        values: *mut u8,
+        values_length: usize,
+        count: usize,
+    ) -> c_int;
 
     pub fn cukvashe_tdes_ede3_init(context: *mut TdesEde3, key: *const u8, key_length: usize) -> c_int;
     pub fn cukvashe_tdes_ede3_init_quiet(context: *mut TdesEde3, key: *const u8, key_length: usize) -> c_int;
@@ -301,19 +321,29 @@ extern "C" {
     ) -> c_int;
     pub fn cukvashe_cbc_mac_tdes_ede3_macs(
         key: *const u8,
+        key_length: usize,
         method: c_int,
         messages: *const Message,
         tags: *mut u8,
+        tags_length: usize,
         count: usize,
     ) -> c_int;
     pub fn cukvashe_cbc_mac_tdes_ede3_macs_each(
         keys: *const u8,
+        keys_length: usize,
         method: c_int,
         messages: *const Message,
         tags: *mut u8,
+        tags_length: usize,
         count: usize,
     ) -> c_int;
-    pub fn cukvashe_tdes_ede3_check_values(keys: *const u8, values: *mut u8, count: usize);
+    pub fn cukvashe_tdes_ede3_check_values(
+        keys: *const u8,
+        keys_length: usize,
+        values: *mut u8,
+        values_length: usize,
+        count: usize,
+    ) -> c_int;
 
     pub fn cukvashe_cbc_mac_des_init(
         context: *mut CbcMacDes,
@@ -389,16 +419,20 @@ extern "C" {
 
     pub fn cukvashe_retail_mac_des_macs(
         key: *const u8,
+        key_length: usize,
         method: c_int,
         messages: *const Message,
         tags: *mut u8,
+        tags_length: usize,
         count: usize,
     ) -> c_int;
     pub fn cukvashe_retail_mac_des_macs_each(
         keys: *const u8,
+        keys_length: usize,
         method: c_int,
         messages: *const Message,
         tags: *mut u8,
+        tags_length: usize,
         count: usize,
     ) -> c_int;
 
@@ -407,18 +441,53 @@ extern "C" {
     pub fn cukvashe_cmac_tdes_ede2_update(context: *mut CmacTdesEde2, message: *const u8, length: usize);
     pub fn cukvashe_cmac_tdes_ede2_final(context: *const CmacTdesEde2, tag: *mut [u8; 8]);
     pub fn cukvashe_cmac_tdes_ede2_verify(context: *const CmacTdesEde2, tag: *const u8, tag_length: usize) -> c_int;
-    pub fn cukvashe_cmac_tdes_ede2_macs(key: *const u8, messages: *const Message, tags: *mut u8, count: usize);
-    pub fn cukvashe_cmac_tdes_ede2_macs_each(keys: *const u8, messages: *const Message, tags: *mut u8, count: usize);
+    pub fn cukvashe_cmac_tdes_ede2_macs(
+        key: *const u8,
+        key_length: usize,
+        messages: *const Message,
+        tags: *mut u8,
+        tags_length: usize,
+        count: usize,
+    ) -> c_int;
+    pub fn cukvashe_cmac_tdes_ede2_macs_each(
+        keys: *const u8,
+        keys_length: usize,
+        messages: *const Message,
+        tags: *mut u8,
+        tags_length: usize,
+        count: usize,
+    ) -> c_int;
 
     pub fn cukvashe_cmac_tdes_ede3_init(context: *mut CmacTdesEde3, key: *const u8, key_length: usize) -> c_int;
     pub fn cukvashe_cmac_tdes_ede3_init_quiet(context: *mut CmacTdesEde3, key: *const u8, key_length: usize) -> c_int;
     pub fn cukvashe_cmac_tdes_ede3_update(context: *mut CmacTdesEde3, message: *const u8, length: usize);
     pub fn cukvashe_cmac_tdes_ede3_final(context: *const CmacTdesEde3, tag: *mut [u8; 8]);
     pub fn cukvashe_cmac_tdes_ede3_verify(context: *const CmacTdesEde3, tag: *const u8, tag_length: usize) -> c_int;
-    pub fn cukvashe_cmac_tdes_ede3_macs(key: *const u8, messages: *const Message, tags: *mut u8, count: usize);
-    pub fn cukvashe_cmac_tdes_ede3_macs_each(keys: *const u8, messages: *const Message, tags: *mut u8, count: usize);
+    pub fn cukvashe_cmac_tdes_ede3_macs(
+        key: *const u8,
+        key_length: usize,
+        messages: *const Message,
+        tags: *mut u8,
+        tags_length: usize,
+        count: usize,
+    ) -> c_int;
+    pub fn cukvashe_cmac_tdes_ede3_macs_each(
+        keys: *const u8,
+        keys_length: usize,
+        messages: *const Message,
+        tags: *mut u8,
+        tags_length: usize,
+        count: usize,
+    ) -> c_int;
 
-    pub fn cukvashe_compare_tags(tags: *const u8, expected: *const u8, right: *mut bool, count: usize);
+    pub fn cukvashe_compare_tags(
+        tags: *const u8,
+        tags_length: usize,
+        expected: *const u8,
+        expected_length: usize,
+        right: *mut bool,
+        count: usize,
+    ) -> c_int;
 
     pub fn cukvashe_pad(
         buffer: *mut u8,
@@ -439,28 +508,38 @@ extern "C" {
     pub fn cukvashe_combine_8(
         first: *const [u8; 8],
         second: *const [u8; 8],
-        others: *const [u8; 8],
+        others: *const u8,
+        others_length: usize,
         others_count: usize,
         key: *mut [u8; 8],
     ) -> c_int;
     pub fn cukvashe_combine_16(
         first: *const [u8; 16],
         second: *const [u8; 16],
-        others: *const [u8; 16],
+        others: *const u8,
+        others_length: usize,
         others_count: usize,
         key: *mut [u8; 16],
     ) -> c_int;
     pub fn cukvashe_combine_24(
         first: *const [u8; 24],
         second: *const [u8; 24],
-        others: *const [u8; 24],
+        others: *const u8,
+        others_length: usize,
         others_count: usize,
         key: *mut [u8; 24],
     ) -> c_int;
 
     pub fn cukvashe_dukpt_initial_key(base: *const [u8; 16], serial: *const [u8; 10], key: *mut [u8; 16]);
     pub fn cukvashe_dukpt_transaction_key(initial: *const [u8; 16], serial: *const [u8; 10], key: *mut [u8; 16]);
-    pub fn cukvashe_dukpt_transaction_keys(base: *const [u8; 16], serials: *const u8, keys: *mut u8, count: usize);
+    pub fn cukvashe_dukpt_transaction_keys_from_base(
+        base: *const [u8; 16],
+        serials: *const u8,
+        serials_length: usize,
+        keys: *mut u8,
+        keys_length: usize,
+        count: usize,
+    ) -> c_int;
     pub fn cukvashe_dukpt_pin_key(transaction: *const [u8; 16], key: *mut [u8; 16]);
     pub fn cukvashe_dukpt_mac_key(transaction: *const [u8; 16], is_response: bool, key: *mut [u8; 16]);
     pub fn cukvashe_dukpt_data_key(transaction: *const [u8; 16], is_response: bool, key: *mut [u8; 16]);

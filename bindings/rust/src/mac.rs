@@ -228,14 +228,14 @@ mac!(
 /// How many messages go together.
 const GROUP: usize = 256;
 
-/// Takes groups of messages and the places of their tags to a call, with the number of the first message of each.
-fn in_groups(messages: &[&[u8]], tags: &mut [[u8; 8]], call: impl Fn(usize, *const Message, *mut u8, usize)) {
+/// Takes groups of messages and their tags to a call, with the number of the first message of each.
+fn in_groups(messages: &[&[u8]], tags: &mut [[u8; 8]], call: impl Fn(usize, *const Message, &mut [u8], usize)) {
     for (number, (group, tags)) in messages.chunks(GROUP).zip(tags.chunks_mut(GROUP)).enumerate() {
         let mut held = [Message { bytes: ptr::null(), length: 0 }; GROUP];
         for (place, message) in held.iter_mut().zip(group) {
             *place = Message { bytes: message.as_ptr(), length: message.len() };
         }
-        call(GROUP * number, held.as_ptr(), tags.as_flattened_mut().as_mut_ptr(), group.len());
+        call(GROUP * number, held.as_ptr(), tags.as_flattened_mut(), group.len());
     }
 }
 
@@ -252,9 +252,10 @@ macro_rules! macs {
             ) -> Result<(), CountsDiffer> {
                 count_of_both(messages, tags)?;
                 in_groups(messages, tags, |_, held, tags, count| {
-                    // SAFETY: the pointers are of references to as many elements as the count says, which don't overlap; a
-                    // status is 0, since there is a padding of each method.
-                    unsafe { ffi::$call(key.as_ptr(), $($padding.number(),)? held, tags, count) };
+                    let (key, key_length, place, length) = (key.as_ptr(), key.len(), tags.as_mut_ptr(), tags.len());
+                    // SAFETY: the pointers are of references, good for their lengths and the count, which don't overlap; the
+                    // status is 0, since these agree, and there is a padding of each method.
+                    unsafe { ffi::$call(key, key_length, $($padding.number(),)? held, place, length, count) };
                 });
                 Ok(())
             }
@@ -276,9 +277,10 @@ macro_rules! macs_each {
                 count_of_both(keys, messages)?;
                 count_of_both(messages, tags)?;
                 in_groups(messages, tags, |from, held, tags, count| {
-                    let keys = keys[from..].as_flattened().as_ptr();
+                    let keys = keys[from..from + count].as_flattened();
+                    let (keys, keys_length, place, length) = (keys.as_ptr(), keys.len(), tags.as_mut_ptr(), tags.len());
                     // SAFETY: as of `macs`.
-                    unsafe { ffi::$call(keys, $($padding.number(),)? held, tags, count) };
+                    unsafe { ffi::$call(keys, keys_length, $($padding.number(),)? held, place, length, count) };
                 });
                 Ok(())
             }
@@ -317,8 +319,10 @@ macs_each!(CmacTdesEde3 [], 24, cukvashe_cmac_tdes_ede3_macs_each);
 pub fn compare_tags(tags: &[[u8; 8]], expected: &[[u8; 8]], right: &mut [bool]) -> Result<(), CountsDiffer> {
     let count = count_of_both(tags, expected)?;
     count_of_both(tags, right)?;
-    let (tags, expected) = (tags.as_flattened().as_ptr(), expected.as_flattened().as_ptr());
-    // SAFETY: the pointers are of references to as many elements as the count says, and only `right` is written.
-    unsafe { ffi::cukvashe_compare_tags(tags, expected, right.as_mut_ptr(), count) };
+    let (tags, expected) = (tags.as_flattened(), expected.as_flattened());
+    let (place, length, other, other_length) = (tags.as_ptr(), tags.len(), expected.as_ptr(), expected.len());
+    // SAFETY: the pointers are of references, good for their lengths and the count, and only `right` is written. The status is 0,
+    // since these agree.
+    unsafe { ffi::cukvashe_compare_tags(place, length, other, other_length, right.as_mut_ptr(), count) };
     Ok(())
 }

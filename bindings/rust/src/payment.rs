@@ -80,8 +80,10 @@ macro_rules! check_value {
 
             fn check_values(keys: &[Self::Key], values: &mut [[u8; 3]]) -> Result<(), CountsDiffer> {
                 let count = count_of_both(keys, values)?;
-                // SAFETY: the pointers are of references, good for the count, and don't overlap.
-                unsafe { ffi::$calls(keys.as_flattened().as_ptr(), values.as_flattened_mut().as_mut_ptr(), count) };
+                let (keys, values) = (keys.as_flattened(), values.as_flattened_mut());
+                // SAFETY: the pointers are of references, good for their lengths, and don't overlap. The status is 0, since the
+                // lengths are those of as many elements.
+                unsafe { ffi::$calls(keys.as_ptr(), keys.len(), values.as_mut_ptr(), values.len(), count) };
                 Ok(())
             }
         })*
@@ -122,9 +124,9 @@ macro_rules! combine {
             second: &[u8; $size],
             others: &[[u8; $size]],
         ) -> Result<[u8; $size], KeyTestError> {
-            let mut key = [0; $size];
-            // SAFETY: the pointers are of references, `others` good for its count, and don't overlap what is written.
-            match unsafe { ffi::$call(first, second, others.as_ptr(), others.len(), &mut key) } {
+            let (mut key, count, others) = ([0; $size], others.len(), others.as_flattened());
+            // SAFETY: the pointers are of references, `others` good for its length, and don't overlap what is written.
+            match unsafe { ffi::$call(first, second, others.as_ptr(), others.len(), count, &mut key) } {
                 OK => Ok(key),
                 _ => Err(KeyTestError::WeakKey),
             }
@@ -160,10 +162,24 @@ pub fn transaction_key(initial: &[u8; 16], serial: &[u8; 10]) -> [u8; 16] {
 /// Writes the key of the transaction of each key serial number at its place, from the base derivation key: what
 /// [`transaction_key`] makes of [`initial_key`]. Where serial numbers and keys differ in number, the keys stay. It takes every
 /// counter: ask [`is_usable`] first. Such a key encrypts nothing itself: take [`pin_key`], [`mac_key`] or [`data_key`] of it.
-pub fn transaction_keys(base: &[u8; 16], serials: &[[u8; 10]], keys: &mut [[u8; 16]]) -> Result<(), CountsDiffer> {
+pub fn transaction_keys_from_base(
+    base: &[u8; 16],
+    serials: &[[u8; 10]],
+    keys: &mut [[u8; 16]],
+) -> Result<(), CountsDiffer> {
     let count = count_of_both(serials, keys)?;
     let (serials, keys) = (serials.as_flattened(), keys.as_flattened_mut());
-    unsafe { ffi::cukvashe_dukpt_transaction_keys(base, serials.as_ptr(), keys.as_mut_ptr(), count) };
+    // The status is 0, since the lengths are those of as many elements.
+    unsafe {
+        ffi::cukvashe_dukpt_transaction_keys_from_base(
+            base,
+            serials.as_ptr(),
+            serials.len(),
+            keys.as_mut_ptr(),
+            keys.len(),
+            count,
+        )
+    };
     Ok(())
 }
 

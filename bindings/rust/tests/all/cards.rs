@@ -3,7 +3,7 @@
 use crate::common::LENGTHS;
 use cukvashe_des::mac::{Mac, Padding, RetailMacDes};
 use cukvashe_des::payment::emv::*;
-use cukvashe_des::payment::{next_serial, transaction_keys, Terminal};
+use cukvashe_des::payment::{next_serial, transaction_keys_from_base, Terminal};
 
 const BASE: u128 = 0x0123456789abcdeffedcba9876543210;
 
@@ -130,7 +130,7 @@ fn terminals_answer_as_the_host() {
         keys.push(key);
     }
     let mut wanted = vec![[0; 16]; keys.len()];
-    transaction_keys(&BASE.to_be_bytes(), &serials, &mut wanted).unwrap();
+    transaction_keys_from_base(&BASE.to_be_bytes(), &serials, &mut wanted).unwrap();
     assert_eq!(keys, wanted);
 }
 

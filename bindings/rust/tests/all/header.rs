@@ -21,7 +21,7 @@ fn camel(name: &str) -> String {
 }
 
 /// An argument of the header as Rust writes it.
-fn argument(of: &str, argument: &str) -> String {
+fn argument(argument: &str) -> String {
     let (constant, rest) = match argument.trim().strip_prefix("const ") {
         Some(rest) => ("*const", rest),
         None => ("*mut", argument.trim()),
@@ -41,11 +41,10 @@ fn argument(of: &str, argument: &str) -> String {
     if let Some((name, size)) = name.split_once('[') {
         return format!("{name}: {constant} [{kind}; {}", size);
     }
-    // More components, one after the other, are arrays in Rust.
-    match of.strip_prefix("cukvashe_combine_").filter(|_| name == "others") {
-        Some(size) => format!("{name}: {constant} [{kind}; {size}]"),
-        None if is_pointer => format!("{name}: {constant} {kind}"),
-        None => format!("{name}: {kind}"),
+    if is_pointer {
+        format!("{name}: {constant} {kind}")
+    } else {
+        format!("{name}: {kind}")
     }
 }
 
@@ -68,7 +67,7 @@ fn calls_of_the_header() -> Calls {
             "void" => "",
             other => other,
         };
-        let arguments = arguments.split(',').map(|it| argument(name, it)).collect();
+        let arguments = arguments.split(',').map(argument).collect();
         calls.insert(name.into(), (arguments, result.into()));
     }
     calls

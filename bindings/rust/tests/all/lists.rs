@@ -5,7 +5,7 @@ use cukvashe_des::mac::Padding::{Method1, Method2};
 use cukvashe_des::mac::{
     compare_tags, CbcMacDes, CbcMacTdesEde2, CbcMacTdesEde3, CmacTdesEde2, CmacTdesEde3, RetailMacDes,
 };
-use cukvashe_des::payment::{initial_key, transaction_key, transaction_keys, CheckValue};
+use cukvashe_des::payment::{initial_key, transaction_key, transaction_keys_from_base, CheckValue};
 use cukvashe_des::{Block, BlockCipher, Cipher, CountsDiffer, Des, KeyForEach, TdesEde2, TdesEde3};
 
 /// Arrays of bytes that differ from place to place.
@@ -67,10 +67,10 @@ fn transactions_of_lists_answer() {
         let wanted: Vec<_> =
             serials.iter().map(|serial| transaction_key(&initial_key(&base, serial), serial)).collect();
         let mut keys = some::<16>(count, 7);
-        assert_eq!(transaction_keys(&base, &serials, &mut keys), Ok(()));
+        assert_eq!(transaction_keys_from_base(&base, &serials, &mut keys), Ok(()));
         assert_eq!(keys, wanted);
         let mut more = some::<16>(count + 1, 7);
-        assert_eq!(transaction_keys(&base, &serials, &mut more), Err(CountsDiffer));
+        assert_eq!(transaction_keys_from_base(&base, &serials, &mut more), Err(CountsDiffer));
         assert_eq!(more, some::<16>(count + 1, 7));
     }
 }
