@@ -24,8 +24,8 @@
  * STATUSES
  *
  * A call that can refuse its arguments returns CUKVASHE_OK, or a CUKVASHE_ERR_.., and then it has changed nothing. Each
- * section names its errors in order: the first that applies is returned. CUKVASHE_OK is 0: compare with it, since
- * `if (cukvashe_MAC_verify(..))` is true for a wrong tag, and `if (cukvashe_pvv_verify(..))` for a wrong PIN.
+ * section names its errors in order: the first that applies is returned. CUKVASHE_OK is 0, so `if` is true for a wrong
+ * tag or PIN where it asks verify: let it ask is_tag or is_pin, which are true for the right one alone.
  *
  * WHAT YOU MUST UPHOLD
  *
@@ -461,7 +461,7 @@ void cukvashe_cmac_tdes_ede3_update(cukvashe_cmac_tdes_ede3 *context, const uint
 /*
  * void cukvashe_MAC_final(const cukvashe_MAC *context, uint8_t tag[8])
  *
- * Writes the tag of the message, which may go on. To check a tag call verify: memcmp may stop at the first wrong byte.
+ * Writes the tag of the message, which may go on. To check a tag call is_tag: memcmp may stop at the first wrong byte.
  */
 void cukvashe_cbc_mac_des_final(const cukvashe_cbc_mac_des *context, uint8_t tag[8]);
 void cukvashe_cbc_mac_tdes_ede2_final(const cukvashe_cbc_mac_tdes_ede2 *context, uint8_t tag[8]);
@@ -471,12 +471,13 @@ void cukvashe_cmac_tdes_ede2_final(const cukvashe_cmac_tdes_ede2 *context, uint8
 void cukvashe_cmac_tdes_ede3_final(const cukvashe_cmac_tdes_ede3 *context, uint8_t tag[8]);
 
 /*
+ * bool cukvashe_MAC_is_tag(const cukvashe_MAC *context, const uint8_t *tag, size_t tag_length)
  * int cukvashe_MAC_verify(const cukvashe_MAC *context, const uint8_t *tag, size_t tag_length)
  *
- * Returns CUKVASHE_OK, which is 0, for the tag of the message and for its first 4 to 7 bytes, and CUKVASHE_ERR_TAG for
- * all else. Every byte is compared. Give the `tag_length` that both sides agreed on, not the one that was sent: a
- * forger sends 4 bytes, of which one guess in 2^32 is right. (In Python, Rust and JavaScript verify takes whole tags
- * alone, and another call cut ones.)
+ * is_tag is true, and verify CUKVASHE_OK, which is 0, for the tag of the message and for its first 4 to 7 bytes; for
+ * all else is_tag is false, and verify CUKVASHE_ERR_TAG. Every byte is compared. Give the `tag_length` that both sides
+ * agreed on, not the one that was sent: a forger sends 4 bytes, of which one guess in 2^32 is right. (In Python, Rust
+ * and JavaScript verify takes whole tags alone, and another call cut ones.)
  */
 CUKVASHE_CHECK int cukvashe_cbc_mac_des_verify(const cukvashe_cbc_mac_des *context, const uint8_t *tag,
                                                size_t tag_length);
@@ -490,6 +491,18 @@ CUKVASHE_CHECK int cukvashe_cmac_tdes_ede2_verify(const cukvashe_cmac_tdes_ede2 
                                                   size_t tag_length);
 CUKVASHE_CHECK int cukvashe_cmac_tdes_ede3_verify(const cukvashe_cmac_tdes_ede3 *context, const uint8_t *tag,
                                                   size_t tag_length);
+CUKVASHE_CHECK bool cukvashe_cbc_mac_des_is_tag(const cukvashe_cbc_mac_des *context, const uint8_t *tag,
+                                                size_t tag_length);
+CUKVASHE_CHECK bool cukvashe_cbc_mac_tdes_ede2_is_tag(const cukvashe_cbc_mac_tdes_ede2 *context, const uint8_t *tag,
+                                                      size_t tag_length);
+CUKVASHE_CHECK bool cukvashe_cbc_mac_tdes_ede3_is_tag(const cukvashe_cbc_mac_tdes_ede3 *context, const uint8_t *tag,
+                                                      size_t tag_length);
+CUKVASHE_CHECK bool cukvashe_retail_mac_des_is_tag(const cukvashe_retail_mac_des *context, const uint8_t *tag,
+                                                   size_t tag_length);
+CUKVASHE_CHECK bool cukvashe_cmac_tdes_ede2_is_tag(const cukvashe_cmac_tdes_ede2 *context, const uint8_t *tag,
+                                                   size_t tag_length);
+CUKVASHE_CHECK bool cukvashe_cmac_tdes_ede3_is_tag(const cukvashe_cmac_tdes_ede3 *context, const uint8_t *tag,
+                                                   size_t tag_length);
 
 /*
  * MESSAGE AUTHENTICATION CODES OF MANY MESSAGES
@@ -707,7 +720,8 @@ CUKVASHE_CHECK int cukvashe_pin_translate_to_3(const uint8_t *incoming_key, size
  * digits of the account number without its check digit, the index and the digits of the PIN is encrypted by triple DES
  * (EDE); of the sixteen digits of the answer those from 0 to 9 are taken in order, then the others in order, less ten:
  * the first four are the value. Errors: CUKVASHE_ERR_PIN_LENGTH, _PIN_DIGIT, _ACCOUNT_LENGTH, _ACCOUNT_DIGIT,
- * _KEY_INDEX; of cukvashe_pvv_verify then _WRONG_PIN, if `value` is not that of the PIN.
+ * _KEY_INDEX; of cukvashe_pvv_verify then _WRONG_PIN, if `value` is not that of the PIN. cukvashe_pvv_is_pin and
+ * cukvashe_pin_offset_is_pin are true for the right PIN, and false for a wrong one and for every error.
  *
  * The other calls are by the method of the IBM 3624. Validation data, sixteen digits in 8 bytes that the issuer
  * chooses, are encrypted under a key as of translation. Each digit of the answer becomes the one at its place in the
@@ -732,6 +746,8 @@ CUKVASHE_CHECK int cukvashe_pvv(const uint8_t key[16], const char *account, size
                                 const char *pin, size_t pin_length, char value[5]);
 CUKVASHE_CHECK int cukvashe_pvv_verify(const uint8_t key[16], const char *account, size_t account_length, int index,
                                        const char *pin, size_t pin_length, const char *value, size_t value_length);
+CUKVASHE_CHECK bool cukvashe_pvv_is_pin(const uint8_t key[16], const char *account, size_t account_length, int index,
+                                        const char *pin, size_t pin_length, const char *value, size_t value_length);
 CUKVASHE_CHECK int cukvashe_decimal_table_init(cukvashe_decimal_table *table, const char *digits, size_t length);
 CUKVASHE_CHECK int cukvashe_decimal_table_init_any(cukvashe_decimal_table *table, const char *digits, size_t length);
 CUKVASHE_CHECK int cukvashe_natural_pin(const uint8_t *key, size_t key_length, const cukvashe_decimal_table *table,
@@ -743,6 +759,10 @@ CUKVASHE_CHECK int cukvashe_pin_offset_verify(const uint8_t *key, size_t key_len
                                               const cukvashe_decimal_table *table, const uint8_t validation[8],
                                               const char *pin, size_t pin_length, const char *offset,
                                               size_t offset_length);
+CUKVASHE_CHECK bool cukvashe_pin_offset_is_pin(const uint8_t *key, size_t key_length,
+                                               const cukvashe_decimal_table *table, const uint8_t validation[8],
+                                               const char *pin, size_t pin_length, const char *offset,
+                                               size_t offset_length);
 
 /*
  * CARD VERIFICATION VALUES
@@ -769,8 +789,8 @@ CUKVASHE_CHECK int cukvashe_cvv(const uint8_t key[16], const char *account, size
  * messaging the application cryptogram. The third of them plays no part.
  *
  * application_cryptogram writes the cryptogram of `length` bytes (8.1.2), of the data that the card scheme names: the
- * retail MAC with padding method 2 under the session key. Compare one that a card sent by cukvashe_compare_tags, not by
- * memcmp.
+ * retail MAC with padding method 2 under the session key. To check one that a card sent, give the data to a context of
+ * retail_mac_des, and ask cukvashe_retail_mac_des_is_tag.
  *
  * response_1 writes the issuer's response by method 1 (8.2.1) to a cryptogram, with a response code of two ASCII
  * characters; response_2 that by method 2 (8.2.2), with a card status update of four bytes and `length` bytes of the

@@ -6,8 +6,7 @@
 /* The value was made under a pair of keys; `index`, 1 to 6, says under which of yours. Count the wrong PINs of each card:
    with unlimited guesses the value reveals the PIN. */
 static bool is_right(const uint8_t key[16], int index, const char *account, const char *pin, const char value[4]) {
-  /* Compare with CUKVASHE_OK, which is 0: `if (cukvashe_pvv_verify(..))` is true for a wrong PIN. */
-  return cukvashe_pvv_verify(key, account, strlen(account), index, pin, strlen(pin), value, 4) == CUKVASHE_OK;
+  return cukvashe_pvv_is_pin(key, account, strlen(account), index, pin, strlen(pin), value, 4);
 }
 
 int main(void) {

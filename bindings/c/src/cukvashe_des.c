@@ -142,6 +142,9 @@ DEFINE_CIPHER_OF_KEYS(tdes_ede3, 49, 24, 496, 1168, 10784, 17360, 13056, 19424, 
   }                                                                                                                   \
   int cukvashe_##NAME##_verify(const cukvashe_##NAME *context, const uint8_t *tag, size_t tag_length) {               \
     return cukvashe_internal_mac_verify(ALGORITHM, context->words, WORDS, context->words + WORDS, tag, tag_length);   \
+  }                                                                                                                   \
+  bool cukvashe_##NAME##_is_tag(const cukvashe_##NAME *context, const uint8_t *tag, size_t tag_length) {              \
+    return cukvashe_##NAME##_verify(context, tag, tag_length) == CUKVASHE_OK;                                         \
   }
 
 DEFINE_MAC(cbc_mac_des, ALGORITHM_CBC_MAC, 17)

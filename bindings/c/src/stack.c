@@ -99,6 +99,12 @@ WIPES_EXPORT(int, pvv_verify, 1344,
              (const uint8_t key[16], const char *account, size_t account_length, int index, const char *pin, size_t
               pin_length, const char *value, size_t value_length),
              key, account, account_length, index, pin, pin_length, value, value_length)
+
+bool cukvashe_pvv_is_pin(const uint8_t key[16], const char *account, size_t account_length, int index, const char *pin,
+                         size_t pin_length, const char *value, size_t value_length) {
+  return cukvashe_pvv_verify(key, account, account_length, index, pin, pin_length, value, value_length) == CUKVASHE_OK;
+}
+
 WIPES_EXPORT(int, natural_pin, 1440,
              (const uint8_t *key, size_t key_length, const cukvashe_decimal_table *table, const uint8_t validation[8],
               size_t pin_length, char pin[13]),
@@ -111,6 +117,14 @@ WIPES_EXPORT(int, pin_offset_verify, 1616,
              (const uint8_t *key, size_t key_length, const cukvashe_decimal_table *table, const uint8_t validation[8],
               const char *pin, size_t pin_length, const char *offset, size_t offset_length),
              key, key_length, table, validation, pin, pin_length, offset, offset_length)
+
+bool cukvashe_pin_offset_is_pin(const uint8_t *key, size_t key_length, const cukvashe_decimal_table *table,
+                                const uint8_t validation[8], const char *pin, size_t pin_length, const char *offset,
+                                size_t offset_length) {
+  return cukvashe_pin_offset_verify(key, key_length, table, validation, pin, pin_length, offset, offset_length) ==
+         CUKVASHE_OK;
+}
+
 WIPES_EXPORT(int, cvv, 1248,
              (const uint8_t key[16], const char *account, size_t account_length, const char *expiry, size_t
               expiry_length, const char *service, size_t service_length, char value[4]),

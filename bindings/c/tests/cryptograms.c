@@ -87,15 +87,14 @@ static void answers_session_keys(void) {
 static void answers_cryptograms(void) {
   cukvashe_retail_mac_des mac;
   uint8_t session[16], cryptogram[8];
-  bool right;
   put(session, session_key);
   cukvashe_emv_application_cryptogram(session, data, sizeof data, cryptogram);
   CHECK(are(cryptogram, 8, cryptogram_of_data));
   CHECK(cukvashe_retail_mac_des_init_quiet(&mac, session, sizeof session, CUKVASHE_MAC_PADDING_2) == CUKVASHE_OK);
   cukvashe_retail_mac_des_update(&mac, data, sizeof data);
-  CHECK(cukvashe_retail_mac_des_verify(&mac, cryptogram, 8) == CUKVASHE_OK);
-  CHECK(cukvashe_compare_tags(cryptogram, 8, cryptogram, 8, &right, 1) == CUKVASHE_OK);
-  CHECK(right);
+  CHECK(cukvashe_retail_mac_des_is_tag(&mac, cryptogram, 8));
+  cryptogram[7] ^= 1;
+  CHECK(!cukvashe_retail_mac_des_is_tag(&mac, cryptogram, 8));
   cukvashe_emv_application_cryptogram(session, NULL, 0, cryptogram);
   CHECK(are(cryptogram, 8, "94c5b7e3c27950aa"));
 }

@@ -313,6 +313,8 @@ CIPHER(tdes_ede3, 49, 24)
     WAS("internal", "mac_final", ALGORITHM, context, WORDS, message, A(output));                                      \
     CHECK(cukvashe_##NAME##_verify(&NAME, input, 6) == STATUS);                                                       \
     WAS("internal", "mac_verify", ALGORITHM, context, WORDS, message, A(input), 6);                                   \
+    CHECK(!cukvashe_##NAME##_is_tag(&NAME, input, 6));                                                                \
+    WAS("internal", "mac_verify", ALGORITHM, context, WORDS, message, A(input), 6);                                   \
   }
 /* Whatever the padding method, if there is one. */
 #define MACS_REFUSE(NAME, KEY_SIZE, ...)                                                                              \

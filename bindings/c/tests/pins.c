@@ -16,6 +16,21 @@ static const struct {
     {"456789012340", 1, "1216", "6565"},
 };
 
+/* The status of a verification. The answer beside it is true for the right PIN alone. */
+static int value_status(const uint8_t key[16], const char *of, size_t of_length, int index, const char *pin, size_t length,
+                        const char *value, size_t value_length) {
+  const int status = cukvashe_pvv_verify(key, of, of_length, index, pin, length, value, value_length);
+  CHECK(cukvashe_pvv_is_pin(key, of, of_length, index, pin, length, value, value_length) == (status == CUKVASHE_OK));
+  return status;
+}
+
+static int offset_status(const uint8_t *key, size_t size, const cukvashe_decimal_table *table, const uint8_t data[8], const char *pin,
+                         size_t length, const char *offset, size_t offset_length) {
+  const int status = cukvashe_pin_offset_verify(key, size, table, data, pin, length, offset, offset_length);
+  CHECK(cukvashe_pin_offset_is_pin(key, size, table, data, pin, length, offset, offset_length) == (status == CUKVASHE_OK));
+  return status;
+}
+
 /* Each other digit of the value, and each other length, is refused. */
 static void answers_values(void) {
   uint8_t key[16];
@@ -26,16 +41,16 @@ static void answers_values(void) {
     const int index = values[i].index;
     memset(value, PAINTED, sizeof value);
     CHECK(cukvashe_pvv(key, TEXT(of), index, TEXT(pin), value) == CUKVASHE_OK && memcmp(value, values[i].value, 5) == 0);
-    CHECK(cukvashe_pvv_verify(key, TEXT(of), index, TEXT(pin), value, 4) == CUKVASHE_OK);
+    CHECK(value_status(key, TEXT(of), index, TEXT(pin), value, 4) == CUKVASHE_OK);
     for (int place = 0; place < 4; place++)
       for (int turned = 1; turned < 256; turned++) {
         memcpy(other, value, sizeof other);
         other[place] = (char)(other[place] ^ turned);
-        CHECK(cukvashe_pvv_verify(key, TEXT(of), index, TEXT(pin), other, 4) == CUKVASHE_ERR_WRONG_PIN);
+        CHECK(value_status(key, TEXT(of), index, TEXT(pin), other, 4) == CUKVASHE_ERR_WRONG_PIN);
       }
     for (size_t length = 0; length <= 5; length++)
-      if (length != 4) CHECK(cukvashe_pvv_verify(key, TEXT(of), index, TEXT(pin), value, length) == CUKVASHE_ERR_WRONG_PIN);
-    CHECK(cukvashe_pvv_verify(key, TEXT(of), index, TEXT(pin), NULL, 0) == CUKVASHE_ERR_WRONG_PIN);
+      if (length != 4) CHECK(value_status(key, TEXT(of), index, TEXT(pin), value, length) == CUKVASHE_ERR_WRONG_PIN);
+    CHECK(value_status(key, TEXT(of), index, TEXT(pin), NULL, 0) == CUKVASHE_ERR_WRONG_PIN);
   }
 }
 
@@ -68,8 +83,8 @@ static void refuses_values(void) {
     const char *of = faults[i].account, *pin = faults[i].pin;
     const int index = faults[i].index;
     CHECK(cukvashe_pvv(key, TEXT(of), index, TEXT(pin), value) == faults[i].status && is_kept(value, sizeof value));
-    CHECK(cukvashe_pvv_verify(key, TEXT(of), index, TEXT(pin), "0000", 4) == faults[i].status);
-    CHECK(cukvashe_pvv_verify(key, TEXT(of), index, TEXT(pin), "000", 3) == faults[i].status);
+    CHECK(value_status(key, TEXT(of), index, TEXT(pin), "0000", 4) == faults[i].status);
+    CHECK(value_status(key, TEXT(of), index, TEXT(pin), "000", 3) == faults[i].status);
   }
   CHECK(cukvashe_pvv(key, NULL, 0, 1, NULL, 0, value) == CUKVASHE_ERR_PIN_LENGTH);
   CHECK(cukvashe_pvv(key, NULL, 0, 1, TEXT("1234"), value) == CUKVASHE_ERR_ACCOUNT_LENGTH);
@@ -124,19 +139,19 @@ static void verifies_by_offsets(void) {
     const size_t length = strlen(pin);
     memset(made, PAINTED, sizeof made);
     CHECK(cukvashe_pin_offset(key, 16, &table, validation, TEXT(pin), made) == CUKVASHE_OK && is_pin(made, offset));
-    CHECK(cukvashe_pin_offset_verify(key, 16, &table, validation, TEXT(pin), TEXT(offset)) == CUKVASHE_OK);
+    CHECK(offset_status(key, 16, &table, validation, TEXT(pin), TEXT(offset)) == CUKVASHE_OK);
     for (size_t place = 0; place < length; place++)
       for (int more = 1; more < 10; more++) {
         memcpy(other, pin, length);
         other[place] = (char)('0' + (other[place] - '0' + more) % 10);
-        CHECK(cukvashe_pin_offset_verify(key, 16, &table, validation, other, length, offset, length) == CUKVASHE_ERR_WRONG_PIN);
+        CHECK(offset_status(key, 16, &table, validation, other, length, offset, length) == CUKVASHE_ERR_WRONG_PIN);
         memcpy(other, offset, length);
         other[place] = (char)('0' + (other[place] - '0' + more) % 10);
-        CHECK(cukvashe_pin_offset_verify(key, 16, &table, validation, pin, length, other, length) == CUKVASHE_ERR_WRONG_PIN);
+        CHECK(offset_status(key, 16, &table, validation, pin, length, other, length) == CUKVASHE_ERR_WRONG_PIN);
       }
   }
-  CHECK(cukvashe_pin_offset_verify(key, 16, &table, validation, TEXT("06205"), TEXT("0000")) == CUKVASHE_ERR_WRONG_PIN);
-  CHECK(cukvashe_pin_offset_verify(key, 16, &table, validation, TEXT("0620"), TEXT("00000")) == CUKVASHE_ERR_WRONG_PIN);
+  CHECK(offset_status(key, 16, &table, validation, TEXT("06205"), TEXT("0000")) == CUKVASHE_ERR_WRONG_PIN);
+  CHECK(offset_status(key, 16, &table, validation, TEXT("0620"), TEXT("00000")) == CUKVASHE_ERR_WRONG_PIN);
 }
 
 /* Keys and lengths: all but those of 8, 16 and 24 bytes, and PINs but of 4 to 12 digits. */
@@ -150,7 +165,7 @@ static void refuses_offsets(void) {
     if (size == 8 || size == 16 || size == 24) continue;
     CHECK(cukvashe_natural_pin(key, size, &table, validation, 3, made) == CUKVASHE_ERR_KEY_LENGTH);
     CHECK(cukvashe_pin_offset(key, size, &table, validation, TEXT("1234"), made) == CUKVASHE_ERR_KEY_LENGTH);
-    CHECK(cukvashe_pin_offset_verify(key, size, &table, validation, TEXT("1234"), TEXT("0000")) == CUKVASHE_ERR_KEY_LENGTH);
+    CHECK(offset_status(key, size, &table, validation, TEXT("1234"), TEXT("0000")) == CUKVASHE_ERR_KEY_LENGTH);
   }
   static const size_t lengths[] = {0, 1, 3, 13, 16, 255, 256, 260, (size_t)1 << 32, ((size_t)1 << 32) + 4, SIZE_MAX};
   for (size_t i = 0; i < sizeof lengths / sizeof *lengths; i++)
@@ -159,11 +174,11 @@ static void refuses_offsets(void) {
   CHECK(cukvashe_pin_offset(key, 7, &table, validation, TEXT("123/"), made) == CUKVASHE_ERR_PIN_DIGIT);
   CHECK(cukvashe_pin_offset(NULL, 0, &table, validation, NULL, 0, made) == CUKVASHE_ERR_PIN_LENGTH);
   CHECK(is_kept(made, sizeof made));
-  CHECK(cukvashe_pin_offset_verify(key, 7, &table, validation, TEXT("123"), TEXT("000:")) == CUKVASHE_ERR_PIN_LENGTH);
-  CHECK(cukvashe_pin_offset_verify(key, 7, &table, validation, TEXT("123:"), TEXT("000")) == CUKVASHE_ERR_PIN_DIGIT);
-  CHECK(cukvashe_pin_offset_verify(key, 7, &table, validation, TEXT("1234"), TEXT("000")) == CUKVASHE_ERR_PIN_LENGTH);
-  CHECK(cukvashe_pin_offset_verify(key, 7, &table, validation, TEXT("1234"), TEXT("000:")) == CUKVASHE_ERR_PIN_DIGIT);
-  CHECK(cukvashe_pin_offset_verify(NULL, 0, &table, validation, TEXT("1234"), NULL, 0) == CUKVASHE_ERR_PIN_LENGTH);
+  CHECK(offset_status(key, 7, &table, validation, TEXT("123"), TEXT("000:")) == CUKVASHE_ERR_PIN_LENGTH);
+  CHECK(offset_status(key, 7, &table, validation, TEXT("123:"), TEXT("000")) == CUKVASHE_ERR_PIN_DIGIT);
+  CHECK(offset_status(key, 7, &table, validation, TEXT("1234"), TEXT("000")) == CUKVASHE_ERR_PIN_LENGTH);
+  CHECK(offset_status(key, 7, &table, validation, TEXT("1234"), TEXT("000:")) == CUKVASHE_ERR_PIN_DIGIT);
+  CHECK(offset_status(NULL, 0, &table, validation, TEXT("1234"), NULL, 0) == CUKVASHE_ERR_PIN_LENGTH);
 }
 
 /* A text, and the status of a table of it with at least eight different digits, and with any number. */

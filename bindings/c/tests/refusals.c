@@ -121,8 +121,14 @@ static void refuses_macs(const struct mac *mac) {
   for (size_t length = 0; length <= MOST; length++) {
     int status = seen(mac->verify(&context, tag, length));
     CHECK(status == (4 <= length && length <= 8 ? CUKVASHE_OK : CUKVASHE_ERR_TAG));
+    CHECK(mac->is_tag(&context, tag, length) == (status == CUKVASHE_OK));
   }
-  CHECK(mac->verify(&context, NULL, 0) == CUKVASHE_ERR_TAG);
+  CHECK(mac->verify(&context, NULL, 0) == CUKVASHE_ERR_TAG && !mac->is_tag(&context, NULL, 0));
+  for (int bit = 0; bit < 64; bit++) {
+    tag[bit / 8] ^= (uint8_t)(1 << bit % 8);
+    CHECK(!mac->is_tag(&context, tag, 8) && mac->is_tag(&context, tag, 4) == (bit >= 32));
+    tag[bit / 8] ^= (uint8_t)(1 << bit % 8);
+  }
 }
 
 /* The calls of lists that have a count beside their lengths in bytes: two lists, or one. */

@@ -56,7 +56,7 @@ static void of_cipher(const struct work *work) {
   }
 }
 
-enum { OF_MAC = 5 };
+enum { OF_MAC = 6 };
 
 static void of_mac(const struct work *work) {
   const struct mac *calls = &macs[work->number];
@@ -65,7 +65,8 @@ static void of_mac(const struct work *work) {
     case 1: returned = calls->init_quiet(&mac, key, calls->key_size, CUKVASHE_MAC_PADDING_2); break;
     case 2: calls->update(&mac, blocks, 8 * work->count); break;
     case 3: calls->final(&mac, iv); break;
-    default: returned = calls->verify(&mac, iv, 8); break;
+    case 4: returned = calls->verify(&mac, iv, 8); break;
+    default: returned = calls->is_tag(&mac, iv, 8); break;
   }
 }
 
@@ -157,7 +158,7 @@ static void of_record(const struct work *work) {
   }
 }
 
-enum { OF_TEXT = 21, OF_BLOCK = 5, OF_PASSWORD = 2 + 2 * CIPHERS };
+enum { OF_TEXT = 23, OF_BLOCK = 5, OF_PASSWORD = 2 + 2 * CIPHERS };
 
 static void of_text(const struct work *work) {
   static const char *const account = "4012345678909";
@@ -185,7 +186,9 @@ static void of_text(const struct work *work) {
     case 17: returned = cukvashe_pin_translate_to_3(key, 24, 0, key, 24, account, 13, fill, sent, others); break;
     case 18: returned = cukvashe_pin_translate_to_1(key, 24, key, 24, sent + 8, others); break;
     case 19: returned = cukvashe_pad(blocks, 77, sizeof blocks, CUKVASHE_PKCS7, &length); break;
-    default: returned = cukvashe_unpad(blocks, 80, CUKVASHE_PKCS7, &length); break;
+    case 20: returned = cukvashe_unpad(blocks, 80, CUKVASHE_PKCS7, &length); break;
+    case 21: returned = cukvashe_pvv_is_pin(key, account, 13, 1, digits, 12, digits, 4); break;
+    default: returned = cukvashe_pin_offset_is_pin(key, 24, &table, blocks, digits, 12, digits, 12); break;
   }
 }
 

@@ -181,6 +181,8 @@ def carriers(text):
         if any(it.startswith("cukvashe_wide_") for it in called):
             adds.append("width")
         adds += [f"`{status}`" for status in statuses if behind]
+        if "CUKVASHE_OK" in code.functions[name]:
+            adds.append("truth")
         if "cukvashe_internal_wipe_stack" in called:
             adds.append("wiping")
         yield name, list(behind), adds
@@ -219,6 +221,7 @@ def made():
         "- arguments: their order, the cipher or the MAC, and numbers that follow from others, as of blocks from bytes",
         "- width: which of two exports is taken, by the length of the list and the processor",
         "- a status: C refuses by it before the export is called",
+        "- truth: whether the export's status is `CUKVASHE_OK`",
         "- wiping: zeros over the part of the stack that the export took",
         "",
     ]

@@ -59,7 +59,8 @@ fn calls_of_the_header() -> Calls {
     for statement in statements.filter(|statement| statement.ends_with(')') && statement.contains("cukvashe_")) {
         let (head, arguments) = statement.trim_end_matches(')').split_once('(').unwrap();
         let (result, name) = head.rsplit_once([' ', '*']).unwrap();
-        if ["cukvashe_version", "cukvashe_strerror"].contains(&name) {
+        let is_answer = name.ends_with("_is_tag") || name.ends_with("_is_pin");
+        if is_answer || ["cukvashe_version", "cukvashe_strerror"].contains(&name) {
             continue;
         }
         let result = match result.split(' ').next_back().unwrap() {
