@@ -692,23 +692,32 @@ CUKVASHE_CHECK int cukvashe_pin_decode_3(const uint8_t block[8], const char *acc
 /*
  * TRANSLATION OF PIN BLOCKS (ISO 9564-1)
  *
- * Decrypts a PIN block under the incoming key, makes the block of format 0 or 3 of its PIN, and encrypts that under the
- * outgoing key; the PIN does not come out. Keys have 8, 16 or 24 bytes: DES, or triple DES (EDE). `incoming_format` is
- * 0, 1 or 3. The account number, that of both blocks, and `fill` are as of PIN blocks. pin_translate_to_1 takes format
- * 1 alone, and keeps the transaction digits. Errors: CUKVASHE_ERR_KEY_LENGTH, _FORMATS, _ACCOUNT_LENGTH,
- * _ACCOUNT_DIGIT, _FILL; then _PIN_BLOCK, whatever is wrong with the block.
+ * Decrypts a PIN block under the incoming key, makes the block of format 0, 1 or 3 of its PIN, and encrypts that under
+ * the outgoing key; the PIN does not come out. Keys have 8, 16 or 24 bytes: DES, or triple DES (EDE). The account
+ * number, that of both blocks, and `fill` are as of PIN blocks. Set the fields by name: what you leave out is 0 or
+ * null, which is format 0, and else refused by a call that looks at it.
+ *
+ * Errors of pin_translate_to_0 and _to_3: CUKVASHE_ERR_KEY_LENGTH, _FORMATS, _ACCOUNT_LENGTH, _ACCOUNT_DIGIT; _FILL of
+ * _to_3 alone; then _PIN_BLOCK, whatever is wrong with the block. pin_translate_to_1 takes format 1 alone, and keeps
+ * the transaction digits. Errors: CUKVASHE_ERR_FORMATS, _KEY_LENGTH, _PIN_BLOCK.
  */
-CUKVASHE_CHECK int cukvashe_pin_translate_to_0(const uint8_t *incoming_key, size_t incoming_key_length,
-                                               int incoming_format, const uint8_t *outgoing_key,
-                                               size_t outgoing_key_length, const char *account, size_t account_length,
-                                               const uint8_t block[8], uint8_t translated[8]);
-CUKVASHE_CHECK int cukvashe_pin_translate_to_1(const uint8_t *incoming_key, size_t incoming_key_length,
-                                               const uint8_t *outgoing_key, size_t outgoing_key_length,
-                                               const uint8_t block[8], uint8_t translated[8]);
-CUKVASHE_CHECK int cukvashe_pin_translate_to_3(const uint8_t *incoming_key, size_t incoming_key_length,
-                                               int incoming_format, const uint8_t *outgoing_key,
-                                               size_t outgoing_key_length, const char *account, size_t account_length,
-                                               const uint8_t fill[10], const uint8_t block[8], uint8_t translated[8]);
+typedef struct {
+  const uint8_t *incoming_key;
+  size_t incoming_key_length;
+  int incoming_format; /* 0, 1 or 3 */
+  const uint8_t *outgoing_key;
+  size_t outgoing_key_length;
+  const char *account; /* pin_translate_to_1 does not look at it */
+  size_t account_length;
+  const uint8_t *fill; /* ten fill digits: pin_translate_to_3 alone looks at them */
+} cukvashe_pin_translation;
+
+CUKVASHE_CHECK int cukvashe_pin_translate_to_0(const cukvashe_pin_translation *translation, const uint8_t block[8],
+                                               uint8_t translated[8]);
+CUKVASHE_CHECK int cukvashe_pin_translate_to_1(const cukvashe_pin_translation *translation, const uint8_t block[8],
+                                               uint8_t translated[8]);
+CUKVASHE_CHECK int cukvashe_pin_translate_to_3(const cukvashe_pin_translation *translation, const uint8_t block[8],
+                                               uint8_t translated[8]);
 
 /*
  * PIN VERIFICATION
@@ -823,9 +832,10 @@ CUKVASHE_CHECK int cukvashe_emv_response_2(const uint8_t session[16], const uint
  * Errors: CUKVASHE_ERR_PROTECTION_KEY_LENGTH, _KEY_BLOCK_LENGTH, _VERSION, _HEADER, _OPTIONAL_BLOCK, _KEY_DATA_LENGTH,
  * _KEY_BLOCK_DIGIT, _KEY_BLOCK_MAC, _KEY_LENGTH.
  *
- * wrap writes the block and a zero byte, and into `length` how many characters the block has: without optional blocks
- * at most 96. `room` is the number of bytes at `block`, for the zero byte too. `padding` are random bytes of yours, new
- * each time: CUKVASHE_KEY_DATA_SIZE - 2 - key_length of them hide how long the key is.
+ * wrap writes the block of its parts and a zero byte, and into `length` how many characters the block has: without
+ * optional blocks at most 96. `capacity` is the number of bytes at `block`, for the zero byte too. `padding` are random
+ * bytes of yours, new each time: CUKVASHE_KEY_DATA_SIZE - 2 - key_length of them hide how long the key is. Set the
+ * parts by name: what you leave out is 0 or null, which is refused, but of `optional`.
  *
  * `optional` are the optional blocks, one after the other. Each is a name of two letters or digits, its whole length in
  * two hexadecimal digits in upper case, as KS1800604B120F9292800000, and its content, of printable ASCII, 0x20 to 0x7E;
@@ -836,8 +846,8 @@ CUKVASHE_CHECK int cukvashe_emv_response_2(const uint8_t session[16], const uint
  * Errors of wrap: CUKVASHE_ERR_VERSION; _OPTIONAL_BLOCK, if `optional` can't be read, or holds more than 99;
  * _PROTECTION_KEY_LENGTH; _HEADER; _KEY_LENGTH; _PADDING_LENGTH; _OPTIONAL_BLOCK, if a name or a content has other
  * characters; _KEY_BLOCK_LENGTH, if the optional blocks have more than 9999 characters; _OPTIONAL_BLOCK, if a `PB` is
- * not taken, or they are more than 99 with one that is added; _KEY_BLOCK_LENGTH, if the block has more, or `room` is
- * too small.
+ * not taken, or they are more than 99 with one that is added; _KEY_BLOCK_LENGTH, if the block has more, or `capacity`
+ * is too small.
  *
  * header writes the fields of a block's header. context writes where the key may be, character 15 of the header: '0' in
  * storage and exchange, as wrap writes it, '1' in storage only, '2' in exchange only. optional_block writes the name of
@@ -855,13 +865,22 @@ typedef struct {
                           S: sensitive, exportable in other forms too */
 } cukvashe_key_block_fields;
 
+typedef struct {
+  const uint8_t *protection;
+  size_t protection_length;
+  cukvashe_key_block_fields header;
+  const char *optional;
+  size_t optional_length;
+  const uint8_t *key;
+  size_t key_length;
+  const uint8_t *padding;
+  size_t padding_length;
+} cukvashe_key_block_parts;
+
 CUKVASHE_CHECK int cukvashe_key_block_unwrap(const uint8_t *protection, size_t protection_length, const char *block,
                                              size_t block_length, cukvashe_key_block_fields *header, uint8_t key[24],
                                              size_t *key_length);
-CUKVASHE_CHECK int cukvashe_key_block_wrap(const uint8_t *protection, size_t protection_length,
-                                           const cukvashe_key_block_fields *header, const char *optional,
-                                           size_t optional_length, const uint8_t *key, size_t key_length,
-                                           const uint8_t *padding, size_t padding_length, char *block, size_t room,
+CUKVASHE_CHECK int cukvashe_key_block_wrap(const cukvashe_key_block_parts *parts, char *block, size_t capacity,
                                            size_t *length);
 CUKVASHE_CHECK int cukvashe_key_block_header(const char *block, size_t block_length, cukvashe_key_block_fields *header);
 CUKVASHE_CHECK int cukvashe_key_block_context(const char *block, size_t block_length, char *context);

@@ -1,6 +1,6 @@
 /*
  * No call leaves a key, a password or a PIN on the stack that it was given or gives: it writes zeros over the part of the stack that it
- * took (WIPES). Here are those of them whose export has the header's arguments; those of ciphers and MACs are in cukvashe_des.c. Their
+ * took (WIPES). Here are those of them that have an export of their own; those of ciphers and MACs are in cukvashe_des.c. Their
  * exports have names that begin with cukvashe_unwiped_, since bindings/generate changes them. tests/stack.c looks at what is left.
  *
  * The numbers are bytes, the most that the call was seen to take on x86-64. More of them would take time for nothing.
@@ -27,6 +27,26 @@ __attribute__((noinline)) void cukvashe_internal_wipe_stack(size_t size) {
 #define WIPES_EXPORT_VOID(NAME, SIZE, PARAMETERS, ...)                                                                \
   extern __typeof__(cukvashe_##NAME) cukvashe_unwiped_##NAME;                                                         \
   WIPES_VOID(NAME, SIZE, PARAMETERS, cukvashe_unwiped_##NAME(__VA_ARGS__))
+
+/* Exports that take one by one what the header has in a struct. */
+int cukvashe_unwiped_pin_translate_to_0(const uint8_t *incoming_key, size_t incoming_key_length, int incoming_format,
+                                        const uint8_t *outgoing_key, size_t outgoing_key_length, const char *account,
+                                        size_t account_length, const uint8_t block[8], uint8_t translated[8]);
+int cukvashe_unwiped_pin_translate_to_1(const uint8_t *incoming_key, size_t incoming_key_length,
+                                        const uint8_t *outgoing_key, size_t outgoing_key_length,
+                                        const uint8_t block[8], uint8_t translated[8]);
+int cukvashe_unwiped_pin_translate_to_3(const uint8_t *incoming_key, size_t incoming_key_length, int incoming_format,
+                                        const uint8_t *outgoing_key, size_t outgoing_key_length, const char *account,
+                                        size_t account_length, const uint8_t fill[10], const uint8_t block[8],
+                                        uint8_t translated[8]);
+int cukvashe_unwiped_key_block_wrap(const uint8_t *protection, size_t protection_length,
+                                    const cukvashe_key_block_fields *header, const char *optional,
+                                    size_t optional_length, const uint8_t *key, size_t key_length,
+                                    const uint8_t *padding, size_t padding_length, char *block, size_t capacity,
+                                    size_t *length);
+
+/* In the place of fill digits that are not there: no format allows 0. */
+static const uint8_t no_fill[CUKVASHE_FILL_SIZE];
 
 /* Keys. */
 WIPES_EXPORT(int, weak_key_test, 32, (const uint8_t *key, size_t key_length), key, key_length)
@@ -75,22 +95,26 @@ WIPES_EXPORT(int, pin_decode_2, 256, (const uint8_t block[8], char pin[13]), blo
 WIPES_EXPORT(int, pin_decode_3, 304,
              (const uint8_t block[8], const char *account, size_t account_length, char pin[13]),
              block, account, account_length, pin)
-WIPES_EXPORT(int, pin_translate_to_0, 2272,
-             (const uint8_t *incoming_key, size_t incoming_key_length, int incoming_format, const uint8_t
-              *outgoing_key, size_t outgoing_key_length, const char *account, size_t account_length, const uint8_t
-              block[8], uint8_t translated[8]),
-             incoming_key, incoming_key_length, incoming_format, outgoing_key, outgoing_key_length, account,
-             account_length, block, translated)
-WIPES_EXPORT(int, pin_translate_to_1, 1216,
-             (const uint8_t *incoming_key, size_t incoming_key_length, const uint8_t *outgoing_key, size_t
-              outgoing_key_length, const uint8_t block[8], uint8_t translated[8]),
-             incoming_key, incoming_key_length, outgoing_key, outgoing_key_length, block, translated)
-WIPES_EXPORT(int, pin_translate_to_3, 2256,
-             (const uint8_t *incoming_key, size_t incoming_key_length, int incoming_format, const uint8_t
-              *outgoing_key, size_t outgoing_key_length, const char *account, size_t account_length, const uint8_t
-              fill[10], const uint8_t block[8], uint8_t translated[8]),
-             incoming_key, incoming_key_length, incoming_format, outgoing_key, outgoing_key_length, account,
-             account_length, fill, block, translated)
+WIPES(int, pin_translate_to_0, 2272,
+      (const cukvashe_pin_translation *translation, const uint8_t block[8], uint8_t translated[8]),
+      cukvashe_unwiped_pin_translate_to_0(translation->incoming_key, translation->incoming_key_length,
+                                          translation->incoming_format, translation->outgoing_key,
+                                          translation->outgoing_key_length, translation->account,
+                                          translation->account_length, block, translated))
+WIPES(int, pin_translate_to_1, 1216,
+      (const cukvashe_pin_translation *translation, const uint8_t block[8], uint8_t translated[8]),
+      translation->incoming_format != 1
+          ? CUKVASHE_ERR_FORMATS
+          : cukvashe_unwiped_pin_translate_to_1(translation->incoming_key, translation->incoming_key_length,
+                                                translation->outgoing_key, translation->outgoing_key_length, block,
+                                                translated))
+WIPES(int, pin_translate_to_3, 2256,
+      (const cukvashe_pin_translation *translation, const uint8_t block[8], uint8_t translated[8]),
+      cukvashe_unwiped_pin_translate_to_3(translation->incoming_key, translation->incoming_key_length,
+                                          translation->incoming_format, translation->outgoing_key,
+                                          translation->outgoing_key_length, translation->account,
+                                          translation->account_length,
+                                          translation->fill != NULL ? translation->fill : no_fill, block, translated))
 WIPES_EXPORT(int, pvv, 1344,
              (const uint8_t key[16], const char *account, size_t account_length, int index, const char *pin, size_t
               pin_length, char value[5]),
@@ -158,12 +182,11 @@ WIPES_EXPORT(int, key_block_unwrap, 9264,
              (const uint8_t *protection, size_t protection_length, const char *block, size_t block_length,
               cukvashe_key_block_fields *header, uint8_t key[24], size_t *key_length),
              protection, protection_length, block, block_length, header, key, key_length)
-WIPES_EXPORT(int, key_block_wrap, 7328,
-             (const uint8_t *protection, size_t protection_length, const cukvashe_key_block_fields *header, const char
-              *optional, size_t optional_length, const uint8_t *key, size_t key_length, const uint8_t *padding, size_t
-              padding_length, char *block, size_t room, size_t *length),
-             protection, protection_length, header, optional, optional_length, key, key_length, padding,
-             padding_length, block, room, length)
+WIPES(int, key_block_wrap, 7328,
+      (const cukvashe_key_block_parts *parts, char *block, size_t capacity, size_t *length),
+      cukvashe_unwiped_key_block_wrap(parts->protection, parts->protection_length, &parts->header, parts->optional,
+                                      parts->optional_length, parts->key, parts->key_length, parts->padding,
+                                      parts->padding_length, block, capacity, length))
 WIPES_EXPORT(int, pbkdf2, 2592,
              (int hash, const uint8_t *password, size_t password_length, const uint8_t *salt, size_t salt_length,
               size_t iterations, uint8_t *key, size_t key_length),

@@ -58,10 +58,13 @@ static void translate(int format, size_t size, size_t digits, int kind) {
   uint8_t key[24], other[24], block[8], translated[8];
   random_bytes(key, sizeof key);
   random_bytes(other, sizeof other);
+  const cukvashe_pin_translation by = {.incoming_key = key, .incoming_key_length = size, .incoming_format = format,
+                                       .outgoing_key = other, .outgoing_key_length = size, .account = account,
+                                       .account_length = strlen(account), .fill = fill};
   make_block(format, digits, kind, key, size, block);
-  COUNT(group, status, cukvashe_pin_translate_to_0(key, size, format, other, size, TEXT(account), block, translated));
-  COUNT(group + 1, status, cukvashe_pin_translate_to_3(key, size, format, other, size, TEXT(account), fill, block, translated));
-  if (format == 1) COUNT(group + 2, status, cukvashe_pin_translate_to_1(key, size, other, size, block, translated));
+  COUNT(group, status, cukvashe_pin_translate_to_0(&by, block, translated));
+  COUNT(group + 1, status, cukvashe_pin_translate_to_3(&by, block, translated));
+  if (format == 1) COUNT(group + 2, status, cukvashe_pin_translate_to_1(&by, block, translated));
 }
 
 static void translations(void) {
@@ -97,14 +100,16 @@ static void decodings(void) {
 
 /* A group for each version. */
 static void open_block(char version, size_t size, bool is_right) {
-  const cukvashe_key_block_fields header = {version, "P0", 'T', 'E', "00", 'E'};
   cukvashe_key_block_fields read;
   uint8_t protection[24], key[24];
   char block[100];
   size_t length;
+  const cukvashe_key_block_parts parts = {.protection = protection, .protection_length = 24,
+                                          .header = {version, "P0", 'T', 'E', "00", 'E'}, .key = key, .key_length = size,
+                                          .padding = key, .padding_length = 30 - size};
   random_bytes(protection, sizeof protection);
   random_bytes(key, sizeof key);
-  CHECK(cukvashe_key_block_wrap(protection, 24, &header, "", 0, key, size, key, 30 - size, block, sizeof block, &length) == CUKVASHE_OK);
+  CHECK(cukvashe_key_block_wrap(&parts, block, sizeof block, &length) == CUKVASHE_OK);
   if (!is_right) block[length - 1] = block[length - 1] == '0' ? '1' : '0';
   COUNT(version, is_right ? CUKVASHE_OK : CUKVASHE_ERR_KEY_BLOCK_MAC,
         cukvashe_key_block_unwrap(protection, 24, block, length, &read, key, &length));

@@ -330,8 +330,33 @@ static const struct parts with_one = {
 
 static int wrap(const struct parts *parts, char *block, size_t room, size_t *length) {
   const struct bytes protection = bytes_of(parts->protection), key = bytes_of(parts->key);
-  return cukvashe_key_block_wrap(protection.at, protection.length, &parts->header, TEXT(parts->optional), key.at, key.length,
-                                 parts->padding, parts->padding_length, block, room, length);
+  const cukvashe_key_block_parts given = {.protection = protection.at, .protection_length = protection.length, .header = parts->header,
+                                          .optional = parts->optional, .optional_length = strlen(parts->optional), .key = key.at,
+                                          .key_length = key.length, .padding = parts->padding,
+                                          .padding_length = parts->padding_length};
+  return cukvashe_key_block_wrap(&given, block, room, length);
+}
+
+/* What is left out of the parts is zero, and refused, but for optional blocks. */
+static void refuses_parts_left_out(void) {
+  const struct bytes protection = bytes_of(published.protection), key = bytes_of(published.key);
+  const cukvashe_key_block_parts nothing = {0};
+  cukvashe_key_block_parts given = {.header = published.header};
+  char block[100];
+  size_t length;
+  memset(block, PAINTED, sizeof block);
+  CHECK(cukvashe_key_block_wrap(&nothing, block, sizeof block, &length) == CUKVASHE_ERR_VERSION);
+  CHECK(cukvashe_key_block_wrap(&given, block, sizeof block, &length) == CUKVASHE_ERR_PROTECTION_KEY_LENGTH);
+  given.protection = protection.at;
+  given.protection_length = protection.length;
+  CHECK(cukvashe_key_block_wrap(&given, block, sizeof block, &length) == CUKVASHE_ERR_KEY_LENGTH);
+  given.key = key.at;
+  given.key_length = key.length;
+  CHECK(cukvashe_key_block_wrap(&given, block, sizeof block, &length) == CUKVASHE_ERR_PADDING_LENGTH);
+  CHECK(is_kept(block, sizeof block));
+  given.padding = published.padding;
+  given.padding_length = published.padding_length;
+  CHECK(cukvashe_key_block_wrap(&given, block, sizeof block, &length) == CUKVASHE_OK && strcmp(block, known[3].block) == 0);
 }
 
 /* The block, with a zero byte after it and nothing else, in the least room; with a byte less there is none. */
@@ -380,8 +405,10 @@ static void opens_what_it_makes(void) {
     random_bytes(key, sizeof key);
     random_bytes(padding, sizeof padding);
     header.version = i / 6 % 2 ? 'B' : 'C';
-    CHECK(cukvashe_key_block_wrap(protection, protection_length, &header, TEXT(optional), key, key_length, padding, padding_length,
-                                  block, sizeof block, &length) == CUKVASHE_OK);
+    const cukvashe_key_block_parts parts = {.protection = protection, .protection_length = protection_length, .header = header,
+                                            .optional = optional, .optional_length = strlen(optional), .key = key,
+                                            .key_length = key_length, .padding = padding, .padding_length = padding_length};
+    CHECK(cukvashe_key_block_wrap(&parts, block, sizeof block, &length) == CUKVASHE_OK);
     CHECK(cukvashe_key_block_unwrap(protection, protection_length, block, length, &opened.header, opened.key, &opened.length) ==
           CUKVASHE_OK);
     CHECK(opened.length == key_length && memcmp(opened.key, key, key_length) == 0);
@@ -473,13 +500,14 @@ static void makes_long_blocks(void) {
   static char optional[9905], block[CUKVASHE_KEY_BLOCK_SIZE];
   static const uint8_t key[16] = {1}, padding[14] = {2};
   char name[3];
-  fields header = published.header;
+  cukvashe_key_block_parts parts = {.protection = key, .protection_length = 16, .header = published.header, .optional = optional,
+                                    .optional_length = 9888, .key = key, .key_length = 16, .padding = padding, .padding_length = 14};
   struct opened opened;
   size_t length, offset;
   memset(optional, 'x', sizeof optional);
   snprintf(optional, 11, "KS0002%04X", 9888);
   optional[10] = 'x';
-  CHECK(cukvashe_key_block_wrap(key, 16, &header, optional, 9888, key, 16, padding, 14, block, sizeof block, &length) == CUKVASHE_OK);
+  CHECK(cukvashe_key_block_wrap(&parts, block, sizeof block, &length) == CUKVASHE_OK);
   CHECK(length == 9984 && memcmp(block, "B9984", 5) == 0);
   CHECK(cukvashe_key_block_unwrap(key, 16, block, length, &opened.header, opened.key, &opened.length) == CUKVASHE_OK);
   CHECK(opened.length == 16 && memcmp(opened.key, key, 16) == 0);
@@ -488,8 +516,8 @@ static void makes_long_blocks(void) {
   snprintf(optional, 11, "KS0002%04X", 9904);
   optional[10] = 'x';
   memset(block, PAINTED, sizeof block);
-  CHECK(cukvashe_key_block_wrap(key, 16, &header, optional, 9904, key, 16, padding, 14, block, sizeof block, &length) ==
-        CUKVASHE_ERR_KEY_BLOCK_LENGTH);
+  parts.optional_length = 9904;
+  CHECK(cukvashe_key_block_wrap(&parts, block, sizeof block, &length) == CUKVASHE_ERR_KEY_BLOCK_LENGTH);
   CHECK(is_kept(block, sizeof block));
 }
 
@@ -503,6 +531,7 @@ int main(void) {
   refuses_blocks();
   refuses_protection_keys();
   makes_known_blocks();
+  refuses_parts_left_out();
   opens_what_it_makes();
   refuses_headers();
   refuses_optional_blocks();

@@ -242,8 +242,10 @@ static int translate(const char *incoming, int from, const char *outgoing, int t
   const size_t in_size = strlen(incoming) / 2, out_size = strlen(outgoing) / 2;
   put(in, incoming);
   put(out, outgoing);
-  if (to == 0) return cukvashe_pin_translate_to_0(in, in_size, from, out, out_size, TEXT(of), block, translated);
-  return cukvashe_pin_translate_to_3(in, in_size, from, out, out_size, TEXT(of), fill_digits, block, translated);
+  const cukvashe_pin_translation by = {.incoming_key = in, .incoming_key_length = in_size, .incoming_format = from,
+                                       .outgoing_key = out, .outgoing_key_length = out_size, .account = of,
+                                       .account_length = strlen(of), .fill = fill_digits};
+  return to == 0 ? cukvashe_pin_translate_to_0(&by, block, translated) : cukvashe_pin_translate_to_3(&by, block, translated);
 }
 
 static void translates(void) {
@@ -278,7 +280,60 @@ static int translate_1(const char *incoming, const char *outgoing, const uint8_t
   uint8_t in[24], out[24];
   put(in, incoming);
   put(out, outgoing);
-  return cukvashe_pin_translate_to_1(in, strlen(incoming) / 2, out, strlen(outgoing) / 2, block, translated);
+  const cukvashe_pin_translation by = {.incoming_key = in, .incoming_key_length = strlen(incoming) / 2, .incoming_format = 1,
+                                       .outgoing_key = out, .outgoing_key_length = strlen(outgoing) / 2};
+  return cukvashe_pin_translate_to_1(&by, block, translated);
+}
+
+/* The status of each of the three translations; after an error nothing is written. */
+static void refuses_fields(const cukvashe_pin_translation *by, const uint8_t block[8], int to_0, int to_1, int to_3) {
+  uint8_t translated[8];
+  memset(translated, PAINTED, sizeof translated);
+  CHECK(cukvashe_pin_translate_to_0(by, block, translated) == to_0 && is_kept(translated, 8) == (to_0 != CUKVASHE_OK));
+  memset(translated, PAINTED, sizeof translated);
+  CHECK(cukvashe_pin_translate_to_1(by, block, translated) == to_1 && is_kept(translated, 8) == (to_1 != CUKVASHE_OK));
+  memset(translated, PAINTED, sizeof translated);
+  CHECK(cukvashe_pin_translate_to_3(by, block, translated) == to_3 && is_kept(translated, 8) == (to_3 != CUKVASHE_OK));
+}
+
+/* What is left out of a struct is zero. A format that was forgotten is 0, and refused where the block is of another. */
+static void refuses_fields_left_out(void) {
+  enum { FORMATS = CUKVASHE_ERR_FORMATS, KEY = CUKVASHE_ERR_KEY_LENGTH, ACCOUNT = CUKVASHE_ERR_ACCOUNT_LENGTH };
+  enum { FILL = CUKVASHE_ERR_FILL, BLOCK = CUKVASHE_ERR_PIN_BLOCK, OK = CUKVASHE_OK };
+  const cukvashe_pin_translation nothing = {0};
+  uint8_t key[16], zero[8], one[8];
+  put(key, base_key);
+  put(zero, of_0);
+  put(one, of_1);
+  const cukvashe_pin_translation from_0 = {.incoming_key = key, .incoming_key_length = 16, .outgoing_key = key,
+                                           .outgoing_key_length = 16, .account = account, .account_length = strlen(account),
+                                           .fill = fill};
+  cukvashe_pin_translation by = from_0;
+  refuses_fields(&nothing, zero, KEY, FORMATS, KEY);
+  refuses_fields(&by, zero, OK, FORMATS, OK);
+  refuses_fields(&by, one, BLOCK, FORMATS, BLOCK);
+  by.fill = NULL;
+  refuses_fields(&by, zero, OK, FORMATS, FILL);
+  by.account = NULL;
+  by.account_length = 0;
+  refuses_fields(&by, zero, ACCOUNT, FORMATS, ACCOUNT);
+  by.incoming_format = 1;
+  refuses_fields(&by, one, ACCOUNT, OK, ACCOUNT);
+  refuses_fields(&by, zero, ACCOUNT, BLOCK, ACCOUNT);
+  by.incoming_key = NULL;
+  by.incoming_key_length = 0;
+  refuses_fields(&by, one, KEY, KEY, KEY);
+  by = from_0;
+  by.incoming_format = 1;
+  by.outgoing_key = NULL;
+  by.outgoing_key_length = 0;
+  refuses_fields(&by, one, KEY, KEY, KEY);
+  for (int format = -1; format < 260; format++) {
+    by = from_0;
+    by.incoming_format = format;
+    const int wanted = format == 0 || format == 3 ? BLOCK : format == 1 ? OK : FORMATS;
+    refuses_fields(&by, one, wanted, format == 1 ? OK : FORMATS, wanted);
+  }
 }
 
 static void translates_to_format_1(void) {
@@ -383,6 +438,7 @@ int main(void) {
   translates_by_three_parts();
   translates_to_format_1();
   refuses_to_format_1();
+  refuses_fields_left_out();
   refuses_requests();
   has_one_fault_of_the_block();
   printf("pins: PIN verification values, natural PINs and offsets, tables, translation, and each fault of them\n");

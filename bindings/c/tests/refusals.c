@@ -255,13 +255,16 @@ static void returns_statuses_of_pins_and_cards(void) {
   uint8_t made[16], block[8] = {0};
   char text[13];
   cukvashe_decimal_table table;
+  cukvashe_pin_translation by = {.incoming_key = key, .incoming_key_length = 16, .outgoing_key = key, .outgoing_key_length = 16,
+                                 .account = account, .account_length = 13};
   CHECK(seen(cukvashe_pvv(key, account, 13, 0, "1234", 4, text)) == CUKVASHE_ERR_KEY_INDEX);
   CHECK(seen(cukvashe_pvv_verify(key, account, 13, 1, "1234", 4, "", 0)) == CUKVASHE_ERR_WRONG_PIN);
   CHECK(seen(cukvashe_decimal_table_init(&table, "0", 1)) == CUKVASHE_ERR_TABLE_LENGTH);
   CHECK(seen(cukvashe_decimal_table_init(&table, "012345678901234a", 16)) == CUKVASHE_ERR_TABLE_DIGIT);
   CHECK(seen(cukvashe_decimal_table_init(&table, "0101010101010101", 16)) == CUKVASHE_ERR_TABLE_VARIETY);
-  CHECK(seen(cukvashe_pin_translate_to_0(key, 16, 2, key, 16, account, 13, block, made)) == CUKVASHE_ERR_FORMATS);
-  CHECK(seen(cukvashe_pin_translate_to_0(key, 16, 0, key, 16, account, 13, block, made)) == CUKVASHE_ERR_PIN_BLOCK);
+  CHECK(seen(cukvashe_pin_translate_to_0(&by, block, made)) == CUKVASHE_ERR_PIN_BLOCK);
+  by.incoming_format = 2;
+  CHECK(seen(cukvashe_pin_translate_to_0(&by, block, made)) == CUKVASHE_ERR_FORMATS);
   CHECK(seen(cukvashe_emv_card_key(key, account, 13, "0", 1, made)) == CUKVASHE_ERR_SEQUENCE_LENGTH);
   CHECK(seen(cukvashe_emv_card_key(key, account, 13, "0a", 2, made)) == CUKVASHE_ERR_SEQUENCE_DIGIT);
   CHECK(seen(cukvashe_emv_response_2(key, block, bytes, bytes, 9, made)) == CUKVASHE_ERR_DATA_LENGTH);
@@ -270,19 +273,24 @@ static void returns_statuses_of_pins_and_cards(void) {
 /* Those of key blocks. */
 static void returns_statuses_of_key_blocks(void) {
   static const uint8_t key[16] = {0};
-  cukvashe_key_block_fields header = {'A', "P0", 'T', 'E', "00", 'E'};
+  cukvashe_key_block_fields header;
+  cukvashe_key_block_parts parts = {.protection = key, .protection_length = 16, .header = {'A', "P0", 'T', 'E', "00", 'E'},
+                                    .key = key, .key_length = 16, .padding = key, .padding_length = 6};
   uint8_t opened[24];
   char name[3], text[100], block[] = "B0080P0TE00E000094B420079CC80BA3461F86FE26EFC4A3B8E4FA4C5F5341176EED7B727B8A248E";
   size_t length;
   CHECK(seen(cukvashe_key_block_unwrap(key, 8, block, 80, &header, opened, &length)) == CUKVASHE_ERR_PROTECTION_KEY_LENGTH);
   CHECK(seen(cukvashe_key_block_unwrap(key, 16, block, 79, &header, opened, &length)) == CUKVASHE_ERR_KEY_BLOCK_LENGTH);
   CHECK(seen(cukvashe_key_block_unwrap(key, 16, block, 80, &header, opened, &length)) == CUKVASHE_ERR_KEY_BLOCK_MAC);
-  CHECK(seen(cukvashe_key_block_wrap(key, 16, &header, "", 0, key, 16, key, 6, text, 100, &length)) == CUKVASHE_ERR_VERSION);
-  header.version = 'B';
-  CHECK(seen(cukvashe_key_block_wrap(key, 16, &header, "x", 1, key, 16, key, 6, text, 100, &length)) == CUKVASHE_ERR_OPTIONAL_BLOCK);
-  CHECK(seen(cukvashe_key_block_wrap(key, 16, &header, "", 0, key, 16, key, 7, text, 100, &length)) == CUKVASHE_ERR_PADDING_LENGTH);
-  header.mode = ' ';
-  CHECK(seen(cukvashe_key_block_wrap(key, 16, &header, "", 0, key, 16, key, 6, text, 100, &length)) == CUKVASHE_ERR_HEADER);
+  CHECK(seen(cukvashe_key_block_wrap(&parts, text, 100, &length)) == CUKVASHE_ERR_VERSION);
+  parts.header.version = 'B';
+  parts.padding_length = 7;
+  CHECK(seen(cukvashe_key_block_wrap(&parts, text, 100, &length)) == CUKVASHE_ERR_PADDING_LENGTH);
+  parts.header.mode = ' ';
+  CHECK(seen(cukvashe_key_block_wrap(&parts, text, 100, &length)) == CUKVASHE_ERR_HEADER);
+  parts.optional = "x";
+  parts.optional_length = 1;
+  CHECK(seen(cukvashe_key_block_wrap(&parts, text, 100, &length)) == CUKVASHE_ERR_OPTIONAL_BLOCK);
   CHECK(seen(cukvashe_key_block_optional_block(block, 80, 0, name, &length, &length)) == CUKVASHE_ERR_NO_OPTIONAL_BLOCK);
   block[0] = 'C';
   CHECK(seen(cukvashe_key_block_header(block, 80, &header)) == CUKVASHE_ERR_KEY_DATA_LENGTH);

@@ -265,14 +265,15 @@ static void keys_of_passwords(void) {
 
 /* A key in a key block, under a hidden protection key. The block is no secret. */
 static size_t make_block(int i, uint8_t protection[24], char *block, size_t room) {
-  const cukvashe_key_block_fields header = {i % 2 ? 'B' : 'C', "P0", 'T', 'E', "00", 'E'};
   const size_t size = 8 + 8 * (size_t)(i / 4);
+  const cukvashe_key_block_parts parts = {.protection = protection, .protection_length = i / 2 % 2 ? 16 : 24,
+                                          .header = {i % 2 ? 'B' : 'C', "P0", 'T', 'E', "00", 'E'}, .key = key, .key_length = size,
+                                          .padding = data, .padding_length = 30 - size};
   size_t length;
   hide(protection, 24);
   hide(key, sizeof key);
   hide(data, 22);
-  CHECK(cukvashe_key_block_wrap(protection, i / 2 % 2 ? 16 : 24, &header, "", 0, key, size, data, 30 - size, block, room, &length) ==
-        CUKVASHE_OK);
+  CHECK(cukvashe_key_block_wrap(&parts, block, room, &length) == CUKVASHE_OK);
   (void)VALGRIND_MAKE_MEM_DEFINED(block, room);
   return length;
 }
@@ -432,6 +433,9 @@ static unsigned reports_of_translation(int format, size_t digits, bool is_right,
   static const char account[] = "401234567890";
   static const uint8_t fill[10] = {10, 11, 12, 13, 14, 15, 15, 14, 13, 12};
   uint8_t block[8], outgoing[16], translated[8];
+  const cukvashe_pin_translation by = {.incoming_key = key, .incoming_key_length = 16, .incoming_format = format,
+                                       .outgoing_key = outgoing, .outgoing_key_length = 16, .account = account, .account_length = 12,
+                                       .fill = fill};
   make_pin_block(format, digits, account, is_right, block);
   hide(outgoing, sizeof outgoing);
   (void)VALGRIND_MAKE_MEM_UNDEFINED(key, 16);
@@ -439,9 +443,9 @@ static unsigned reports_of_translation(int format, size_t digits, bool is_right,
   const unsigned before = VALGRIND_COUNT_ERRORS;
   int status;
   switch (to) {
-    case 0: status = cukvashe_pin_translate_to_0(key, 16, format, outgoing, 16, account, 12, block, translated); break;
-    case 1: status = cukvashe_pin_translate_to_1(key, 16, outgoing, 16, block, translated); break;
-    default: status = cukvashe_pin_translate_to_3(key, 16, format, outgoing, 16, account, 12, fill, block, translated); break;
+    case 0: status = cukvashe_pin_translate_to_0(&by, block, translated); break;
+    case 1: status = cukvashe_pin_translate_to_1(&by, block, translated); break;
+    default: status = cukvashe_pin_translate_to_3(&by, block, translated); break;
   }
   const unsigned reports = VALGRIND_COUNT_ERRORS - before;
   CHECK(is_status(status, is_right ? CUKVASHE_OK : CUKVASHE_ERR_PIN_BLOCK));

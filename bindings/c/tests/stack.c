@@ -164,6 +164,10 @@ static void of_text(const struct work *work) {
   static const char *const account = "4012345678909";
   static const uint8_t fill[10] = {10, 11, 12, 13, 14, 15, 10, 11, 12, 13};
   static cukvashe_decimal_table table;
+  const cukvashe_pin_translation from_0 = {.incoming_key = key, .incoming_key_length = 24, .outgoing_key = key, .outgoing_key_length = 24,
+                                           .account = account, .account_length = 13, .fill = fill};
+  const cukvashe_pin_translation from_1 = {.incoming_key = key, .incoming_key_length = 24, .incoming_format = 1, .outgoing_key = key,
+                                           .outgoing_key_length = 24};
   size_t length;
   switch (work->call) {
     case 0: returned = cukvashe_pin_encode_0(digits, 12, account, 13, blocks); break;
@@ -182,9 +186,9 @@ static void of_text(const struct work *work) {
     case 13: returned = cukvashe_pin_offset_verify(key, 24, &table, blocks, digits, 12, digits, 12); break;
     case 14: returned = cukvashe_pvv(key, account, 13, 1, digits, 12, value); break;
     case 15: returned = cukvashe_pvv_verify(key, account, 13, 1, digits, 12, digits, 4); break;
-    case 16: returned = cukvashe_pin_translate_to_0(key, 24, 0, key, 24, account, 13, sent, others); break;
-    case 17: returned = cukvashe_pin_translate_to_3(key, 24, 0, key, 24, account, 13, fill, sent, others); break;
-    case 18: returned = cukvashe_pin_translate_to_1(key, 24, key, 24, sent + 8, others); break;
+    case 16: returned = cukvashe_pin_translate_to_0(&from_0, sent, others); break;
+    case 17: returned = cukvashe_pin_translate_to_3(&from_0, sent, others); break;
+    case 18: returned = cukvashe_pin_translate_to_1(&from_1, sent + 8, others); break;
     case 19: returned = cukvashe_pad(blocks, 77, sizeof blocks, CUKVASHE_PKCS7, &length); break;
     case 20: returned = cukvashe_unpad(blocks, 80, CUKVASHE_PKCS7, &length); break;
     case 21: returned = cukvashe_pvv_is_pin(key, account, 13, 1, digits, 12, digits, 4); break;
@@ -194,17 +198,18 @@ static void of_text(const struct work *work) {
 
 /* Key blocks of the most optional blocks, and of the most characters. */
 static void of_block(const struct work *work) {
-  static const cukvashe_key_block_fields header = {'B', "P0", 'T', 'E', "00", 'E'};
   static char optional[9888], name[3], block[CUKVASHE_KEY_BLOCK_SIZE];
   static size_t size, length;
   cukvashe_key_block_fields read;
-  const size_t longest = work->number ? sizeof optional : 4 * 98;
+  const cukvashe_key_block_parts parts = {.protection = key, .protection_length = 24, .header = {'B', "P0", 'T', 'E', "00", 'E'},
+                                          .optional = optional, .optional_length = work->number ? sizeof optional : 4 * 98, .key = key,
+                                          .key_length = 24, .padding = others, .padding_length = 6};
   memset(optional, 'x', sizeof optional);
   for (int i = 0; i < 98; i++) memcpy(optional + 4 * i, "KS04", 4);
   if (work->number) memcpy(optional, "KS000226A0", 10); /* 9,888 in digits of four bits */
   switch (work->call) {
     case 0:
-      returned = cukvashe_key_block_wrap(key, 24, &header, optional, longest, key, 24, others, 6, block, sizeof block, &size);
+      returned = cukvashe_key_block_wrap(&parts, block, sizeof block, &size);
       CHECK(returned == CUKVASHE_OK);
       break;
     case 1:
@@ -354,9 +359,10 @@ static void unwiped(const struct work *work) {
   static cukvashe_key_block_fields read;
   static char block[CUKVASHE_KEY_BLOCK_SIZE];
   static size_t size, length;
-  const cukvashe_key_block_fields header = {'B', "P0", 'T', 'E', "00", 'E'};
+  const cukvashe_key_block_parts parts = {.protection = key, .protection_length = 24, .header = {'B', "P0", 'T', 'E', "00", 'E'},
+                                          .key = key, .key_length = 24, .padding = keys, .padding_length = 6};
   (void)work;
-  CHECK(cukvashe_key_block_wrap(key, 24, &header, NULL, 0, key, 24, keys, 6, block, sizeof block, &size) == CUKVASHE_OK);
+  CHECK(cukvashe_key_block_wrap(&parts, block, sizeof block, &size) == CUKVASHE_OK);
   CHECK(cukvashe_unwiped_key_block_unwrap(key, 24, block, size, &read, others, &length) == CUKVASHE_OK);
 }
 

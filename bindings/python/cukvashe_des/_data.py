@@ -219,6 +219,11 @@ def pointer_to(data: WriteableBuffer) -> Any:
     return ctypes.byref(ctypes.c_uint8.from_buffer(data))
 
 
+def place_of(data: Any) -> Any:
+    """Where data begin, for a field of a struct, which does not keep them; null of None."""
+    return ctypes.cast(data, POINTER)
+
+
 def is_writable(view: memoryview) -> bool:
     """Whether a call can work on the data in place."""
     return not view.readonly and view.c_contiguous

@@ -7,7 +7,7 @@ import os
 from dataclasses import dataclass
 from typing import Any, List, Mapping, Optional, Tuple
 
-from ._data import bytes_from, bytes_of, hint_of, no_text, room, secret_of
+from ._data import bytes_from, bytes_of, hint_of, no_text, place_of, room, secret_of
 from ._keys import KEY_SIZES
 from ._faults import KeyBlockDigitError, KeyBlockFieldError, KeyBlockLengthError, KeyBlockVersionError, OptionalBlockError, check
 from ._library import INT, POINTER, SIZE, function
@@ -25,12 +25,24 @@ _MORE = 128
 _TOO_MANY = 10000
 
 _unwrap = function("key_block_unwrap", INT, POINTER, SIZE, POINTER, SIZE, POINTER, POINTER, POINTER)
-_wrap = function(
-    "key_block_wrap", INT, POINTER, SIZE, POINTER, POINTER, SIZE, POINTER, SIZE, POINTER, SIZE, POINTER, SIZE, POINTER
-)
+_wrap = function("key_block_wrap", INT, POINTER, POINTER, SIZE, POINTER)
 _header = function("key_block_header", INT, POINTER, SIZE, POINTER)
 _context = function("key_block_context", INT, POINTER, SIZE, POINTER)
 _optional_block = function("key_block_optional_block", INT, POINTER, SIZE, SIZE, POINTER, POINTER, POINTER)
+
+
+class _Parts(ctypes.Structure):
+    _fields_ = [
+        ("protection", POINTER),
+        ("protection_length", SIZE),
+        ("header", ctypes.c_uint8 * _FIELDS_SIZE),
+        ("optional", POINTER),
+        ("optional_length", SIZE),
+        ("key", POINTER),
+        ("key_length", SIZE),
+        ("padding", POINTER),
+        ("padding_length", SIZE),
+    ]
 
 
 @dataclass(frozen=True)
@@ -141,8 +153,18 @@ def wrap_key_block(
     block, length = room(len(more) + _MORE), SIZE()
     with secret_of(no_text(protection)) as held, secret_of(no_text(key)) as bare:
         hiding = os.urandom(max(0, _KEY_DATA_SIZE - 2 - bare[1])) if padding is None else bytes_of(padding)
-        status = _wrap(*held, fields, more, len(more), *bare, hiding, len(hiding), block, len(block), ctypes.byref(length))
-        _checked(status, held[0], bare[0])
+        parts = _Parts(
+            protection=place_of(held[0]),
+            protection_length=held[1],
+            header=(ctypes.c_uint8 * _FIELDS_SIZE).from_buffer_copy(fields),
+            optional=place_of(more),
+            optional_length=len(more),
+            key=place_of(bare[0]),
+            key_length=bare[1],
+            padding=place_of(hiding),
+            padding_length=len(hiding),
+        )
+        _checked(_wrap(ctypes.byref(parts), block, len(block), ctypes.byref(length)), held[0], bare[0])
     return bytes(block)[: length.value].decode("ascii")
 
 

@@ -2,9 +2,10 @@
 
 from __future__ import annotations
 
-from typing import Any, Callable
+import ctypes
+from typing import Any, Callable, Optional, Tuple
 
-from ._data import BLOCK_SIZE, block_of, bytes_from, bytes_of, key_of, number_of, room, text_from, text_of
+from ._data import BLOCK_SIZE, block_of, bytes_from, bytes_of, key_of, number_of, place_of, room, text_from, text_of
 from ._faults import FillLengthError, check
 from ._keys import KEY_SIZES
 from ._library import INT, POINTER, SIZE, function
@@ -21,10 +22,40 @@ _decode_0 = function("pin_decode_0", INT, POINTER, POINTER, SIZE, POINTER)
 _decode_1 = function("pin_decode_1", INT, POINTER, POINTER)
 _decode_2 = function("pin_decode_2", INT, POINTER, POINTER)
 _decode_3 = function("pin_decode_3", INT, POINTER, POINTER, SIZE, POINTER)
-_to_0 = function("pin_translate_to_0", INT, POINTER, SIZE, INT, POINTER, SIZE, POINTER, SIZE, POINTER, POINTER)
-_to_1 = function("pin_translate_to_1", INT, POINTER, SIZE, POINTER, SIZE, POINTER, POINTER)
-_to_3 = function("pin_translate_to_3", INT, POINTER, SIZE, INT, POINTER, SIZE, POINTER, SIZE, POINTER, POINTER, POINTER)
+_to_0 = function("pin_translate_to_0", INT, POINTER, POINTER, POINTER)
+_to_1 = function("pin_translate_to_1", INT, POINTER, POINTER, POINTER)
+_to_3 = function("pin_translate_to_3", INT, POINTER, POINTER, POINTER)
 _cvv = function("cvv", INT, POINTER, POINTER, SIZE, POINTER, SIZE, POINTER, SIZE, POINTER)
+
+
+class _Translation(ctypes.Structure):
+    _fields_ = [
+        ("incoming_key", POINTER),
+        ("incoming_key_length", SIZE),
+        ("incoming_format", INT),
+        ("outgoing_key", POINTER),
+        ("outgoing_key_length", SIZE),
+        ("account", POINTER),
+        ("account_length", SIZE),
+        ("fill", POINTER),
+    ]
+
+
+def _translation(
+    incoming: Any, incoming_format: int, outgoing: Any, account: Tuple[Any, int] = (None, 0), fill: Optional[bytes] = None
+) -> Any:
+    """A translation, as a call takes it."""
+    fields = _Translation(
+        incoming_key=place_of(incoming),
+        incoming_key_length=len(incoming),
+        incoming_format=incoming_format,
+        outgoing_key=place_of(outgoing),
+        outgoing_key_length=len(outgoing),
+        account=place_of(account[0]),
+        account_length=account[1],
+        fill=place_of(fill),
+    )
+    return ctypes.byref(fields)
 
 
 def _fill_of(digits: ReadableBuffer) -> bytes:
@@ -110,13 +141,13 @@ def pin_translate_to_0(
     number = number_of(incoming_format, 0, 3)
     with key_of(incoming_key, *KEY_SIZES) as held, key_of(outgoing_key, *KEY_SIZES) as other:
         with text_of(account) as of, block_of(block) as given:
-            return _encoded(_to_0, held, len(held), number, other, len(other), *of, given)
+            return _encoded(_to_0, _translation(held, number, other, of), given)
 
 
 def pin_translate_to_1(block: ReadableBuffer, *, incoming_key: ReadableBuffer, outgoing_key: ReadableBuffer) -> bytes:
     """A block of format 1 under another key; its transaction digits stay. KeyLengthError, BlockLengthError, PinBlockError."""
     with key_of(incoming_key, *KEY_SIZES) as held, key_of(outgoing_key, *KEY_SIZES) as other, block_of(block) as given:
-        return _encoded(_to_1, held, len(held), other, len(other), given)
+        return _encoded(_to_1, _translation(held, 1, other), given)
 
 
 def pin_translate_to_3(
@@ -133,7 +164,7 @@ def pin_translate_to_3(
     number, digits = number_of(incoming_format, 0, 3), _fill_of(fill)
     with key_of(incoming_key, *KEY_SIZES) as held, key_of(outgoing_key, *KEY_SIZES) as other:
         with text_of(account) as of, block_of(block) as given:
-            return _encoded(_to_3, held, len(held), number, other, len(other), *of, digits, given)
+            return _encoded(_to_3, _translation(held, number, other, of, digits), given)
 
 
 def cvv(key: ReadableBuffer, account: Text, expiry: Text, service: Text) -> str:

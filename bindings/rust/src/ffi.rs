@@ -59,6 +59,33 @@ impl KeyBlockFields {
     }
 }
 
+/// What a key block is made of.
+#[repr(C)]
+pub struct KeyBlockParts {
+    pub protection: *const u8,
+    pub protection_length: usize,
+    pub header: KeyBlockFields,
+    pub optional: *const c_char,
+    pub optional_length: usize,
+    pub key: *const u8,
+    pub key_length: usize,
+    pub padding: *const u8,
+    pub padding_length: usize,
+}
+
+/// The keys of a translation, and what its PIN blocks are made of.
+#[repr(C)]
+pub struct PinTranslation {
+    pub incoming_key: *const u8,
+    pub incoming_key_length: usize,
+    pub incoming_format: c_int,
+    pub outgoing_key: *const u8,
+    pub outgoing_key_length: usize,
+    pub account: *const c_char,
+    pub account_length: usize,
+    pub fill: *const [u8; 10],
+}
+
 /// A context, which is wiped when it is dropped.
 #[repr(C)]
 #[derive(Clone)]
@@ -596,33 +623,17 @@ extern "C" {
     ) -> c_int;
 
     pub fn cukvashe_pin_translate_to_0(
-        incoming_key: *const u8,
-        incoming_key_length: usize,
-        incoming_format: c_int,
-        outgoing_key: *const u8,
-        outgoing_key_length: usize,
-        account: *const c_char,
-        account_length: usize,
+        translation: *const PinTranslation,
         block: *const [u8; 8],
         translated: *mut [u8; 8],
     ) -> c_int;
     pub fn cukvashe_pin_translate_to_1(
-        incoming_key: *const u8,
-        incoming_key_length: usize,
-        outgoing_key: *const u8,
-        outgoing_key_length: usize,
+        translation: *const PinTranslation,
         block: *const [u8; 8],
         translated: *mut [u8; 8],
     ) -> c_int;
     pub fn cukvashe_pin_translate_to_3(
-        incoming_key: *const u8,
-        incoming_key_length: usize,
-        incoming_format: c_int,
-        outgoing_key: *const u8,
-        outgoing_key_length: usize,
-        account: *const c_char,
-        account_length: usize,
-        fill: *const [u8; 10],
+        translation: *const PinTranslation,
         block: *const [u8; 8],
         translated: *mut [u8; 8],
     ) -> c_int;
@@ -736,17 +747,9 @@ extern "C" {
         key_length: *mut usize,
     ) -> c_int;
     pub fn cukvashe_key_block_wrap(
-        protection: *const u8,
-        protection_length: usize,
-        header: *const KeyBlockFields,
-        optional: *const c_char,
-        optional_length: usize,
-        key: *const u8,
-        key_length: usize,
-        padding: *const u8,
-        padding_length: usize,
+        parts: *const KeyBlockParts,
         block: *mut c_char,
-        room: usize,
+        capacity: usize,
         length: *mut usize,
     ) -> c_int;
     pub fn cukvashe_key_block_header(block: *const c_char, block_length: usize, header: *mut KeyBlockFields) -> c_int;

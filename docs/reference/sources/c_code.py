@@ -28,8 +28,10 @@ class Code:
 
     def __init__(self, *places):
         self.macros, self.included = {}, set()
-        text = "".join(self._lines(place) for place in places)
-        self.functions = dict(self._functions(self.expanded(text)))
+        text = self.expanded("".join(self._lines(place) for place in places))
+        self.functions = dict(self._functions(text))
+        # Those that are declared with the arguments of a call of the header.
+        self.declared_alike = set(re.findall(r"__typeof__\s*\(\s*cukvashe_\w+\s*\)\s*(cukvashe_unwiped_\w+)", text))
 
     def _lines(self, place):
         """The lines of a file that are compiled, without directives, which are obeyed."""

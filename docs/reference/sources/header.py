@@ -176,7 +176,7 @@ def carriers(text):
                 behind[export] = None
             elif it.startswith(("cukvashe_internal_", "cukvashe_wide_", "cukvashe_unwiped_")) and it not in code.functions:
                 raise Refused(f"{HEADER}: {name} calls {it}, which is no proved export")
-        if behind and not any(it.startswith("cukvashe_unwiped_") for it in called):
+        if behind and code.declared_alike.isdisjoint(called):
             adds.append("arguments")
         if any(it.startswith("cukvashe_wide_") for it in called):
             adds.append("width")

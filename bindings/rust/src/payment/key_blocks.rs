@@ -277,22 +277,18 @@ pub fn wrap(
     let count = write_blocks(optional, &mut blocks)?;
     // With room for the zero byte that the library writes after a block.
     let (mut made, mut size) = ([0; MOST + 1], 0);
-    let status = unsafe {
-        ffi::cukvashe_key_block_wrap(
-            protection.as_ptr(),
-            protection.len(),
-            &header.into(),
-            blocks.as_ptr().cast(),
-            count,
-            key.as_ptr(),
-            key.len(),
-            padding.as_ptr(),
-            padding.len(),
-            made.as_mut_ptr().cast(),
-            made.len(),
-            &mut size,
-        )
+    let parts = ffi::KeyBlockParts {
+        protection: protection.as_ptr(),
+        protection_length: protection.len(),
+        header: header.into(),
+        optional: blocks.as_ptr().cast(),
+        optional_length: count,
+        key: key.as_ptr(),
+        key_length: key.len(),
+        padding: padding.as_ptr(),
+        padding_length: padding.len(),
     };
+    let status = unsafe { ffi::cukvashe_key_block_wrap(&parts, made.as_mut_ptr().cast(), made.len(), &mut size) };
     checked(status, ())?;
     text.get_mut(..size).ok_or(KeyBlockError::Length)?.copy_from_slice(&made[..size]);
     Ok(size)

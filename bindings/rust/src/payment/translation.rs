@@ -18,6 +18,7 @@ use crate::ffi;
 use crate::statuses::{sentence, ACCOUNT_DIGIT, ACCOUNT_LENGTH, FILL, KEY_LENGTH, OK, PIN_BLOCK};
 use crate::Block;
 use core::ffi::c_int;
+use core::ptr;
 
 /// The format of a PIN block that comes in.
 #[non_exhaustive]
@@ -93,35 +94,16 @@ pub fn translate(
         Incoming::Format3 => 3,
     };
     let mut translated = [0; 8];
-    let (key, key_length, other, other_length) = (incoming.as_ptr(), incoming.len(), outgoing.as_ptr(), outgoing.len());
-    let (text, length, made) = (account.as_ptr().cast(), account.len(), &mut translated);
     // SAFETY: the pointers are of references, those of keys and the text good for their lengths, and don't overlap what is written.
-    let status = unsafe {
-        match to {
-            Outgoing::Format3 { fill } => ffi::cukvashe_pin_translate_to_3(
-                key,
-                key_length,
-                number,
-                other,
-                other_length,
-                text,
-                length,
-                &fill,
-                block,
-                made,
-            ),
-            Outgoing::Format0 => ffi::cukvashe_pin_translate_to_0(
-                key,
-                key_length,
-                number,
-                other,
-                other_length,
-                text,
-                length,
-                block,
-                made,
-            ),
-        }
+    let status = match &to {
+        Outgoing::Format0 => unsafe {
+            let translation = translation(incoming, number, outgoing, account, ptr::null());
+            ffi::cukvashe_pin_translate_to_0(&translation, block, &mut translated)
+        },
+        Outgoing::Format3 { fill } => unsafe {
+            let translation = translation(incoming, number, outgoing, account, fill);
+            ffi::cukvashe_pin_translate_to_3(&translation, block, &mut translated)
+        },
     };
     answer_of(status, translated)
 }
@@ -131,18 +113,31 @@ pub fn translate(
 /// `KeyLength` and `Block`.
 pub fn translate_format_1(incoming: &[u8], outgoing: &[u8], block: &Block) -> Result<Block, TranslationError> {
     let mut translated = [0; 8];
-    // SAFETY: the pointers are of references, those of keys good for their lengths, and don't overlap what is written.
-    let status = unsafe {
-        ffi::cukvashe_pin_translate_to_1(
-            incoming.as_ptr(),
-            incoming.len(),
-            outgoing.as_ptr(),
-            outgoing.len(),
-            block,
-            &mut translated,
-        )
-    };
+    let translation = translation(incoming, 1, outgoing, &[], ptr::null());
+    // SAFETY: the pointers are of references, those of keys good for their lengths, and don't overlap what is written. It does not
+    // look at fill digits.
+    let status = unsafe { ffi::cukvashe_pin_translate_to_1(&translation, block, &mut translated) };
     answer_of(status, translated)
+}
+
+/// What a translation takes, for as long as what is given lives.
+fn translation(
+    incoming: &[u8],
+    incoming_format: c_int,
+    outgoing: &[u8],
+    account: &[u8],
+    fill: *const [u8; 10],
+) -> ffi::PinTranslation {
+    ffi::PinTranslation {
+        incoming_key: incoming.as_ptr(),
+        incoming_key_length: incoming.len(),
+        incoming_format,
+        outgoing_key: outgoing.as_ptr(),
+        outgoing_key_length: outgoing.len(),
+        account: account.as_ptr().cast(),
+        account_length: account.len(),
+        fill,
+    }
 }
 
 /// What a translation gives, by its status.
