@@ -267,7 +267,7 @@ static const char password[] = "password";
 static void pbkdf2(void *state, size_t bytes) {
   uint8_t key[24];
   (void)bytes;
-  check(cukvashe_pbkdf2(*(const int *)state, (const uint8_t *)password, 8, vectors, 8, ITERATIONS, key, sizeof key));
+  check(cukvashe_pbkdf2(*(const int *)state, ITERATIONS, (const uint8_t *)password, 8, vectors, 8, key, sizeof key));
 }
 
 static void openssl_pbkdf2(void *state, size_t bytes) {

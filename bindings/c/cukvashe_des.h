@@ -17,7 +17,7 @@
  *
  * POINTERS
  *
- * A pointer beside a length, a count or a size (of cukvashe_pad: the capacity) may be null if that is 0; no other may.
+ * A pointer may be null if the length, count or size beside it is 0, or the capacity where it has one; no other may be.
  * What a call writes must not overlap any other argument, but `input` and `output` of a call named _to may be one
  * pointer.
  *
@@ -902,12 +902,13 @@ CUKVASHE_CHECK int cukvashe_key_block_optional_block(const char *block, size_t b
  * 8 bytes, without Salted__, or none (`-nosalt`). Errors: CUKVASHE_ERR_SALT_LENGTH, _HASH.
  *
  * int cukvashe_NAME_open_salted(int hash, size_t iterations, const uint8_t *password, size_t password_length,
- *                               const uint8_t *bytes, size_t length, uint8_t *plain, size_t room, size_t *plain_length)
+ *                               const uint8_t *bytes, size_t length, uint8_t *plain, size_t capacity,
+ *                               size_t *plain_length)
  *
  * Decrypts what openssl enc encrypted under a password by `-des-cbc` (des), `-des-ede-cbc` (tdes_ede2), or `-des3` or
  * `-des-ede3-cbc` (tdes_ede3). It writes the plaintext without padding, and into `plain_length` how many bytes it has;
- * `room` is the number of bytes at `plain`: `length` - 16 are always enough. `bytes` are the whole file: Salted__, a
- * salt of 8 bytes and the ciphertext, not Base64 (`-a`). `hash` is that of `-md`: by default CUKVASHE_SHA256, before
+ * `capacity` is the number of bytes at `plain`: `length` - 16 are always enough. `bytes` are the whole file: Salted__,
+ * a salt of 8 bytes and the ciphertext, not Base64 (`-a`). `hash` is that of `-md`: by default CUKVASHE_SHA256, before
  * OpenSSL 1.1.0 CUKVASHE_MD5. `iterations` is that of `-iter`; 10000 if only `-pbkdf2` was given; 0, not 1, if neither
  * was: then bytes_to_key is taken, and else PBKDF2.
  *
@@ -915,19 +916,19 @@ CUKVASHE_CHECK int cukvashe_key_block_optional_block(const char *block, size_t b
  * _CAPACITY. A wrong password, hash function or number of iterations is _PADDING, but for one in 256, which gives
  * CUKVASHE_OK and wrong bytes: nothing here authenticates. Tell nobody who sends you files which error they gave.
  */
-CUKVASHE_CHECK int cukvashe_pbkdf2(int hash, const uint8_t *password, size_t password_length, const uint8_t *salt,
-                                   size_t salt_length, size_t iterations, uint8_t *key, size_t key_length);
+CUKVASHE_CHECK int cukvashe_pbkdf2(int hash, size_t iterations, const uint8_t *password, size_t password_length,
+                                   const uint8_t *salt, size_t salt_length, uint8_t *key, size_t key_length);
 CUKVASHE_CHECK int cukvashe_bytes_to_key(int hash, const uint8_t *password, size_t password_length, const uint8_t *salt,
                                          size_t salt_length, uint8_t *key, size_t key_length);
 CUKVASHE_CHECK int cukvashe_des_open_salted(int hash, size_t iterations, const uint8_t *password,
                                             size_t password_length, const uint8_t *bytes, size_t length, uint8_t *plain,
-                                            size_t room, size_t *plain_length);
+                                            size_t capacity, size_t *plain_length);
 CUKVASHE_CHECK int cukvashe_tdes_ede2_open_salted(int hash, size_t iterations, const uint8_t *password,
                                                   size_t password_length, const uint8_t *bytes, size_t length,
-                                                  uint8_t *plain, size_t room, size_t *plain_length);
+                                                  uint8_t *plain, size_t capacity, size_t *plain_length);
 CUKVASHE_CHECK int cukvashe_tdes_ede3_open_salted(int hash, size_t iterations, const uint8_t *password,
                                                   size_t password_length, const uint8_t *bytes, size_t length,
-                                                  uint8_t *plain, size_t room, size_t *plain_length);
+                                                  uint8_t *plain, size_t capacity, size_t *plain_length);
 
 #if defined(__ELF__) || defined(__MACH__)
 #pragma GCC visibility pop

@@ -124,9 +124,9 @@ DEFINE_CIPHER(tdes_ede3, 49)
                   CHOOSE(count, check_values, KEY_SIZE, keys, keys_length, values, count)))                           \
   WIPES(int, NAME##_open_salted, OPEN,                                                                                \
         (int hash, size_t iterations, const uint8_t *password, size_t password_length, const uint8_t *bytes,          \
-         size_t length, uint8_t *plain, size_t room, size_t *plain_length),                                           \
+         size_t length, uint8_t *plain, size_t capacity, size_t *plain_length),                                       \
         cukvashe_internal_open_salted(KEY_SIZE, (uint32_t)hash, iterations, password, password_length, bytes, length, \
-                                      plain, room, plain_length))
+                                      plain, capacity, plain_length))
 
 DEFINE_CIPHER_OF_KEYS(des, 17, 8, 496, 1168, 10944, 19424, 13040, 21520, 13344)
 DEFINE_CIPHER_OF_KEYS(tdes_ede2, 33, 16, 496, 1168, 10768, 17360, 13040, 21632, 13344)

@@ -26,7 +26,7 @@ int cukvashe_internal_encrypt_cbc_to(const uint64_t *context, size_t words, uint
 int cukvashe_internal_check_value(size_t key_size, const uint8_t *key, size_t key_length, uint8_t value[3]);
 int cukvashe_internal_open_salted(size_t key_size, uint32_t hash, size_t iterations, const uint8_t *password,
                                   size_t password_length, const uint8_t *bytes, size_t length, uint8_t *plain,
-                                  size_t room, size_t *plain_length);
+                                  size_t capacity, size_t *plain_length);
 int cukvashe_internal_combine(const uint8_t *first, size_t first_length, const uint8_t *second, size_t second_length,
                               const uint8_t *others, size_t others_length, uint8_t *key, size_t key_length);
 bool cukvashe_internal_equal_but_parity(const uint8_t *first, size_t first_length, const uint8_t *second,

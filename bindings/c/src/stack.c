@@ -28,7 +28,7 @@ __attribute__((noinline)) void cukvashe_internal_wipe_stack(size_t size) {
   extern __typeof__(cukvashe_##NAME) cukvashe_unwiped_##NAME;                                                         \
   WIPES_VOID(NAME, SIZE, PARAMETERS, cukvashe_unwiped_##NAME(__VA_ARGS__))
 
-/* Exports that take one by one what the header has in a struct. */
+/* Exports that take their arguments in another order, or one by one where the header has a struct. */
 int cukvashe_unwiped_pin_translate_to_0(const uint8_t *incoming_key, size_t incoming_key_length, int incoming_format,
                                         const uint8_t *outgoing_key, size_t outgoing_key_length, const char *account,
                                         size_t account_length, const uint8_t block[8], uint8_t translated[8]);
@@ -44,6 +44,8 @@ int cukvashe_unwiped_key_block_wrap(const uint8_t *protection, size_t protection
                                     size_t optional_length, const uint8_t *key, size_t key_length,
                                     const uint8_t *padding, size_t padding_length, char *block, size_t capacity,
                                     size_t *length);
+int cukvashe_unwiped_pbkdf2(int hash, const uint8_t *password, size_t password_length, const uint8_t *salt,
+                            size_t salt_length, size_t iterations, uint8_t *key, size_t key_length);
 
 /* In the place of fill digits that are not there: no format allows 0. */
 static const uint8_t no_fill[CUKVASHE_FILL_SIZE];
@@ -187,10 +189,10 @@ WIPES(int, key_block_wrap, 7328,
       cukvashe_unwiped_key_block_wrap(parts->protection, parts->protection_length, &parts->header, parts->optional,
                                       parts->optional_length, parts->key, parts->key_length, parts->padding,
                                       parts->padding_length, block, capacity, length))
-WIPES_EXPORT(int, pbkdf2, 2592,
-             (int hash, const uint8_t *password, size_t password_length, const uint8_t *salt, size_t salt_length,
-              size_t iterations, uint8_t *key, size_t key_length),
-             hash, password, password_length, salt, salt_length, iterations, key, key_length)
+WIPES(int, pbkdf2, 2592,
+      (int hash, size_t iterations, const uint8_t *password, size_t password_length, const uint8_t *salt,
+       size_t salt_length, uint8_t *key, size_t key_length),
+      cukvashe_unwiped_pbkdf2(hash, password, password_length, salt, salt_length, iterations, key, key_length))
 WIPES_EXPORT(int, bytes_to_key, 1680,
              (int hash, const uint8_t *password, size_t password_length, const uint8_t *salt, size_t salt_length,
               uint8_t *key, size_t key_length),

@@ -37,9 +37,8 @@ static void answers_published_keys(void) {
   uint8_t key[80];
   for (size_t i = 0; i < sizeof derived / sizeof *derived; i++) {
     memset(key, PAINTED, sizeof key);
-    CHECK(cukvashe_pbkdf2(derived[i].hash, (const uint8_t *)derived[i].password, strlen(derived[i].password),
-                          (const uint8_t *)derived[i].salt, strlen(derived[i].salt), derived[i].iterations, key,
-                          strlen(derived[i].key) / 2) == CUKVASHE_OK);
+    CHECK(cukvashe_pbkdf2(derived[i].hash, derived[i].iterations, (const uint8_t *)derived[i].password, strlen(derived[i].password),
+                          (const uint8_t *)derived[i].salt, strlen(derived[i].salt), key, strlen(derived[i].key) / 2) == CUKVASHE_OK);
     CHECK(is_key(key, sizeof key, derived[i].key));
   }
 }
@@ -69,7 +68,7 @@ static void answers_as_openssl_enc(void) {
     if (printed[i].iterations == 0)
       CHECK(cukvashe_bytes_to_key(hash, password, 6, salt, 8, key, 32) == CUKVASHE_OK);
     else
-      CHECK(cukvashe_pbkdf2(hash, password, 6, salt, 8, printed[i].iterations, key, 32) == CUKVASHE_OK);
+      CHECK(cukvashe_pbkdf2(hash, printed[i].iterations, password, 6, salt, 8, key, 32) == CUKVASHE_OK);
     CHECK(is_key(key, sizeof key, printed[i].key_and_vector));
   }
 }
@@ -221,15 +220,15 @@ static void refuses_derivations(void) {
   uint8_t key[24], salt[8] = {0};
   memset(key, PAINTED, sizeof key);
   for (size_t i = 0; i < sizeof wrong / sizeof *wrong; i++) {
-    CHECK(cukvashe_pbkdf2(wrong[i], salt, 8, salt, 8, 0, key, 24) == CUKVASHE_ERR_HASH && is_kept(key, 24));
+    CHECK(cukvashe_pbkdf2(wrong[i], 0, salt, 8, salt, 8, key, 24) == CUKVASHE_ERR_HASH && is_kept(key, 24));
     if (wrong[i] != CUKVASHE_MD5)
       CHECK(cukvashe_bytes_to_key(wrong[i], salt, 8, salt, 8, key, 24) == CUKVASHE_ERR_HASH && is_kept(key, 24));
   }
-  CHECK(cukvashe_pbkdf2(CUKVASHE_SHA1, salt, 8, salt, 8, 0, key, 24) == CUKVASHE_ERR_ITERATIONS && is_kept(key, 24));
-  CHECK(cukvashe_pbkdf2(CUKVASHE_SHA256, salt, 8, salt, 8, (size_t)1 << 32, key, 24) == CUKVASHE_ERR_ITERATIONS && is_kept(key, 24));
-  CHECK(cukvashe_pbkdf2(CUKVASHE_SHA256, salt, 8, salt, 8, ((size_t)1 << 32) + 1, key, 24) == CUKVASHE_ERR_ITERATIONS);
+  CHECK(cukvashe_pbkdf2(CUKVASHE_SHA1, 0, salt, 8, salt, 8, key, 24) == CUKVASHE_ERR_ITERATIONS && is_kept(key, 24));
+  CHECK(cukvashe_pbkdf2(CUKVASHE_SHA256, (size_t)1 << 32, salt, 8, salt, 8, key, 24) == CUKVASHE_ERR_ITERATIONS && is_kept(key, 24));
+  CHECK(cukvashe_pbkdf2(CUKVASHE_SHA256, ((size_t)1 << 32) + 1, salt, 8, salt, 8, key, 24) == CUKVASHE_ERR_ITERATIONS);
   CHECK(is_kept(key, 24));
-  CHECK(cukvashe_pbkdf2(CUKVASHE_SHA256, NULL, 0, NULL, 0, 1, NULL, 0) == CUKVASHE_OK);
+  CHECK(cukvashe_pbkdf2(CUKVASHE_SHA256, 1, NULL, 0, NULL, 0, NULL, 0) == CUKVASHE_OK);
   CHECK(cukvashe_bytes_to_key(CUKVASHE_MD5, NULL, 0, NULL, 0, NULL, 0) == CUKVASHE_OK);
 }
 
@@ -246,7 +245,7 @@ static void refuses_salts(void) {
     }
   CHECK(cukvashe_bytes_to_key(CUKVASHE_MD5, salt, 6, salt, 7, NULL, 0) == CUKVASHE_ERR_SALT_LENGTH);
   for (size_t length = 0; length <= sizeof salt; length++)
-    CHECK(cukvashe_pbkdf2(CUKVASHE_SHA1, salt, 6, salt, length, 1, key, 32) == CUKVASHE_OK);
+    CHECK(cukvashe_pbkdf2(CUKVASHE_SHA1, 1, salt, 6, salt, length, key, 32) == CUKVASHE_OK);
 }
 
 static size_t read_file(const char *name, uint8_t *bytes, size_t room) {

@@ -304,8 +304,8 @@ static void returns_statuses_of_passwords(void) {
   static const uint8_t bytes[] = "Salted__1234567";
   uint8_t key[24], plain[8];
   size_t length;
-  CHECK(seen(cukvashe_pbkdf2(CUKVASHE_MD5, bytes, 8, bytes, 8, 1, key, 24)) == CUKVASHE_ERR_HASH);
-  CHECK(seen(cukvashe_pbkdf2(CUKVASHE_SHA1, bytes, 8, bytes, 8, 0, key, 24)) == CUKVASHE_ERR_ITERATIONS);
+  CHECK(seen(cukvashe_pbkdf2(CUKVASHE_MD5, 1, bytes, 8, bytes, 8, key, 24)) == CUKVASHE_ERR_HASH);
+  CHECK(seen(cukvashe_pbkdf2(CUKVASHE_SHA1, 0, bytes, 8, bytes, 8, key, 24)) == CUKVASHE_ERR_ITERATIONS);
   CHECK(seen(cukvashe_des_open_salted(CUKVASHE_MD5, 0, bytes, 8, bytes, 7, plain, 8, &length)) == CUKVASHE_ERR_NOT_SALTED);
   CHECK(seen(cukvashe_des_open_salted(CUKVASHE_MD5, 0, bytes, 8, bytes, 15, plain, 8, &length)) == CUKVASHE_ERR_SALT_LENGTH);
 }

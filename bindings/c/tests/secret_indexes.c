@@ -256,8 +256,8 @@ static void keys_of_passwords(void) {
   static const size_t lengths[] = {0, 1, 55, 56, 63, 64, 65, 100};
   for (size_t i = 0; i < sizeof lengths / sizeof *lengths; i++) {
     hide(data, 100);
-    CHECK(cukvashe_pbkdf2(CUKVASHE_SHA1, data, lengths[i], salt, 8, 2, other, 32) == CUKVASHE_OK);
-    CHECK(cukvashe_pbkdf2(CUKVASHE_SHA256, data, lengths[i], salt, 8, 2, other, 33) == CUKVASHE_OK);
+    CHECK(cukvashe_pbkdf2(CUKVASHE_SHA1, 2, data, lengths[i], salt, 8, other, 32) == CUKVASHE_OK);
+    CHECK(cukvashe_pbkdf2(CUKVASHE_SHA256, 2, data, lengths[i], salt, 8, other, 33) == CUKVASHE_OK);
     for (int hash = CUKVASHE_MD5; hash <= CUKVASHE_SHA256; hash++)
       CHECK(cukvashe_bytes_to_key(hash, data, lengths[i], salt, 8, other, 32) == CUKVASHE_OK);
   }
@@ -344,7 +344,7 @@ static size_t make_file(int cipher, const struct derivation *by, size_t blocks, 
   if (by->iterations == 0)
     CHECK(cukvashe_bytes_to_key(by->hash, key, PASSWORD, data + 8, 8, both, size + 8) == CUKVASHE_OK);
   else
-    CHECK(cukvashe_pbkdf2(by->hash, key, PASSWORD, data + 8, 8, by->iterations, both, size + 8) == CUKVASHE_OK);
+    CHECK(cukvashe_pbkdf2(by->hash, by->iterations, key, PASSWORD, data + 8, 8, both, size + 8) == CUKVASHE_OK);
   CHECK(ciphers[cipher].init_quiet(&context, both, size) == CUKVASHE_OK);
   CHECK(ciphers[cipher].ways[0].encrypt_cbc(&context, both + size, data + 16, length) == CUKVASHE_OK);
   return 16 + length;

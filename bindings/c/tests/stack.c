@@ -242,7 +242,7 @@ static int opened(int cipher) {
 static void of_password(const struct work *work) {
   const int cipher = (work->call - 2) % CIPHERS, wanted = work->call < 2 + CIPHERS ? CUKVASHE_ERR_PADDING : CUKVASHE_OK;
   switch (work->call) {
-    case 0: returned = cukvashe_pbkdf2(CUKVASHE_SHA256, others, 100, blocks, 100, 2, key, 24); break;
+    case 0: returned = cukvashe_pbkdf2(CUKVASHE_SHA256, 2, others, 100, blocks, 100, key, 24); break;
     case 1: returned = cukvashe_bytes_to_key(CUKVASHE_SHA256, others, 100, blocks, 8, key, 24); break;
     default:
       do {

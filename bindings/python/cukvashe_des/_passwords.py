@@ -17,7 +17,7 @@ _HASHES = {"md5": 21, "sha1": 22, "sha256": 23}
 # One more than PBKDF2 counts, which it refuses.
 _TOO_MANY = 2**32
 
-_pbkdf2 = function("pbkdf2", INT, INT, POINTER, SIZE, POINTER, SIZE, SIZE, POINTER, SIZE)
+_pbkdf2 = function("pbkdf2", INT, INT, SIZE, POINTER, SIZE, POINTER, SIZE, POINTER, SIZE)
 _bytes_to_key = function("bytes_to_key", INT, INT, POINTER, SIZE, POINTER, SIZE, POINTER, SIZE)
 _open_salted = {
     name: function(name + "_open_salted", INT, INT, SIZE, POINTER, SIZE, POINTER, SIZE, POINTER, SIZE, POINTER)
@@ -62,7 +62,7 @@ def pbkdf2(hash_name: str, password: ReadableBuffer, salt: ReadableBuffer, itera
     IterationCountError, KeyLengthError."""
     number, count, key, grains = _hash_of(hash_name, True), _iterations_of(iterations), room(_length_of(length)), bytes_of(salt)
     with secret_of(password) as held:
-        check(_pbkdf2(number, *held, grains, len(grains), count, key, len(key)))
+        check(_pbkdf2(number, count, *held, grains, len(grains), key, len(key)))
     return bytes_from(key)
 
 

@@ -765,11 +765,11 @@ extern "C" {
 
     pub fn cukvashe_pbkdf2(
         hash: c_int,
+        iterations: usize,
         password: *const u8,
         password_length: usize,
         salt: *const u8,
         salt_length: usize,
-        iterations: usize,
         key: *mut u8,
         key_length: usize,
     ) -> c_int;
@@ -790,7 +790,7 @@ extern "C" {
         bytes: *const u8,
         length: usize,
         plain: *mut u8,
-        room: usize,
+        capacity: usize,
         plain_length: *mut usize,
     ) -> c_int;
     pub fn cukvashe_tdes_ede2_open_salted(
@@ -801,7 +801,7 @@ extern "C" {
         bytes: *const u8,
         length: usize,
         plain: *mut u8,
-        room: usize,
+        capacity: usize,
         plain_length: *mut usize,
     ) -> c_int;
     pub fn cukvashe_tdes_ede3_open_salted(
@@ -812,7 +812,7 @@ extern "C" {
         bytes: *const u8,
         length: usize,
         plain: *mut u8,
-        room: usize,
+        capacity: usize,
         plain_length: *mut usize,
     ) -> c_int;
 }

@@ -109,11 +109,11 @@ impl Derivation {
                 None => ffi::cukvashe_bytes_to_key(hash, secret, secret_length, grains, grains_length, place, length),
                 Some(count) => ffi::cukvashe_pbkdf2(
                     hash,
+                    count as usize,
                     secret,
                     secret_length,
                     grains,
                     grains_length,
-                    count as usize,
                     place,
                     length,
                 ),
