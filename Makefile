@@ -12,10 +12,11 @@ LDFLAGS ?= -pie
 machine := $(shell $(CC) -dumpmachine)
 processor := $(firstword $(subst -, ,$(machine)))
 target := $(if $(findstring apple,$(machine)),macos,$(if $(findstring mingw,$(machine)),windows,$(filter-out x86_64,$(processor))))
-shared_macos := 2.dylib
+soversion := $(shell cat bindings/c/soversion)
+shared_macos := $(soversion).dylib
 shared_windows := dll.a
 text := generated/$(or $(target),x86_64)
-shared := $(or $(shared_$(target)),so.2)
+shared := $(or $(shared_$(target)),so.$(soversion))
 library := $(addprefix bindings/out/$(target:%=%/)lib/libcukvashe_des.,a $(shared))
 programs := $(if $(findstring linux,$(machine)),$(notdir $(basename $(wildcard $(text)/des_tool.s $(text)/cukvashe.s))))
 # A word for the shell, whatever characters are in it.
@@ -34,7 +35,7 @@ out/made_by: always
 	@echo $(made_by) | cmp -s - $@ || echo $(made_by) >$@
 
 # One recipe makes both libraries, which makes before 4.3 take of patterns alone.
-%/libcukvashe_des.a %/libcukvashe_des.$(shared): out/made_by VERSION bindings/build bindings/c/cukvashe_des.h generated/cukvashe_des.h \
+%/libcukvashe_des.a %/libcukvashe_des.$(shared): out/made_by VERSION bindings/build bindings/c/soversion bindings/c/cukvashe_des.h generated/cukvashe_des.h \
   $(wildcard bindings/c/src/* $(text)/*/library*.s $(text)/library*.s)
 	@CC=$(call quoted,$(CC)) bindings/build --generated $(target:%=--target %)
 

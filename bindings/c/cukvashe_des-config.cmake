@@ -3,8 +3,8 @@ get_filename_component(_cukvashe_des_prefix "${CMAKE_CURRENT_LIST_DIR}/../../.."
 if(NOT TARGET cukvashe_des::cukvashe_des)
   add_library(cukvashe_des::cukvashe_des SHARED IMPORTED)
   set_target_properties(cukvashe_des::cukvashe_des PROPERTIES
-    IMPORTED_LOCATION "${_cukvashe_des_prefix}/lib/libcukvashe_des.so.2"
-    IMPORTED_SONAME libcukvashe_des.so.2
+    IMPORTED_LOCATION "${_cukvashe_des_prefix}/lib/libcukvashe_des.so.@SOVERSION@"
+    IMPORTED_SONAME libcukvashe_des.so.@SOVERSION@
     INTERFACE_INCLUDE_DIRECTORIES "${_cukvashe_des_prefix}/include")
   add_library(cukvashe_des::cukvashe_des_static STATIC IMPORTED)
   set_target_properties(cukvashe_des::cukvashe_des_static PROPERTIES

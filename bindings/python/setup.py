@@ -71,18 +71,18 @@ def compiler(*arguments):
 
 def compiled():
     """The library that the C compiler makes, for the system that it is for."""
-    text = text_of_header()
+    text, number = text_of_header(), (C / "soversion").read_text().strip()
     defined = set(re.findall(r"#define (\w+)", compiler("-E", "-dM", "-x", "c", os.devnull)))
     target = next((target for target, names in TARGETS.items() if names <= defined), None)
     if target is None:
         raise SystemExit(f"the C compiler is for none of {', '.join(TARGETS)} with pointers of 64 bits: name another by CC")
-    link = ["-shared", "-fPIC", "-Wl,-soname,libcukvashe_des.so.2", "-Wl,-z,defs,-z,relro,-z,now"]
+    link = ["-shared", "-fPIC", f"-Wl,-soname,libcukvashe_des.so.{number}", "-Wl,-z,defs,-z,relro,-z,now"]
     if target == "windows":
         names = WORK / "names.def"
         names.write_bytes(b"\n".join([b"EXPORTS", *sorted(set(re.findall(rb"\b(cukvashe_[a-z0-9_]+) ?\(", text)))]))
         link = ["-shared", "-Wl,--no-insert-timestamp,--disable-auto-image-base", names]
     elif "macos" in target:
-        link = ["-dynamiclib", "-mmacosx-version-min=11.0", "-Wl,-install_name,@rpath/libcukvashe_des.2.dylib"]
+        link = ["-dynamiclib", "-mmacosx-version-min=11.0", f"-Wl,-install_name,@rpath/libcukvashe_des.{number}.dylib"]
     sources = [*sorted((C / "src").glob("*.c")), *sorted((GENERATED / target).glob("library*.s"))]
     made = WORK / "cukvashe_des.dll"  # for Windows this name goes into the file, and for others none does
     compiler("-std=c99", "-O2", "-fvisibility=hidden", "-I", C, "-o", made, *sources, *link)

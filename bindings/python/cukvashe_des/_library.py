@@ -11,15 +11,20 @@ from ._version import __version__
 
 POINTER, SIZE, INT, BOOL = ctypes.c_void_p, ctypes.c_size_t, ctypes.c_int, ctypes.c_bool
 
+# The number of the shared library whose calls these are: that of bindings/c/soversion.
+SOVERSION = "0"
+
 
 def _names() -> tuple[str, str, str]:
     """The library's file in the package, the one that is built below `bindings/out`, and the one that the system finds."""
     if sys.platform == "win32":
         return "cukvashe_des.dll", "windows/bin/cukvashe_des.dll", "cukvashe_des.dll"
     if sys.platform == "darwin":
-        return "libcukvashe_des.dylib", "macos/lib/libcukvashe_des.2.dylib", "libcukvashe_des.2.dylib"
+        numbered = f"libcukvashe_des.{SOVERSION}.dylib"
+        return "libcukvashe_des.dylib", "macos/lib/" + numbered, numbered
     processor = os.uname().machine
-    return "libcukvashe_des.so", ("" if processor == "x86_64" else processor + "/") + "lib/libcukvashe_des.so", "libcukvashe_des.so.2"
+    below = "" if processor == "x86_64" else processor + "/"
+    return "libcukvashe_des.so", below + "lib/libcukvashe_des.so", f"libcukvashe_des.so.{SOVERSION}"
 
 
 def _place() -> str:

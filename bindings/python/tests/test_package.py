@@ -35,6 +35,11 @@ def c_type(text):
     return {"size_t": ctypes.c_size_t, "int": ctypes.c_int, "bool": ctypes.c_bool, "void": None}[text.split()[0]]
 
 
+# The number of the shared library, and its name.
+SOVERSION = read("bindings", "c", "soversion").strip()
+NUMBERED = f"libcukvashe_des.so.{SOVERSION}"
+
+
 class Package(unittest.TestCase):
     def test_version(self):
         self.assertEqual(cukvashe_des.__version__, read("VERSION").strip())
@@ -173,7 +178,7 @@ class Package(unittest.TestCase):
             package = os.path.join(folder, "bindings", "python", "cukvashe_des")
             shutil.copytree(PACKAGE, package, ignore=shutil.ignore_patterns("*.so", "__pycache__"))
             system, named = os.path.join(folder, "system"), os.path.join(folder, "named.so")
-            places = [os.path.join(system, "libcukvashe_des.so.2"), os.path.join(folder, "bindings", "out", "lib", "libcukvashe_des.so"),
+            places = [os.path.join(system, NUMBERED), os.path.join(folder, "bindings", "out", "lib", "libcukvashe_des.so"),
                       named, os.path.join(package, "libcukvashe_des.so")]
             program = "import os, cukvashe_des._library as library; print(os.path.realpath(library._library._name))"
             environment = dict(os.environ, LD_LIBRARY_PATH=system, PYTHONDONTWRITEBYTECODE="1", PYTHONPATH=os.path.dirname(package))
@@ -184,15 +189,16 @@ class Package(unittest.TestCase):
                 if place == named:
                     environment["CUKVASHE_DES_LIBRARY"] = named
                 done = subprocess.run([sys.executable, "-c", program], cwd=folder, env=environment, capture_output=True, text=True, check=False)
-                expected = os.path.join(folder, "libcukvashe_des.so.2") if place == places[0] else place
+                expected = os.path.join(folder, NUMBERED) if place == places[0] else place
                 self.assertEqual((done.stdout.strip(), done.stderr), (os.path.realpath(expected), ""))
 
     def test_systems(self):
         """The library in the package, and the one that is built, are for this system and processor, or not taken."""
         so, dll, dylib = "libcukvashe_des.so", "cukvashe_des.dll", "libcukvashe_des.dylib"
-        systems = {("linux", "x86_64"): (so, "lib/" + so, so + ".2"), ("linux", "aarch64"): (so, "aarch64/lib/" + so, so + ".2"),
-                   ("linux", "riscv64"): (so, "riscv64/lib/" + so, so + ".2"), ("win32", ""): (dll, "windows/bin/" + dll, dll),
-                   ("darwin", "arm64"): (dylib, "macos/lib/libcukvashe_des.2.dylib", "libcukvashe_des.2.dylib")}
+        numbered = f"libcukvashe_des.{SOVERSION}.dylib"
+        systems = {("linux", "x86_64"): (so, "lib/" + so, NUMBERED), ("linux", "aarch64"): (so, "aarch64/lib/" + so, NUMBERED),
+                   ("linux", "riscv64"): (so, "riscv64/lib/" + so, NUMBERED), ("win32", ""): (dll, "windows/bin/" + dll, dll),
+                   ("darwin", "arm64"): (dylib, "macos/lib/" + numbered, numbered)}
         for packaged, built, _ in systems.values():
             with tempfile.TemporaryDirectory() as folder:
                 module = os.path.join(folder, "python", "cukvashe_des", "_library.py")
