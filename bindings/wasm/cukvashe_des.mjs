@@ -1372,10 +1372,12 @@ const HASHES = new Map([["md5", 21], ["sha1", 22], ["sha256", 23]]);
 // One more than PBKDF2 counts, which it refuses.
 const TOO_MANY_ITERATIONS = 2 ** 32;
 
-function hashOf(name) {
-  if (typeof name !== "string") throw new TypeError('a hash function: "md5", "sha1" or "sha256" is wanted');
-  if (!HASHES.has(name)) throw new HashName('a hash function is "md5", "sha1" or "sha256"');
-  return HASHES.get(name);
+/** The number of a hash function. PBKDF2 takes no MD5. */
+function hashOf(name, isPbkdf2) {
+  const offered = isPbkdf2 ? '"sha1" or "sha256"' : '"md5", "sha1" or "sha256"';
+  if (typeof name !== "string") throw new TypeError(`a hash function: ${offered} is wanted`);
+  if (HASHES.has(name) && !(isPbkdf2 && name === "md5")) return HASHES.get(name);
+  throw isPbkdf2 ? faultOf(HASH) : new HashName(`a hash function is ${offered}`);
 }
 
 /** A number of iterations, of which there is one at least, or one that is refused. */
@@ -1406,18 +1408,19 @@ function derived(name, hash, password, salt, words, length) {
 }
 
 export function pbkdf2(hashName, password, salt, iterations, length) {
-  return derived("pbkdf2", hashOf(hashName), password, salt, [iterationsOf(iterations)], derivedLengthOf(length));
+  return derived("pbkdf2", hashOf(hashName, true), password, salt, [iterationsOf(iterations)], derivedLengthOf(length));
 }
 
 export function bytesToKey(hashName, password, salt, length) {
-  return derived("bytes_to_key", hashOf(hashName), password, salt, [], derivedLengthOf(length));
+  return derived("bytes_to_key", hashOf(hashName, false), password, salt, [], derivedLengthOf(length));
 }
 
 export function openSalted(cipher, password, data, options = {}) {
   const { hashName = "sha256", iterations } = optionsOf(options, "hashName", "iterations");
   const { keySize } = cipherOf(cipher);
   const [secret, bytes] = [bytesOf(password, "a password"), bytesOf(data, "data")];
-  const [hash, count] = [hashOf(hashName), iterations === undefined ? 0n : iterationsOf(iterations)];
+  const isPbkdf2 = iterations !== undefined;
+  const [hash, count] = [hashOf(hashName, isPbkdf2), isPbkdf2 ? iterationsOf(iterations) : 0n];
   return inside((memory) => {
     const [plain, length] = [memory.room(bytes.length), memory.room(8)];
     const laid = [...memory.list(secret), ...memory.list(bytes), plain, BigInt(bytes.length), length];

@@ -26,12 +26,11 @@ _open_salted = {
 
 
 def _hash_of(name: str, is_pbkdf2: bool) -> int:
-    """The number of a hash function: for PBKDF2 the library refuses MD5. What is given in its place may be a secret, so no text
-    tells it."""
+    """The number of a hash function: PBKDF2 takes no MD5. What is given in its place may be a secret, so no text tells it."""
     if not isinstance(name, str):
         raise TypeError("a hash function is named by a text, as \"sha256\"")
     number = _HASHES.get(name)
-    if number is None:
+    if number is None or (is_pbkdf2 and name == "md5"):
         raise fault_of(HASH) if is_pbkdf2 else HashNameError('a hash function is "md5", "sha1" or "sha256"')
     return number
 

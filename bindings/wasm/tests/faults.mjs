@@ -515,13 +515,17 @@ for (let cut = 0; cut < SALTED.length; cut += 1) {
 for (const options of [{ hashName: "md5" }, { hashName: "sha1" }, { iterations: 1 }, { iterations: 10000 }]) {
   throwsFault(() => opens(SALTED, options), "PaddingMismatch", "the data do not end with the padding");
 }
-throwsFault(() => opens(SALTED, { hashName: "md5", iterations: 1 }), "HashName", 'the hash function is not one that the call takes: for PBKDF2 "sha1" or "sha256"');
+const PBKDF2_HASHES = 'the hash function is not one that the call takes: for PBKDF2 "sha1" or "sha256"';
+for (const iterations of [0, 1]) {
+  throwsFault(() => opens(SALTED, { hashName: "md5", iterations }), "HashName", PBKDF2_HASHES);
+  throwsFault(() => library.pbkdf2("md5", SECRET, IV, iterations, 24), "HashName", PBKDF2_HASHES);
+}
 for (const hashName of ["SHA256", "sha512", ""]) {
   throwsFault(() => opens(SALTED, { hashName }), "HashName", 'a hash function is "md5", "sha1" or "sha256"');
-  throwsFault(() => library.bytesToKey(hashName, SECRET, IV, 24), "HashName");
-  throwsFault(() => library.pbkdf2(hashName, SECRET, IV, 1, 24), "HashName");
+  throwsFault(() => library.bytesToKey(hashName, SECRET, IV, 24), "HashName", 'a hash function is "md5", "sha1" or "sha256"');
+  throwsFault(() => opens(SALTED, { hashName, iterations: 1 }), "HashName", PBKDF2_HASHES);
+  throwsFault(() => library.pbkdf2(hashName, SECRET, IV, 1, 24), "HashName", PBKDF2_HASHES);
 }
-throwsFault(() => library.pbkdf2("md5", SECRET, IV, 1, 24), "HashName");
 for (const iterations of [0, -1, 1.5, NaN, 2 ** 32, 2 ** 32 + 1, 2 ** 64, Infinity]) {
   throwsFault(() => opens(SALTED, { iterations }), "IterationCount");
   throwsFault(() => library.pbkdf2("sha1", SECRET, IV, iterations, 24), "IterationCount");
