@@ -71,9 +71,9 @@ static void records(void *state, size_t bytes) {
   const struct of *of = (const struct of *)state;
   (void)bytes;
   if (of->is_triple)
-    BY_WIDTH(of, encrypt_cbc_records, WORDS_OF(ede3), vectors, COUNT, counts, COUNT, blocks, COUNT * RECORD);
+    BY_WIDTH(of, encrypt_cbc_records, WORDS_OF(ede3), vectors, COUNT, counts, COUNT, blocks, COUNT * RECORD, 8 * COUNT * RECORD);
   else
-    BY_WIDTH(of, encrypt_cbc_records, WORDS_OF(des), vectors, COUNT, counts, COUNT, blocks, COUNT * RECORD);
+    BY_WIDTH(of, encrypt_cbc_records, WORDS_OF(des), vectors, COUNT, counts, COUNT, blocks, COUNT * RECORD, 8 * COUNT * RECORD);
 }
 
 static void openssl_records(void *state, size_t bytes) {
@@ -101,8 +101,8 @@ static void one_retail_mac(void *state, size_t bytes) {
   for (size_t k = 0; k < COUNT; k++) {
     cukvashe_retail_mac_des mac;
     check(cukvashe_retail_mac_des_init(&mac, keys + 16 * k, 16, 2));
-    cukvashe_retail_mac_des_update(&mac, messages[k].bytes, messages[k].length);
-    cukvashe_retail_mac_des_final(&mac, tags + 8 * k);
+    check(cukvashe_retail_mac_des_update(&mac, messages[k].bytes, messages[k].length));
+    check(cukvashe_retail_mac_des_final(&mac, tags + 8 * k));
   }
 }
 

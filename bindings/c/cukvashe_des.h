@@ -29,10 +29,11 @@
  *
  * WHAT YOU MUST UPHOLD
  *
- * Behaviour is undefined if a pointer is not good for its length, if arguments overlap that must not, or if no init or
- * init_quiet wrote a context. You may copy, move and overwrite contexts. Weak keys are accepted (see KEYS). No mode
- * here authenticates. Use an initialization vector that is fresh and that nobody can foresee. Wipe contexts, terminals,
- * keys, passwords and PINs after use (cukvashe_wipe).
+ * Behaviour is undefined if a pointer is not good for its length, if arguments overlap that must not, or if anything but
+ * calls changed a context behind the mark of its init (see CIPHERS): they look at the mark alone. You may copy, move and
+ * overwrite whole contexts. Weak keys are accepted (see KEYS). No mode here authenticates. Use an initialization vector
+ * that is fresh and that nobody can foresee. Wipe contexts, terminals, keys, passwords and PINs after use
+ * (cukvashe_wipe).
  *
  * SECRETS AND TIME
  *
@@ -147,6 +148,7 @@ extern "C" {
 #define CUKVASHE_ERR_ITERATIONS 41            /* the number of iterations is not 1 to 2^32 - 1 */
 #define CUKVASHE_ERR_NOT_SALTED 42            /* the bytes do not begin with Salted__ */
 #define CUKVASHE_ERR_SALT_LENGTH 43           /* the bytes end within the salt, or it does not have 0 or 8 bytes */
+#define CUKVASHE_ERR_CONTEXT 44               /* the context is not one that the init of this type made */
 
 /* Sizes, in bytes. */
 #define CUKVASHE_BLOCK_SIZE 8
@@ -203,7 +205,8 @@ void cukvashe_wipe(void *pointer, size_t size);
  *     tdes_ede2   triple DES (encrypt, decrypt, encrypt), first part again    a key of 16 bytes, two parts of 8
  *     tdes_ede3   triple DES (encrypt, decrypt, encrypt)                      a key of 24 bytes, three parts of 8
  *
- * A context holds the round keys: it is as secret as the key.
+ * A context holds the round keys: it is as secret as the key. At its end init writes a mark, by which a call tells a
+ * context of its type from all else: from zeros, and from a context of another type or of a MAC.
  */
 typedef struct {
   uint64_t words[17];
@@ -240,7 +243,7 @@ CUKVASHE_CHECK int cukvashe_tdes_ede3_init_quiet(cukvashe_tdes_ede3 *context, co
  * int cukvashe_NAME_decrypt_ecb_to(const cukvashe_NAME *context, const uint8_t *input, uint8_t *output, size_t length)
  *
  * Encrypts or decrypts each block of `length` bytes by itself, in place or from `input` to `output` (arguments in this
- * order). Nothing is padded (see PADDING). Errors: CUKVASHE_ERR_BLOCKS.
+ * order). Nothing is padded (see PADDING). Errors: CUKVASHE_ERR_CONTEXT, _BLOCKS.
  */
 CUKVASHE_CHECK int cukvashe_des_encrypt_ecb(const cukvashe_des *context, uint8_t *data, size_t length);
 CUKVASHE_CHECK int cukvashe_des_decrypt_ecb(const cukvashe_des *context, uint8_t *data, size_t length);
@@ -273,7 +276,7 @@ CUKVASHE_CHECK int cukvashe_tdes_ede3_decrypt_ecb_to(const cukvashe_tdes_ede3 *c
  *
  * Encrypts or decrypts whole blocks by cipher block chaining (FIPS 81) from the initialization vector. `iv` becomes the
  * last ciphertext block, the vector of the record's next piece; if `length` is 0, it stays. Keep a copy if you need it
- * again. Errors: CUKVASHE_ERR_BLOCKS.
+ * again. Errors: CUKVASHE_ERR_CONTEXT, _BLOCKS.
  */
 CUKVASHE_CHECK int cukvashe_des_encrypt_cbc(const cukvashe_des *context, uint8_t iv[8], uint8_t *data, size_t length);
 CUKVASHE_CHECK int cukvashe_des_decrypt_cbc(const cukvashe_des *context, uint8_t iv[8], uint8_t *data, size_t length);
@@ -325,7 +328,7 @@ CUKVASHE_CHECK int cukvashe_tdes_ede3_decrypt_each(const uint8_t *keys, size_t c
  * Encrypts or decrypts `records_count` records by CBC under one key, in place, each from a vector of its own. `bytes`
  * has them one after the other, `length` bytes in all: record k has `counts[k]` blocks of 8 bytes, or none, and its
  * vector is the k-th of `vectors`, of 8 bytes each, which becomes its last ciphertext block. For speed, sort records of
- * very different lengths. Errors: CUKVASHE_ERR_BLOCKS; _COUNTS if the sum of the counts is not `length` / 8.
+ * very different lengths. Errors: CUKVASHE_ERR_CONTEXT, _BLOCKS; _COUNTS if the sum of the counts is not `length` / 8.
  */
 CUKVASHE_CHECK int cukvashe_des_encrypt_cbc_records(const cukvashe_des *context, uint8_t *vectors, const size_t *counts,
                                                     size_t records_count, uint8_t *bytes, size_t length);
@@ -387,8 +390,8 @@ CUKVASHE_CHECK bool cukvashe_equal_but_parity(const uint8_t *first, const uint8_
  *     cmac_tdes_ede3      CMAC over triple DES                                   a key of 24 bytes
  *
  * CBC-MAC is safe only if every message under a key has one length, which both sides know. Padding method 1 hides zeros
- * at the end of a message. Tags have 64 bits: use a key for far fewer than 2^32 messages. A context holds round keys
- * and bytes of the message; a copy is independent.
+ * at the end of a message. Tags have 64 bits: use a key for far fewer than 2^32 messages. A context holds round keys,
+ * the mark of its MAC and bytes of the message; a copy is independent.
  */
 typedef struct {
   uint64_t words[21];
@@ -447,28 +450,34 @@ CUKVASHE_CHECK int cukvashe_cmac_tdes_ede3_init_quiet(cukvashe_cmac_tdes_ede3 *c
                                                       size_t key_length);
 
 /*
- * void cukvashe_MAC_update(cukvashe_MAC *context, const uint8_t *message, size_t length)
+ * int cukvashe_MAC_update(cukvashe_MAC *context, const uint8_t *message, size_t length)
  *
- * Adds `length` bytes to the message, which may come in pieces of any length.
+ * Adds `length` bytes to the message, which may come in pieces of any length. Errors: CUKVASHE_ERR_CONTEXT.
  */
-void cukvashe_cbc_mac_des_update(cukvashe_cbc_mac_des *context, const uint8_t *message, size_t length);
-void cukvashe_cbc_mac_tdes_ede2_update(cukvashe_cbc_mac_tdes_ede2 *context, const uint8_t *message, size_t length);
-void cukvashe_cbc_mac_tdes_ede3_update(cukvashe_cbc_mac_tdes_ede3 *context, const uint8_t *message, size_t length);
-void cukvashe_retail_mac_des_update(cukvashe_retail_mac_des *context, const uint8_t *message, size_t length);
-void cukvashe_cmac_tdes_ede2_update(cukvashe_cmac_tdes_ede2 *context, const uint8_t *message, size_t length);
-void cukvashe_cmac_tdes_ede3_update(cukvashe_cmac_tdes_ede3 *context, const uint8_t *message, size_t length);
+CUKVASHE_CHECK int cukvashe_cbc_mac_des_update(cukvashe_cbc_mac_des *context, const uint8_t *message, size_t length);
+CUKVASHE_CHECK int cukvashe_cbc_mac_tdes_ede2_update(cukvashe_cbc_mac_tdes_ede2 *context, const uint8_t *message,
+                                                     size_t length);
+CUKVASHE_CHECK int cukvashe_cbc_mac_tdes_ede3_update(cukvashe_cbc_mac_tdes_ede3 *context, const uint8_t *message,
+                                                     size_t length);
+CUKVASHE_CHECK int cukvashe_retail_mac_des_update(cukvashe_retail_mac_des *context, const uint8_t *message,
+                                                  size_t length);
+CUKVASHE_CHECK int cukvashe_cmac_tdes_ede2_update(cukvashe_cmac_tdes_ede2 *context, const uint8_t *message,
+                                                  size_t length);
+CUKVASHE_CHECK int cukvashe_cmac_tdes_ede3_update(cukvashe_cmac_tdes_ede3 *context, const uint8_t *message,
+                                                  size_t length);
 
 /*
- * void cukvashe_MAC_final(const cukvashe_MAC *context, uint8_t tag[8])
+ * int cukvashe_MAC_final(const cukvashe_MAC *context, uint8_t tag[8])
  *
  * Writes the tag of the message, which may go on. To check a tag call is_tag: memcmp may stop at the first wrong byte.
+ * Errors: CUKVASHE_ERR_CONTEXT.
  */
-void cukvashe_cbc_mac_des_final(const cukvashe_cbc_mac_des *context, uint8_t tag[8]);
-void cukvashe_cbc_mac_tdes_ede2_final(const cukvashe_cbc_mac_tdes_ede2 *context, uint8_t tag[8]);
-void cukvashe_cbc_mac_tdes_ede3_final(const cukvashe_cbc_mac_tdes_ede3 *context, uint8_t tag[8]);
-void cukvashe_retail_mac_des_final(const cukvashe_retail_mac_des *context, uint8_t tag[8]);
-void cukvashe_cmac_tdes_ede2_final(const cukvashe_cmac_tdes_ede2 *context, uint8_t tag[8]);
-void cukvashe_cmac_tdes_ede3_final(const cukvashe_cmac_tdes_ede3 *context, uint8_t tag[8]);
+CUKVASHE_CHECK int cukvashe_cbc_mac_des_final(const cukvashe_cbc_mac_des *context, uint8_t tag[8]);
+CUKVASHE_CHECK int cukvashe_cbc_mac_tdes_ede2_final(const cukvashe_cbc_mac_tdes_ede2 *context, uint8_t tag[8]);
+CUKVASHE_CHECK int cukvashe_cbc_mac_tdes_ede3_final(const cukvashe_cbc_mac_tdes_ede3 *context, uint8_t tag[8]);
+CUKVASHE_CHECK int cukvashe_retail_mac_des_final(const cukvashe_retail_mac_des *context, uint8_t tag[8]);
+CUKVASHE_CHECK int cukvashe_cmac_tdes_ede2_final(const cukvashe_cmac_tdes_ede2 *context, uint8_t tag[8]);
+CUKVASHE_CHECK int cukvashe_cmac_tdes_ede3_final(const cukvashe_cmac_tdes_ede3 *context, uint8_t tag[8]);
 
 /*
  * bool cukvashe_MAC_is_tag(const cukvashe_MAC *context, const uint8_t *tag, size_t tag_length)
@@ -477,7 +486,7 @@ void cukvashe_cmac_tdes_ede3_final(const cukvashe_cmac_tdes_ede3 *context, uint8
  * is_tag is true, and verify CUKVASHE_OK, which is 0, for the tag of the message and for its first 4 to 7 bytes; for
  * all else is_tag is false, and verify CUKVASHE_ERR_TAG. Every byte is compared. Give the `tag_length` that both sides
  * agreed on, not the one that was sent: a forger sends 4 bytes, of which one guess in 2^32 is right. (In Python, Rust
- * and JavaScript verify takes whole tags alone, and another call cut ones.)
+ * and JavaScript verify takes whole tags alone, and another call cut ones.) Errors: CUKVASHE_ERR_CONTEXT, _TAG.
  */
 CUKVASHE_CHECK int cukvashe_cbc_mac_des_verify(const cukvashe_cbc_mac_des *context, const uint8_t *tag,
                                                size_t tag_length);

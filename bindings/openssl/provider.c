@@ -113,8 +113,7 @@ static bool mac_answers_as_known(const struct provider *provider) {
   if ((provider->no_tables ? cukvashe_retail_mac_des_init_quiet : cukvashe_retail_mac_des_init)(
           &context, key, 16, CUKVASHE_MAC_PADDING_2) != CUKVASHE_OK)
     return false;
-  cukvashe_retail_mac_des_final(&context, tag);
-  return memcmp(tag, answer, sizeof tag) == 0;
+  return cukvashe_retail_mac_des_final(&context, tag) == CUKVASHE_OK && memcmp(tag, answer, sizeof tag) == 0;
 }
 
 static int self_test(void *provider) { return ciphers_answer_as_known(provider) && mac_answers_as_known(provider); }

@@ -103,8 +103,8 @@ static int init(void *given, const unsigned char *key, size_t key_length, const 
 static int update(void *given, const unsigned char *message, size_t length) {
   struct context *context = given;
   if (!context->has_begun) return REFUSE(context->provider, PROV_R_NO_KEY_SET, "no message has begun");
-  cukvashe_retail_mac_des_update(&context->state, message, length);
-  return 1;
+  if (cukvashe_retail_mac_des_update(&context->state, message, length) == CUKVASHE_OK) return 1;
+  return REFUSE(context->provider, PROV_R_CIPHER_OPERATION_FAILED, NULL);
 }
 
 static int final(void *given, unsigned char *tag, size_t *tag_length, size_t size) {
@@ -112,7 +112,8 @@ static int final(void *given, unsigned char *tag, size_t *tag_length, size_t siz
   uint8_t whole[CUKVASHE_TAG_SIZE];
   if (!context->has_begun) return REFUSE(context->provider, PROV_R_NO_KEY_SET, "no message has begun");
   if (size < context->tag_size) return REFUSE(context->provider, PROV_R_OUTPUT_BUFFER_TOO_SMALL, NULL);
-  cukvashe_retail_mac_des_final(&context->state, whole);
+  if (cukvashe_retail_mac_des_final(&context->state, whole) != CUKVASHE_OK)
+    return REFUSE(context->provider, PROV_R_CIPHER_OPERATION_FAILED, NULL);
   memcpy(tag, whole, context->tag_size);
   cukvashe_wipe(whole, sizeof whole);
   *tag_length = context->tag_size;

@@ -134,6 +134,7 @@ const HASH = 40;
 const ITERATIONS = 41;
 const NOT_SALTED = 42;
 const SALT_LENGTH = 43;
+const CONTEXT = 44;
 const SENTENCES = [
   "success",
   "the key does not have a length that the call takes",
@@ -179,6 +180,7 @@ const SENTENCES = [
   "the number of iterations is not 1 to 2^32 - 1",
   "the bytes do not begin with Salted__",
   "the bytes end within the salt, or it does not have 0 or 8 bytes",
+  "the context is not one that the init of this type made",
 ];
 // This ends what bindings/statuses made.
 
@@ -1496,7 +1498,8 @@ function recorded(name, call, cipher, blocks, named) {
     const { kind, context } = memory.state(cipher, Cipher);
     const [at, count] = memory.list(given, BLOCK_SIZE);
     const laid = [...contextAt(kind, memory.put(context)), ...memory.list(chains, BLOCK_SIZE)];
-    if (memory.ask(call, ...laid, memory.words(sizes), BigInt(sizes.length), at, count) !== OK) {
+    const length = BigInt(given.length);
+    if (memory.ask(call, ...laid, memory.words(sizes), BigInt(sizes.length), at, count, length) !== OK) {
       throw new CountMismatch("the counts do not add up to the number of blocks");
     }
     return memory.taken(at, given.length);

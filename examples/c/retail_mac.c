@@ -8,7 +8,7 @@ static bool accepts(const uint8_t key[16], const char *const *pieces, size_t cou
   /* Take the sender's padding method, 1 (zeros) or 2. With the other one a right tag is refused. */
   int status = cukvashe_retail_mac_des_init(&mac, key, 16, CUKVASHE_MAC_PADDING_2);
   for (size_t at = 0; status == CUKVASHE_OK && at < count; at++)
-    cukvashe_retail_mac_des_update(&mac, (const uint8_t *)pieces[at], strlen(pieces[at]));
+    status = cukvashe_retail_mac_des_update(&mac, (const uint8_t *)pieces[at], strlen(pieces[at]));
   /* The 8 is the length that both sides agreed on, not the one that was sent: the first 4 to 7 bytes of a tag are taken too.
      Never compare tags by memcmp. */
   bool is_right = status == CUKVASHE_OK && cukvashe_retail_mac_des_is_tag(&mac, tag, 8);

@@ -37,9 +37,6 @@ static bool takes_wide(size_t count) { return count > MOST_NARROW && processor_i
 /* Blocks of `length` bytes. */
 #define BLOCKS (length / CUKVASHE_BLOCK_SIZE)
 
-/* A call with a list of blocks beside another list. The exports compare the numbers of elements. */
-#define OF_BLOCKS(CALL) (length % CUKVASHE_BLOCK_SIZE != 0 ? CUKVASHE_ERR_BLOCKS : CALL)
-
 /* Whether `length` bytes are `count` elements of a size. It divides, since a product could overflow. */
 static bool are_elements(size_t count, size_t size, size_t length) {
   return length % size == 0 && length / size == count;
@@ -49,7 +46,8 @@ static bool are_elements(size_t count, size_t size, size_t length) {
 #define OF_COUNTS(AGREE, CALL) ((AGREE) ? (CALL) : CUKVASHE_ERR_COUNTS)
 
 /* Lists under a key for each block. */
-#define OF_KEYS_AND_BLOCKS(CALL) OF_BLOCKS(OF_COUNTS(count == BLOCKS, CALL))
+#define OF_KEYS_AND_BLOCKS(CALL)                                                                                      \
+  (length % CUKVASHE_BLOCK_SIZE != 0 ? CUKVASHE_ERR_BLOCKS : OF_COUNTS(count == BLOCKS, CALL))
 
 /* Lists of messages under one key. The exports take keys of the MAC's size alone. */
 #define OF_KEY(SIZE, CALL) (key_length != (SIZE) ? CUKVASHE_ERR_KEY_LENGTH : (CALL))
@@ -90,13 +88,13 @@ static bool are_elements(size_t count, size_t size, size_t length) {
   }                                                                                                                   \
   int cukvashe_##NAME##_encrypt_cbc_records(const cukvashe_##NAME *context, uint8_t *vectors, const size_t *counts,   \
                                             size_t records_count, uint8_t *bytes, size_t length) {                    \
-    return OF_BLOCKS(CHOOSE(records_count, encrypt_cbc_records, context->words, WORDS, vectors, records_count,        \
-                            counts, records_count, bytes, BLOCKS));                                                   \
+    return CHOOSE(records_count, encrypt_cbc_records, context->words, WORDS, vectors, records_count, counts,          \
+                  records_count, bytes, BLOCKS, length);                                                              \
   }                                                                                                                   \
   int cukvashe_##NAME##_decrypt_cbc_records(const cukvashe_##NAME *context, uint8_t *vectors, const size_t *counts,   \
                                             size_t records_count, uint8_t *bytes, size_t length) {                    \
-    return OF_BLOCKS(CHOOSE(BLOCKS, decrypt_cbc_records, context->words, WORDS, vectors, records_count, counts,       \
-                            records_count, bytes, BLOCKS));                                                           \
+    return CHOOSE(BLOCKS, decrypt_cbc_records, context->words, WORDS, vectors, records_count, counts, records_count,  \
+                  bytes, BLOCKS, length);                                                                             \
   }
 
 DEFINE_CIPHER(des, 17)
@@ -134,11 +132,11 @@ DEFINE_CIPHER_OF_KEYS(tdes_ede3, 49, 24, 496, 1168, 10784, 17360, 13056, 19424, 
 
 /* MACs of a message in pieces. */
 #define DEFINE_MAC(NAME, ALGORITHM, WORDS)                                                                            \
-  void cukvashe_##NAME##_update(cukvashe_##NAME *context, const uint8_t *message, size_t length) {                    \
-    cukvashe_internal_mac_update(ALGORITHM, context->words, WORDS, context->words + WORDS, message, length);          \
+  int cukvashe_##NAME##_update(cukvashe_##NAME *context, const uint8_t *message, size_t length) {                     \
+    return cukvashe_internal_mac_update(ALGORITHM, context->words, WORDS, context->words + WORDS, message, length);   \
   }                                                                                                                   \
-  void cukvashe_##NAME##_final(const cukvashe_##NAME *context, uint8_t tag[8]) {                                      \
-    cukvashe_internal_mac_final(ALGORITHM, context->words, WORDS, context->words + WORDS, tag);                       \
+  int cukvashe_##NAME##_final(const cukvashe_##NAME *context, uint8_t tag[8]) {                                       \
+    return cukvashe_internal_mac_final(ALGORITHM, context->words, WORDS, context->words + WORDS, tag);                \
   }                                                                                                                   \
   int cukvashe_##NAME##_verify(const cukvashe_##NAME *context, const uint8_t *tag, size_t tag_length) {               \
     return cukvashe_internal_mac_verify(ALGORITHM, context->words, WORDS, context->words + WORDS, tag, tag_length);   \

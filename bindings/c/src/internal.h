@@ -41,10 +41,10 @@ enum algorithm { ALGORITHM_CBC_MAC = 1, ALGORITHM_RETAIL_MAC = 3, ALGORITHM_CMAC
 /* The context of a MAC is that of its cipher, of the retail MAC those of both keys, and then a message: how far it has come. */
 int cukvashe_internal_mac_init(uint32_t algorithm, uint64_t *context, size_t words, uint64_t message[4],
                                const uint8_t *key, size_t key_length, uint32_t padding, bool quiet);
-void cukvashe_internal_mac_update(uint32_t algorithm, const uint64_t *context, size_t words, uint64_t message[4],
-                                  const uint8_t *bytes, size_t length);
-void cukvashe_internal_mac_final(uint32_t algorithm, const uint64_t *context, size_t words, const uint64_t message[4],
-                                 uint8_t tag[8]);
+int cukvashe_internal_mac_update(uint32_t algorithm, const uint64_t *context, size_t words, uint64_t message[4],
+                                 const uint8_t *bytes, size_t length);
+int cukvashe_internal_mac_final(uint32_t algorithm, const uint64_t *context, size_t words, const uint64_t message[4],
+                                uint8_t tag[8]);
 int cukvashe_internal_mac_verify(uint32_t algorithm, const uint64_t *context, size_t words, const uint64_t message[4],
                                  const uint8_t *tag, size_t tag_length);
 
@@ -63,10 +63,10 @@ int cukvashe_internal_decrypt_cbc_to(const uint64_t *context, size_t words, uint
                                      size_t input_count, uint8_t *output, size_t output_count, size_t length);
 int cukvashe_internal_encrypt_cbc_records(const uint64_t *context, size_t words, uint8_t *vectors, size_t vectors_count,
                                           const size_t *sizes, size_t sizes_count, uint8_t *blocks,
-                                          size_t blocks_count);
+                                          size_t blocks_count, size_t length);
 int cukvashe_internal_decrypt_cbc_records(const uint64_t *context, size_t words, uint8_t *vectors, size_t vectors_count,
                                           const size_t *sizes, size_t sizes_count, uint8_t *blocks,
-                                          size_t blocks_count);
+                                          size_t blocks_count, size_t length);
 int cukvashe_internal_encrypt_each(size_t key_size, const uint8_t *keys, size_t keys_length, uint8_t *blocks,
                                    size_t blocks_count);
 int cukvashe_internal_decrypt_each(size_t key_size, const uint8_t *keys, size_t keys_length, uint8_t *blocks,

@@ -43,3 +43,4 @@
 [CUKVASHE_ERR_ITERATIONS] = "the number of iterations is not 1 to 2^32 - 1",
 [CUKVASHE_ERR_NOT_SALTED] = "the bytes do not begin with Salted__",
 [CUKVASHE_ERR_SALT_LENGTH] = "the bytes end within the salt, or it does not have 0 or 8 bytes",
+[CUKVASHE_ERR_CONTEXT] = "the context is not one that the init of this type made",

@@ -85,9 +85,10 @@ static int made(const char *name, const uintptr_t *arguments, size_t size) {
   }
 #define RECORDS(WIDTH, CALL)                                                                                          \
   int cukvashe_##WIDTH##_##CALL(const uint64_t *context, size_t words, uint8_t *vectors, size_t vectors_count,        \
-                                const size_t *sizes, size_t sizes_count, uint8_t *blocks, size_t blocks_count) {      \
+                                const size_t *sizes, size_t sizes_count, uint8_t *blocks, size_t blocks_count,        \
+                                size_t length) {                                                                      \
     return made(#WIDTH " " #CALL, ARGUMENTS(A(context), words, A(vectors), vectors_count, A(sizes), sizes_count,      \
-                                            A(blocks), blocks_count));                                                \
+                                            A(blocks), blocks_count, length));                                        \
   }
 #define OF_EACH(WIDTH, CALL)                                                                                          \
   int cukvashe_##WIDTH##_##CALL(size_t key_size, const uint8_t *keys, size_t keys_length, uint8_t *made_of,           \
@@ -152,14 +153,14 @@ int cukvashe_internal_mac_init(uint32_t algorithm, uint64_t *context, size_t wor
               ARGUMENTS(algorithm, A(context), words, A(message), A(key), key_length, padding, quiet));
 }
 
-void cukvashe_internal_mac_update(uint32_t algorithm, const uint64_t *context, size_t words, uint64_t message[4],
-                                  const uint8_t *bytes, size_t length) {
-  made("internal mac_update", ARGUMENTS(algorithm, A(context), words, A(message), A(bytes), length));
+int cukvashe_internal_mac_update(uint32_t algorithm, const uint64_t *context, size_t words, uint64_t message[4],
+                                 const uint8_t *bytes, size_t length) {
+  return made("internal mac_update", ARGUMENTS(algorithm, A(context), words, A(message), A(bytes), length));
 }
 
-void cukvashe_internal_mac_final(uint32_t algorithm, const uint64_t *context, size_t words, const uint64_t message[4],
-                                 uint8_t tag[8]) {
-  made("internal mac_final", ARGUMENTS(algorithm, A(context), words, A(message), A(tag)));
+int cukvashe_internal_mac_final(uint32_t algorithm, const uint64_t *context, size_t words, const uint64_t message[4],
+                                uint8_t tag[8]) {
+  return made("internal mac_final", ARGUMENTS(algorithm, A(context), words, A(message), A(tag)));
 }
 
 int cukvashe_internal_mac_verify(uint32_t algorithm, const uint64_t *context, size_t words, const uint64_t message[4],
@@ -245,10 +246,11 @@ static size_t number;
   static void NAME##_of_records(size_t count, size_t length) {                                                        \
     const uintptr_t context = A(NAME.words);                                                                          \
     CHECK(cukvashe_##NAME##_encrypt_cbc_records(&NAME, iv, sizes, count, output, length) == STATUS);                  \
-    WAS(width_of(count), "encrypt_cbc_records", context, WORDS, A(iv), count, A(sizes), count, A(output), length / 8);\
+    WAS(width_of(count), "encrypt_cbc_records", context, WORDS, A(iv), count, A(sizes), count, A(output), length / 8, \
+        length);                                                                                                      \
     CHECK(cukvashe_##NAME##_decrypt_cbc_records(&NAME, iv, sizes, count, output, length) == STATUS);                  \
     WAS(width_of(length / 8), "decrypt_cbc_records", context, WORDS, A(iv), count, A(sizes), count, A(output),        \
-        length / 8);                                                                                                  \
+        length / 8, length);                                                                                          \
   }                                                                                                                   \
   static void NAME##_of_each(size_t count) {                                                                          \
     const char *width = width_of(count);                                                                              \
@@ -261,11 +263,6 @@ static size_t number;
     CHECK(cukvashe_##NAME##_encrypt_each(input, count, output, length) == status && calls == 0);                      \
     CHECK(cukvashe_##NAME##_decrypt_each(input, count, output, length) == status && calls == 0);                      \
     wipes = 0;                                                                                                        \
-  }                                                                                                                   \
-  static void NAME##_refuses_records(size_t count, size_t length) {                                                   \
-    const int status = CUKVASHE_ERR_BLOCKS;                                                                           \
-    CHECK(cukvashe_##NAME##_encrypt_cbc_records(&NAME, iv, sizes, count, output, length) == status && calls == 0);    \
-    CHECK(cukvashe_##NAME##_decrypt_cbc_records(&NAME, iv, sizes, count, output, length) == status && calls == 0);    \
   }                                                                                                                   \
   static void NAME##_of_count(size_t count) {                                                                         \
     CHECK(cukvashe_##NAME##_check_values(input, KEY_SIZE * count, output, 3 * count, count) == STATUS);               \
@@ -307,9 +304,9 @@ CIPHER(tdes_ede3, 49, 24)
     WAS_WIPED("internal", "mac_init", ALGORITHM, context, WORDS, message, A(base), 5, METHOD, false);                 \
     CHECK(cukvashe_##NAME##_init_quiet(&NAME, base, 5 __VA_ARGS__) == STATUS);                                        \
     WAS_WIPED("internal", "mac_init", ALGORITHM, context, WORDS, message, A(base), 5, METHOD, true);                  \
-    cukvashe_##NAME##_update(&NAME, input, 6);                                                                        \
+    CHECK(cukvashe_##NAME##_update(&NAME, input, 6) == STATUS);                                                       \
     WAS("internal", "mac_update", ALGORITHM, context, WORDS, message, A(input), 6);                                   \
-    cukvashe_##NAME##_final(&NAME, output);                                                                           \
+    CHECK(cukvashe_##NAME##_final(&NAME, output) == STATUS);                                                          \
     WAS("internal", "mac_final", ALGORITHM, context, WORDS, message, A(output));                                      \
     CHECK(cukvashe_##NAME##_verify(&NAME, input, 6) == STATUS);                                                       \
     WAS("internal", "mac_verify", ALGORITHM, context, WORDS, message, A(input), 6);                                   \
@@ -416,18 +413,12 @@ static void refuses_counts(void) {
   refuses_count(SIZE_MAX, 0);
 }
 
-/* Lists of blocks: a length that is not whole blocks goes no further. Nor does a count of keys that is not that of the blocks, since it
-   is multiplied, also where eight times as much is the length in 64 bits; one of records goes on as it is. */
+/* Lists of blocks. Under keys of their own a length that is not whole blocks goes no further, nor does a count that is not that of the
+   blocks, since it is multiplied, also where eight times as much is the length in 64 bits; of records both go on as they are. */
 static void hands_on_blocks(size_t count, size_t length) {
-  if (length % 8 != 0) {
-    des_refuses_records(count, length);
-    tdes_ede2_refuses_records(count, length);
-    tdes_ede3_refuses_records(count, length);
-  } else {
-    des_of_records(count, length);
-    tdes_ede2_of_records(count, length);
-    tdes_ede3_of_records(count, length);
-  }
+  des_of_records(count, length);
+  tdes_ede2_of_records(count, length);
+  tdes_ede3_of_records(count, length);
   if (length % 8 == 0 && count == length / 8) {
     des_of_each(count);
     tdes_ede2_of_each(count);

@@ -277,8 +277,8 @@ static void put_tags(const struct mac *mac, int each, int method, const cukvashe
   union mac_context context;
   for (size_t i = 0; i < count; i++) {
     CHECK(mac->init(&context, keys + (each ? mac->key_size * i : 0), mac->key_size, method) == CUKVASHE_OK);
-    mac->update(&context, messages[i].bytes, messages[i].length);
-    mac->final(&context, tags + 8 * i);
+    CHECK(mac->update(&context, messages[i].bytes, messages[i].length) == CUKVASHE_OK);
+    CHECK(mac->final(&context, tags + 8 * i) == CUKVASHE_OK);
   }
 }
 
@@ -357,7 +357,7 @@ static void answers_by_width(int width, int n, size_t count) {
 static int recorded(int width, int n, int way, size_t count, size_t blocks) {
   const uint64_t *context = chaining.tdes_ede3.words; /* the longest, which begins where the others do */
   memcpy(left, vectors, sizeof left);
-  return records_by[width][way](context, ciphers[n].context_size / 8, left, count, sizes, count, room + MORE, blocks);
+  return records_by[width][way](context, ciphers[n].context_size / 8, left, count, sizes, count, room + MORE, blocks, 8 * blocks);
 }
 
 static void records_by_width(int width, int n, size_t count) {

@@ -21,8 +21,8 @@ struct mac {
   size_t key_size, context_size;
   int is_padded; /* whether `init` takes a padding method */
   mac_init *init, *init_quiet;
-  void (*update)(union mac_context *, const uint8_t *message, size_t length);
-  void (*final)(const union mac_context *, uint8_t *tag);
+  int (*update)(union mac_context *, const uint8_t *message, size_t length);
+  int (*final)(const union mac_context *, uint8_t *tag);
   int (*verify)(const union mac_context *, const uint8_t *tag, size_t length);
   bool (*is_tag)(const union mac_context *, const uint8_t *tag, size_t length);
 };
@@ -37,13 +37,13 @@ struct mac {
     return cukvashe_##name##_##call(&c->name, key, length);                                        \
   }
 #define DEFINE_MAC(name)                                                                           \
-  static void name##_update(union mac_context *c, const uint8_t *message, size_t length) {                 \
-    cukvashe_##name##_update(&c->name, message, length);                                           \
+  static int name##_update(union mac_context *c, const uint8_t *message, size_t length) {          \
+    return cukvashe_##name##_update(&c->name, message, length);                                    \
   }                                                                                                \
-  static void name##_final(const union mac_context *c, uint8_t *tag) {                                     \
-    cukvashe_##name##_final(&c->name, tag);                                                        \
+  static int name##_final(const union mac_context *c, uint8_t *tag) {                              \
+    return cukvashe_##name##_final(&c->name, tag);                                                 \
   }                                                                                                \
-  static int name##_verify(const union mac_context *c, const uint8_t *tag, size_t length) {                \
+  static int name##_verify(const union mac_context *c, const uint8_t *tag, size_t length) {        \
     return cukvashe_##name##_verify(&c->name, tag, length);                                        \
   }                                                                                                \
   static bool name##_is_tag(const union mac_context *c, const uint8_t *tag, size_t length) {               \
@@ -93,10 +93,10 @@ static inline void is_mac(const struct mac *mac, mac_init *init, const uint8_t *
   CHECK(init(&context, key, mac->key_size, method) == CUKVASHE_OK);
   for (size_t start = 0, end; start < length; start = end) {
     end = start + 1 + random_word() % (length - start);
-    mac->update(&context, message + start, end - start);
-    mac->final(&context, tag);
+    CHECK(mac->update(&context, message + start, end - start) == CUKVASHE_OK);
+    CHECK(mac->final(&context, tag) == CUKVASHE_OK);
   }
-  mac->final(&context, tag);
+  CHECK(mac->final(&context, tag) == CUKVASHE_OK);
   CHECK(memcmp(tag, wanted, 8) == 0);
   CHECK(mac->verify(&context, wanted, 8) == CUKVASHE_OK && mac->is_tag(&context, wanted, 8));
 }

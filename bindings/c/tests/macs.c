@@ -27,17 +27,17 @@ static void answers(const struct mac *mac, const uint64_t *key_words, int method
   put_word(wanted, word);
   for (size_t cut = 0; cut <= length; cut++) {
     CHECK(mac->init(&context, key, mac->key_size, method) == CUKVASHE_OK);
-    mac->update(&context, bytes, cut);
+    CHECK(mac->update(&context, bytes, cut) == CUKVASHE_OK);
     memcpy(&copy, &context, mac->context_size);
-    mac->final(&context, tag);
-    mac->update(&context, bytes + cut, length - cut);
+    CHECK(mac->final(&context, tag) == CUKVASHE_OK);
+    CHECK(mac->update(&context, bytes + cut, length - cut) == CUKVASHE_OK);
     memset(tag, 0, sizeof tag);
-    mac->final(&context, tag);
+    CHECK(mac->final(&context, tag) == CUKVASHE_OK);
     CHECK(memcmp(tag, wanted, 8) == 0);
     verifies(mac, &context, wanted);
-    for (size_t i = cut; i < length; i++) mac->update(&copy, bytes + i, 1);
-    mac->update(&copy, NULL, 0);
-    mac->final(&copy, tag);
+    for (size_t i = cut; i < length; i++) CHECK(mac->update(&copy, bytes + i, 1) == CUKVASHE_OK);
+    CHECK(mac->update(&copy, NULL, 0) == CUKVASHE_OK);
+    CHECK(mac->final(&copy, tag) == CUKVASHE_OK);
     CHECK(memcmp(tag, wanted, 8) == 0);
   }
 }

@@ -1,12 +1,12 @@
-/* What is refused, and that nothing is changed then: every wrong length from 0 to 33, other padding methods, tags; every status once,
-   and its sentence; the header's numbers; null pointers where a length is 0. */
+/* What is refused, and that nothing is changed then: every wrong length from 0 to 33, other padding methods, tags, contexts that no
+   init of their type made; every status once, and its sentence; the header's numbers; null pointers where a length is 0. */
 #include "mac_calls.h"
 #include <limits.h>
 
 enum { MOST = 33, PAINT = 0x77 };
 
 /* The statuses that a call returned. */
-enum { LAST = CUKVASHE_ERR_SALT_LENGTH };
+enum { LAST = CUKVASHE_ERR_CONTEXT };
 
 static int was_returned[LAST + 1];
 
@@ -42,10 +42,9 @@ static void refuses_keys(const struct cipher *cipher) {
 
 enum { BYTES = 8 * 600 + 8 };
 
-/* One length by each call of a way: with part of a block nothing is changed, and else all of it and nothing after it. */
-static void takes_length(const struct way *way, const union context *context, size_t length) {
+/* One length by each call of a way: at an error nothing is changed, and else all of it and nothing after it. */
+static void takes_length(const struct way *way, const union context *context, size_t length, int wanted) {
   static uint8_t old[BYTES], data[BYTES];
-  const int wanted = length % 8 == 0 ? CUKVASHE_OK : CUKVASHE_ERR_BLOCKS;
   const size_t changed = wanted == CUKVASHE_OK ? length : 0;
   in_place *const in[] = {way->encrypt_ecb, way->decrypt_ecb};
   to_other *const to[] = {way->encrypt_ecb_to, way->decrypt_ecb_to};
@@ -83,16 +82,16 @@ static void takes_null(const struct way *way, const union context *context) {
 }
 
 static void takes_lengths(const struct cipher *cipher) {
-  static const size_t blocks[] = {18, 19, 31, 32, 127, 128, 129, 255, 256, 300, 600};
+  static const size_t blocks[] = {0, 1, 2, 3, 4, 18, 19, 31, 32, 127, 128, 129, 255, 256, 300, 600};
   uint8_t key[24];
   union context context;
   random_bytes(key, sizeof key);
   CHECK(cipher->init(&context, key, cipher->key_size) == CUKVASHE_OK);
   for (int n = 0; n < count_of_ways(); n++) {
     const struct way *way = &cipher->ways[n];
-    for (size_t length = 0; length <= MOST; length++) takes_length(way, &context, length);
     for (size_t i = 0; i < sizeof blocks / sizeof *blocks; i++)
-      for (size_t more = 0; more < 8; more++) takes_length(way, &context, 8 * blocks[i] + more);
+      for (size_t more = 0; more < 8; more++)
+        takes_length(way, &context, 8 * blocks[i] + more, more == 0 ? CUKVASHE_OK : CUKVASHE_ERR_BLOCKS);
     takes_null(way, &context);
   }
 }
@@ -115,9 +114,9 @@ static void refuses_macs(const struct mac *mac) {
   CHECK(is_painted(&context, sizeof context));
   CHECK(mac->init(&context, key, mac->key_size, CUKVASHE_MAC_PADDING_1) == CUKVASHE_OK);
   CHECK(is_painted((uint8_t *)&context + mac->context_size, sizeof context - mac->context_size));
-  mac->update(&context, NULL, 0);
+  CHECK(mac->update(&context, NULL, 0) == CUKVASHE_OK);
   memset(tag, 0, sizeof tag);
-  mac->final(&context, tag);
+  CHECK(mac->final(&context, tag) == CUKVASHE_OK);
   for (size_t length = 0; length <= MOST; length++) {
     int status = seen(mac->verify(&context, tag, length));
     CHECK(status == (4 <= length && length <= 8 ? CUKVASHE_OK : CUKVASHE_ERR_TAG));
@@ -217,6 +216,126 @@ static void refuses_keys_of_messages(void) {
     CHECK(cukvashe_cmac_tdes_ede2_macs(given, length, messages, made, 8, 2) == wanted);
   }
   CHECK(cukvashe_retail_mac_des_macs(given, 16, 3, messages, made, 16, 2) == CUKVASHE_ERR_PADDING_METHOD);
+}
+
+/* ---- Contexts that no init of their type made ---- */
+
+typedef int records(const union context *, uint8_t *vectors, const size_t *counts, size_t count, uint8_t *bytes, size_t length);
+
+#define RECORDS(name)                                                                                                 \
+  static int name##_encrypt_records(const union context *context, uint8_t *vectors, const size_t *counts,             \
+                                    size_t count, uint8_t *bytes, size_t length) {                                    \
+    return cukvashe_##name##_encrypt_cbc_records(&context->name, vectors, counts, count, bytes, length);              \
+  }                                                                                                                   \
+  static int name##_decrypt_records(const union context *context, uint8_t *vectors, const size_t *counts,             \
+                                    size_t count, uint8_t *bytes, size_t length) {                                    \
+    return cukvashe_##name##_decrypt_cbc_records(&context->name, vectors, counts, count, bytes, length);              \
+  }
+
+RECORDS(des)
+RECORDS(tdes_ede2)
+RECORDS(tdes_ede3)
+
+static records *const of_records[CIPHERS][2] = {{des_encrypt_records, des_decrypt_records},
+                                                {tdes_ede2_encrypt_records, tdes_ede2_decrypt_records},
+                                                {tdes_ede3_encrypt_records, tdes_ede3_decrypt_records}};
+
+/* Room for a context of any type: the ciphers, and then the MACs. */
+union memory {
+  union context cipher;
+  union mac_context mac;
+  uint64_t words[sizeof(union mac_context) / 8];
+};
+
+enum { TYPES = CIPHERS + MACS };
+
+/* The place of the mark: the last word of the cipher's, of the retail MAC's first. */
+static size_t place_of(int type) {
+  const int mac = type - CIPHERS;
+  if (mac < 0) return ciphers[type].context_size / 8 - 1;
+  return mac == RETAIL_MAC ? 16 : macs[mac].context_size / 8 - 5;
+}
+
+/* A context of a type under a key, and zeros after it. */
+static void make(union memory *memory, int type, int is_quiet) {
+  uint8_t key[24];
+  random_bytes(key, sizeof key);
+  memset(memory, 0, sizeof *memory);
+  if (type < CIPHERS) {
+    const struct cipher *cipher = &ciphers[type];
+    CHECK((is_quiet ? cipher->init_quiet : cipher->init)(&memory->cipher, key, cipher->key_size) == CUKVASHE_OK);
+  } else {
+    const struct mac *mac = &macs[type - CIPHERS];
+    CHECK((is_quiet ? mac->init_quiet : mac->init)(&memory->mac, key, mac->key_size, CUKVASHE_MAC_PADDING_1) == CUKVASHE_OK);
+  }
+}
+
+/* Each call of a cipher refuses it, also where another argument is wrong, and changes nothing. */
+static void refuses_by_cipher(int n, const union memory *memory) {
+  static const size_t lengths[] = {0, 8, 15, 8 * 40, 8 * 300}, counts[] = {1, 0, 1};
+  uint8_t vectors[8 * 3], bytes[8 * 3];
+  for (int way = 0; way < count_of_ways(); way++)
+    for (size_t i = 0; i < sizeof lengths / sizeof *lengths; i++)
+      takes_length(&ciphers[n].ways[way], &memory->cipher, lengths[i], CUKVASHE_ERR_CONTEXT);
+  memset(vectors, PAINT, sizeof vectors);
+  memset(bytes, PAINT, sizeof bytes);
+  for (int call = 0; call < 2; call++)
+    for (size_t count = 0; count <= 3; count++)
+      for (size_t length = 0; length <= sizeof bytes; length++) {
+        CHECK(seen(of_records[n][call](&memory->cipher, vectors, counts, count, bytes, length)) == CUKVASHE_ERR_CONTEXT);
+        CHECK(is_painted(vectors, sizeof vectors) && is_painted(bytes, sizeof bytes));
+      }
+}
+
+/* Each call of a MAC. */
+static void refuses_by_mac(const struct mac *mac, const union memory *memory) {
+  static const uint8_t message[17] = {0};
+  union memory copy = *memory;
+  uint8_t tag[9];
+  memset(tag, PAINT, sizeof tag);
+  for (size_t length = 0; length <= sizeof message; length++) {
+    CHECK(seen(mac->update(&copy.mac, message, length)) == CUKVASHE_ERR_CONTEXT);
+    CHECK(memcmp(&copy, memory, sizeof copy) == 0);
+  }
+  CHECK(seen(mac->final(&copy.mac, tag)) == CUKVASHE_ERR_CONTEXT && is_painted(tag, sizeof tag));
+  for (size_t length = 0; length <= sizeof tag; length++)
+    CHECK(seen(mac->verify(&copy.mac, tag, length)) == CUKVASHE_ERR_CONTEXT && !mac->is_tag(&copy.mac, tag, length));
+  CHECK(memcmp(&copy, memory, sizeof copy) == 0);
+}
+
+static void refuses(int type, const union memory *memory) {
+  if (type < CIPHERS) refuses_by_cipher(type, memory);
+  else refuses_by_mac(&macs[type - CIPHERS], memory);
+}
+
+/* What no init wrote; a context of each other type; one of this type with the mark of another, or with a mark that is none. */
+static void refuses_contexts(int type) {
+  union memory memory, other, quiet;
+  const size_t place = place_of(type);
+  static const int paints[] = {0, 1, PAINT, 0xff};
+  for (size_t i = 0; i < sizeof paints / sizeof *paints; i++) {
+    memset(&memory, paints[i], sizeof memory);
+    refuses(type, &memory);
+  }
+  random_bytes((uint8_t *)&memory, sizeof memory);
+  refuses(type, &memory);
+  for (int is_quiet = 0; is_quiet < 2; is_quiet++) {
+    for (int stranger = 0; stranger < TYPES; stranger++) {
+      if (stranger == type) continue;
+      make(&other, stranger, is_quiet);
+      refuses(type, &other);
+      make(&memory, type, is_quiet);
+      memory.words[place] = other.words[place_of(stranger)];
+      refuses(type, &memory);
+    }
+    make(&memory, type, is_quiet);
+    make(&quiet, type, !is_quiet);
+    for (int bit = 0; bit < 64; bit++) {
+      memory.words[place] ^= (uint64_t)1 << bit;
+      if (memory.words[place] != quiet.words[place]) refuses(type, &memory);
+      memory.words[place] ^= (uint64_t)1 << bit;
+    }
+  }
 }
 
 /* The statuses of the calls that have no context. What they are for is tested with the calls. */
@@ -323,7 +442,7 @@ static const char *const words[] = {
     "protection key does not have", "key block is not as long as its header says", "version of the key block", "header does not end with",
     "optional blocks can't be read", "encrypted key data do not have", "0 to 9 or A to F", "MAC is not that of the key block",
     "padding of the key", "no optional block at this place", "hash function is not one", "number of iterations", "do not begin with Salted__",
-    "end within the salt, or it does not have 0 or 8 bytes",
+    "end within the salt, or it does not have 0 or 8 bytes", "context is not one",
 };
 
 /* Every status was returned by some call, and has a sentence of its own; other numbers have one sentence. */
@@ -416,6 +535,7 @@ int main(void) {
   for (int n = 0; n < MACS; n++) refuses_macs(&macs[n]);
   refuses_lists();
   refuses_keys_of_messages();
+  for (int type = 0; type < TYPES; type++) refuses_contexts(type);
   returns_statuses();
   returns_statuses_of_pins_and_cards();
   returns_statuses_of_key_blocks();
@@ -424,6 +544,6 @@ int main(void) {
   has_numbers();
   has_words();
   wipes();
-  printf("refusals: every length from 0 to %d, every status and its sentence, every number of the header\n", MOST);
+  printf("refusals: every length from 0 to %d, contexts of all types, every status and its sentence, every number of the header\n", MOST);
   return 0;
 }

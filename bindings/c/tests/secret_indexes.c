@@ -58,8 +58,8 @@ static void verifies(const struct mac *mac) {
   (void)VALGRIND_MAKE_MEM_DEFINED(key, sizeof key);
   (void)VALGRIND_MAKE_MEM_DEFINED(iv, sizeof iv);
   CHECK(mac->init(&context, key, mac->key_size, CUKVASHE_MAC_PADDING_2) == CUKVASHE_OK);
-  mac->update(&context, iv, sizeof iv);
-  mac->final(&context, tag);
+  CHECK(mac->update(&context, iv, sizeof iv) == CUKVASHE_OK);
+  CHECK(mac->final(&context, tag) == CUKVASHE_OK);
   (void)VALGRIND_MAKE_MEM_UNDEFINED(tag, sizeof tag);
   CHECK(is_status(mac->verify(&context, tag, sizeof tag), CUKVASHE_OK));
   CHECK(is_status(mac->verify(&context, tag, 4), CUKVASHE_OK));
@@ -101,8 +101,8 @@ static void quiet_message(const struct mac *mac, int method) {
   hide(data, sizeof data);
   CHECK(mac->init_quiet(&context, key, mac->key_size, method) == CUKVASHE_OK);
   for (size_t length = 0; length < 20; length++) {
-    mac->update(&context, data, length);
-    mac->final(&context, tag);
+    CHECK(mac->update(&context, data, length) == CUKVASHE_OK);
+    CHECK(mac->final(&context, tag) == CUKVASHE_OK);
     CHECK(is_status(mac->verify(&context, tag, sizeof tag), CUKVASHE_OK));
   }
 }
@@ -540,7 +540,7 @@ static void message_of_two(void) {
   union mac_context context;
   hide(key, sizeof key);
   CHECK(macs[RETAIL_MAC].init(&context, key, 16, CUKVASHE_MAC_PADDING_2) == CUKVASHE_OK);
-  macs[RETAIL_MAC].update(&context, data, 16);
+  CHECK(macs[RETAIL_MAC].update(&context, data, 16) == CUKVASHE_OK);
 }
 
 /* What is read has to be kept: valgrind leaves out a read that nothing uses. */

@@ -63,8 +63,8 @@ static void of_mac(const struct work *work) {
   switch (work->call) {
     case 0: returned = calls->init(&mac, key, calls->key_size, CUKVASHE_MAC_PADDING_2); break;
     case 1: returned = calls->init_quiet(&mac, key, calls->key_size, CUKVASHE_MAC_PADDING_2); break;
-    case 2: calls->update(&mac, blocks, 8 * work->count); break;
-    case 3: calls->final(&mac, iv); break;
+    case 2: returned = calls->update(&mac, blocks, 8 * work->count); break;
+    case 3: returned = calls->final(&mac, iv); break;
     case 4: returned = calls->verify(&mac, iv, 8); break;
     default: returned = calls->is_tag(&mac, iv, 8); break;
   }

@@ -251,9 +251,10 @@ WRAP_ECB(tdes_ede3_decrypt_ecb, DECRYPT)
 WRAP_MAC_INIT(retail_mac_des_init, MAC_INIT)
 WRAP_MAC_INIT(retail_mac_des_init_quiet, MAC_INIT_QUIET)
 
-WRAP(void, retail_mac_des_final, const cukvashe_retail_mac_des *context, uint8_t tag[8]) {
-  __real_cukvashe_retail_mac_des_final(context, tag);
+WRAP(int, retail_mac_des_final, const cukvashe_retail_mac_des *context, uint8_t tag[8]) {
+  const int status = __real_cukvashe_retail_mac_des_final(context, tag);
   spoil(MAC_FINAL, tag, CUKVASHE_TAG_SIZE);
+  return status_of(MAC_FINAL, status);
 }
 
 /* What was wiped last, by the library's call for it, as far as a tag is long. */
@@ -291,7 +292,7 @@ static void tests_itself(void) {
     small_stack = is_small ? "yes" : NULL;
     CHECK(is_seen(INIT, STATUS) == !is_quiet && is_seen(INIT_QUIET, STATUS) == is_quiet);
     CHECK(is_seen(MAC_INIT, STATUS) == !is_quiet && is_seen(MAC_INIT_QUIET, STATUS) == is_quiet);
-    CHECK(is_seen(ENCRYPT, STATUS) && is_seen(DECRYPT, STATUS));
+    CHECK(is_seen(ENCRYPT, STATUS) && is_seen(DECRYPT, STATUS) && is_seen(MAC_FINAL, STATUS));
     for (int place = 0; place < BLOCK; place++) CHECK(is_seen(ENCRYPT, place) && is_seen(MAC_FINAL, place));
     for (int place = 0; place < NARROW; place++) CHECK(is_seen(DECRYPT, place));
     for (int place = NARROW; place < NARROW + BLOCK; place++) CHECK(is_seen(DECRYPT, place) == !is_small);

@@ -6,7 +6,7 @@ import threading
 from typing import Any, ClassVar, Dict, Type, TypeVar
 
 from ._data import BLOCK_SIZE, KINDS, Keyed, Kind, bytes_of, kind_of, room
-from ._faults import fault_of
+from ._faults import check, fault_of
 from ._library import INT, POINTER, SIZE
 from ._statuses import OK, TAG
 from ._types import ReadableBuffer
@@ -40,14 +40,14 @@ class Mac(Keyed):
         given = bytes_of(data)
         with self._lock:
             context = self._open()
-            context.kind.calls["update"](context, given, len(given))
+            check(context.kind.calls["update"](context, given, len(given)))
 
     def digest(self) -> bytes:
         """The tag of the message so far, 8 bytes; the message may go on. To check a tag call verify, not ==."""
         tag = room(TAG_SIZE)
         with self._lock:
             context = self._open()
-            context.kind.calls["final"](context, tag)
+            check(context.kind.calls["final"](context, tag))
         return bytes(tag)
 
     def hexdigest(self) -> str:
@@ -169,6 +169,6 @@ _WORDS: Dict[Type[Mac], int] = {
 for _mac, _words in _WORDS.items():
     _paddings = (INT,) if issubclass(_mac, PaddedMac) else ()
     _kind = KINDS[_mac] = Kind(_mac.name, _mac.key_size, _words, *_paddings)
-    _kind.declare("update", None, POINTER, POINTER, SIZE)
-    _kind.declare("final", None, POINTER, POINTER)
+    _kind.declare("update", INT, POINTER, POINTER, SIZE)
+    _kind.declare("final", INT, POINTER, POINTER)
     _kind.declare("verify", INT, POINTER, POINTER, SIZE)

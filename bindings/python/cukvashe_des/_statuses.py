@@ -44,6 +44,7 @@ HASH = 40
 ITERATIONS = 41
 NOT_SALTED = 42
 SALT_LENGTH = 43
+CONTEXT = 44
 
 SENTENCES = (
     "success",
@@ -90,4 +91,5 @@ SENTENCES = (
     "the number of iterations is not 1 to 2^32 - 1",
     "the bytes do not begin with Salted__",
     "the bytes end within the salt, or it does not have 0 or 8 bytes",
+    "the context is not one that the init of this type made",
 )

@@ -384,8 +384,8 @@ extern "C" {
         key_length: usize,
         method: c_int,
     ) -> c_int;
-    pub fn cukvashe_cbc_mac_des_update(context: *mut CbcMacDes, message: *const u8, length: usize);
-    pub fn cukvashe_cbc_mac_des_final(context: *const CbcMacDes, tag: *mut [u8; 8]);
+    pub fn cukvashe_cbc_mac_des_update(context: *mut CbcMacDes, message: *const u8, length: usize) -> c_int;
+    pub fn cukvashe_cbc_mac_des_final(context: *const CbcMacDes, tag: *mut [u8; 8]) -> c_int;
     pub fn cukvashe_cbc_mac_des_verify(context: *const CbcMacDes, tag: *const u8, tag_length: usize) -> c_int;
 
     pub fn cukvashe_cbc_mac_tdes_ede2_init(
@@ -400,8 +400,8 @@ extern "C" {
         key_length: usize,
         method: c_int,
     ) -> c_int;
-    pub fn cukvashe_cbc_mac_tdes_ede2_update(context: *mut CbcMacTdesEde2, message: *const u8, length: usize);
-    pub fn cukvashe_cbc_mac_tdes_ede2_final(context: *const CbcMacTdesEde2, tag: *mut [u8; 8]);
+    pub fn cukvashe_cbc_mac_tdes_ede2_update(context: *mut CbcMacTdesEde2, message: *const u8, length: usize) -> c_int;
+    pub fn cukvashe_cbc_mac_tdes_ede2_final(context: *const CbcMacTdesEde2, tag: *mut [u8; 8]) -> c_int;
     pub fn cukvashe_cbc_mac_tdes_ede2_verify(
         context: *const CbcMacTdesEde2,
         tag: *const u8,
@@ -420,8 +420,8 @@ extern "C" {
         key_length: usize,
         method: c_int,
     ) -> c_int;
-    pub fn cukvashe_cbc_mac_tdes_ede3_update(context: *mut CbcMacTdesEde3, message: *const u8, length: usize);
-    pub fn cukvashe_cbc_mac_tdes_ede3_final(context: *const CbcMacTdesEde3, tag: *mut [u8; 8]);
+    pub fn cukvashe_cbc_mac_tdes_ede3_update(context: *mut CbcMacTdesEde3, message: *const u8, length: usize) -> c_int;
+    pub fn cukvashe_cbc_mac_tdes_ede3_final(context: *const CbcMacTdesEde3, tag: *mut [u8; 8]) -> c_int;
     pub fn cukvashe_cbc_mac_tdes_ede3_verify(
         context: *const CbcMacTdesEde3,
         tag: *const u8,
@@ -440,8 +440,8 @@ extern "C" {
         key_length: usize,
         method: c_int,
     ) -> c_int;
-    pub fn cukvashe_retail_mac_des_update(context: *mut RetailMacDes, message: *const u8, length: usize);
-    pub fn cukvashe_retail_mac_des_final(context: *const RetailMacDes, tag: *mut [u8; 8]);
+    pub fn cukvashe_retail_mac_des_update(context: *mut RetailMacDes, message: *const u8, length: usize) -> c_int;
+    pub fn cukvashe_retail_mac_des_final(context: *const RetailMacDes, tag: *mut [u8; 8]) -> c_int;
     pub fn cukvashe_retail_mac_des_verify(context: *const RetailMacDes, tag: *const u8, tag_length: usize) -> c_int;
 
     pub fn cukvashe_retail_mac_des_macs(
@@ -465,8 +465,8 @@ extern "C" {
 
     pub fn cukvashe_cmac_tdes_ede2_init(context: *mut CmacTdesEde2, key: *const u8, key_length: usize) -> c_int;
     pub fn cukvashe_cmac_tdes_ede2_init_quiet(context: *mut CmacTdesEde2, key: *const u8, key_length: usize) -> c_int;
-    pub fn cukvashe_cmac_tdes_ede2_update(context: *mut CmacTdesEde2, message: *const u8, length: usize);
-    pub fn cukvashe_cmac_tdes_ede2_final(context: *const CmacTdesEde2, tag: *mut [u8; 8]);
+    pub fn cukvashe_cmac_tdes_ede2_update(context: *mut CmacTdesEde2, message: *const u8, length: usize) -> c_int;
+    pub fn cukvashe_cmac_tdes_ede2_final(context: *const CmacTdesEde2, tag: *mut [u8; 8]) -> c_int;
     pub fn cukvashe_cmac_tdes_ede2_verify(context: *const CmacTdesEde2, tag: *const u8, tag_length: usize) -> c_int;
     pub fn cukvashe_cmac_tdes_ede2_macs(
         key: *const u8,
@@ -487,8 +487,8 @@ extern "C" {
 
     pub fn cukvashe_cmac_tdes_ede3_init(context: *mut CmacTdesEde3, key: *const u8, key_length: usize) -> c_int;
     pub fn cukvashe_cmac_tdes_ede3_init_quiet(context: *mut CmacTdesEde3, key: *const u8, key_length: usize) -> c_int;
-    pub fn cukvashe_cmac_tdes_ede3_update(context: *mut CmacTdesEde3, message: *const u8, length: usize);
-    pub fn cukvashe_cmac_tdes_ede3_final(context: *const CmacTdesEde3, tag: *mut [u8; 8]);
+    pub fn cukvashe_cmac_tdes_ede3_update(context: *mut CmacTdesEde3, message: *const u8, length: usize) -> c_int;
+    pub fn cukvashe_cmac_tdes_ede3_final(context: *const CmacTdesEde3, tag: *mut [u8; 8]) -> c_int;
     pub fn cukvashe_cmac_tdes_ede3_verify(context: *const CmacTdesEde3, tag: *const u8, tag_length: usize) -> c_int;
     pub fn cukvashe_cmac_tdes_ede3_macs(
         key: *const u8,

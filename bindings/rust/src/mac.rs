@@ -169,12 +169,14 @@ macro_rules! mac {
         // for their lengths, which don't overlap where one may be written.
         impl Mac for $name {
             fn update(&mut self, bytes: &[u8]) {
-                unsafe { ffi::$update(&mut self.context, bytes.as_ptr(), bytes.len()) }
+                let status = unsafe { ffi::$update(&mut self.context, bytes.as_ptr(), bytes.len()) };
+                assert_eq!(status, OK, "the context is one that init made");
             }
 
             fn tag(&self) -> [u8; 8] {
                 let mut tag = [0; 8];
-                unsafe { ffi::$finalize(&self.context, &mut tag) };
+                let status = unsafe { ffi::$finalize(&self.context, &mut tag) };
+                assert_eq!(status, OK, "the context is one that init made");
                 tag
             }
 

@@ -48,13 +48,14 @@ pub const HASH: c_int = 40;
 pub const ITERATIONS: c_int = 41;
 pub const NOT_SALTED: c_int = 42;
 pub const SALT_LENGTH: c_int = 43;
+pub const CONTEXT: c_int = 44;
 
 /// The sentence of a status.
 pub fn sentence(status: c_int) -> &'static str {
     SENTENCES[status as usize]
 }
 
-const SENTENCES: [&str; 44] = [
+const SENTENCES: [&str; 45] = [
     "success",
     "the key does not have a length that the call takes",
     "the length is not a multiple of 8 bytes",
@@ -99,4 +100,5 @@ const SENTENCES: [&str; 44] = [
     "the number of iterations is not 1 to 2^32 - 1",
     "the bytes do not begin with Salted__",
     "the bytes end within the salt, or it does not have 0 or 8 bytes",
+    "the context is not one that the init of this type made",
 ];

@@ -3,10 +3,11 @@
 ghost use Rattle.std.specs.Prelude.{◌≡◌, ◌≢◌, ◌↔◌, ◌+◌, ◌*◌, ℕ, List, length};
 ghost use Rattle.des.specs.Cbc.{Chains, next_vector};
 ghost use Rattle.des_context.specs.Bytes.{AreBytesOf, FitInto};
-ghost use Rattle.des_context.specs.Contexts.{HasAForm, IsContextOf, IsMarked};
+ghost use Rattle.des_context.specs.Contexts.{HasAForm, HasMark, IsContextOf, IsMarked, IsSoundIfMarked};
 ghost use Rattle.des_context.specs.Forms.{relation_of};
 
-use des_context::status::{ERR_BLOCKS, ERR_KEY_LENGTH, OK};
+use des_context::contexts::NO_MAC;
+use des_context::status::{ERR_BLOCKS, ERR_CONTEXT, ERR_KEY_LENGTH, OK};
 use des_context::{calls, contexts};
 
 /// Makes a context of 17, 33 or 49 words from a key of one, two or three parts of 8 bytes, a quiet
@@ -18,7 +19,7 @@ pub extern "C" fn cukvashe_internal_init(context: &mut [u64], key: &[u8], quiet:
     ensures accepted { (result ≡ OK) ↔ (2 * length key.now + 1 ≡ length context.old) }
     ensures refused { (result ≡ ERR_KEY_LENGTH) ↔ (2 * length key.now + 1 ≢ length context.old) }
     ensures made { result ≡ OK → IsContextOf context.new key.now }
-    ensures quiet { result ≡ OK → IsMarked quiet context.new }
+    ensures quiet { result ≡ OK → IsMarked NO_MAC quiet context.new }
     ensures kept { result ≢ OK → context.new ≡ context.old }
 {
     contexts::init(context, key, quiet)
@@ -33,9 +34,11 @@ pub extern "C" fn cukvashe_internal_encrypt_cbc(
     blocks: &mut [[u8; 8]],
     size: usize,
 ) -> i32
-    requires { (key : List ℕ) × IsContextOf context.now key }
-    ensures accepted { (result ≡ OK) ↔ AreBytesOf blocks.old size }
-    ensures refused { (result ≡ ERR_BLOCKS) ↔ ¬ (AreBytesOf blocks.old size) }
+    requires { IsSoundIfMarked context.now }
+    ensures unmarked { (result ≡ ERR_CONTEXT) ↔ ¬ (HasMark NO_MAC context.now) }
+    ensures accepted { (result ≡ OK) ↔ (HasMark NO_MAC context.now × AreBytesOf blocks.old size) }
+    ensures refused { (result ≡ ERR_BLOCKS)
+        ↔ (HasMark NO_MAC context.now × ¬ (AreBytesOf blocks.old size)) }
     ensures chained { result ≡ OK → (key : List ℕ) → IsContextOf context.now key
         → Chains (relation_of key) iv.old blocks.old blocks.new }
     ensures goes_on { result ≡ OK → iv.new ≡ next_vector iv.old blocks.new }
@@ -55,17 +58,19 @@ pub extern "C" fn cukvashe_internal_encrypt_cbc_to(
     output: &mut [[u8; 8]],
     size: usize,
 ) -> i32
-    requires { (key : List ℕ) × IsContextOf context.now key }
-    ensures accepted { (result ≡ OK) ↔ FitInto output.old input.now size }
-    ensures refused { (result ≡ ERR_BLOCKS) ↔ ¬ (FitInto output.old input.now size) }
+    requires { IsSoundIfMarked context.now }
+    ensures unmarked { (result ≡ ERR_CONTEXT) ↔ ¬ (HasMark NO_MAC context.now) }
+    ensures accepted { (result ≡ OK)
+        ↔ (HasMark NO_MAC context.now × FitInto output.old input.now size) }
+    ensures refused { (result ≡ ERR_BLOCKS)
+        ↔ (HasMark NO_MAC context.now × ¬ (FitInto output.old input.now size)) }
     ensures chained { result ≡ OK → (key : List ℕ) → IsContextOf context.now key
         → Chains (relation_of key) iv.old input.now output.new }
     ensures goes_on { result ≡ OK → iv.new ≡ next_vector iv.old output.new }
     ensures kept { result ≢ OK → (output.new ≡ output.old) × (iv.new ≡ iv.old) }
 {
-    if calls::copy_whole(input, output, size) {
-        calls::encrypt_cbc(context, iv, output, size)
-    } else {
-        ERR_BLOCKS
+    match calls::copy_whole(context, input, output, size) {
+        OK => calls::encrypt_cbc(context, iv, output, size),
+        status => status,
     }
 }

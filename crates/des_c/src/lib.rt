@@ -1,7 +1,8 @@
 //! The library for C. The exports of contexts, MACs, lists, components and passwords are mostly
 //! lines over calls of `des_context`. The others call other crates, and have code that turns texts
 //! and faults into those of C. Each states what it does, and `bindings/c/cukvashe_des.h` says what a
-//! caller has to uphold.
+//! caller has to uphold. A call with a context refuses one without the mark of its type, by
+//! `ERR_CONTEXT` and before all else, and then changes nothing.
 //!
 //! The exports that begin with `cukvashe_internal_` are not the header's: they take other arguments,
 //! or serve all ciphers or MACs, and are told by the number of a context's words, the size of a key

@@ -5,11 +5,11 @@ ghost use Rattle.std.specs.Prelude.{◌≡◌, ◌≢◌, ◌↔◌, ◌<◌, �
 ghost use Rattle.des_mac.specs.Tags.{IsTruncated};
 ghost use Rattle.des_context.specs.Contexts.{IsMarked};
 ghost use Rattle.des_context.specs.MacAlgorithms.{IsAlgorithm, mac_by};
-ghost use Rattle.des_context.specs.MacContexts.{HasMacForm, IsAMac, IsMacOf, key_size_of, words_of_chain};
+ghost use Rattle.des_context.specs.MacContexts.{HasMacForm, HasMacMark, IsMacOf, IsSoundMacIfMarked, key_size_of, words_of_chain};
 ghost use Rattle.des_context.specs.PaddingMethods.{status_of};
 
 use des_context::macs::{self, Message};
-use des_context::status::{ERR_COUNTS, ERR_TAG, OK};
+use des_context::status::{ERR_CONTEXT, ERR_COUNTS, ERR_TAG, OK};
 use des_mac::many;
 
 /// Makes the words of a MAC of the bytes of a key, quiet ones, whose calls read no table, or quick
@@ -29,47 +29,58 @@ pub extern "C" fn cukvashe_internal_mac_init(
     requires form { HasMacForm algorithm context.old }
     ensures status { result ≡ status_of (key_size_of context.old) (length key.now) padding }
     ensures made { result ≡ OK → IsMacOf algorithm context.new message.new padding key.now [] }
-    ensures quiet { result ≡ OK → IsMarked quiet (words_of_chain algorithm context.new) }
+    ensures quiet { result ≡ OK → IsMarked algorithm quiet (words_of_chain algorithm context.new) }
     ensures second_quiet { result ≡ OK → algorithm ≡ 3
-        → IsMarked quiet (drop 17 context.new) }
+        → IsMarked algorithm quiet (drop 17 context.new) }
     ensures kept { result ≢ OK → (context.new ≡ context.old) × (message.new ≡ message.old) }
 {
     macs::init(algorithm, context, message, key, padding, quiet)
 }
 
-/// Adds bytes to the message, after those that it has.
+/// Adds bytes to the message, after those that it has. The status of words that no init made for the
+/// algorithm is `ERR_CONTEXT`; the message then stays as it was.
 #[unsafe(no_mangle)]
 pub extern "C" fn cukvashe_internal_mac_update(
     algorithm: u32,
     context: &[u64],
     message: &mut Message,
     bytes: &[u8],
-)
-    requires { IsAMac algorithm context.now message.old }
-    ensures { (padding : ℕ) (key m : List ℕ)
+) -> i32
+    requires form { HasMacForm algorithm context.now }
+    requires sound { IsSoundMacIfMarked algorithm context.now message.old }
+    ensures accepted { (result ≡ OK) ↔ HasMacMark algorithm context.now }
+    ensures unmarked { (result ≡ ERR_CONTEXT) ↔ ¬ (HasMacMark algorithm context.now) }
+    ensures added { result ≡ OK → (padding : ℕ) (key m : List ℕ)
         → IsMacOf algorithm context.now message.old padding key m
         → IsMacOf algorithm context.now message.new padding key (m ++ bytes.now) }
+    ensures kept { result ≢ OK → message.new ≡ message.old }
 {
-    macs::update(algorithm, context, message, bytes);
+    macs::update(algorithm, context, message, bytes)
 }
 
-/// Gives the tag of the message, which may go on.
+/// Gives the tag of the message, which may go on. The status is as of `cukvashe_internal_mac_update`;
+/// the tag of words that it refuses stays as it was.
 #[unsafe(no_mangle)]
 pub extern "C" fn cukvashe_internal_mac_final(
     algorithm: u32,
     context: &[u64],
     message: &Message,
     tag: &mut [u8; 8],
-)
-    requires { IsAMac algorithm context.now message.now }
-    ensures { (padding : ℕ) (key m : List ℕ)
+) -> i32
+    requires form { HasMacForm algorithm context.now }
+    requires sound { IsSoundMacIfMarked algorithm context.now message.now }
+    ensures accepted { (result ≡ OK) ↔ HasMacMark algorithm context.now }
+    ensures unmarked { (result ≡ ERR_CONTEXT) ↔ ¬ (HasMacMark algorithm context.now) }
+    ensures tag { result ≡ OK → (padding : ℕ) (key m : List ℕ)
         → IsMacOf algorithm context.now message.now padding key m
         → tag.new ≡ mac_by algorithm padding key m }
+    ensures kept { result ≢ OK → tag.new ≡ tag.old }
 {
-    *tag = macs::tag(algorithm, context, message);
+    macs::write_tag(algorithm, context, message, tag)
 }
 
 /// Accepts the first 4 to 8 bytes of the tag of the message: the status of all others is `ERR_TAG`.
+/// That of words that no init made for the algorithm is `ERR_CONTEXT`.
 #[unsafe(no_mangle)]
 pub extern "C" fn cukvashe_internal_mac_verify(
     algorithm: u32,
@@ -77,13 +88,17 @@ pub extern "C" fn cukvashe_internal_mac_verify(
     message: &Message,
     tag: &[u8],
 ) -> i32
-    requires { IsAMac algorithm context.now message.now }
+    requires form { HasMacForm algorithm context.now }
+    requires sound { IsSoundMacIfMarked algorithm context.now message.now }
+    ensures unmarked { (result ≡ ERR_CONTEXT) ↔ ¬ (HasMacMark algorithm context.now) }
     ensures accepted { (padding : ℕ) (key m : List ℕ)
         → IsMacOf algorithm context.now message.now padding key m
-        → (result ≡ OK) ↔ IsTruncated tag.now (mac_by algorithm padding key m) }
+        → (result ≡ OK) ↔ (HasMacMark algorithm context.now
+        × IsTruncated tag.now (mac_by algorithm padding key m)) }
     ensures refused { (padding : ℕ) (key m : List ℕ)
         → IsMacOf algorithm context.now message.now padding key m
-        → (result ≡ ERR_TAG) ↔ ¬ (IsTruncated tag.now (mac_by algorithm padding key m)) }
+        → (result ≡ ERR_TAG) ↔ (HasMacMark algorithm context.now
+        × ¬ (IsTruncated tag.now (mac_by algorithm padding key m))) }
 {
     macs::verify(algorithm, context, message, tag)
 }

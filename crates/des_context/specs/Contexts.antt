@@ -1,9 +1,10 @@
 -- A context, as words: sixteen for each part of its key, which hold the round keys of the part, and
--- one more, which is not 0 where the calls are to read no table.
-use Rattle.std.specs.Prelude.{◌≡◌, ◌≢◌, ℕ, ◌+◌, ◌*◌, ◌-◌, ◌≤◌, List, length, slice_range, slice_index_or, Bool, if◌then◌else◌}
+-- one more, the mark of the init that made them.
+use Rattle.std.specs.Prelude.{◌≡◌, ◌⊎◌, ℕ, ◌+◌, ◌*◌, ◌-◌, ◌/◌, ◌≤◌, List, length, slice_range, slice_index_or, Bool, true, false, if◌then◌else◌}
 use Rattle.des.specs.Blocks.{IsKey, part}
 use Rattle.des_fast.specs.Words.{AreRoundKeysOf}
 use Rattle.des_context.specs.declared.ciphers.Form.{Form}
+use Rattle.des_context.specs.declared.contexts.TheConstants.{MARK, NO_MAC}
 use Rattle.des_context.specs.Forms.{parts_of, form_of_length}
 
 -- the words of part n of a key, from 1
@@ -24,13 +25,23 @@ AreWordsOf form words key =
 abbrev pub IsContextOf : List ℕ → List ℕ → Type 0
 IsContextOf context key = AreWordsOf (form_of_length (length key)) context key
 
--- the last word of a context that was made says whether it is a quiet one, and nothing else: it is no secret
-abbrev pub IsMarked : Bool → List ℕ → Type 0
-IsMarked quiet context = slice_index_or context (length context - 1) 0 ≡ (if quiet then 1 else 0)
+-- the mark of so many words: it says the algorithm of a MAC, or that there is none, whether the calls are to read no
+-- table, and the parts of the key; it is no secret
+abbrev pub mark_of : ℕ → Bool → ℕ → ℕ
+mark_of algorithm quiet words = MARK + 0x10000 * algorithm + (if quiet then 0x100 else 0) + words / 16
 
--- the calls of the context are to read no table
-abbrev pub IsQuiet : List ℕ → Type 0
-IsQuiet context = slice_index_or context (length context - 1) 0 ≢ 0
+-- the last word is this mark
+abbrev pub IsMarked : ℕ → Bool → List ℕ → Type 0
+IsMarked algorithm quiet context =
+    slice_index_or context (length context - 1) 0 ≡ mark_of algorithm quiet (length context)
+
+-- the last word is a mark of the algorithm, of quiet words or of quick ones
+abbrev pub HasMark : ℕ → List ℕ → Type 0
+HasMark algorithm context = IsMarked algorithm true context ⊎ IsMarked algorithm false context
+
+-- words with the mark of a cipher are the context of some key; of others nothing is said
+abbrev pub IsSoundIfMarked : List ℕ → Type 0
+IsSoundIfMarked context = HasMark NO_MAC context → (key : List ℕ) × IsContextOf context key
 
 -- there are as many words as in the context of a key of some form
 abbrev pub HasAForm : List ℕ → Type 0

@@ -2,7 +2,7 @@
 use Rattle.std.specs.Prelude.{◌≡◌, ◌≢◌, ℕ, ◌*◌, ◌/◌, nat_eq, List, length, take, drop, if◌then◌else◌}
 use Rattle.des_mac.specs.IsProgress.{IsProgressOf}
 use Rattle.des_context.specs.declared.macs.Message.{Message}
-use Rattle.des_context.specs.Contexts.{HasAForm, IsContextOf}
+use Rattle.des_context.specs.Contexts.{HasAForm, HasMark, IsContextOf}
 use Rattle.des_context.specs.Forms.{encryption_of}
 use Rattle.des_context.specs.MacAlgorithms.{IsAlgorithm}
 
@@ -38,3 +38,11 @@ pub record IsMacOf (algorithm : ℕ) (words : List ℕ) (message : Message) (pad
 abbrev pub IsAMac : ℕ → List ℕ → Message → Type 0
 IsAMac algorithm words message =
     (padding : ℕ) × ((key : List ℕ) × ((m : List ℕ) × IsMacOf algorithm words message padding key m))
+
+-- the words of the chain end with a mark of the algorithm
+abbrev pub HasMacMark : ℕ → List ℕ → Type 0
+HasMacMark algorithm words = HasMark algorithm (words_of_chain algorithm words)
+
+-- words with a mark of the algorithm are those of some key and some message; of others nothing is said
+abbrev pub IsSoundMacIfMarked : ℕ → List ℕ → Message → Type 0
+IsSoundMacIfMarked algorithm words message = HasMacMark algorithm words → IsAMac algorithm words message

@@ -1,6 +1,7 @@
 //! ECB and CBC over any context and any width: what blocks become, by the relation of the key that
-//! the context is made from. `size` is the caller's number of bytes; a call refuses it unless it is
-//! 8 for each block. The cipher is made by the type that reads tables, for quiet contexts too: the
+//! the context is made from. A call refuses words that do not end with the mark of a cipher's init,
+//! by `ERR_CONTEXT`, before it looks at anything else. `size` is the caller's number of bytes; a call
+//! refuses it unless it is 8 for each block. The cipher is made by the type that reads tables, for quiet contexts too: the
 //! calls of lists are told which it is, and read none then.
 
 ghost use Rattle.std.specs.Prelude.{◌≡◌, ◌≢◌, ◌↔◌, ℕ, List, IsTrue};
@@ -8,12 +9,13 @@ ghost use Rattle.des.specs.Blocks.{AnswersEach};
 ghost use Rattle.des.specs.Cbc.{Chains, next_vector};
 ghost use Rattle.des.specs.Relations.{IsTheOne};
 ghost use Rattle.des_context.specs.Bytes.{AreBytesOf, FitInto};
-ghost use Rattle.des_context.specs.Contexts.{HasForm, IsContextOf};
+ghost use Rattle.des_context.specs.Contexts.{HasForm, HasMark, IsContextOf, IsSoundIfMarked};
 ghost use Rattle.des_context.specs.Forms.{relation_of};
+ghost use Rattle.des_context.specs.declared.contexts.TheConstants.{NO_MAC};
 
 use crate::ciphers::{OfContext, by_form};
-use crate::contexts::is_quiet;
-use crate::status::{ERR_BLOCKS, OK};
+use crate::contexts::{NO_MAC, has_mark, is_quiet};
+use crate::status::{ERR_BLOCKS, ERR_CONTEXT, OK};
 use des::cbc::next_vector;
 use des_fast::many::{ManyBlocks, Slice};
 use des_fast::ways::Tables;
@@ -26,7 +28,7 @@ fn encrypt_by<C: OfContext + ManyBlocks, S: Slice>(context: &[u64], blocks: &mut
     ensures { (key : List ℕ) → IsContextOf context.now key
         → IsTheOne (λ answers. AnswersEach (relation_of key) blocks.old answers) blocks.new }
 {
-    C::of(context).encrypt_list_by::<S>(is_quiet(context), blocks);
+    C::of(context).encrypt_list_by::<S>(is_quiet(NO_MAC, context), blocks);
 }
 
 // Encrypts each block by itself.
@@ -46,7 +48,7 @@ fn decrypt_by<C: OfContext + ManyBlocks, S: Slice>(context: &[u64], blocks: &mut
     ensures { (key : List ℕ) → IsContextOf context.now key
         → IsTheOne (λ answers. AnswersEach (relation_of key) answers blocks.old) blocks.new }
 {
-    C::of(context).decrypt_list_by::<S>(is_quiet(context), blocks);
+    C::of(context).decrypt_list_by::<S>(is_quiet(NO_MAC, context), blocks);
 }
 
 // Decrypts each block by itself.
@@ -67,7 +69,7 @@ fn chain_by<C: OfContext + ManyBlocks>(context: &[u64], iv: &mut [u8; 8], blocks
         → Chains (relation_of key) iv.old blocks.old blocks.new }
     ensures goes_on { iv.new ≡ next_vector iv.old blocks.new }
 {
-    C::of(context).encrypt_cbc_list(is_quiet(context), iv, blocks);
+    C::of(context).encrypt_cbc_list(is_quiet(NO_MAC, context), iv, blocks);
     *iv = next_vector(iv, blocks);
 }
 
@@ -93,7 +95,7 @@ fn unchain_by<C: OfContext + ManyBlocks, S: Slice>(
     ensures { (key : List ℕ) → IsContextOf context.now key
         → Chains (relation_of key) iv.now blocks.new blocks.old }
 {
-    C::of(context).decrypt_cbc_list_by::<S>(is_quiet(context), iv, blocks);
+    C::of(context).decrypt_cbc_list_by::<S>(is_quiet(NO_MAC, context), iv, blocks);
 }
 
 /// Decrypts blocks that CBC chained from the vector.
@@ -105,8 +107,8 @@ pub(crate) fn unchain<S: Slice>(context: &[u64], iv: &[u8; 8], blocks: &mut [[u8
     by_form!(unchain_by::<Tables, S>(context, iv, blocks))
 }
 
-// Whether so many bytes are these blocks, and nothing beside.
-fn are_bytes_of(blocks: &[[u8; 8]], size: usize) -> bool
+/// Whether so many bytes are these blocks, and nothing beside.
+pub(crate) fn are_bytes_of(blocks: &[[u8; 8]], size: usize) -> bool
     ensures { IsTrue result ↔ AreBytesOf blocks.now size }
 {
     size % 8 == 0 && size / 8 == blocks.len()
@@ -115,13 +117,18 @@ fn are_bytes_of(blocks: &[[u8; 8]], size: usize) -> bool
 /// Encrypts blocks in place, each by itself. The status is `ERR_BLOCKS` where the caller's bytes are
 /// not whole blocks; they then stay as they were.
 pub fn encrypt_ecb<S: Slice>(context: &[u64], blocks: &mut [[u8; 8]], size: usize) -> i32
-    requires { (key : List ℕ) × IsContextOf context.now key }
-    ensures accepted { (result ≡ OK) ↔ AreBytesOf blocks.old size }
-    ensures refused { (result ≡ ERR_BLOCKS) ↔ ¬ (AreBytesOf blocks.old size) }
+    requires { IsSoundIfMarked context.now }
+    ensures unmarked { (result ≡ ERR_CONTEXT) ↔ ¬ (HasMark NO_MAC context.now) }
+    ensures accepted { (result ≡ OK) ↔ (HasMark NO_MAC context.now × AreBytesOf blocks.old size) }
+    ensures refused { (result ≡ ERR_BLOCKS)
+        ↔ (HasMark NO_MAC context.now × ¬ (AreBytesOf blocks.old size)) }
     ensures answered { result ≡ OK → (key : List ℕ) → IsContextOf context.now key
         → IsTheOne (λ answers. AnswersEach (relation_of key) blocks.old answers) blocks.new }
     ensures kept { result ≢ OK → blocks.new ≡ blocks.old }
 {
+    if !has_mark(NO_MAC, context) {
+        return ERR_CONTEXT;
+    }
     if !are_bytes_of(blocks, size) {
         return ERR_BLOCKS;
     }
@@ -131,13 +138,18 @@ pub fn encrypt_ecb<S: Slice>(context: &[u64], blocks: &mut [[u8; 8]], size: usiz
 
 /// Decrypts blocks in place, each by itself. The status is as of `encrypt_ecb`.
 pub fn decrypt_ecb<S: Slice>(context: &[u64], blocks: &mut [[u8; 8]], size: usize) -> i32
-    requires { (key : List ℕ) × IsContextOf context.now key }
-    ensures accepted { (result ≡ OK) ↔ AreBytesOf blocks.old size }
-    ensures refused { (result ≡ ERR_BLOCKS) ↔ ¬ (AreBytesOf blocks.old size) }
+    requires { IsSoundIfMarked context.now }
+    ensures unmarked { (result ≡ ERR_CONTEXT) ↔ ¬ (HasMark NO_MAC context.now) }
+    ensures accepted { (result ≡ OK) ↔ (HasMark NO_MAC context.now × AreBytesOf blocks.old size) }
+    ensures refused { (result ≡ ERR_BLOCKS)
+        ↔ (HasMark NO_MAC context.now × ¬ (AreBytesOf blocks.old size)) }
     ensures answered { result ≡ OK → (key : List ℕ) → IsContextOf context.now key
         → IsTheOne (λ answers. AnswersEach (relation_of key) answers blocks.old) blocks.new }
     ensures kept { result ≢ OK → blocks.new ≡ blocks.old }
 {
+    if !has_mark(NO_MAC, context) {
+        return ERR_CONTEXT;
+    }
     if !are_bytes_of(blocks, size) {
         return ERR_BLOCKS;
     }
@@ -149,14 +161,19 @@ pub fn decrypt_ecb<S: Slice>(context: &[u64], blocks: &mut [[u8; 8]], size: usiz
 /// status is `ERR_BLOCKS` where the caller's bytes are not whole blocks; they and the vector then
 /// stay.
 pub fn encrypt_cbc(context: &[u64], iv: &mut [u8; 8], blocks: &mut [[u8; 8]], size: usize) -> i32
-    requires { (key : List ℕ) × IsContextOf context.now key }
-    ensures accepted { (result ≡ OK) ↔ AreBytesOf blocks.old size }
-    ensures refused { (result ≡ ERR_BLOCKS) ↔ ¬ (AreBytesOf blocks.old size) }
+    requires { IsSoundIfMarked context.now }
+    ensures unmarked { (result ≡ ERR_CONTEXT) ↔ ¬ (HasMark NO_MAC context.now) }
+    ensures accepted { (result ≡ OK) ↔ (HasMark NO_MAC context.now × AreBytesOf blocks.old size) }
+    ensures refused { (result ≡ ERR_BLOCKS)
+        ↔ (HasMark NO_MAC context.now × ¬ (AreBytesOf blocks.old size)) }
     ensures chained { result ≡ OK → (key : List ℕ) → IsContextOf context.now key
         → Chains (relation_of key) iv.old blocks.old blocks.new }
     ensures goes_on { result ≡ OK → iv.new ≡ next_vector iv.old blocks.new }
     ensures kept { result ≢ OK → (blocks.new ≡ blocks.old) × (iv.new ≡ iv.old) }
 {
+    if !has_mark(NO_MAC, context) {
+        return ERR_CONTEXT;
+    }
     if !are_bytes_of(blocks, size) {
         return ERR_BLOCKS;
     }
@@ -172,14 +189,19 @@ pub fn decrypt_cbc<S: Slice>(
     blocks: &mut [[u8; 8]],
     size: usize,
 ) -> i32
-    requires { (key : List ℕ) × IsContextOf context.now key }
-    ensures accepted { (result ≡ OK) ↔ AreBytesOf blocks.old size }
-    ensures refused { (result ≡ ERR_BLOCKS) ↔ ¬ (AreBytesOf blocks.old size) }
+    requires { IsSoundIfMarked context.now }
+    ensures unmarked { (result ≡ ERR_CONTEXT) ↔ ¬ (HasMark NO_MAC context.now) }
+    ensures accepted { (result ≡ OK) ↔ (HasMark NO_MAC context.now × AreBytesOf blocks.old size) }
+    ensures refused { (result ≡ ERR_BLOCKS)
+        ↔ (HasMark NO_MAC context.now × ¬ (AreBytesOf blocks.old size)) }
     ensures chained { result ≡ OK → (key : List ℕ) → IsContextOf context.now key
         → Chains (relation_of key) iv.old blocks.new blocks.old }
     ensures goes_on { result ≡ OK → iv.new ≡ next_vector iv.old blocks.old }
     ensures kept { result ≢ OK → (blocks.new ≡ blocks.old) × (iv.new ≡ iv.old) }
 {
+    if !has_mark(NO_MAC, context) {
+        return ERR_CONTEXT;
+    }
     if !are_bytes_of(blocks, size) {
         return ERR_BLOCKS;
     }
@@ -190,15 +212,23 @@ pub fn decrypt_cbc<S: Slice>(
 }
 
 /// Copies blocks to a room of as many, if `size` is 8 for each: for a call from one buffer to
-/// another, which then goes on in place. Else it does nothing, and answers false.
-pub fn copy_whole(input: &[[u8; 8]], output: &mut [[u8; 8]], size: usize) -> bool
-    ensures fits { IsTrue result ↔ FitInto output.old input.now size }
-    ensures made { IsTrue result → output.new ≡ input.now }
-    ensures kept { ¬ (IsTrue result) → output.new ≡ output.old }
+/// another, which then goes on in place. Else the status is `ERR_BLOCKS`, and the room stays as it
+/// was.
+pub fn copy_whole(context: &[u64], input: &[[u8; 8]], output: &mut [[u8; 8]], size: usize) -> i32
+    ensures unmarked { (result ≡ ERR_CONTEXT) ↔ ¬ (HasMark NO_MAC context.now) }
+    ensures accepted { (result ≡ OK)
+        ↔ (HasMark NO_MAC context.now × FitInto output.old input.now size) }
+    ensures refused { (result ≡ ERR_BLOCKS)
+        ↔ (HasMark NO_MAC context.now × ¬ (FitInto output.old input.now size)) }
+    ensures made { result ≡ OK → output.new ≡ input.now }
+    ensures kept { result ≢ OK → output.new ≡ output.old }
 {
-    let fits = input.len() == output.len() && are_bytes_of(input, size);
-    if fits {
-        output.copy_from_slice(input);
+    if !has_mark(NO_MAC, context) {
+        return ERR_CONTEXT;
     }
-    fits
+    if input.len() != output.len() || !are_bytes_of(input, size) {
+        return ERR_BLOCKS;
+    }
+    output.copy_from_slice(input);
+    OK
 }

@@ -1,12 +1,13 @@
 //! Contexts: what a caller keeps of a key between calls, as words. A context has sixteen words for
-//! each part of its key, the round keys, and one more, which is not 0 where its calls are to read
-//! no table: so 17 words are one of DES, 33 one of triple DES with two parts, 49 with three. It has
-//! no pointers and owns nothing, so a copy of its words is as good.
+//! each part of its key, the round keys, and one more, its mark: so 17 words are one of DES, 33 one
+//! of triple DES with two parts, 49 with three. It has no pointers and owns nothing, so a copy of its
+//! words is as good. Calls refuse words that do not end with their mark: those that no init made, or
+//! that of another type.
 
-ghost use Rattle.std.specs.Prelude.{◌≡◌, ◌≢◌, ◌↔◌, ◌≤◌, ◌<◌, ◌+◌, ◌*◌, ℕ, List, length, IsTrue};
+ghost use Rattle.std.specs.Prelude.{◌≡◌, ◌≢◌, ◌↔◌, ◌≤◌, ◌<◌, ◌+◌, ◌*◌, ℕ, List, length, IsTrue, true};
 ghost use Rattle.des.specs.Blocks.{part};
 ghost use Rattle.des_fast.specs.Words.{AreRoundKeysOf};
-ghost use Rattle.des_context.specs.Contexts.{HasAForm, HasForm, IsContextOf, IsMarked, IsQuiet, words_of_part};
+ghost use Rattle.des_context.specs.Contexts.{HasAForm, HasForm, HasMark, IsContextOf, IsMarked, mark_of, words_of_part};
 
 use crate::ciphers::Form;
 use crate::status::{ERR_KEY_LENGTH, OK};
@@ -14,6 +15,19 @@ use des::cipher::{KeyInit, are_bytes};
 use des::tdes::key_part;
 use des_fast::Des;
 use des_fast::words::round_key_words;
+
+/// What each mark begins with: no round key has a word that does.
+pub const MARK: u64 = 0xc0de000000000000;
+
+/// The number of no algorithm of a MAC, in the marks of ciphers.
+pub const NO_MAC: u32 = 0;
+
+// The mark of so many words.
+fn mark(algorithm: u32, quiet: bool, words: usize) -> u64
+    ensures { result ≡ mark_of algorithm quiet words }
+{
+    MARK + 0x10000 * algorithm as u64 + (if quiet { 0x100 } else { 0 }) + (words / 16) as u64
+}
 
 // Writes the round keys of a part of a key, numbered from 1, at their place.
 fn write_part(context: &mut [u64], key: &[u8], number: usize)
@@ -39,6 +53,24 @@ fn write_parts(context: &mut [u64], key: &[u8])
     }
 }
 
+/// Makes a context, as `init` does, with the mark of an algorithm of a MAC.
+pub(crate) fn init_for(algorithm: u32, context: &mut [u64], key: &[u8], quiet: bool) -> i32
+    requires { HasAForm context.old }
+    ensures accepted { (result ≡ OK) ↔ (2 * length key.now + 1 ≡ length context.old) }
+    ensures refused { (result ≡ ERR_KEY_LENGTH) ↔ (2 * length key.now + 1 ≢ length context.old) }
+    ensures made { result ≡ OK → IsContextOf context.new key.now }
+    ensures quiet { result ≡ OK → IsMarked algorithm quiet context.new }
+    ensures kept { result ≢ OK → context.new ≡ context.old }
+{
+    if context.len() / 2 != key.len() {
+        return ERR_KEY_LENGTH;
+    }
+    are_bytes(key);
+    write_parts(context, key);
+    context[2 * key.len()] = mark(algorithm, quiet, context.len());
+    OK
+}
+
 /// Makes a context from the bytes of a key, a quiet one, whose calls read no table, or a quick one.
 /// The status is `ERR_KEY_LENGTH` where there are not as many bytes as the context's number of
 /// words has room for; the context then stays as it was.
@@ -47,26 +79,34 @@ pub fn init(context: &mut [u64], key: &[u8], quiet: bool) -> i32
     ensures accepted { (result ≡ OK) ↔ (2 * length key.now + 1 ≡ length context.old) }
     ensures refused { (result ≡ ERR_KEY_LENGTH) ↔ (2 * length key.now + 1 ≢ length context.old) }
     ensures made { result ≡ OK → IsContextOf context.new key.now }
-    ensures quiet { result ≡ OK → IsMarked quiet context.new }
+    ensures quiet { result ≡ OK → IsMarked NO_MAC quiet context.new }
     ensures kept { result ≢ OK → context.new ≡ context.old }
 {
-    if context.len() / 2 != key.len() {
-        return ERR_KEY_LENGTH;
-    }
-    are_bytes(key);
-    write_parts(context, key);
-    context[2 * key.len()] = if quiet { 1 } else { 0 };
-    OK
+    init_for(NO_MAC, context, key, quiet)
 }
 
-/// Whether the calls of a context are to read no table.
-pub fn is_quiet(context: &[u64]) -> bool
-    ensures { IsTrue result ↔ IsQuiet context.now }
+// Whether the last word is this mark.
+fn is_marked(algorithm: u32, quiet: bool, context: &[u64]) -> bool
+    ensures { IsTrue result ↔ IsMarked algorithm quiet context.now }
 {
     match context.last() {
-        Some(word) => *word != 0,
+        Some(word) => *word == mark(algorithm, quiet, context.len()),
         None => false,
     }
+}
+
+/// Whether the calls of a context of an algorithm are to read no table.
+pub(crate) fn is_quiet(algorithm: u32, context: &[u64]) -> bool
+    ensures { IsTrue result ↔ IsMarked algorithm true context.now }
+{
+    is_marked(algorithm, true, context)
+}
+
+/// Whether the last word is a mark of the algorithm.
+pub(crate) fn has_mark(algorithm: u32, context: &[u64]) -> bool
+    ensures { IsTrue result ↔ HasMark algorithm context.now }
+{
+    is_marked(algorithm, true, context) || is_marked(algorithm, false, context)
 }
 
 // The form of a context, by the number of its words.

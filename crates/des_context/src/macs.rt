@@ -2,7 +2,7 @@
 //! gives the algorithm: 1 is CBC-MAC, 3 the retail MAC over DES, 5 CMAC. The words of a MAC are a
 //! context of its key; those of the retail MAC are 34, the contexts of two keys of DES.
 
-ghost use Rattle.std.specs.Prelude.{◌≡◌, ◌≢◌, ◌↔◌, ℕ, List, [], ◌++◌, length, take, drop};
+ghost use Rattle.std.specs.Prelude.{◌≡◌, ◌≢◌, ◌↔◌, ℕ, List, [], ◌++◌, length, take, drop, IsTrue};
 ghost use Rattle.des.specs.Blocks.{IsKey};
 ghost use Rattle.des_mac.specs.IsProgress.{HoldsOneBlock, IsProgressOf};
 ghost use Rattle.des_mac.specs.Padding.{padded};
@@ -11,12 +11,12 @@ ghost use Rattle.des_mac.specs.Tags.{IsTruncated};
 ghost use Rattle.des_context.specs.Contexts.{HasForm, IsContextOf, IsMarked};
 ghost use Rattle.des_context.specs.Forms.{encryption_of};
 ghost use Rattle.des_context.specs.MacAlgorithms.{IsAlgorithm, mac_by};
-ghost use Rattle.des_context.specs.MacContexts.{AreMacWordsOf, HasMacForm, IsAMac, IsMacOf, key_size_of, words_of_chain};
+ghost use Rattle.des_context.specs.MacContexts.{AreMacWordsOf, HasMacForm, HasMacMark, IsAMac, IsMacOf, IsSoundMacIfMarked, key_size_of, words_of_chain};
 ghost use Rattle.des_context.specs.PaddingMethods.{padding_by, status_of};
 
 use crate::ciphers::{OfContext, by_form};
-use crate::contexts::{self, is_quiet};
-use crate::status::{ERR_KEY_LENGTH, ERR_PADDING_METHOD, ERR_TAG, OK};
+use crate::contexts::{has_mark, init_for, is_quiet};
+use crate::status::{ERR_CONTEXT, ERR_KEY_LENGTH, ERR_PADDING_METHOD, ERR_TAG, OK};
 use des::cipher::KeyedCipher;
 use des_fast::single::Des;
 use des_fast::ways::{Quiet, Tables, Way};
@@ -75,7 +75,7 @@ fn extend_by<W: Way>(context: &[u64], message: &mut Message, bytes: &[u8])
 }
 
 // Adds bytes by a cipher that reads tables or, where the context is quiet, by one that reads none.
-fn extend_by_context(context: &[u64], message: &mut Message, bytes: &[u8])
+fn extend_by_context(algorithm: u32, context: &[u64], message: &mut Message, bytes: &[u8])
     requires made { (key : List ℕ) × IsContextOf context.now key }
     requires progress { HoldsOneBlock message.old.progress }
     ensures progress { (key m : List ℕ) → IsContextOf context.now key
@@ -83,7 +83,7 @@ fn extend_by_context(context: &[u64], message: &mut Message, bytes: &[u8])
         → IsProgressOf (encryption_of key) message.new.progress (m ++ bytes.now) }
     ensures padding { message.new.padding ≡ message.old.padding }
 {
-    if is_quiet(context) {
+    if is_quiet(algorithm, context) {
         extend_by::<Quiet>(context, message, bytes);
     } else {
         extend_by::<Tables>(context, message, bytes);
@@ -96,16 +96,16 @@ fn write_words(algorithm: u32, context: &mut [u64], key: &[u8], quiet: bool)
     requires form { HasMacForm algorithm context.old }
     requires key { length key.now ≡ key_size_of context.old }
     ensures made { AreMacWordsOf algorithm context.new key.now }
-    ensures quiet { IsMarked quiet (words_of_chain algorithm context.new) }
-    ensures second_quiet { algorithm ≡ 3 → IsMarked quiet (drop 17 context.new) }
+    ensures quiet { IsMarked algorithm quiet (words_of_chain algorithm context.new) }
+    ensures second_quiet { algorithm ≡ 3 → IsMarked algorithm quiet (drop 17 context.new) }
 {
     if algorithm == 3 {
         let (first, second) = context.split_at_mut(17);
         let (first_key, second_key) = key.split_at(8);
-        contexts::init(first, first_key, quiet);
-        contexts::init(second, second_key, quiet);
+        init_for(algorithm, first, first_key, quiet);
+        init_for(algorithm, second, second_key, quiet);
     } else {
-        contexts::init(context, key, quiet);
+        init_for(algorithm, context, key, quiet);
     }
 }
 
@@ -125,9 +125,9 @@ pub fn init(
     requires form { HasMacForm algorithm context.old }
     ensures status { result ≡ status_of (key_size_of context.old) (length key.now) padding }
     ensures made { result ≡ OK → IsMacOf algorithm context.new message.new padding key.now [] }
-    ensures quiet { result ≡ OK → IsMarked quiet (words_of_chain algorithm context.new) }
+    ensures quiet { result ≡ OK → IsMarked algorithm quiet (words_of_chain algorithm context.new) }
     ensures second_quiet { result ≡ OK → algorithm ≡ 3
-        → IsMarked quiet (drop 17 context.new) }
+        → IsMarked algorithm quiet (drop 17 context.new) }
     ensures kept { result ≢ OK → (context.new ≡ context.old) × (message.new ≡ message.old) }
 {
     if key.len() != context.len() / 16 * 8 {
@@ -143,7 +143,7 @@ pub fn init(
 
 // The words of the chain.
 fn chain_words(algorithm: u32, context: &[u64]) -> &[u64]
-    requires { (key : List ℕ) × AreMacWordsOf algorithm context.now key }
+    requires { HasMacForm algorithm context.now }
     ensures { result.now ≡ words_of_chain algorithm context.now }
 {
     if algorithm == 3 {
@@ -153,14 +153,31 @@ fn chain_words(algorithm: u32, context: &[u64]) -> &[u64]
     }
 }
 
-/// Adds bytes to the message, after those that it has.
-pub fn update(algorithm: u32, context: &[u64], message: &mut Message, bytes: &[u8])
-    requires { IsAMac algorithm context.now message.old }
-    ensures { (padding : ℕ) (key m : List ℕ)
+// Whether the words of the chain end with a mark of the algorithm.
+fn has_mac_mark(algorithm: u32, context: &[u64]) -> bool
+    requires { HasMacForm algorithm context.now }
+    ensures { IsTrue result ↔ HasMacMark algorithm context.now }
+{
+    has_mark(algorithm, chain_words(algorithm, context))
+}
+
+/// Adds bytes to the message, after those that it has. The status of words that `init` did not make
+/// for the algorithm is `ERR_CONTEXT`; the message then stays as it was.
+pub fn update(algorithm: u32, context: &[u64], message: &mut Message, bytes: &[u8]) -> i32
+    requires form { HasMacForm algorithm context.now }
+    requires sound { IsSoundMacIfMarked algorithm context.now message.old }
+    ensures accepted { (result ≡ OK) ↔ HasMacMark algorithm context.now }
+    ensures unmarked { (result ≡ ERR_CONTEXT) ↔ ¬ (HasMacMark algorithm context.now) }
+    ensures added { result ≡ OK → (padding : ℕ) (key m : List ℕ)
         → IsMacOf algorithm context.now message.old padding key m
         → IsMacOf algorithm context.now message.new padding key (m ++ bytes.now) }
+    ensures kept { result ≢ OK → message.new ≡ message.old }
 {
-    extend_by_context(chain_words(algorithm, context), message, bytes);
+    if !has_mac_mark(algorithm, context) {
+        return ERR_CONTEXT;
+    }
+    extend_by_context(algorithm, chain_words(algorithm, context), message, bytes);
+    OK
 }
 
 // The tag of CBC-MAC, or else of CMAC, of a message, under the cipher of a context.
@@ -228,30 +245,58 @@ fn tag_by<W: Way>(algorithm: u32, context: &[u64], message: &Message) -> [u8; 8]
     }
 }
 
-/// The tag of the message, which may go on.
-pub fn tag(algorithm: u32, context: &[u64], message: &Message) -> [u8; 8]
-    requires { IsAMac algorithm context.now message.now }
+// The tag of the message.
+fn tag(algorithm: u32, context: &[u64], message: &Message) -> [u8; 8]
+    requires form { HasMacForm algorithm context.now }
+    requires made { IsAMac algorithm context.now message.now }
     ensures { (padding : ℕ) (key m : List ℕ)
         → IsMacOf algorithm context.now message.now padding key m
         → result ≡ mac_by algorithm padding key m }
 {
-    if is_quiet(chain_words(algorithm, context)) {
+    if is_quiet(algorithm, chain_words(algorithm, context)) {
         tag_by::<Quiet>(algorithm, context, message)
     } else {
         tag_by::<Tables>(algorithm, context, message)
     }
 }
 
+/// Writes the tag of the message, which may go on. The status is as of `update`, and the tag of
+/// words that it refuses stays as it was.
+pub fn write_tag(algorithm: u32, context: &[u64], message: &Message, room: &mut [u8; 8]) -> i32
+    requires form { HasMacForm algorithm context.now }
+    requires sound { IsSoundMacIfMarked algorithm context.now message.now }
+    ensures accepted { (result ≡ OK) ↔ HasMacMark algorithm context.now }
+    ensures unmarked { (result ≡ ERR_CONTEXT) ↔ ¬ (HasMacMark algorithm context.now) }
+    ensures tag { result ≡ OK → (padding : ℕ) (key m : List ℕ)
+        → IsMacOf algorithm context.now message.now padding key m
+        → room.new ≡ mac_by algorithm padding key m }
+    ensures kept { result ≢ OK → room.new ≡ room.old }
+{
+    if !has_mac_mark(algorithm, context) {
+        return ERR_CONTEXT;
+    }
+    *room = tag(algorithm, context, message);
+    OK
+}
+
 /// Accepts the first 4 to 8 bytes of the tag of the message: the status of all others is `ERR_TAG`.
+/// That of words that `init` did not make for the algorithm is `ERR_CONTEXT`.
 pub fn verify(algorithm: u32, context: &[u64], message: &Message, tag_bytes: &[u8]) -> i32
-    requires { IsAMac algorithm context.now message.now }
+    requires form { HasMacForm algorithm context.now }
+    requires sound { IsSoundMacIfMarked algorithm context.now message.now }
+    ensures unmarked { (result ≡ ERR_CONTEXT) ↔ ¬ (HasMacMark algorithm context.now) }
     ensures accepted { (padding : ℕ) (key m : List ℕ)
         → IsMacOf algorithm context.now message.now padding key m
-        → (result ≡ OK) ↔ IsTruncated tag_bytes.now (mac_by algorithm padding key m) }
+        → (result ≡ OK) ↔ (HasMacMark algorithm context.now
+        × IsTruncated tag_bytes.now (mac_by algorithm padding key m)) }
     ensures refused { (padding : ℕ) (key m : List ℕ)
         → IsMacOf algorithm context.now message.now padding key m
-        → (result ≡ ERR_TAG) ↔ ¬ (IsTruncated tag_bytes.now (mac_by algorithm padding key m)) }
+        → (result ≡ ERR_TAG) ↔ (HasMacMark algorithm context.now
+        × ¬ (IsTruncated tag_bytes.now (mac_by algorithm padding key m))) }
 {
+    if !has_mac_mark(algorithm, context) {
+        return ERR_CONTEXT;
+    }
     match verify_truncated_left(tag_bytes, &tag(algorithm, context, message)) {
         Ok(()) => OK,
         Err(_) => ERR_TAG,

@@ -3,12 +3,15 @@
 
 ghost use Rattle.std.specs.Prelude.{◌≡◌, ◌≢◌, ◌↔◌, ℕ, List, length};
 ghost use Rattle.des_fast.specs.Records.{GoOn};
+ghost use Rattle.des_context.specs.Bytes.{AreBytesOf};
 ghost use Rattle.des_context.specs.Forms.{relation_of};
-ghost use Rattle.des_context.specs.Contexts.{HasForm, IsContextOf};
+ghost use Rattle.des_context.specs.Contexts.{HasForm, HasMark, IsContextOf, IsSoundIfMarked};
 ghost use Rattle.des_context.specs.Records.{AreSizesOf, ChainsEach};
 
+use crate::calls::are_bytes_of;
 use crate::ciphers::{OfContext, by_form};
-use crate::status::{ERR_COUNTS, OK};
+use crate::contexts::{NO_MAC, has_mark};
+use crate::status::{ERR_BLOCKS, ERR_CONTEXT, ERR_COUNTS, OK};
 use des_fast::many::{RecordKeys, Slice, SpreadOnce};
 use des_fast::ways::Tables;
 
@@ -62,17 +65,24 @@ fn unchain<C: OfContext + SpreadOnce, S: Slice>(
 
 /// Encrypts records in place by CBC, in step: `sizes[k]` blocks are record k, one record after
 /// another in `blocks`, and `vectors[k]`, from which it is chained, becomes its last ciphertext
-/// block. The status is `ERR_COUNTS` where the numbers of vectors and sizes differ, or the sizes do
-/// not add up to the number of blocks; vectors and blocks then stay as they were.
+/// block. The status is `ERR_CONTEXT` or `ERR_BLOCKS` as of the calls of `calls`, and `ERR_COUNTS`
+/// where the numbers of vectors and sizes differ, or the sizes do not add up to the number of
+/// blocks; vectors and blocks then stay as they were.
 pub fn encrypt_cbc_records<S: Slice>(
     context: &[u64],
     vectors: &mut [[u8; 8]],
     sizes: &[usize],
     blocks: &mut [[u8; 8]],
+    size: usize,
 ) -> i32
-    requires { (key : List ℕ) × IsContextOf context.now key }
-    ensures accepted { (result ≡ OK) ↔ AreSizesOf sizes.now vectors.old blocks.old }
-    ensures refused { (result ≡ ERR_COUNTS) ↔ ¬ (AreSizesOf sizes.now vectors.old blocks.old) }
+    requires { IsSoundIfMarked context.now }
+    ensures unmarked { (result ≡ ERR_CONTEXT) ↔ ¬ (HasMark NO_MAC context.now) }
+    ensures cut { (result ≡ ERR_BLOCKS)
+        ↔ (HasMark NO_MAC context.now × ¬ (AreBytesOf blocks.old size)) }
+    ensures accepted { (result ≡ OK) ↔ (HasMark NO_MAC context.now
+        × AreBytesOf blocks.old size × AreSizesOf sizes.now vectors.old blocks.old) }
+    ensures refused { (result ≡ ERR_COUNTS) ↔ (HasMark NO_MAC context.now
+        × AreBytesOf blocks.old size × ¬ (AreSizesOf sizes.now vectors.old blocks.old)) }
     ensures chained { result ≡ OK → (key : List ℕ) → IsContextOf context.now key
         → ChainsEach (relation_of key) sizes.now vectors.old blocks.old blocks.new }
     ensures goes_on { result ≡ OK → GoOn sizes.now vectors.old blocks.new vectors.new }
@@ -80,6 +90,12 @@ pub fn encrypt_cbc_records<S: Slice>(
         × (length blocks.new ≡ length blocks.old) }
     ensures kept { result ≢ OK → (vectors.new ≡ vectors.old) × (blocks.new ≡ blocks.old) }
 {
+    if !has_mark(NO_MAC, context) {
+        return ERR_CONTEXT;
+    }
+    if !are_bytes_of(blocks, size) {
+        return ERR_BLOCKS;
+    }
     by_form!(chain::<Tables, S>(context, vectors, sizes, blocks))
 }
 
@@ -90,10 +106,16 @@ pub fn decrypt_cbc_records<S: Slice>(
     vectors: &mut [[u8; 8]],
     sizes: &[usize],
     blocks: &mut [[u8; 8]],
+    size: usize,
 ) -> i32
-    requires { (key : List ℕ) × IsContextOf context.now key }
-    ensures accepted { (result ≡ OK) ↔ AreSizesOf sizes.now vectors.old blocks.old }
-    ensures refused { (result ≡ ERR_COUNTS) ↔ ¬ (AreSizesOf sizes.now vectors.old blocks.old) }
+    requires { IsSoundIfMarked context.now }
+    ensures unmarked { (result ≡ ERR_CONTEXT) ↔ ¬ (HasMark NO_MAC context.now) }
+    ensures cut { (result ≡ ERR_BLOCKS)
+        ↔ (HasMark NO_MAC context.now × ¬ (AreBytesOf blocks.old size)) }
+    ensures accepted { (result ≡ OK) ↔ (HasMark NO_MAC context.now
+        × AreBytesOf blocks.old size × AreSizesOf sizes.now vectors.old blocks.old) }
+    ensures refused { (result ≡ ERR_COUNTS) ↔ (HasMark NO_MAC context.now
+        × AreBytesOf blocks.old size × ¬ (AreSizesOf sizes.now vectors.old blocks.old)) }
     ensures chained { result ≡ OK → (key : List ℕ) → IsContextOf context.now key
         → ChainsEach (relation_of key) sizes.now vectors.old blocks.new blocks.old }
     ensures goes_on { result ≡ OK → GoOn sizes.now vectors.old blocks.old vectors.new }
@@ -101,5 +123,11 @@ pub fn decrypt_cbc_records<S: Slice>(
         × (length blocks.new ≡ length blocks.old) }
     ensures kept { result ≢ OK → (vectors.new ≡ vectors.old) × (blocks.new ≡ blocks.old) }
 {
+    if !has_mark(NO_MAC, context) {
+        return ERR_CONTEXT;
+    }
+    if !are_bytes_of(blocks, size) {
+        return ERR_BLOCKS;
+    }
     by_form!(unchain::<Tables, S>(context, vectors, sizes, blocks))
 }

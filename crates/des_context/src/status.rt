@@ -135,3 +135,6 @@ pub const ERR_NOT_SALTED: i32 = 42;
 
 /// The bytes end within the salt, or it does not have 0 or 8 bytes.
 pub const ERR_SALT_LENGTH: i32 = 43;
+
+/// The context is not one that the init of this type made.
+pub const ERR_CONTEXT: i32 = 44;

@@ -5,12 +5,13 @@ ghost use Rattle.des.specs.Blocks.{AnswersEach};
 ghost use Rattle.des.specs.Cbc.{Chains, next_vector};
 ghost use Rattle.des.specs.Relations.{IsTheOne};
 ghost use Rattle.des_context.specs.Bytes.{AreBytesOf, FitInto};
-ghost use Rattle.des_context.specs.Contexts.{IsContextOf};
+ghost use Rattle.des_context.specs.Contexts.{HasMark, IsContextOf, IsSoundIfMarked};
 ghost use Rattle.des_context.specs.Forms.{relation_of};
 
 use super::Width;
 use des_context::calls;
-use des_context::status::{ERR_BLOCKS, OK};
+use des_context::contexts::NO_MAC;
+use des_context::status::{ERR_BLOCKS, ERR_CONTEXT, OK};
 
 /// Encrypts bytes in place, each block of eight by itself. The status is `ERR_BLOCKS` where they
 /// are not whole blocks; they then stay as they were.
@@ -20,9 +21,11 @@ pub extern "C" fn cukvashe_internal_encrypt_ecb(
     blocks: &mut [[u8; 8]],
     size: usize,
 ) -> i32
-    requires { (key : List ℕ) × IsContextOf context.now key }
-    ensures accepted { (result ≡ OK) ↔ AreBytesOf blocks.old size }
-    ensures refused { (result ≡ ERR_BLOCKS) ↔ ¬ (AreBytesOf blocks.old size) }
+    requires { IsSoundIfMarked context.now }
+    ensures unmarked { (result ≡ ERR_CONTEXT) ↔ ¬ (HasMark NO_MAC context.now) }
+    ensures accepted { (result ≡ OK) ↔ (HasMark NO_MAC context.now × AreBytesOf blocks.old size) }
+    ensures refused { (result ≡ ERR_BLOCKS)
+        ↔ (HasMark NO_MAC context.now × ¬ (AreBytesOf blocks.old size)) }
     ensures answered { result ≡ OK → (key : List ℕ) → IsContextOf context.now key
         → IsTheOne (λ answers. AnswersEach (relation_of key) blocks.old answers) blocks.new }
     ensures kept { result ≢ OK → blocks.new ≡ blocks.old }
@@ -38,9 +41,11 @@ pub extern "C" fn cukvashe_internal_decrypt_ecb(
     blocks: &mut [[u8; 8]],
     size: usize,
 ) -> i32
-    requires { (key : List ℕ) × IsContextOf context.now key }
-    ensures accepted { (result ≡ OK) ↔ AreBytesOf blocks.old size }
-    ensures refused { (result ≡ ERR_BLOCKS) ↔ ¬ (AreBytesOf blocks.old size) }
+    requires { IsSoundIfMarked context.now }
+    ensures unmarked { (result ≡ ERR_CONTEXT) ↔ ¬ (HasMark NO_MAC context.now) }
+    ensures accepted { (result ≡ OK) ↔ (HasMark NO_MAC context.now × AreBytesOf blocks.old size) }
+    ensures refused { (result ≡ ERR_BLOCKS)
+        ↔ (HasMark NO_MAC context.now × ¬ (AreBytesOf blocks.old size)) }
     ensures answered { result ≡ OK → (key : List ℕ) → IsContextOf context.now key
         → IsTheOne (λ answers. AnswersEach (relation_of key) answers blocks.old) blocks.new }
     ensures kept { result ≢ OK → blocks.new ≡ blocks.old }
@@ -58,17 +63,19 @@ pub extern "C" fn cukvashe_internal_encrypt_ecb_to(
     output: &mut [[u8; 8]],
     size: usize,
 ) -> i32
-    requires { (key : List ℕ) × IsContextOf context.now key }
-    ensures accepted { (result ≡ OK) ↔ FitInto output.old input.now size }
-    ensures refused { (result ≡ ERR_BLOCKS) ↔ ¬ (FitInto output.old input.now size) }
+    requires { IsSoundIfMarked context.now }
+    ensures unmarked { (result ≡ ERR_CONTEXT) ↔ ¬ (HasMark NO_MAC context.now) }
+    ensures accepted { (result ≡ OK)
+        ↔ (HasMark NO_MAC context.now × FitInto output.old input.now size) }
+    ensures refused { (result ≡ ERR_BLOCKS)
+        ↔ (HasMark NO_MAC context.now × ¬ (FitInto output.old input.now size)) }
     ensures answered { result ≡ OK → (key : List ℕ) → IsContextOf context.now key
         → IsTheOne (λ answers. AnswersEach (relation_of key) input.now answers) output.new }
     ensures kept { result ≢ OK → output.new ≡ output.old }
 {
-    if calls::copy_whole(input, output, size) {
-        calls::encrypt_ecb::<Width>(context, output, size)
-    } else {
-        ERR_BLOCKS
+    match calls::copy_whole(context, input, output, size) {
+        OK => calls::encrypt_ecb::<Width>(context, output, size),
+        status => status,
     }
 }
 
@@ -81,17 +88,19 @@ pub extern "C" fn cukvashe_internal_decrypt_ecb_to(
     output: &mut [[u8; 8]],
     size: usize,
 ) -> i32
-    requires { (key : List ℕ) × IsContextOf context.now key }
-    ensures accepted { (result ≡ OK) ↔ FitInto output.old input.now size }
-    ensures refused { (result ≡ ERR_BLOCKS) ↔ ¬ (FitInto output.old input.now size) }
+    requires { IsSoundIfMarked context.now }
+    ensures unmarked { (result ≡ ERR_CONTEXT) ↔ ¬ (HasMark NO_MAC context.now) }
+    ensures accepted { (result ≡ OK)
+        ↔ (HasMark NO_MAC context.now × FitInto output.old input.now size) }
+    ensures refused { (result ≡ ERR_BLOCKS)
+        ↔ (HasMark NO_MAC context.now × ¬ (FitInto output.old input.now size)) }
     ensures answered { result ≡ OK → (key : List ℕ) → IsContextOf context.now key
         → IsTheOne (λ answers. AnswersEach (relation_of key) answers input.now) output.new }
     ensures kept { result ≢ OK → output.new ≡ output.old }
 {
-    if calls::copy_whole(input, output, size) {
-        calls::decrypt_ecb::<Width>(context, output, size)
-    } else {
-        ERR_BLOCKS
+    match calls::copy_whole(context, input, output, size) {
+        OK => calls::decrypt_ecb::<Width>(context, output, size),
+        status => status,
     }
 }
 
@@ -105,9 +114,11 @@ pub extern "C" fn cukvashe_internal_decrypt_cbc(
     blocks: &mut [[u8; 8]],
     size: usize,
 ) -> i32
-    requires { (key : List ℕ) × IsContextOf context.now key }
-    ensures accepted { (result ≡ OK) ↔ AreBytesOf blocks.old size }
-    ensures refused { (result ≡ ERR_BLOCKS) ↔ ¬ (AreBytesOf blocks.old size) }
+    requires { IsSoundIfMarked context.now }
+    ensures unmarked { (result ≡ ERR_CONTEXT) ↔ ¬ (HasMark NO_MAC context.now) }
+    ensures accepted { (result ≡ OK) ↔ (HasMark NO_MAC context.now × AreBytesOf blocks.old size) }
+    ensures refused { (result ≡ ERR_BLOCKS)
+        ↔ (HasMark NO_MAC context.now × ¬ (AreBytesOf blocks.old size)) }
     ensures chained { result ≡ OK → (key : List ℕ) → IsContextOf context.now key
         → Chains (relation_of key) iv.old blocks.new blocks.old }
     ensures goes_on { result ≡ OK → iv.new ≡ next_vector iv.old blocks.old }
@@ -127,17 +138,19 @@ pub extern "C" fn cukvashe_internal_decrypt_cbc_to(
     output: &mut [[u8; 8]],
     size: usize,
 ) -> i32
-    requires { (key : List ℕ) × IsContextOf context.now key }
-    ensures accepted { (result ≡ OK) ↔ FitInto output.old input.now size }
-    ensures refused { (result ≡ ERR_BLOCKS) ↔ ¬ (FitInto output.old input.now size) }
+    requires { IsSoundIfMarked context.now }
+    ensures unmarked { (result ≡ ERR_CONTEXT) ↔ ¬ (HasMark NO_MAC context.now) }
+    ensures accepted { (result ≡ OK)
+        ↔ (HasMark NO_MAC context.now × FitInto output.old input.now size) }
+    ensures refused { (result ≡ ERR_BLOCKS)
+        ↔ (HasMark NO_MAC context.now × ¬ (FitInto output.old input.now size)) }
     ensures chained { result ≡ OK → (key : List ℕ) → IsContextOf context.now key
         → Chains (relation_of key) iv.old output.new input.now }
     ensures goes_on { result ≡ OK → iv.new ≡ next_vector iv.old input.now }
     ensures kept { result ≢ OK → (output.new ≡ output.old) × (iv.new ≡ iv.old) }
 {
-    if calls::copy_whole(input, output, size) {
-        calls::decrypt_cbc::<Width>(context, iv, output, size)
-    } else {
-        ERR_BLOCKS
+    match calls::copy_whole(context, input, output, size) {
+        OK => calls::decrypt_cbc::<Width>(context, iv, output, size),
+        status => status,
     }
 }

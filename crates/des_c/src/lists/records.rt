@@ -2,13 +2,15 @@
 
 ghost use Rattle.std.specs.Prelude.{◌≡◌, ◌≢◌, ◌↔◌, ℕ, List, length};
 ghost use Rattle.des_fast.specs.Records.{GoOn};
+ghost use Rattle.des_context.specs.Bytes.{AreBytesOf};
 ghost use Rattle.des_context.specs.Forms.{relation_of};
-ghost use Rattle.des_context.specs.Contexts.{IsContextOf};
+ghost use Rattle.des_context.specs.Contexts.{HasMark, IsContextOf, IsSoundIfMarked};
 ghost use Rattle.des_context.specs.Records.{AreSizesOf, ChainsEach};
 
 use super::Width;
+use des_context::contexts::NO_MAC;
 use des_context::records::{decrypt_cbc_records, encrypt_cbc_records};
-use des_context::status::{ERR_COUNTS, OK};
+use des_context::status::{ERR_BLOCKS, ERR_CONTEXT, ERR_COUNTS, OK};
 
 /// Encrypts records in place by CBC: `counts[k]` blocks are record k, one record after another, and
 /// `vectors[k]`, from which it is chained, becomes its last ciphertext block. The status is
@@ -20,10 +22,16 @@ pub extern "C" fn cukvashe_internal_encrypt_cbc_records(
     vectors: &mut [[u8; 8]],
     counts: &[usize],
     blocks: &mut [[u8; 8]],
+    size: usize,
 ) -> i32
-    requires { (key : List ℕ) × IsContextOf context.now key }
-    ensures accepted { (result ≡ OK) ↔ AreSizesOf counts.now vectors.old blocks.old }
-    ensures refused { (result ≡ ERR_COUNTS) ↔ ¬ (AreSizesOf counts.now vectors.old blocks.old) }
+    requires { IsSoundIfMarked context.now }
+    ensures unmarked { (result ≡ ERR_CONTEXT) ↔ ¬ (HasMark NO_MAC context.now) }
+    ensures cut { (result ≡ ERR_BLOCKS)
+        ↔ (HasMark NO_MAC context.now × ¬ (AreBytesOf blocks.old size)) }
+    ensures accepted { (result ≡ OK) ↔ (HasMark NO_MAC context.now
+        × AreBytesOf blocks.old size × AreSizesOf counts.now vectors.old blocks.old) }
+    ensures refused { (result ≡ ERR_COUNTS) ↔ (HasMark NO_MAC context.now
+        × AreBytesOf blocks.old size × ¬ (AreSizesOf counts.now vectors.old blocks.old)) }
     ensures chained { result ≡ OK → (key : List ℕ) → IsContextOf context.now key
         → ChainsEach (relation_of key) counts.now vectors.old blocks.old blocks.new }
     ensures goes_on { result ≡ OK → GoOn counts.now vectors.old blocks.new vectors.new }
@@ -31,7 +39,7 @@ pub extern "C" fn cukvashe_internal_encrypt_cbc_records(
         × (length blocks.new ≡ length blocks.old) }
     ensures kept { result ≢ OK → (vectors.new ≡ vectors.old) × (blocks.new ≡ blocks.old) }
 {
-    encrypt_cbc_records::<Width>(context, vectors, counts, blocks)
+    encrypt_cbc_records::<Width>(context, vectors, counts, blocks, size)
 }
 
 /// Decrypts records in place that CBC chained. The status is as of encryption.
@@ -41,10 +49,16 @@ pub extern "C" fn cukvashe_internal_decrypt_cbc_records(
     vectors: &mut [[u8; 8]],
     counts: &[usize],
     blocks: &mut [[u8; 8]],
+    size: usize,
 ) -> i32
-    requires { (key : List ℕ) × IsContextOf context.now key }
-    ensures accepted { (result ≡ OK) ↔ AreSizesOf counts.now vectors.old blocks.old }
-    ensures refused { (result ≡ ERR_COUNTS) ↔ ¬ (AreSizesOf counts.now vectors.old blocks.old) }
+    requires { IsSoundIfMarked context.now }
+    ensures unmarked { (result ≡ ERR_CONTEXT) ↔ ¬ (HasMark NO_MAC context.now) }
+    ensures cut { (result ≡ ERR_BLOCKS)
+        ↔ (HasMark NO_MAC context.now × ¬ (AreBytesOf blocks.old size)) }
+    ensures accepted { (result ≡ OK) ↔ (HasMark NO_MAC context.now
+        × AreBytesOf blocks.old size × AreSizesOf counts.now vectors.old blocks.old) }
+    ensures refused { (result ≡ ERR_COUNTS) ↔ (HasMark NO_MAC context.now
+        × AreBytesOf blocks.old size × ¬ (AreSizesOf counts.now vectors.old blocks.old)) }
     ensures chained { result ≡ OK → (key : List ℕ) → IsContextOf context.now key
         → ChainsEach (relation_of key) counts.now vectors.old blocks.new blocks.old }
     ensures goes_on { result ≡ OK → GoOn counts.now vectors.old blocks.old vectors.new }
@@ -52,5 +66,5 @@ pub extern "C" fn cukvashe_internal_decrypt_cbc_records(
         × (length blocks.new ≡ length blocks.old) }
     ensures kept { result ≢ OK → (vectors.new ≡ vectors.old) × (blocks.new ≡ blocks.old) }
 {
-    decrypt_cbc_records::<Width>(context, vectors, counts, blocks)
+    decrypt_cbc_records::<Width>(context, vectors, counts, blocks, size)
 }
