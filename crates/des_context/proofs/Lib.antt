@@ -3,6 +3,7 @@ mod JoinedParts
 mod KeysOfBytes
 mod MacCases
 mod MadeContexts
+pub mod Marks
 mod OpenedBlocks
 pub mod PaddedCounts
 mod PartWords
