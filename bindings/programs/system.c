@@ -9,7 +9,6 @@
 #include <stdlib.h>
 #include <string.h>
 #include <sys/resource.h>
-#include <sys/uio.h>
 #include <unistd.h>
 
 /* Whether there is memory, and where. If there is none, the pointer is not null, and nothing may be read or written there. */
@@ -51,12 +50,10 @@ static bool has_stack(void) {
   return limit.rlim_cur >= STACK_BYTES + size_of(arguments) + size_of(environ);
 }
 
-/* Tells that there is too little stack, in the form of a fault of cukvashe, and returns its status. */
+/* Tells that there is too little stack, as a fault of cukvashe, whatever name the program was given, and returns its status. */
 static int refuse_stack(void) {
-  static char words[] = ": Memory: the stack may have less than 128 KiB (see ulimit -s)\n", none[] = "";
-  char *path = count > 0 ? arguments[0] : none, *slash = strrchr(path, '/'), *name = slash != NULL ? slash + 1 : path;
-  const struct iovec line[] = {{name, strlen(name)}, {words, sizeof words - 1}};
-  (void)!writev(STDERR_FILENO, line, 2);
+  static const char line[] = "cukvashe: Memory: the stack may have less than 128 KiB (see ulimit -s)\n";
+  (void)!write(STDERR_FILENO, line, sizeof line - 1);
   return 3;
 }
 
