@@ -19,9 +19,9 @@ text := generated/$(or $(target),x86_64)
 shared := $(or $(shared_$(target)),so.$(soversion))
 library := $(addprefix bindings/out/$(target:%=%/)lib/libcukvashe_des.,a $(shared))
 programs := $(if $(findstring linux,$(machine)),$(notdir $(basename $(wildcard $(text)/des_tool.s $(text)/cukvashe.s))))
-# A word for the shell, whatever characters are in it.
+# A word for the shell, whatever characters are in it. Of a path make takes `$` as it is too.
 quoted = '$(subst ','\'',$(1))'
-to = $(target:%=--target %) $(if $(programs),--programs) --prefix $(call quoted,$(PREFIX)) $(if $(DESTDIR),--destdir $(call quoted,$(DESTDIR)))
+to = $(target:%=--target %) $(if $(programs),--programs) --prefix $(call quoted,$(value PREFIX)) $(if $(value DESTDIR),--destdir $(call quoted,$(value DESTDIR)))
 
 .PHONY: all check check-library check-programs install uninstall clean always
 # The tests of the library and of the programs run at once, and take what is built before.
