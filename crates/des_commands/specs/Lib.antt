@@ -7,6 +7,7 @@ pub mod Lines
 pub mod Macs
 pub mod Sources
 pub mod Descriptors
+pub mod Inodes
 pub mod Keys
 pub mod Notices
 pub mod CheckDigits

@@ -121,8 +121,8 @@ pub fn if_there(known: io::Result<Metadata>) -> io::Result<Option<Metadata>>
     }
 }
 
-/// The mode of the folder of a path.
-pub fn folder_mode(rt: &HostRuntime, path: &str) -> io::Result<u32> {
+// The mode of the folder of a path.
+fn folder_mode(rt: &HostRuntime, path: &str) -> io::Result<u32> {
     Ok(fs::metadata(rt, folder_of(path))?.permissions().mode())
 }
 

@@ -12,6 +12,7 @@ mod descriptors;
 mod digits;
 mod emv_lines;
 mod fault;
+mod inodes;
 mod inputs;
 mod key_block_lines;
 mod keys;

@@ -3,10 +3,9 @@
 ghost use Rattle.std.specs.Prelude.{◌≡◌, ◌⊎◌, ◌↔◌};
 ghost use Rattle.std.specs.IoError.{error_kind};
 
-use crate::descriptors::{
-    Followed, folder_mode, folder_of, follow, has_shared, if_there, standing_of,
-};
+use crate::descriptors::{Followed, folder_of, follow, has_shared, if_there, standing_of};
 use crate::fault::{Fault, Kind, Misuse, Reason};
+use crate::inodes::{inode_of, is_refused_in_sticky};
 use crate::inputs::system_random;
 use crate::source::{Source, shown};
 use crate::stream_request::Output;
@@ -22,14 +21,6 @@ const STANDARD_OUTPUT: &str = "/proc/self/fd/1";
 const PERMISSION_BITS: u32 = 0o777;
 
 const OWNER_BITS: u32 = 0o700;
-
-// The bit of the mode of a folder where only a file's owner may remove it.
-const STICKY: u32 = 0o1000;
-
-// The mode of a file that is made where one is to be opened. No other file has it.
-const MODE_OF_NONE: u32 = 0o1000;
-
-const MODE_BITS: u32 = 0o7777;
 
 // A file is its owner's alone while it is written.
 const MODE_IN_WRITING: u32 = 0o600;
@@ -152,26 +143,24 @@ fn open_fault(error: io::Error) -> Kind {
     }
 }
 
-// Opens the file that was looked up, under a name that is no link. In a folder where only owners remove
-// files it is opened as a shell opens it, by `create` too: so the system may refuse a file or a pipe
-// that another user has put there. One that is made so is none that was looked up, and is removed.
+// Opens the file that was looked up, under a name that is no link. A shell opens with `O_CREAT`, so that
+// the system refuses what another user has put into a folder where many may write. That would make a
+// file wherever a link leads that takes the name meanwhile: so it is refused here, by the same rule.
 fn open_looked_up(rt: &HostRuntime, name: &str, old: &Metadata) -> Result<File, Kind> {
-    let creates = folder_mode(rt, name).map_err(open_fault)? & STICKY != 0;
+    let folder = fs::metadata(rt, folder_of(name)).map_err(open_fault)?;
+    if is_refused_in_sticky(inode_of(&folder), inode_of(old), libc::geteuid()) {
+        return Err(Kind::Write(Reason::Permission));
+    }
     let file = OpenOptions::new()
         .write(true)
-        .create(creates)
-        .mode(MODE_OF_NONE)
         .open(rt, name)
         .map_err(open_fault)?;
     let found = file.metadata().map_err(write_fault)?;
     let named = fs::symlink_metadata(rt, name).map_err(open_fault)?;
-    if are_same(&found, old) && are_same(&named, old) {
-        return Ok(file);
+    if !are_same(&found, old) || !are_same(&named, old) {
+        return Err(Kind::Write(Reason::Changed));
     }
-    if creates && found.permissions().mode() & MODE_BITS == MODE_OF_NONE {
-        let _ = fs::remove_file(rt, name);
-    }
-    Err(Kind::Write(Reason::Changed))
+    Ok(file)
 }
 
 // A folder is refused, a regular file is replaced, and anything else is written to as it is. A file
