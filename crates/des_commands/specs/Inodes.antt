@@ -28,3 +28,7 @@ IsRefusedInSticky folder file user =
     × (IsRegular file.mode ⊎ IsFifo file.mode)
     × (file.owner ≢ folder.owner)
     × (file.owner ≢ user)
+
+-- a file is another user's, or its group or others have rights to it
+abbrev pub HasOtherUsers : Inode → (user : ℕ) → Type 0
+HasOtherUsers file user = (file.owner ≢ user) ⊎ (bit_and file.mode 0o077 ≢ 0)

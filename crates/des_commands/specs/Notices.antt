@@ -28,7 +28,7 @@ notice_line Limit about =
     (codes "more than 2^20 blocks (8 MiB) are encrypted under one key (NIST SP 800-67)")
 notice_line Permissions about =
     line_with (codes "Permissions") about
-    (codes "the new file is its owner's alone, since no access list is kept")
+    (codes "the new file is yours alone: others had rights to the old one")
 
 -- ---- keys
 

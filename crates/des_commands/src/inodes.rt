@@ -2,7 +2,7 @@
 
 ghost use Rattle.std.specs.Prelude.{◌≡◌, ◌↔◌, IsTrue};
 ghost use Rattle.std.specs.Fs.{metadata_mode};
-ghost use Rattle.des_commands.specs.Inodes.{IsRefusedInSticky};
+ghost use Rattle.des_commands.specs.Inodes.{HasOtherUsers, IsRefusedInSticky};
 
 use std::fs::Metadata;
 use std::os::unix::fs::MetadataExt;
@@ -21,6 +21,9 @@ const STICKY: u32 = 0o1000;
 const GROUP_WRITES: u32 = 0o020;
 
 const OTHERS_WRITE: u32 = 0o002;
+
+// What others than the owner may do.
+const RIGHTS_OF_OTHERS: u32 = 0o077;
 
 /// What the system tells of a file or a folder.
 #[derive(Clone, Copy)]
@@ -53,4 +56,11 @@ pub fn is_refused_in_sticky(folder: Inode, file: Inode, user: u32) -> bool
         && (kind == REGULAR || kind == FIFO)
         && file.owner != folder.owner
         && file.owner != user
+}
+
+/// Whether others than a user have rights to a file: it is another's, or its mode gives some.
+pub fn has_other_users(file: Inode, user: u32) -> bool
+    ensures { IsTrue result ↔ HasOtherUsers file user }
+{
+    file.owner != user || file.mode & RIGHTS_OF_OTHERS != 0
 }

@@ -22,7 +22,7 @@ pub enum Notice {
     DoubleLength,
     /// More blocks are encrypted under one key than NIST SP 800-67 Rev. 2, 3.4, allows.
     Limit,
-    /// A file is replaced that others could read or write.
+    /// A file is replaced to which others had rights.
     Permissions,
 }
 
@@ -53,7 +53,7 @@ pub fn tell<E: Write>(notice: Notice, about: &str, err: &mut E) -> Result<(), St
         Notice::Permissions => write_line(
             "Permissions",
             about,
-            "the new file is its owner's alone, since no access list is kept",
+            "the new file is yours alone: others had rights to the old one",
             err,
         ),
     }

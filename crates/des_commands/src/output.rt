@@ -5,7 +5,7 @@ ghost use Rattle.std.specs.IoError.{error_kind};
 
 use crate::descriptors::{Followed, folder_of, follow, has_shared, if_there, standing_of};
 use crate::fault::{Fault, Kind, Misuse, Reason};
-use crate::inodes::{inode_of, is_refused_in_sticky};
+use crate::inodes::{has_other_users, inode_of, is_refused_in_sticky};
 use crate::inputs::system_random;
 use crate::source::{Source, shown};
 use crate::stream_request::Output;
@@ -39,7 +39,7 @@ pub struct PrivateFile {
     // The permissions that it gets at its end, and the group, where a file is replaced.
     mode: u32,
     group: Option<u32>,
-    /// Others than the owner had rights to the file that it replaces, and have none to it.
+    /// Others than its owner had rights to the file that it replaces, and have none to it.
     pub narrows: bool,
     /// Where the bytes go.
     pub file: File,
@@ -129,7 +129,7 @@ fn open_path(
     readers: Readers,
 ) -> Result<Target, Kind> {
     match if_there(fs::metadata(rt, path)).map_err(write_fault)? {
-        Some(old) => open_old(rt, name, &old, readers),
+        Some(old) => open_old(rt, name, &old),
         None if is_shared => Err(Kind::Write(Reason::Permission)),
         None => open_new(rt, name, readers),
     }
@@ -165,12 +165,7 @@ fn open_looked_up(rt: &HostRuntime, name: &str, old: &Metadata) -> Result<File, 
 
 // A folder is refused, a regular file is replaced, and anything else is written to as it is. A file
 // that may not be written to is not replaced, although the system would let it be.
-fn open_old(
-    rt: &HostRuntime,
-    name: String,
-    old: &Metadata,
-    readers: Readers,
-) -> Result<Target, Kind> {
+fn open_old(rt: &HostRuntime, name: String, old: &Metadata) -> Result<Target, Kind> {
     if old.is_dir() {
         return Err(Kind::Write(Reason::IsFolder));
     }
@@ -178,9 +173,9 @@ fn open_old(
     if !old.is_file() {
         return Ok(Target::AsItIs(file));
     }
-    let mode = old.permissions().mode() & PERMISSION_BITS;
-    let narrows = readers == Readers::OfFolder && mode & OWNER_BITS != mode;
-    create_private(rt, name, mode & OWNER_BITS, Some(old.gid()), narrows)
+    let mode = old.permissions().mode() & OWNER_BITS;
+    let narrows = has_other_users(inode_of(old), libc::geteuid());
+    create_private(rt, name, mode, Some(old.gid()), narrows)
 }
 
 // The permissions of a new file beside a target: those that the system gives one, by the umask or the
