@@ -156,8 +156,7 @@ fn file_words(fault: FileFault) -> &'static str {
             "the input begins with Salted__: it is under a password, with a salt (see --password-file and --no-salt)",
         FileFault::SaltedText =>
             "the input begins as Base64 of Salted__: it is under a password, with a salt (see --password-file and --base64)",
-        FileFault::NotSalted =>
-            "the input does not begin with Salted__ (see --no-salt and --base64)",
+        FileFault::NotSalted => "the input does not begin with Salted__ (see --no-salt)",
         FileFault::SaltCut => "the input ends within the salt",
         FileFault::Base64 => "it is no Base64",
         FileFault::Begin => "no line begins an encrypted private key",
