@@ -36,9 +36,10 @@ const NAMES_AT_MOST: u32 = 16;
 pub struct PrivateFile {
     target: String,
     beside: String,
-    // The permissions that it gets at its end, and the group, where a file is replaced.
+    // The file that it replaces, where there is one.
+    old: Option<Metadata>,
+    // The permissions that it gets at its end.
     mode: u32,
-    group: Option<u32>,
     /// Others than its owner had rights to the file that it replaces, and have none to it.
     pub narrows: bool,
     /// Where the bytes go.
@@ -129,7 +130,7 @@ fn open_path(
     readers: Readers,
 ) -> Result<Target, Kind> {
     match if_there(fs::metadata(rt, path)).map_err(write_fault)? {
-        Some(old) => open_old(rt, name, &old),
+        Some(old) => open_old(rt, name, old),
         None if is_shared => Err(Kind::Write(Reason::Permission)),
         None => open_new(rt, name, readers),
     }
@@ -165,17 +166,17 @@ fn open_looked_up(rt: &HostRuntime, name: &str, old: &Metadata) -> Result<File, 
 
 // A folder is refused, a regular file is replaced, and anything else is written to as it is. A file
 // that may not be written to is not replaced, although the system would let it be.
-fn open_old(rt: &HostRuntime, name: String, old: &Metadata) -> Result<Target, Kind> {
+fn open_old(rt: &HostRuntime, name: String, old: Metadata) -> Result<Target, Kind> {
     if old.is_dir() {
         return Err(Kind::Write(Reason::IsFolder));
     }
-    let file = open_looked_up(rt, name.as_str(), old)?;
+    let file = open_looked_up(rt, name.as_str(), &old)?;
     if !old.is_file() {
         return Ok(Target::AsItIs(file));
     }
     let mode = old.permissions().mode() & OWNER_BITS;
-    let narrows = has_other_users(inode_of(old), libc::geteuid());
-    create_private(rt, name, mode, Some(old.gid()), narrows)
+    let narrows = has_other_users(inode_of(&old), libc::geteuid());
+    create_private(rt, name, Some(old), mode, narrows)
 }
 
 // The permissions of a new file beside a target: those that the system gives one, by the umask or the
@@ -199,7 +200,7 @@ fn open_new(rt: &HostRuntime, name: String, readers: Readers) -> Result<Target, 
         return Err(Kind::Write(Reason::NotFolder));
     }
     let mode = mode_of(rt, name.as_str(), readers)?;
-    create_private(rt, name, mode, None, false)
+    create_private(rt, name, None, mode, false)
 }
 
 // Standard output itself is written to: other programs may share its place. The system opens the
@@ -286,23 +287,36 @@ fn create_beside(rt: &HostRuntime, target: &str, mode: u32) -> Result<(String, F
     Err(Kind::Write(Reason::Exists))
 }
 
-// The file that replaces a target, and has a mode and a group then.
+// The file that takes the place of a target, which was a file or nothing, and has a mode then.
 fn create_private(
     rt: &HostRuntime,
     target: String,
+    old: Option<Metadata>,
     mode: u32,
-    group: Option<u32>,
     narrows: bool,
 ) -> Result<Target, Kind> {
     let (beside, file) = create_beside(rt, target.as_str(), MODE_IN_WRITING)?;
     Ok(Target::Replaced(PrivateFile {
         target,
         beside,
+        old,
         mode,
-        group,
         narrows,
         file,
     }))
+}
+
+// Refuses what took a name after it was looked up, or left it: it is not replaced, unless that comes
+// between this look and the renaming.
+fn refuse_changed(rt: &HostRuntime, name: &str, old: &Option<Metadata>) -> Result<(), Kind> {
+    match (
+        old,
+        if_there(fs::symlink_metadata(rt, name)).map_err(write_fault)?,
+    ) {
+        (Some(old), Some(found)) if are_same(old, &found) => Ok(()),
+        (None, None) => Ok(()),
+        _ => Err(Kind::Write(Reason::Changed)),
+    }
 }
 
 // The fault of a file that can't take the target's name.
@@ -317,7 +331,7 @@ impl PrivateFile {
     /// Ends the file. Where all went well it is flushed to the disk and takes the target's name.
     /// Where anything failed it is removed, and the target stays as it was.
     pub fn end(self, rt: &HostRuntime, outcome: Result<(), Kind>) -> Result<(), Kind> {
-        let outcome = outcome.and_then(|()| self.replace_target(rt).map_err(replace_fault));
+        let outcome = outcome.and_then(|()| self.replace_target(rt));
         if outcome.is_err() {
             // Where it can't be removed, at least only its owner may read it.
             let _ = self
@@ -331,13 +345,14 @@ impl PrivateFile {
     // Flushes the file, gives it its group and permissions where the system lets it, and renames it: a
     // signal on the way leaves its owner's file. Then the folder is flushed where the system lets it.
     // One that may not be read can't be: that is no fault, since the file stands whole under its name.
-    fn replace_target(&self, rt: &HostRuntime) -> io::Result<()> {
-        self.file.sync_all()?;
-        if let Some(group) = self.group {
-            let _ = fchown(&self.file, None, Some(group));
+    fn replace_target(&self, rt: &HostRuntime) -> Result<(), Kind> {
+        self.file.sync_all().map_err(write_fault)?;
+        if let Some(old) = &self.old {
+            let _ = fchown(&self.file, None, Some(old.gid()));
         }
         let _ = self.file.set_permissions(Permissions::from_mode(self.mode));
-        fs::rename(rt, self.beside.as_str(), self.target.as_str())?;
+        refuse_changed(rt, self.target.as_str(), &self.old)?;
+        fs::rename(rt, self.beside.as_str(), self.target.as_str()).map_err(replace_fault)?;
         if let Ok(folder) = File::open(rt, folder_of(self.target.as_str())) {
             let _ = folder.sync_all();
         }

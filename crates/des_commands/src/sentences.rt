@@ -94,7 +94,7 @@ fn reason_words(reason: Reason) -> &'static str {
         Reason::IsInput => "it is the input too",
         Reason::IsSecret => "it is the file of the key or the password",
         Reason::Reopened => "it leads to a regular file: give the file's path",
-        Reason::Changed => "it was replaced or removed meanwhile",
+        Reason::Changed => "it was made, replaced or removed meanwhile",
         Reason::Descriptor =>
             "it is a descriptor under another name, or of another process: give - or /dev/fd/N",
         Reason::Folder =>
