@@ -28,15 +28,18 @@ def _names() -> tuple[str, str, str]:
 
 
 def _place() -> str:
-    """The library in the package, else the one that is named, else the one that is built for this processor, else the system's."""
+    """The library in the package, else the one that is named, else in the repository the one that is built for this processor, else the
+    system's."""
     package = os.path.dirname(os.path.abspath(__file__))
+    bindings = os.path.dirname(os.path.dirname(package))
     file, below, system = _names()
-    packaged = os.path.join(package, file)
-    built = os.path.join(package, os.pardir, os.pardir, "out", below)
+    packaged, built = os.path.join(package, file), os.path.join(bindings, "out", below)
     named = os.environ.get("CUKVASHE_DES_LIBRARY")
     if os.path.exists(packaged):
         return packaged
-    return named or (built if os.path.exists(built) else system)
+    # Beside an installed package anybody may have a folder `out`.
+    is_repository = os.path.exists(os.path.join(bindings, "c", "cukvashe_des.h"))
+    return named or (built if is_repository and os.path.exists(built) else system)
 
 
 def _load() -> ctypes.CDLL:

@@ -173,13 +173,17 @@ class Package(unittest.TestCase):
                              "or name it by CUKVASHE_DES_LIBRARY\n$")
 
     def test_places(self):
-        """The library in the package comes first, then the one that is named, the one that is built, and the system's by its number."""
+        """The library in the package comes first, then the one that is named, the one that is built if the package is in the repository, and
+        the system's by its number."""
         with tempfile.TemporaryDirectory() as folder:
             package = os.path.join(folder, "bindings", "python", "cukvashe_des")
             shutil.copytree(PACKAGE, package, ignore=shutil.ignore_patterns("*.so", "__pycache__"))
             system, named = os.path.join(folder, "system"), os.path.join(folder, "named.so")
-            places = [os.path.join(system, NUMBERED), os.path.join(folder, "bindings", "out", "lib", "libcukvashe_des.so"),
-                      named, os.path.join(package, "libcukvashe_des.so")]
+            by_number = os.path.join(system, NUMBERED)
+            built = os.path.join(folder, "bindings", "out", "lib", "libcukvashe_des.so")
+            # What is built counts once this file shows that the folder is the repository, whatever is in it.
+            header = os.path.join(folder, "bindings", "c", "cukvashe_des.h")
+            places = [by_number, built, header, named, os.path.join(package, "libcukvashe_des.so")]
             program = "import os, cukvashe_des._library as library; print(os.path.realpath(library._library._name))"
             environment = dict(os.environ, LD_LIBRARY_PATH=system, PYTHONDONTWRITEBYTECODE="1", PYTHONPATH=os.path.dirname(package))
             environment.pop("CUKVASHE_DES_LIBRARY", None)
@@ -189,7 +193,8 @@ class Package(unittest.TestCase):
                 if place == named:
                     environment["CUKVASHE_DES_LIBRARY"] = named
                 done = subprocess.run([sys.executable, "-c", program], cwd=folder, env=environment, capture_output=True, text=True, check=False)
-                expected = os.path.join(folder, NUMBERED) if place == places[0] else place
+                systems = os.path.join(folder, NUMBERED)
+                expected = {by_number: systems, built: systems, header: built}.get(place, place)
                 self.assertEqual((done.stdout.strip(), done.stderr), (os.path.realpath(expected), ""))
 
     def test_systems(self):
@@ -203,8 +208,10 @@ class Package(unittest.TestCase):
             with tempfile.TemporaryDirectory() as folder:
                 module = os.path.join(folder, "python", "cukvashe_des", "_library.py")
                 places = [os.path.join(folder, "out", built), os.path.join(os.path.dirname(module), packaged)]
-                os.makedirs(os.path.dirname(module))
-                os.makedirs(os.path.dirname(places[0]))
+                header = os.path.join(folder, "c", "cukvashe_des.h")
+                for place in (module, places[0], header):
+                    os.makedirs(os.path.dirname(place))
+                open(header, "xb").close()
                 for count, place in enumerate(places):
                     open(place, "xb").close()
                     for (system, processor), (own, own_built, other) in systems.items():
