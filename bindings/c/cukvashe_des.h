@@ -320,32 +320,35 @@ CUKVASHE_CHECK int cukvashe_tdes_ede3_decrypt_each(const uint8_t *keys, size_t c
 /*
  * RECORDS
  *
- * int cukvashe_NAME_encrypt_cbc_records(const cukvashe_NAME *context, uint8_t *vectors, const size_t *counts,
- *                                       size_t records_count, uint8_t *bytes, size_t length)
- * int cukvashe_NAME_decrypt_cbc_records(const cukvashe_NAME *context, uint8_t *vectors, const size_t *counts,
- *                                       size_t records_count, uint8_t *bytes, size_t length)
+ * int cukvashe_NAME_encrypt_cbc_records(const cukvashe_NAME *context, uint8_t *vectors, size_t vectors_length,
+ *                                       const size_t *counts, size_t records_count, uint8_t *bytes, size_t length)
+ * int cukvashe_NAME_decrypt_cbc_records(const cukvashe_NAME *context, uint8_t *vectors, size_t vectors_length,
+ *                                       const size_t *counts, size_t records_count, uint8_t *bytes, size_t length)
  *
  * Encrypts or decrypts `records_count` records by CBC under one key, in place, each from a vector of its own. `bytes`
  * has them one after the other, `length` bytes in all: record k has `counts[k]` blocks of 8 bytes, or none, and its
  * vector is the k-th of `vectors`, of 8 bytes each, which becomes its last ciphertext block. For speed, sort records of
- * very different lengths. Errors: CUKVASHE_ERR_CONTEXT, _BLOCKS; _COUNTS if the sum of the counts is not `length` / 8.
+ * very different lengths. Errors: CUKVASHE_ERR_COUNTS if `vectors_length` is not that of `records_count` vectors; then
+ * _CONTEXT, _BLOCKS; _COUNTS if the sum of the counts is not `length` / 8.
  */
-CUKVASHE_CHECK int cukvashe_des_encrypt_cbc_records(const cukvashe_des *context, uint8_t *vectors, const size_t *counts,
-                                                    size_t records_count, uint8_t *bytes, size_t length);
-CUKVASHE_CHECK int cukvashe_des_decrypt_cbc_records(const cukvashe_des *context, uint8_t *vectors, const size_t *counts,
-                                                    size_t records_count, uint8_t *bytes, size_t length);
+CUKVASHE_CHECK int cukvashe_des_encrypt_cbc_records(const cukvashe_des *context, uint8_t *vectors,
+                                                    size_t vectors_length, const size_t *counts, size_t records_count,
+                                                    uint8_t *bytes, size_t length);
+CUKVASHE_CHECK int cukvashe_des_decrypt_cbc_records(const cukvashe_des *context, uint8_t *vectors,
+                                                    size_t vectors_length, const size_t *counts, size_t records_count,
+                                                    uint8_t *bytes, size_t length);
 CUKVASHE_CHECK int cukvashe_tdes_ede2_encrypt_cbc_records(const cukvashe_tdes_ede2 *context, uint8_t *vectors,
-                                                          const size_t *counts, size_t records_count, uint8_t *bytes,
-                                                          size_t length);
+                                                          size_t vectors_length, const size_t *counts,
+                                                          size_t records_count, uint8_t *bytes, size_t length);
 CUKVASHE_CHECK int cukvashe_tdes_ede2_decrypt_cbc_records(const cukvashe_tdes_ede2 *context, uint8_t *vectors,
-                                                          const size_t *counts, size_t records_count, uint8_t *bytes,
-                                                          size_t length);
+                                                          size_t vectors_length, const size_t *counts,
+                                                          size_t records_count, uint8_t *bytes, size_t length);
 CUKVASHE_CHECK int cukvashe_tdes_ede3_encrypt_cbc_records(const cukvashe_tdes_ede3 *context, uint8_t *vectors,
-                                                          const size_t *counts, size_t records_count, uint8_t *bytes,
-                                                          size_t length);
+                                                          size_t vectors_length, const size_t *counts,
+                                                          size_t records_count, uint8_t *bytes, size_t length);
 CUKVASHE_CHECK int cukvashe_tdes_ede3_decrypt_cbc_records(const cukvashe_tdes_ede3 *context, uint8_t *vectors,
-                                                          const size_t *counts, size_t records_count, uint8_t *bytes,
-                                                          size_t length);
+                                                          size_t vectors_length, const size_t *counts,
+                                                          size_t records_count, uint8_t *bytes, size_t length);
 
 /*
  * PADDING
@@ -529,7 +532,8 @@ CUKVASHE_CHECK bool cukvashe_cmac_tdes_ede3_is_tag(const cukvashe_cmac_tdes_ede3
  *                           bool *right, size_t count)
  *
  * Writes for each of `count` whole tags whether it is the one at its place in `expected`, which macs or macs_each made.
- * Errors: CUKVASHE_ERR_COUNTS if `tags_length` or `expected_length` is not that of `count` tags.
+ * Look at `right`: CUKVASHE_OK does not say that a tag is. Errors: CUKVASHE_ERR_COUNTS if `tags_length` or
+ * `expected_length` is not that of `count` tags.
  */
 typedef struct {
   const uint8_t *bytes;

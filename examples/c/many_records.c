@@ -12,7 +12,7 @@ static int decrypt(const uint8_t key[24], uint8_t *vectors, const size_t *counts
   cukvashe_tdes_ede3 context;
   int status = cukvashe_tdes_ede3_init(&context, key, 24);
   if (status == CUKVASHE_OK)
-    status = cukvashe_tdes_ede3_decrypt_cbc_records(&context, vectors, counts, records, bytes, length);
+    status = cukvashe_tdes_ede3_decrypt_cbc_records(&context, vectors, 8 * records, counts, records, bytes, length);
   cukvashe_wipe(&context, sizeof context);
   return status;
 }

@@ -49,6 +49,9 @@ static bool are_elements(size_t count, size_t size, size_t length) {
 #define OF_KEYS_AND_BLOCKS(CALL)                                                                                      \
   (length % CUKVASHE_BLOCK_SIZE != 0 ? CUKVASHE_ERR_BLOCKS : OF_COUNTS(count == BLOCKS, CALL))
 
+/* Records, of which the exports compare the counts of blocks. */
+#define OF_RECORDS(CALL) OF_COUNTS(are_elements(records_count, CUKVASHE_BLOCK_SIZE, vectors_length), CALL)
+
 /* Lists of messages under one key. The exports take keys of the MAC's size alone. */
 #define OF_KEY(SIZE, CALL) (key_length != (SIZE) ? CUKVASHE_ERR_KEY_LENGTH : (CALL))
 
@@ -86,15 +89,17 @@ static bool are_elements(size_t count, size_t size, size_t length) {
     if (input == output) return cukvashe_##NAME##_decrypt_cbc(context, iv, output, length);                           \
     return CHOOSE(BLOCKS, decrypt_cbc_to, context->words, WORDS, iv, input, BLOCKS, output, BLOCKS, length);          \
   }                                                                                                                   \
-  int cukvashe_##NAME##_encrypt_cbc_records(const cukvashe_##NAME *context, uint8_t *vectors, const size_t *counts,   \
-                                            size_t records_count, uint8_t *bytes, size_t length) {                    \
-    return CHOOSE(records_count, encrypt_cbc_records, context->words, WORDS, vectors, records_count, counts,          \
-                  records_count, bytes, BLOCKS, length);                                                              \
+  int cukvashe_##NAME##_encrypt_cbc_records(const cukvashe_##NAME *context, uint8_t *vectors,                         \
+                                            size_t vectors_length, const size_t *counts, size_t records_count,        \
+                                            uint8_t *bytes, size_t length) {                                          \
+    return OF_RECORDS(CHOOSE(records_count, encrypt_cbc_records, context->words, WORDS, vectors, records_count,       \
+                             counts, records_count, bytes, BLOCKS, length));                                          \
   }                                                                                                                   \
-  int cukvashe_##NAME##_decrypt_cbc_records(const cukvashe_##NAME *context, uint8_t *vectors, const size_t *counts,   \
-                                            size_t records_count, uint8_t *bytes, size_t length) {                    \
-    return CHOOSE(BLOCKS, decrypt_cbc_records, context->words, WORDS, vectors, records_count, counts, records_count,  \
-                  bytes, BLOCKS, length);                                                                             \
+  int cukvashe_##NAME##_decrypt_cbc_records(const cukvashe_##NAME *context, uint8_t *vectors,                         \
+                                            size_t vectors_length, const size_t *counts, size_t records_count,        \
+                                            uint8_t *bytes, size_t length) {                                          \
+    return OF_RECORDS(CHOOSE(BLOCKS, decrypt_cbc_records, context->words, WORDS, vectors, records_count,              \
+                             counts, records_count, bytes, BLOCKS, length));                                          \
   }
 
 DEFINE_CIPHER(des, 17)

@@ -245,10 +245,10 @@ static size_t number;
   }                                                                                                                   \
   static void NAME##_of_records(size_t count, size_t length) {                                                        \
     const uintptr_t context = A(NAME.words);                                                                          \
-    CHECK(cukvashe_##NAME##_encrypt_cbc_records(&NAME, iv, sizes, count, output, length) == STATUS);                  \
+    CHECK(cukvashe_##NAME##_encrypt_cbc_records(&NAME, iv, 8 * count, sizes, count, output, length) == STATUS);       \
     WAS(width_of(count), "encrypt_cbc_records", context, WORDS, A(iv), count, A(sizes), count, A(output), length / 8, \
         length);                                                                                                      \
-    CHECK(cukvashe_##NAME##_decrypt_cbc_records(&NAME, iv, sizes, count, output, length) == STATUS);                  \
+    CHECK(cukvashe_##NAME##_decrypt_cbc_records(&NAME, iv, 8 * count, sizes, count, output, length) == STATUS);       \
     WAS(width_of(length / 8), "decrypt_cbc_records", context, WORDS, A(iv), count, A(sizes), count, A(output),        \
         length / 8, length);                                                                                          \
   }                                                                                                                   \
@@ -263,6 +263,12 @@ static size_t number;
     CHECK(cukvashe_##NAME##_encrypt_each(input, count, output, length) == status && calls == 0);                      \
     CHECK(cukvashe_##NAME##_decrypt_each(input, count, output, length) == status && calls == 0);                      \
     wipes = 0;                                                                                                        \
+  }                                                                                                                   \
+  static void NAME##_refuses_records(size_t count, size_t length) {                                                   \
+    const int status = CUKVASHE_ERR_COUNTS;                                                                           \
+    CHECK(cukvashe_##NAME##_encrypt_cbc_records(&NAME, iv, 8 * count, sizes, count, output, length) == status);       \
+    CHECK(cukvashe_##NAME##_decrypt_cbc_records(&NAME, iv, 8 * count, sizes, count, output, length) == status);       \
+    CHECK(calls == 0);                                                                                                \
   }                                                                                                                   \
   static void NAME##_of_count(size_t count) {                                                                         \
     CHECK(cukvashe_##NAME##_check_values(input, KEY_SIZE * count, output, 3 * count, count) == STATUS);               \
@@ -414,11 +420,18 @@ static void refuses_counts(void) {
 }
 
 /* Lists of blocks. Under keys of their own a length that is not whole blocks goes no further, nor does a count that is not that of the
-   blocks, since it is multiplied, also where eight times as much is the length in 64 bits; of records both go on as they are. */
+   blocks, since it is multiplied, also where eight times as much is the length in 64 bits; of records both go on as they are, if their
+   vectors have a length. */
 static void hands_on_blocks(size_t count, size_t length) {
-  des_of_records(count, length);
-  tdes_ede2_of_records(count, length);
-  tdes_ede3_of_records(count, length);
+  if (count > SIZE_MAX / 8) {
+    des_refuses_records(count, length);
+    tdes_ede2_refuses_records(count, length);
+    tdes_ede3_refuses_records(count, length);
+  } else {
+    des_of_records(count, length);
+    tdes_ede2_of_records(count, length);
+    tdes_ede3_of_records(count, length);
+  }
   if (length % 8 == 0 && count == length / 8) {
     des_of_each(count);
     tdes_ede2_of_each(count);

@@ -163,11 +163,11 @@ static size_t put_sizes(size_t count) {
 static uint8_t vectors[8 * LONGEST], next[8 * LONGEST], left[8 * LONGEST];
 
 #define RECORDS(name)                                                                                                 \
-  static int name##_encrypt_records(const size_t *counts, size_t count, size_t length) {                              \
-    return cukvashe_##name##_encrypt_cbc_records(&chaining.name, left, counts, count, room + MORE, length);           \
+  static int name##_encrypt_records(size_t size, const size_t *counts, size_t count, size_t length) {                 \
+    return cukvashe_##name##_encrypt_cbc_records(&chaining.name, left, size, counts, count, room + MORE, length);     \
   }                                                                                                                   \
-  static int name##_decrypt_records(const size_t *counts, size_t count, size_t length) {                              \
-    return cukvashe_##name##_decrypt_cbc_records(&chaining.name, left, counts, count, room + MORE, length);           \
+  static int name##_decrypt_records(size_t size, const size_t *counts, size_t count, size_t length) {                 \
+    return cukvashe_##name##_decrypt_cbc_records(&chaining.name, left, size, counts, count, room + MORE, length);     \
   }
 
 static union context chaining;
@@ -176,7 +176,7 @@ RECORDS(des)
 RECORDS(tdes_ede2)
 RECORDS(tdes_ede3)
 
-typedef int of_records(const size_t *counts, size_t count, size_t length);
+typedef int of_records(size_t vectors_length, const size_t *counts, size_t count, size_t length);
 
 static of_records *const records[CIPHERS][2] = {
     {des_encrypt_records, des_decrypt_records},
@@ -202,17 +202,35 @@ static void answers_records(int n, size_t count) {
   put_records(&ciphers[n], count);
   put(plain, length);
   memcpy(left, vectors, sizeof left);
-  CHECK(records[n][0](sizes, count, length) == CUKVASHE_OK && is(answers, length) && memcmp(left, next, 8 * count) == 0);
+  CHECK(records[n][0](8 * count, sizes, count, length) == CUKVASHE_OK && is(answers, length) && memcmp(left, next, 8 * count) == 0);
   memcpy(left, vectors, sizeof left);
-  CHECK(records[n][1](sizes, count, length) == CUKVASHE_OK && is(plain, length) && memcmp(left, next, 8 * count) == 0);
+  CHECK(records[n][1](8 * count, sizes, count, length) == CUKVASHE_OK && is(plain, length) && memcmp(left, next, 8 * count) == 0);
 }
 
 /* No block and no vector is changed by either call. */
 static void refuses_record_of(int n, const size_t *counts, size_t count, size_t length, size_t given, int status) {
   memcpy(left, vectors, sizeof left);
   put(plain, length);
-  for (int call = 0; call < 2; call++) CHECK(records[n][call](counts, count, given) == status);
+  for (int call = 0; call < 2; call++) CHECK(records[n][call](8 * count, counts, count, given) == status);
   CHECK(is(plain, length) && memcmp(left, vectors, sizeof left) == 0);
+}
+
+/* A number of records and a length of their vectors that do not agree, with no memory after the counts: none of it is read. */
+static void refuses_vectors(int n, size_t count) {
+  const size_t length = 8 * put_sizes(count), huge = (size_t)1 << 61;
+  const size_t given[][2] = {{8 * count, 8 * count}, {8 * count, count * sizeof(size_t)}, {count, count}, {8 * count, count + 1},
+                             {8 * count + 8, count}, {8 * count + 1, count},              {0, count},     {8 * count, count + huge},
+                             {SIZE_MAX, count},      {8 * count, SIZE_MAX}};
+  size_t *ending = (size_t *)malloc(count * sizeof *ending);
+  if (count > 0) memcpy(ending, sizes, count * sizeof *ending);
+  put_records(&ciphers[n], count);
+  memcpy(left, vectors, sizeof left);
+  put(plain, length);
+  for (size_t i = 0; i < sizeof given / sizeof *given; i++)
+    for (int call = 0; call < 2 && (given[i][0] % 8 != 0 || given[i][0] / 8 != given[i][1]); call++)
+      CHECK(records[n][call](given[i][0], ending, given[i][1], length) == CUKVASHE_ERR_COUNTS);
+  CHECK(is(plain, length) && memcmp(left, vectors, sizeof left) == 0);
+  free(ending);
 }
 
 /* Counts of blocks with a length in blocks, lengths in bytes for counts, and others that do not agree. */
@@ -474,6 +492,7 @@ int main(void) {
       refuses_each(n, counts[i]);
       answers_records(n, counts[i]);
       refuses_records(n, counts[i]);
+      refuses_vectors(n, counts[i]);
     }
     answers_transactions(counts[i]);
     answers_macs(counts[i]);

@@ -362,7 +362,7 @@ static void returns_statuses(void) {
   CHECK(seen(cukvashe_cvv(key, account, 13, "8701", 4, "10a", 3, text)) == CUKVASHE_ERR_SERVICE_DIGIT);
   CHECK(seen(cukvashe_unpad(block, 0, CUKVASHE_PKCS7, &length)) == CUKVASHE_ERR_PADDING);
   CHECK(seen(cukvashe_pad(block, 8, 8, CUKVASHE_PKCS7, &length)) == CUKVASHE_ERR_CAPACITY);
-  CHECK(seen(cukvashe_des_decrypt_cbc_records(&context, made, &length, 0, block, 8)) == CUKVASHE_ERR_COUNTS);
+  CHECK(seen(cukvashe_des_decrypt_cbc_records(&context, made, 0, &length, 0, block, 8)) == CUKVASHE_ERR_COUNTS);
   CHECK(seen(cukvashe_des_encrypt_each(key, 8, block, 8)) == CUKVASHE_ERR_COUNTS);
   CHECK(seen(cukvashe_des_encrypt_each(key, 1, block, 1)) == CUKVASHE_ERR_BLOCKS);
 }

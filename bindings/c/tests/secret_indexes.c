@@ -129,8 +129,8 @@ static void others(void) {
   do {                                                                                                                     \
     cukvashe_##NAME context;                                                                                               \
     CHECK(cukvashe_##NAME##_##INIT(&context, keys, KEY_SIZE) == CUKVASHE_OK);                                              \
-    CHECK(cukvashe_##NAME##_encrypt_cbc_records(&context, data, sizes, count, bytes, length) == CUKVASHE_OK);              \
-    CHECK(cukvashe_##NAME##_decrypt_cbc_records(&context, data, sizes, count, bytes, length) == CUKVASHE_OK);              \
+    CHECK(cukvashe_##NAME##_encrypt_cbc_records(&context, data, 8 * count, sizes, count, bytes, length) == CUKVASHE_OK);   \
+    CHECK(cukvashe_##NAME##_decrypt_cbc_records(&context, data, 8 * count, sizes, count, bytes, length) == CUKVASHE_OK);   \
   } while (0)
 
 /* Records of 0 to 3 blocks, and messages of 20 bytes, whose lengths are no secret. */

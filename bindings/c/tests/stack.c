@@ -136,12 +136,12 @@ static void of_record(const struct work *work) {
     messages[i].length = 20;
   }
   switch (work->call) {
-    case 0: returned = cukvashe_des_encrypt_cbc_records(&context.des, blocks, sizes, count, others, 8 * count); break;
-    case 1: returned = cukvashe_tdes_ede2_encrypt_cbc_records(&context.tdes_ede2, blocks, sizes, count, others, 8 * count); break;
-    case 2: returned = cukvashe_tdes_ede3_encrypt_cbc_records(&context.tdes_ede3, blocks, sizes, count, others, 8 * count); break;
-    case 3: returned = cukvashe_des_decrypt_cbc_records(&context.des, blocks, sizes, count, others, 8 * count); break;
-    case 4: returned = cukvashe_tdes_ede2_decrypt_cbc_records(&context.tdes_ede2, blocks, sizes, count, others, 8 * count); break;
-    case 5: returned = cukvashe_tdes_ede3_decrypt_cbc_records(&context.tdes_ede3, blocks, sizes, count, others, 8 * count); break;
+    case 0: returned = cukvashe_des_encrypt_cbc_records(&context.des, blocks, 8 * count, sizes, count, others, 8 * count); break;
+    case 1: returned = cukvashe_tdes_ede2_encrypt_cbc_records(&context.tdes_ede2, blocks, 8 * count, sizes, count, others, 8 * count); break;
+    case 2: returned = cukvashe_tdes_ede3_encrypt_cbc_records(&context.tdes_ede3, blocks, 8 * count, sizes, count, others, 8 * count); break;
+    case 3: returned = cukvashe_des_decrypt_cbc_records(&context.des, blocks, 8 * count, sizes, count, others, 8 * count); break;
+    case 4: returned = cukvashe_tdes_ede2_decrypt_cbc_records(&context.tdes_ede2, blocks, 8 * count, sizes, count, others, 8 * count); break;
+    case 5: returned = cukvashe_tdes_ede3_decrypt_cbc_records(&context.tdes_ede3, blocks, 8 * count, sizes, count, others, 8 * count); break;
     case 6: returned = cukvashe_cbc_mac_des_macs(key, 8, 1, messages, others, 8 * count, count); break;
     case 7: returned = cukvashe_cbc_mac_tdes_ede2_macs(key, 16, 1, messages, others, 8 * count, count); break;
     case 8: returned = cukvashe_cbc_mac_tdes_ede3_macs(key, 24, 2, messages, others, 8 * count, count); break;

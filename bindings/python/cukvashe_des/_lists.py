@@ -29,7 +29,7 @@ _VALUES = {
     for name in ("des", "tdes_ede2", "tdes_ede3")
 }
 _RECORDS = {
-    (name, call): function(f"{name}_{call}", INT, POINTER, POINTER, POINTER, SIZE, POINTER, SIZE)
+    (name, call): function(f"{name}_{call}", INT, POINTER, POINTER, SIZE, POINTER, SIZE, POINTER, SIZE)
     for name in ("des", "tdes_ede2", "tdes_ede3")
     for call in ("encrypt_cbc_records", "decrypt_cbc_records")
 }
@@ -181,7 +181,7 @@ def _recorded(
         raise CountMismatchError("the numbers of vectors and counts differ")
     first, sizes = (pointer_to(chains), pointer_to(held)) if records else (None, None)
     output = pointer_to(answer) if answer else None
-    if _RECORDS[context.kind.name, call](context, first, sizes, records, output, len(answer)) != OK:
+    if _RECORDS[context.kind.name, call](context, first, len(chains), sizes, records, output, len(answer)) != OK:
         raise CountMismatchError("the counts do not add up to the number of blocks")
     return bytes(answer)
 

@@ -159,6 +159,7 @@ extern "C" {
     pub fn cukvashe_des_encrypt_cbc_records(
         context: *const Des,
         vectors: *mut u8,
+        vectors_length: usize,
         counts: *const usize,
         records_count: usize,
         bytes: *mut u8,
@@ -167,6 +168,7 @@ extern "C" {
     pub fn cukvashe_des_decrypt_cbc_records(
         context: *const Des,
         vectors: *mut u8,
+        vectors_length: usize,
         counts: *const usize,
         records_count: usize,
         bytes: *mut u8,
@@ -246,6 +248,7 @@ extern "C" {
     pub fn cukvashe_tdes_ede2_encrypt_cbc_records(
         context: *const TdesEde2,
         vectors: *mut u8,
+        vectors_length: usize,
         counts: *const usize,
         records_count: usize,
         bytes: *mut u8,
@@ -254,6 +257,7 @@ extern "C" {
     pub fn cukvashe_tdes_ede2_decrypt_cbc_records(
         context: *const TdesEde2,
         vectors: *mut u8,
+        vectors_length: usize,
         counts: *const usize,
         records_count: usize,
         bytes: *mut u8,
@@ -333,6 +337,7 @@ extern "C" {
     pub fn cukvashe_tdes_ede3_encrypt_cbc_records(
         context: *const TdesEde3,
         vectors: *mut u8,
+        vectors_length: usize,
         counts: *const usize,
         records_count: usize,
         bytes: *mut u8,
@@ -341,6 +346,7 @@ extern "C" {
     pub fn cukvashe_tdes_ede3_decrypt_cbc_records(
         context: *const TdesEde3,
         vectors: *mut u8,
+        vectors_length: usize,
         counts: *const usize,
         records_count: usize,
         bytes: *mut u8,

@@ -232,10 +232,10 @@ macro_rules! cipher {
                 blocks: &mut [Block],
             ) -> Result<(), CountsDiffer> {
                 let (records, vectors) = (each_key::count_of_both(vectors, counts)?, vectors.as_flattened_mut());
-                let (vectors, bytes) = (vectors.as_mut_ptr(), blocks.as_flattened_mut());
+                let (size, vectors, bytes) = (vectors.len(), vectors.as_mut_ptr(), blocks.as_flattened_mut());
                 let (length, bytes, counts) = (bytes.len(), bytes.as_mut_ptr(), counts.as_ptr());
                 each_key::agreeing(unsafe {
-                    ffi::$encrypt_records(&self.context, vectors, counts, records, bytes, length)
+                    ffi::$encrypt_records(&self.context, vectors, size, counts, records, bytes, length)
                 })
             }
 
@@ -246,10 +246,10 @@ macro_rules! cipher {
                 blocks: &mut [Block],
             ) -> Result<(), CountsDiffer> {
                 let (records, vectors) = (each_key::count_of_both(vectors, counts)?, vectors.as_flattened_mut());
-                let (vectors, bytes) = (vectors.as_mut_ptr(), blocks.as_flattened_mut());
+                let (size, vectors, bytes) = (vectors.len(), vectors.as_mut_ptr(), blocks.as_flattened_mut());
                 let (length, bytes, counts) = (bytes.len(), bytes.as_mut_ptr(), counts.as_ptr());
                 each_key::agreeing(unsafe {
-                    ffi::$decrypt_records(&self.context, vectors, counts, records, bytes, length)
+                    ffi::$decrypt_records(&self.context, vectors, size, counts, records, bytes, length)
                 })
             }
         }
