@@ -10,8 +10,8 @@
  *
  * LENGTHS
  *
- * Every length and size is in bytes, every count in elements: keys, messages, records, or blocks of 8 bytes. A list of
- * bytes has both, and a pair that does not agree is refused (CUKVASHE_ERR_COUNTS). Bit 1 of FIPS 46-3 is the highest
+ * Every length and size is in bytes, every count in elements: keys, messages, records, or blocks of 8 bytes. A call of
+ * lists takes both, and refuses what does not agree (CUKVASHE_ERR_COUNTS). Bit 1 of FIPS 46-3 is the highest
  * bit of the first byte. Bytes and texts may stand at any address, all else where its type may. Texts that you pass
  * need no zero byte; after those that calls write stands one, which no length counts.
  *
