@@ -225,11 +225,11 @@ typedef int records(const union context *, uint8_t *vectors, const size_t *count
 #define RECORDS(name)                                                                                                 \
   static int name##_encrypt_records(const union context *context, uint8_t *vectors, const size_t *counts,             \
                                     size_t count, uint8_t *bytes, size_t length) {                                    \
-    return cukvashe_##name##_encrypt_cbc_records(&context->name, vectors, counts, count, bytes, length);              \
+    return cukvashe_##name##_encrypt_cbc_records(&context->name, vectors, 8 * count, counts, count, bytes, length);   \
   }                                                                                                                   \
   static int name##_decrypt_records(const union context *context, uint8_t *vectors, const size_t *counts,             \
                                     size_t count, uint8_t *bytes, size_t length) {                                    \
-    return cukvashe_##name##_decrypt_cbc_records(&context->name, vectors, counts, count, bytes, length);              \
+    return cukvashe_##name##_decrypt_cbc_records(&context->name, vectors, 8 * count, counts, count, bytes, length);   \
   }
 
 RECORDS(des)

@@ -30,8 +30,10 @@ static void stopped(int signal, siginfo_t *info, void *context) {
 
 __attribute__((noinline)) static void calls(void) {
   static const uint8_t key[24] = "\x01\x23\x45\x67\x89\xab\xcd\xef\x23\x45\x67\x89\xab\xcd\xef\x01\x45\x67\x89\xab\xcd\xef\x01\x23";
-  static const cukvashe_key_block_fields header = {'B', "P0", 'T', 'E', "00", 'E'};
   static uint8_t data[8 * 256], iv[8], tag[8];
+  static const cukvashe_key_block_parts parts = {.protection = key, .protection_length = sizeof key,
+                                                 .header = {'B', "P0", 'T', 'E', "00", 'E'}, .key = key, .key_length = sizeof key,
+                                                 .padding = data, .padding_length = 6};
   static char block[CUKVASHE_KEY_BLOCK_SIZE];
   static cukvashe_tdes_ede3 context, quiet;
   static size_t size;
@@ -45,8 +47,8 @@ __attribute__((noinline)) static void calls(void) {
       cukvashe_tdes_ede3_decrypt_ecb(&context, data, sizeof data) == CUKVASHE_OK &&
       cukvashe_tdes_ede3_init_quiet(&quiet, key, sizeof key) == CUKVASHE_OK &&
       cukvashe_tdes_ede3_encrypt_ecb(&quiet, data, 8) == CUKVASHE_OK &&
-      cukvashe_key_block_wrap(key, sizeof key, &header, NULL, 0, key, sizeof key, data, 6, block, sizeof block, &size) == CUKVASHE_OK &&
-      cukvashe_pbkdf2(CUKVASHE_SHA256, key, sizeof key, data, 8, 1, tag, sizeof tag) == CUKVASHE_OK;
+      cukvashe_key_block_wrap(&parts, block, sizeof block, &size) == CUKVASHE_OK &&
+      cukvashe_pbkdf2(CUKVASHE_SHA256, 1, key, sizeof key, data, 8, tag, sizeof tag) == CUKVASHE_OK;
   is_within = 0;
   raise(SIGTRAP);
   CHECK(is_good);
