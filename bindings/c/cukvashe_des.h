@@ -11,9 +11,9 @@
  * LENGTHS
  *
  * Every length and size is in bytes, every count in elements: keys, messages, records, or blocks of 8 bytes. A call of
- * lists takes both, and refuses what does not agree (CUKVASHE_ERR_COUNTS). Bit 1 of FIPS 46-3 is the highest
- * bit of the first byte. Bytes and texts may stand at any address, all else where its type may. Texts that you pass
- * need no zero byte; after those that calls write stands one, which no length counts.
+ * lists takes both, and refuses what does not agree (CUKVASHE_ERR_COUNTS). Bit 1 of FIPS 46-3 is the highest bit of
+ * the first byte. Bytes and texts may stand at any address, all else where its type may. Texts that you pass need no
+ * zero byte; after those that calls write stands one, which no length counts.
  *
  * POINTERS
  *
@@ -64,8 +64,8 @@
  *
  * cukvashe_unpad, cukvashe_dukpt_is_usable, cukvashe_dukpt_next_serial, cukvashe_decimal_table_init and _init_any, and
  * cukvashe_key_block_header, _context and _optional_block are such exports. wipe, strerror and version are C. Others are
- * C over hidden exports: it chooses the width of vectors, says which cipher or MAC is meant, reorders arguments, counts
- * the blocks of a length, compares them with the keys, and wipes the stack.
+ * C over hidden exports: it chooses the width of vectors, says which cipher or MAC is meant, reorders arguments, takes
+ * them out of a struct, counts the blocks of a length, compares counts with lengths, and wipes the stack.
  */
 #ifndef CUKVASHE_DES_H
 #define CUKVASHE_DES_H
