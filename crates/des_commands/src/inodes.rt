@@ -44,9 +44,9 @@ pub fn inode_of(metadata: &Metadata) -> Inode
     }
 }
 
-/// Whether a file of a folder is refused to a user as Linux refuses it to one who opens it with
-/// `O_CREAT`, where `fs.protected_regular` and `fs.protected_fifos` are 2: it is a regular file or a
-/// named pipe, and of another user, who may have put it there for others to write to.
+/// Whether Linux would refuse a file to a user who opens it with `O_CREAT`, where
+/// `fs.protected_regular` and `fs.protected_fifos` are 2: a regular file or a named pipe of another
+/// user, who is not the folder's owner, in a sticky folder that its group or everyone may write.
 pub fn is_refused_in_sticky(folder: Inode, file: Inode, user: u32) -> bool
     ensures { IsTrue result ↔ IsRefusedInSticky folder file user }
 {
