@@ -32,18 +32,18 @@ _cukvashe() {
         *':--option') words='a b' ;;
         *':--show') words='fields key' ;;
         *':--version') words='B C' ;;
-        *':--any-count' | *':--any-table' | *':--base64' | *':--no-salt' | *':--progress' | *':--response' | *:*:[!-]*)
+        *':--any-count' | *':--any-table' | *':--base64' | *':--hex' | *':--no-salt' | *':--progress' | *':--response' | *:*:[!-]*)
           case $command in
             encrypt)
-              words='--iv --padding --weak-keys --in --out --progress --key-file --key-fd --key-env --password-file --password-fd --password-env
-              --derive --any-count'
+              words='--iv --padding --weak-keys --in --out --hex --progress --key-file --key-fd --key-env --password-file --password-fd
+              --password-env --derive --any-count'
               ;;
             decrypt)
-              words='--iv --padding --weak-keys --from --blocks --in --out --progress --key-file --key-fd --key-env --password-file
+              words='--iv --padding --weak-keys --from --blocks --in --out --hex --progress --key-file --key-fd --key-env --password-file
               --password-fd --password-env --derive --any-count --no-salt --base64'
               ;;
             decrypt-pem) words='--form --any-count --in --out --password-file --password-fd --password-env' ;;
-            mac) words='--padding --in --length --verify --key-file --key-fd --key-env' ;;
+            mac) words='--padding --in --length --verify --hex --key-file --key-fd --key-env' ;;
             check-value) words='--bytes --key-file --key-fd --key-env' ;;
             parity) words='--key-file --key-fd --key-env' ;;
             weak) words='--key-file --key-fd --key-env' ;;

@@ -11,9 +11,11 @@ use Rattle.des_payment.specs.Translation.{name_of as name_of_translation_error}
 use Rattle.des_payment.specs.PinVerification.{name_of as name_of_verification_error}
 use Rattle.des_payment.specs.CardCryptograms.{name_of as name_of_emv_error}
 use Rattle.des_payment.specs.KeyBlockFaults.{name_of as name_of_key_block_error}
+use Rattle.des_payment.specs.declared.key_block_error.KeyBlockError.{KeyBlockError}
+use Rattle.des_payment.specs.declared.key_block_error.KeyBlockError.TheVariants.{Length as OfBlock, KeyLength as OfItsKey}
 use Rattle.des_commands.specs.declared.fault.Reason.{Reason}
 use Rattle.des_commands.specs.declared.fault.FileFault.{FileFault}
-use Rattle.des_commands.specs.declared.fault.FileFault.TheVariants.{Salted, SaltedText, NotSalted, SaltCut, Base64, Begin, End, NotEncrypted, NoDekInfo, Cipher as OtherCipher, DekVector, EmptyLine, Structure, Algorithm as OtherAlgorithm, KeyDerivation, Iterations, KeySize, Prf, KeyPadding, Password as OtherPassword, Unpadded}
+use Rattle.des_commands.specs.declared.fault.FileFault.TheVariants.{Salted, SaltedText, NotSalted, SaltCut, Base64, HexText, HexLength, Begin, End, NotEncrypted, NoDekInfo, Cipher as OtherCipher, DekVector, EmptyLine, Structure, Algorithm as OtherAlgorithm, KeyDerivation, Iterations, KeySize, Prf, KeyPadding, Password as OtherPassword, Unpadded}
 use Rattle.des_commands.specs.declared.fault.Kind.{Kind}
 use Rattle.des_commands.specs.declared.fault.Kind.TheVariants.{Usage, Source, Variable, InputLength, KeyLength, KeyText, ToKeyLength, ToKeyText, WeakKey, Components, Vector, Tag, Value, Offset, Validation, Counter, Cryptogram, ResponseCode, CardStatus, IssuerData, CryptogramData, BlockLength, BlockText, SerialLength, SerialText, SerialCounter, FillLength, FillText, CheckDigit, Pin, Cvv, Translation, Verification, Emv, Field as FieldFault, KeyBlock, File, EmptyPassword, Memory, Read, Write, Length, Start, Padding}
 
@@ -24,6 +26,8 @@ file_name SaltedText = codes "Salted"
 file_name NotSalted = codes "NotSalted"
 file_name SaltCut = codes "SaltCut"
 file_name Base64 = codes "Base64"
+file_name HexText = codes "HexText"
+file_name HexLength = codes "HexLength"
 file_name Begin = codes "Begin"
 file_name End = codes "End"
 file_name NotEncrypted = codes "NotEncrypted"
@@ -41,10 +45,16 @@ file_name KeyPadding = codes "Padding"
 file_name Unpadded = codes "Padding"
 file_name OtherPassword = codes "Password"
 
+-- the name of a fault of a key block: its lengths have names that no other length has
+abbrev pub key_block_name : KeyBlockError → List ℕ
+key_block_name OfBlock = codes "KeyBlockLength"
+key_block_name OfItsKey = codes "WrappedKeyLength"
+key_block_name error = name_of_key_block_error error
+
 -- the name of a fault
 abbrev pub name_of : Kind → List ℕ
 name_of (Usage _) = codes "Usage"
-name_of (Source _) = codes "Source"
+name_of (Source _) = codes "Read"
 name_of Variable = codes "Variable"
 name_of InputLength = codes "InputLength"
 name_of (KeyLength _) = codes "KeyLength"
@@ -78,7 +88,7 @@ name_of (Translation error) = name_of_translation_error error
 name_of (Verification error) = name_of_verification_error error
 name_of (Emv error) = name_of_emv_error error
 name_of (FieldFault field) = codes "Field"
-name_of (KeyBlock error) = name_of_key_block_error error
+name_of (KeyBlock error) = key_block_name error
 name_of (File fault) = file_name fault
 name_of EmptyPassword = codes "EmptyPassword"
 name_of Memory = codes "Memory"
@@ -114,12 +124,13 @@ line_with name about words = line_start name ++ (map shown_byte about ++ line_en
 
 -- ---- statuses
 
--- the status of a fault: memory was refused; the input was not read, or the output not written; the
+-- the status of a fault: memory was refused; a file was not read or not written; the
 -- input is not whole blocks, is too short, has wrong padding, or is no file of its form under a
 -- password; or else the arguments, a key or an input is at fault
 abbrev pub status_of : Kind → ℕ
 status_of Memory = 3
 status_of (Read reason) = 4
+status_of (Source reason) = 4
 status_of (Write reason) = 4
 status_of Length = 5
 status_of Start = 5

@@ -1,4 +1,5 @@
 pub mod Texts
+pub mod HexTexts
 pub mod Faults
 pub mod Written
 pub mod PinLines

@@ -8,7 +8,7 @@ use Rattle.des_commands.specs.declared.fault.Kind.TheVariants.{WeakKey as Refuse
 use Rattle.des_commands.specs.declared.keys.Verdict.{Verdict}
 use Rattle.des_commands.specs.declared.keys.Verdict.TheVariants.{DoubleLength as TwoParts, Weak}
 use Rattle.des_commands.specs.declared.notices.Notice.{Notice}
-use Rattle.des_commands.specs.declared.notices.Notice.TheVariants.{WeakKey, DoubleLength, Limit, Permissions}
+use Rattle.des_commands.specs.declared.notices.Notice.TheVariants.{Hexadecimal, WeakKey, DoubleLength, Limit, Permissions}
 use Rattle.des_commands.specs.declared.stream_request.WeakKeys.{WeakKeys}
 use Rattle.des_commands.specs.declared.stream_request.WeakKeys.TheVariants.{Refuse, Warn}
 use Rattle.des_commands.specs.Faults.{line_with}
@@ -19,6 +19,9 @@ use Rattle.des_commands.specs.Written.{AppendsPrefix}
 
 -- the line of a notice has the form of a fault's
 abbrev pub notice_line : Notice → List ℕ → List ℕ
+notice_line Hexadecimal about =
+    line_with (codes "Hexadecimal") about
+    (codes "the input is hexadecimal digits, and was taken as text: --hex reads it as bytes")
 notice_line WeakKey about = line_with (codes "WeakKey") about (codes "the key is weak, and is used")
 notice_line DoubleLength about =
     line_with (codes "DoubleLength") about

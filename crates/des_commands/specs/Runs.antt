@@ -51,9 +51,9 @@ IsNoticed Says err_contents request account err_old err_new =
     → AppendsLinePrefix Says CheckDigit (account_name request.account) (err_contents err_old) (err_contents err_new))
     × (needs_notice request account ≡ false → err_new ≡ err_old)
 
--- the answer is no: the line says that the PIN is wrong, where that is asked, or that the key is not weak
+-- the answer is no: the line says that the PIN is wrong, where that is asked, or that the key is weak
 abbrev pub IsNo : Calculation → Result (Vec ℕ Global) Fault → Type 0
-IsNo Weak (Ok line) = line.items ≡ codes "not weak\n"
+IsNo Weak (Ok line) = line.items ≡ codes "weak\n"
 IsNo (Pin calculation) (Ok line) = IsTrue (is_question calculation) × (line.items ≡ codes "wrong\n")
 IsNo calculation outcome = ⊥
 

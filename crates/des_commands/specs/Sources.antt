@@ -5,7 +5,7 @@ use Rattle.std.specs.Char.{is_ascii_digit, is_ascii_hexdigit}
 use Rattle.std.specs.Io.KnownBytes.{Consumes, IsAtEnd}
 use Rattle.des_commands.specs.declared.fault.Reason.{Reason}
 use Rattle.des_commands.specs.declared.fault.Kind.{Kind}
-use Rattle.des_commands.specs.declared.fault.Kind.TheVariants.{Source, InputLength, Memory, Read}
+use Rattle.des_commands.specs.declared.fault.Kind.TheVariants.{InputLength, Memory, Read, Source}
 use Rattle.des_commands.specs.declared.source.Source.{Source as Place}
 use Rattle.des_commands.specs.declared.source.Source.TheVariants.{StandardInput, File, Descriptor, Variable}
 use Rattle.des_commands.specs.Texts.{is_space}
@@ -56,7 +56,7 @@ name_of_source (Variable name) = codes "--key-env"
 abbrev pub FailsToRead : Kind → Type 0
 FailsToRead kind = (kind ≡ Memory) ⊎ ((reason : Reason) × (kind ≡ Read reason))
 
--- the same of an input that is a source
+-- the same of the source of random bytes
 abbrev pub FailsAsSource : Kind → Type 0
 FailsAsSource kind = (kind ≡ Memory) ⊎ ((reason : Reason) × (kind ≡ Source reason))
 
@@ -73,4 +73,4 @@ IsAllOf longest bytes read_from read_to =
 abbrev pub FailsToGive : ℕ → Option (List ℕ) → Option (List ℕ) → Kind → Type 0
 FailsToGive longest read_from read_to kind =
     ((kind ≡ InputLength) × ((bytes : List ℕ) × Consumes read_from read_to bytes × (longest < length bytes)))
-    ⊎ ((reason : Reason) × (kind ≡ Source reason)) ⊎ (kind ≡ Memory)
+    ⊎ ((reason : Reason) × (kind ≡ Read reason)) ⊎ (kind ≡ Memory)

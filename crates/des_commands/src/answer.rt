@@ -3,6 +3,7 @@
 ghost use Rattle.std.specs.Prelude.{◌≡◌, ◌↔◌, ◌≤◌, length, take, IsTrue, IfOk};
 ghost use Rattle.des_mac.specs.Tags.{IsTruncated};
 ghost use Rattle.des_commands.specs.Answers.{status_after, tag_fault};
+ghost use Rattle.des_commands.specs.PinLines.{IsVerdictLine};
 ghost use Rattle.des_commands.specs.Faults.{FailsBy};
 ghost use Rattle.des_commands.specs.Texts.{bytes_of as bytes_of_text, hex_line as hex_line_of};
 
@@ -10,6 +11,11 @@ use crate::digits::{decode, hex_line};
 use crate::fault::Kind;
 use des_mac::mac::verify_truncated_left;
 use std::alloc::{AllocError, Global};
+
+/// What is written of a tag or a PIN that is right, and of one that is wrong.
+pub const RIGHT: &str = "right\n";
+
+pub const WRONG: &str = "wrong\n";
 
 /// The status that the program ends with: that of writing the answer, or 1 where the answer was
 /// written and is no.
@@ -26,19 +32,27 @@ pub fn tag_line(alloc: Global, tag: &[u8; 8], count: u8) -> Result<Vec<u8>, Allo
     hex_line(alloc, &tag[..std::cmp::min(count as usize, 8)])
 }
 
-/// Whether these are the first 4 to 8 bytes of the tag.
-pub fn verified(tag: &[u8; 8], given: &[u8]) -> bool
+// Whether these are the first 4 to 8 bytes of the tag.
+fn verified(tag: &[u8; 8], given: &[u8]) -> bool
     ensures { IsTrue result ↔ IsTruncated given.now tag.now }
 {
     verify_truncated_left(given, tag).is_ok()
 }
 
-/// The status of a verification: 0 where these are the first 4 to 8 bytes of the tag, and else 1.
-pub fn verification_status(tag: &[u8; 8], given: &[u8]) -> u8
-    ensures right { (result ≡ 0) ↔ IsTruncated given.now tag.now }
-    ensures wrong { (result ≡ 1) ↔ (¬ IsTruncated given.now tag.now) }
+/// The line of a verification, and whether it says no: it is right where these are the first 4 to 8
+/// bytes of the tag.
+pub fn verification(
+    alloc: Global,
+    tag: &[u8; 8],
+    given: &[u8],
+) -> Result<(Vec<u8>, bool), AllocError>
+    ensures line { IfOk result (λ answer.
+        IsVerdictLine (IsTruncated given.now tag.now) answer.0.items) }
+    ensures no { IfOk result (λ answer. IsTrue answer.1 ↔ (¬ IsTruncated given.now tag.now)) }
 {
-    status_of(0, !verified(tag, given))
+    let is_right = verified(tag, given);
+    let text = if is_right { RIGHT } else { WRONG };
+    Ok((Vec::from_slice(alloc, text.as_bytes())?, !is_right))
 }
 
 /// The 4 to 8 bytes of a tag that hexadecimal digits write. Any other text is the fault `Tag`.

@@ -233,6 +233,7 @@ fn mac_request<'a>(matches: &ArgMatches<'a>) -> Result<MacRequest<'a>, Fault<'a>
         question,
         key,
         message,
+        is_hexadecimal: is_set(matches, "hex"),
     })
 }
 

@@ -6,14 +6,13 @@ ghost use Rattle.des_commands.specs.CheckDigits.{lacks_check_digit as lacks_chec
 ghost use Rattle.des_commands.specs.Lines.{IsLine};
 ghost use Rattle.des_commands.specs.Runs.{FailsAsAsked, IsOutcome, IsNoticed, IsNo, IsRun};
 
-use crate::answer::status_of;
+use crate::answer::{WRONG, status_of};
 use crate::check_digit::{has_check_digit, is_account};
 use crate::command::{Calculation, CalculationRequest, Inputs, PinCalculation};
 use crate::digits::Lines;
 use crate::fault::{Fault, Kind};
-use crate::lines::{LONGEST_INPUT, NOT_WEAK, lines_of};
+use crate::lines::{LONGEST_INPUT, WEAK, lines_of};
 use crate::names::{about_of, account_name};
-use crate::pin_lines::WRONG;
 use crate::report::{show, tell};
 use crate::sentences::Sentences;
 use std::alloc::Global;
@@ -76,12 +75,12 @@ fn tell_check_digit<S: Sentences, E: Write>(
     }
 }
 
-// Whether the answer is no: the line says that a PIN is wrong, or that a key is not weak.
+// Whether the answer is no: the line says that a PIN is wrong, or that a key is weak.
 fn is_no(calculation: Calculation, outcome: &Result<Vec<u8>, Fault>) -> bool
     ensures { IsTrue result ↔ IsNo calculation.entry outcome.now }
 {
     match (calculation, outcome) {
-        (Calculation::Weak, Ok(line)) => line.as_slice() == NOT_WEAK.as_bytes(),
+        (Calculation::Weak, Ok(line)) => line.as_slice() == WEAK.as_bytes(),
         (
             Calculation::Pin(
                 PinCalculation::VerifyPvv { .. } | PinCalculation::VerifyOffset { .. },

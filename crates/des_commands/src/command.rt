@@ -52,6 +52,8 @@ pub struct MacRequest<'a> {
     pub question: Question<'a>,
     pub key: Source<'a>,
     pub message: Source<'a>,
+    /// The message is given as hexadecimal digits.
+    pub is_hexadecimal: bool,
 }
 
 /// What is asked of a tag.

@@ -1,7 +1,7 @@
 //! Why a command fails: the fault's name, and the status that the program ends with.
 
 ghost use Rattle.std.specs.Prelude.{◌≡◌};
-ghost use Rattle.des_commands.specs.Faults.{about_of, name_of, status_of, file_name, IsOfStream};
+ghost use Rattle.des_commands.specs.Faults.{about_of, name_of, status_of, file_name, key_block_name as key_block_name_of, IsOfStream};
 ghost use Rattle.des_commands.specs.declared.fault.Kind.TheVariants.{Pin, Cvv, Translation, Verification, Emv, KeyBlock, WeakKey, Memory};
 
 use des::WeakKeyError;
@@ -74,6 +74,7 @@ pub enum Misuse {
     DerivationToEncrypt,
     Count,
     NoText,
+    Codings,
 }
 
 /// A field of a key block's header, which an option gives.
@@ -95,6 +96,8 @@ pub enum FileFault {
     NotSalted,
     SaltCut,
     Base64,
+    HexText,
+    HexLength,
     Begin,
     End,
     NotEncrypted,
@@ -122,7 +125,7 @@ pub enum FileFault {
 pub enum Kind {
     /// The program takes no such command line.
     Usage(Misuse),
-    /// A short input, such as a key, or the system's random bytes can't be read.
+    /// The system's source of random bytes can't be read.
     Source(Reason),
     /// The environment has no such variable, or it is no text.
     Variable,
@@ -235,6 +238,8 @@ impl FileFault {
             FileFault::NotSalted => "NotSalted",
             FileFault::SaltCut => "SaltCut",
             FileFault::Base64 => "Base64",
+            FileFault::HexText => "HexText",
+            FileFault::HexLength => "HexLength",
             FileFault::Begin => "Begin",
             FileFault::End => "End",
             FileFault::NotEncrypted => "NotEncrypted",
@@ -254,6 +259,17 @@ impl FileFault {
     }
 }
 
+// The name of a fault of a key block: its lengths have names that no other length has.
+fn key_block_name(error: KeyBlockError) -> &'static str
+    ensures { result.now ≡ key_block_name_of error }
+{
+    match error {
+        KeyBlockError::Length => "KeyBlockLength",
+        KeyBlockError::KeyLength => "WrappedKeyLength",
+        error => key_block_error::name(error),
+    }
+}
+
 impl Kind {
     /// The fault's name.
     pub fn name(self) -> &'static str
@@ -261,7 +277,6 @@ impl Kind {
     {
         match self {
             Kind::Usage(_) => "Usage",
-            Kind::Source(_) => "Source",
             Kind::Variable => "Variable",
             Kind::InputLength => "InputLength",
             Kind::KeyLength(_) | Kind::ToKeyLength => "KeyLength",
@@ -293,11 +308,11 @@ impl Kind {
             Kind::Verification(error) => verification_error::name(error),
             Kind::Emv(error) => emv_error::name(error),
             Kind::Field(_) => "Field",
-            Kind::KeyBlock(error) => key_block_error::name(error),
+            Kind::KeyBlock(error) => key_block_name(error),
             Kind::File(fault) => fault.name(),
             Kind::EmptyPassword => "EmptyPassword",
             Kind::Memory => "Memory",
-            Kind::Read(_) => "Read",
+            Kind::Read(_) | Kind::Source(_) => "Read",
             Kind::Write(_) => "Write",
             Kind::Length => "Length",
             Kind::Start => "Start",
@@ -306,13 +321,13 @@ impl Kind {
     }
 
     /// The status that the program ends with: 2 where the arguments or the short inputs are at fault,
-    /// and 5 where the stream or the file under a password is.
+    /// 4 where a file can't be read or written, and 5 where the stream or the file under a password is.
     pub fn status(self) -> u8
         ensures { result ≡ status_of self }
     {
         match self {
             Kind::Memory => 3,
-            Kind::Read(_) | Kind::Write(_) => 4,
+            Kind::Read(_) | Kind::Source(_) | Kind::Write(_) => 4,
             Kind::Length | Kind::Start | Kind::Padding | Kind::File(_) => 5,
             _ => 2,
         }

@@ -104,8 +104,8 @@ pub fn bytes_to_read(length: u64, place: u64, skipped: u64, blocks: Option<u64>)
     }
 }
 
-/// The fault of an input that is a source.
-pub fn of_source(kind: Kind) -> Kind
+// The fault of the source of random bytes.
+fn of_source(kind: Kind) -> Kind
     ensures { result ≡ fault_of_source kind }
 {
     match kind {
@@ -114,13 +114,13 @@ pub fn of_source(kind: Kind) -> Kind
     }
 }
 
-/// A fault of the reader is one of the source.
-pub fn source_fault(error: StreamError) -> Kind
-    ensures { (reason : Reason) × (result ≡ Kind.Source reason) }
+/// The fault of a reader that failed.
+pub fn reader_fault(error: StreamError) -> Kind
+    ensures { (reason : Reason) × (result ≡ Kind.Read reason) }
 {
     match error {
-        StreamError::Read(error) => Kind::Source(Reason::of(&error)),
-        _ => Kind::Source(Reason::Other),
+        StreamError::Read(error) => Kind::Read(Reason::of(&error)),
+        _ => Kind::Read(Reason::Other),
     }
 }
 
@@ -135,7 +135,7 @@ pub fn random_bytes<R: Read, const N: usize>(source: &mut R) -> Result<[u8; N], 
     match fill(source, &mut bytes) {
         Ok(n) if n == N => Ok(bytes),
         Ok(_) => Err(Kind::Source(Reason::Other)),
-        Err(error) => Err(source_fault(error)),
+        Err(error) => Err(of_source(reader_fault(error))),
     }
 }
 

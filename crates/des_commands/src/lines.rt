@@ -24,9 +24,9 @@ use std::alloc::Global;
 pub const LONGEST_INPUT: usize = 16384;
 
 // What is written of a key that is weak, and of one that is not.
-const WEAK: &str = "weak\n";
+pub const WEAK: &str = "weak\n";
 
-pub const NOT_WEAK: &str = "not weak\n";
+const NOT_WEAK: &str = "not weak\n";
 
 /// The line of a calculation, or its lines, by what was read for it.
 ///

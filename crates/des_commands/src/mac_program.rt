@@ -3,18 +3,26 @@
 ghost use Rattle.std.specs.Prelude.{IfSome};
 ghost use Rattle.des_commands.specs.Keys.{IsKeySize};
 
-use crate::answer::{tag_line, tag_of_digits, verification_status};
+use crate::answer::{status_of, tag_line, tag_of_digits, verification};
 use crate::command::{MacRequest, Question};
 use crate::fault::{Fault, Kind};
+use crate::hex_reader::HexReader;
+use crate::hex_text::HexTextReader;
 use crate::inputs;
 use crate::mac::{Method, tag_of};
+use crate::notices::{self, Notice};
 use crate::reading::key_in;
 use crate::report::show;
 use crate::sentences::English;
 use crate::source::Source;
+use crate::streams_program::tell_hex;
+use std::io::Read;
 
 // The bytes of a message that are read at a time: 64 KiB.
 const BYTES_AT_A_TIME: usize = 65536;
+
+// The tag of a message, or the status of a fault that was told.
+type Tagged = Result<[u8; 8], u8>;
 
 // The bytes of a method's keys, where they have one size.
 fn key_size_of(method: Method) -> Option<u8>
@@ -26,38 +34,101 @@ fn key_size_of(method: Method) -> Option<u8>
     }
 }
 
-// The tag of a message.
-fn tag_of_message(rt: &HostRuntime, request: &MacRequest, key: &[u8]) -> Result<[u8; 8], Kind> {
+// The tag of the bytes whose digits a reader gives. A text that has others is told.
+fn tag_of_text<R: Read + Drop>(
+    rt: &HostRuntime,
+    request: &MacRequest,
+    key: &[u8],
+    reader: R,
+) -> Result<Tagged, Kind> {
     let mut buffer = vec![in rt.alloc(); 0u8; BYTES_AT_A_TIME]?;
+    let mut reader = HexReader::new(reader);
+    let outcome = tag_of(request.method, key, &mut reader, &mut buffer);
+    match reader.fault() {
+        Some(fault) => Ok(Err(tell_hex(rt, fault, request.message.name())?)),
+        None => Ok(Ok(outcome?)),
+    }
+}
+
+// The tag of what a reader gives. If that is hexadecimal digits alone, a line says so.
+fn tag_of_bytes<R: Read + Drop>(
+    rt: &HostRuntime,
+    request: &MacRequest,
+    key: &[u8],
+    reader: R,
+) -> Result<Tagged, Kind> {
+    let mut buffer = vec![in rt.alloc(); 0u8; BYTES_AT_A_TIME]?;
+    let mut reader = HexTextReader::new(reader);
+    let tag = tag_of(request.method, key, &mut reader, &mut buffer)?;
+    if reader.is_hexadecimal() {
+        let _ = notices::tell(
+            Notice::Hexadecimal,
+            request.message.name(),
+            &mut rt.stderr(),
+        );
+    }
+    Ok(Ok(tag))
+}
+
+fn tag_of_reader<R: Read + Drop>(
+    rt: &HostRuntime,
+    request: &MacRequest,
+    key: &[u8],
+    reader: R,
+) -> Result<Tagged, Kind> {
+    if request.is_hexadecimal {
+        tag_of_text(rt, request, key, reader)
+    } else {
+        tag_of_bytes(rt, request, key, reader)
+    }
+}
+
+// The tag of a message.
+fn tag_of_message(rt: &HostRuntime, request: &MacRequest, key: &[u8]) -> Result<Tagged, Kind> {
     match request.message {
-        Source::File(path) => {
-            let mut input = inputs::open(rt, path)?;
-            tag_of(request.method, key, &mut input.file, &mut buffer)
-        }
-        _ => tag_of(request.method, key, &mut rt.stdin(), &mut buffer),
+        Source::File(path) => tag_of_reader(rt, request, key, inputs::open(rt, path)?.file),
+        _ => tag_of_reader(rt, request, key, rt.stdin()),
     }
 }
 
 // The tag of the message under the key.
-fn tag_for<'a>(rt: &HostRuntime, request: &MacRequest<'a>) -> Result<[u8; 8], Fault<'a>> {
+fn tag_for<'a>(rt: &HostRuntime, request: &MacRequest<'a>) -> Result<Tagged, Fault<'a>> {
     let key = key_in(rt, request.key, key_size_of(request.method))?;
     let message = request.message.name();
     tag_of_message(rt, request, key.as_slice()).map_err(|kind| Fault::about(kind, message))
 }
 
-/// Writes the first bytes of the tag, or compares it with others, and gives the status.
+// Writes the line of an answer, and gives the status.
+fn show_answer(rt: &HostRuntime, line: Vec<u8>, is_no: bool) -> u8 {
+    let written = show::<English, _, _>(&Ok(line), &mut rt.stdout(), &mut rt.stderr());
+    status_of(written, is_no)
+}
+
+// Writes whether these are the digits of the tag's first bytes, and gives the status.
+fn verify_status<'a>(
+    rt: &HostRuntime,
+    request: &MacRequest<'a>,
+    digits: &str,
+) -> Result<u8, Fault<'a>> {
+    let given = tag_of_digits(rt.alloc(), digits.as_bytes()).map_err(|kind| Fault::about(
+        kind, "--verify",
+    ))?;
+    match tag_for(rt, request)? {
+        Ok(tag) => {
+            let (line, is_no) = verification(rt.alloc(), &tag, given.as_slice())?;
+            Ok(show_answer(rt, line, is_no))
+        }
+        Err(status) => Ok(status),
+    }
+}
+
+/// Writes the first bytes of the tag, or whether they are others, and gives the status.
 pub fn mac_status<'a>(rt: &HostRuntime, request: &MacRequest<'a>) -> Result<u8, Fault<'a>> {
     match request.question {
-        Question::Print(count) => {
-            let tag = tag_for(rt, request)?;
-            let line = tag_line(rt.alloc(), &tag, count)?;
-            Ok(show::<English, _, _>(&Ok(line), &mut rt.stdout(), &mut rt.stderr()))
-        }
-        Question::Verify(digits) => {
-            let given = tag_of_digits(rt.alloc(), digits.as_bytes()).map_err(|kind| Fault::about(
-                kind, "--verify",
-            ))?;
-            Ok(verification_status(&tag_for(rt, request)?, given.as_slice()))
-        }
+        Question::Print(count) => match tag_for(rt, request)? {
+            Ok(tag) => Ok(show_answer(rt, tag_line(rt.alloc(), &tag, count)?, false)),
+            Err(status) => Ok(status),
+        },
+        Question::Verify(digits) => verify_status(rt, request, digits),
     }
 }

@@ -16,6 +16,8 @@ use std::io::Write;
 /// What is told of a stream that goes on.
 #[derive(Clone, Copy)]
 pub enum Notice {
+    /// What is taken as text is nothing but hexadecimal digits.
+    Hexadecimal,
     /// A weak key is used.
     WeakKey,
     /// A key of three parts is one of two, K1, K2, K1.
@@ -37,6 +39,12 @@ pub fn tell<E: Write>(notice: Notice, about: &str, err: &mut E) -> Result<(), St
         (notice_line notice about.now)) }
 {
     match notice {
+        Notice::Hexadecimal => write_line(
+            "Hexadecimal",
+            about,
+            "the input is hexadecimal digits, and was taken as text: --hex reads it as bytes",
+            err,
+        ),
         Notice::WeakKey => write_line("WeakKey", about, "the key is weak, and is used", err),
         Notice::DoubleLength => write_line(
             "DoubleLength",

@@ -10,6 +10,7 @@ ghost use Rattle.des_commands.specs.PinLines.{pvv_of, pvv_fault, HasPvv, pvv_ver
 ghost use Rattle.des_commands.specs.PinLines.{offset_by, offset_fault, HasOffset, offset_verdict_fault, IsVerdictLine, TellsOutcome};
 ghost use Rattle.des_commands.specs.PinLines.{pin_line_fault, IsPinLine, validation_fault};
 
+use crate::answer::{RIGHT, WRONG};
 use crate::check_digit::are_digits;
 use crate::command::{Inputs, NaturalPins, PinCalculation};
 use crate::digits::{Lines, bytes_of, fill_of, hex_line, line_of};
@@ -19,11 +20,6 @@ use des_payment::pin_verification::{natural_pin, pin_offset, pvv, verify_offset,
 use des_payment::translation::{Format, translate, translate_format_1};
 use des_payment::{DecimalTable, Pin, VerificationError};
 use std::alloc::Global;
-
-// What is written of a PIN that is right, and of one that is wrong.
-const RIGHT: &str = "right\n";
-
-pub const WRONG: &str = "wrong\n";
 
 /// The line of a calculation with a PIN and a key.
 ///

@@ -146,6 +146,7 @@ fn misuse_words(misuse: Misuse) -> &'static str {
         Misuse::DerivationToEncrypt => "encryption takes pbkdf2-sha256:COUNT alone",
         Misuse::Count => "more than 10000000 iterations need --any-count",
         Misuse::NoText => "an argument is no text",
+        Misuse::Codings => "give one of --base64 and --hex",
     }
 }
 
@@ -159,6 +160,8 @@ fn file_words(fault: FileFault) -> &'static str {
         FileFault::NotSalted => "the input does not begin with Salted__ (see --no-salt)",
         FileFault::SaltCut => "the input ends within the salt",
         FileFault::Base64 => "it is no Base64",
+        FileFault::HexText => "a character is no hexadecimal digit",
+        FileFault::HexLength => "the number of hexadecimal digits is odd",
         FileFault::Begin => "no line begins an encrypted private key",
         FileFault::End => "no line ends the key as it begins",
         FileFault::NotEncrypted => "the key is not encrypted",

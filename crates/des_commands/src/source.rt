@@ -5,7 +5,7 @@ ghost use Rattle.des_commands.specs.Sources.{IsAllOf, FailsToGive, shown_path, n
 
 use crate::digits::{is_space, strip};
 use crate::fault::{Kind, Reason};
-use crate::inputs::{self, of_source, source_fault};
+use crate::inputs::{self, reader_fault};
 use des_io::pieces::fill;
 use std::alloc::Global;
 use std::env::{self, VarError};
@@ -106,7 +106,7 @@ impl<'a> Source<'a> {
 }
 
 /// All that a reader has. The fault is `InputLength` where that is more than `longest` bytes,
-/// `Source` where the reader failed, or `Memory`.
+/// `Read` where the reader failed, or `Memory`.
 pub fn bytes_of_reader<R: Read>(
     alloc: Global,
     reader: &mut R,
@@ -119,7 +119,7 @@ pub fn bytes_of_reader<R: Read>(
     ensures fault { IfErr result (FailsToGive longest (R.remaining reader.old) (R.remaining reader.new)) }
 {
     let mut bytes = vec![in alloc; 0u8; longest + 1]?;
-    let n = fill(reader, &mut bytes).map_err(source_fault)?;
+    let n = fill(reader, &mut bytes).map_err(reader_fault)?;
     if n > longest {
         return Err(Kind::InputLength);
     }
@@ -131,7 +131,7 @@ fn bytes_of_file(rt: &HostRuntime, path: &str, longest: usize) -> Result<Vec<u8>
     requires { longest < 100000 }
     ensures { IfOk result (λ bytes. length bytes.items ≤ longest) }
 {
-    let mut input = inputs::open(rt, path).map_err(of_source)?;
+    let mut input = inputs::open(rt, path)?;
     bytes_of_reader(rt.alloc(), &mut input.file, longest)
 }
 
@@ -147,7 +147,7 @@ fn bytes_of_variable(rt: &HostRuntime, name: &str, longest: usize) -> Result<Vec
 }
 
 /// The bytes of a source, at most `longest`. The fault is `InputLength` where there are more,
-/// `Source` where the system refused it, `Variable` or `Memory`.
+/// `Read` where the system refused it, `Variable` or `Memory`.
 pub fn bytes_of(rt: &HostRuntime, source: Source, longest: usize) -> Result<Vec<u8>, Kind>
     requires { longest < 100000 }
     ensures { IfOk result (λ bytes. length bytes.items ≤ longest) }

@@ -86,13 +86,15 @@ pub enum Output<'a> {
     File(&'a str),
 }
 
-/// How the bytes of an input are written.
+/// How bytes are written.
 #[derive(Clone, Copy)]
 pub enum Coding {
     /// As they are.
     Bytes,
-    /// As Base64 in lines.
+    /// Those of the input as Base64 in lines.
     Base64,
+    /// As hexadecimal digits, those of the input and of the output.
+    Hexadecimal,
 }
 
 /// How a password gives the key and the vector, and how the file under it begins.

@@ -2,6 +2,9 @@
 //! output.
 
 use crate::fault::{Fault, FileFault, Kind};
+use crate::hex_reader::{HexFault, HexReader};
+use crate::hex_text::HexTextReader;
+use crate::hex_writer::HexWriter;
 use crate::inputs::{self, RANDOM_SOURCE, system_random};
 use crate::notices::{self, Notice, accept_key};
 use crate::output::{self, Readers, Target, output_name, refuse_terminal};
@@ -16,7 +19,7 @@ use crate::stream_request::{
 use crate::streams;
 use crate::watched::Watched;
 use base64::engine::general_purpose::STANDARD;
-use des_io::pieces::fill;
+use des_io::pieces::{fill, write_whole};
 use des_passwords::Base64Reader;
 use des_passwords::salted::PREFIX;
 use std::io::{Read, Write};
@@ -34,7 +37,23 @@ struct Task<'a> {
 }
 
 impl<'a> Task<'a> {
+    // Encrypts or decrypts to a writer, which is given the bytes, or their digits and a line end.
     fn run<R: Read, W: Write>(
+        self,
+        rt: &HostRuntime,
+        reader: &mut R,
+        writer: &mut W,
+    ) -> Result<(), Kind> {
+        match self.request.coding {
+            Coding::Hexadecimal => {
+                self.run_to_bytes(rt, reader, &mut HexWriter::new(&mut *writer))?;
+                Ok(write_whole(writer, b"\n")?)
+            }
+            _ => self.run_to_bytes(rt, reader, writer),
+        }
+    }
+
+    fn run_to_bytes<R: Read, W: Write>(
         self,
         rt: &HostRuntime,
         reader: &mut R,
@@ -100,9 +119,15 @@ fn run_reader<R: Read + Drop>(
     reader: R,
     total: Option<u64>,
 ) -> Result<(), Kind> {
-    let mut reader = Watched::new(rt, reader, task.request, total);
+    let request = task.request;
+    let mut text = HexTextReader::new(reader);
+    let mut reader = Watched::new(rt, &mut text, request, total);
     let outcome = run_to_output(rt, task, &mut reader);
     reader.end();
+    let is_text = request.encrypts && matches!(request.coding, Coding::Bytes);
+    if is_text && outcome.is_ok() && text.is_hexadecimal() {
+        let _ = notices::tell(Notice::Hexadecimal, request.input.name(), &mut rt.stderr());
+    }
     outcome
 }
 
@@ -149,7 +174,7 @@ fn run_file(rt: &HostRuntime, task: Task, path: &str) -> Result<(), Kind> {
     }
 }
 
-// ---- Base64
+// ---- Base64 and hexadecimal digits
 
 /// Tells a fault of a file, and of what stands in it, and gives its status.
 pub fn tell_in(rt: &HostRuntime, fault: FileFault, input: &str, detail: &str) -> Result<u8, Kind> {
@@ -158,20 +183,26 @@ pub fn tell_in(rt: &HostRuntime, fault: FileFault, input: &str, detail: &str) ->
     Ok(tell::<English, _>(fault, &mut rt.stderr()))
 }
 
+// Tells a fault of a line of a file, and gives its status.
+fn tell_line(rt: &HostRuntime, fault: FileFault, input: &str, line: u64) -> Result<u8, Kind> {
+    let line = format!(in rt.alloc(); "line {line}")?;
+    tell_in(rt, fault, input, line.as_str())
+}
+
+/// Tells why an input is no text of hexadecimal digits, and gives the status.
+pub fn tell_hex(rt: &HostRuntime, fault: HexFault, input: &str) -> Result<u8, Kind> {
+    match fault {
+        HexFault::Line(line) => tell_line(rt, FileFault::HexText, input, line),
+        HexFault::Odd => Err(Kind::File(FileFault::HexLength)),
+    }
+}
+
 // Does the work with the bytes that a reader gives as Base64. A text that is none is told by its line.
 fn run_encoded<R: Read + Drop>(rt: &HostRuntime, task: Task, reader: R) -> Result<u8, Kind> {
     let mut reader = Base64Reader::new(reader, &STANDARD);
     let outcome = run_from_start(rt, task, &mut reader, None);
     match reader.line_of_fault() {
-        Some(line) => {
-            let line = format!(in rt.alloc(); "line {line}")?;
-            tell_in(
-                rt,
-                FileFault::Base64,
-                task.request.input.name(),
-                line.as_str(),
-            )
-        }
+        Some(line) => tell_line(rt, FileFault::Base64, task.request.input.name(), line),
         None => outcome.map(|()| 0),
     }
 }
@@ -181,6 +212,24 @@ fn run_base64(rt: &HostRuntime, task: Task) -> Result<u8, Kind> {
     match task.request.input {
         Source::File(path) => run_encoded(rt, task, inputs::open(rt, path)?.file),
         _ => run_encoded(rt, task, rt.stdin()),
+    }
+}
+
+// Does the work with the bytes whose digits a reader gives. A text that has others is told.
+fn run_digits<R: Read + Drop>(rt: &HostRuntime, task: Task, reader: R) -> Result<u8, Kind> {
+    let mut reader = HexReader::new(reader);
+    let outcome = run_from_start(rt, task, &mut reader, None);
+    match reader.fault() {
+        Some(fault) => tell_hex(rt, fault, task.request.input.name()),
+        None => outcome.map(|()| 0),
+    }
+}
+
+// Reads hexadecimal digits, and does the work with their bytes.
+fn run_hexadecimal(rt: &HostRuntime, task: Task) -> Result<u8, Kind> {
+    match task.request.input {
+        Source::File(path) => run_digits(rt, task, inputs::open(rt, path)?.file),
+        _ => run_digits(rt, task, rt.stdin()),
     }
 }
 
@@ -240,6 +289,7 @@ fn run_taken(rt: &HostRuntime, request: &StreamRequest, secret: &[u8]) -> Result
     };
     match (request.coding, request.input) {
         (Coding::Base64, _) => return run_base64(rt, task),
+        (Coding::Hexadecimal, _) => return run_hexadecimal(rt, task),
         (Coding::Bytes, Source::File(path)) => run_file(rt, task, path)?,
         (Coding::Bytes, _) => run_from_start(rt, task, rt.stdin(), None)?,
     }

@@ -202,6 +202,16 @@ pub fn request_of_words<'a>(words: &StreamWords<'a>) -> Result<StreamRequest<'a>
     })
 }
 
+// How the bytes are written.
+fn coding_of<'a>(is_base64: bool, is_hexadecimal: bool) -> Result<Coding, Fault<'a>> {
+    match (is_base64, is_hexadecimal) {
+        (true, true) => Err(misuse(Misuse::Codings, "")),
+        (true, false) => Ok(Coding::Base64),
+        (false, true) => Ok(Coding::Hexadecimal),
+        (false, false) => Ok(Coding::Bytes),
+    }
+}
+
 /// What the words of `encrypt` or `decrypt` ask for; a fault where they don't go together.
 pub fn stream_request<'a>(
     encrypts: bool,
@@ -209,10 +219,6 @@ pub fn stream_request<'a>(
 ) -> Result<StreamRequest<'a>, Fault<'a>>
     ensures direction { IfOk result (λ request. request.encrypts ≡ encrypts) }
 {
-    let coding = match is_set(matches, "base64") {
-        true => Coding::Base64,
-        false => Coding::Bytes,
-    };
     request_of_words(&StreamWords {
         encrypts,
         cipher: place_of(matches, "cipher"),
@@ -222,7 +228,7 @@ pub fn stream_request<'a>(
         from: number_of(matches, "from"),
         count: number_of(matches, "blocks"),
         secret: secret_of(encrypts, matches)?,
-        coding,
+        coding: coding_of(is_set(matches, "base64"), is_set(matches, "hex"))?,
         input: text_of(matches, "in"),
         output: text_of(matches, "out"),
         shows_progress: is_set(matches, "progress"),

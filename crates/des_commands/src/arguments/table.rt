@@ -47,7 +47,7 @@ macro_rules! group {
 
 /// What the program's own help ends with.
 pub const STATUSES: &str = "\
-Statuses: 0 done, 1 the answer is no, 2 arguments, keys and inputs, 3 memory, 4 reading and writing,
+Statuses: 0 done, 1 the answer is weak or wrong, 2 arguments, keys and inputs, 3 memory, 4 reading and writing,
 5 the data. Keys, PINs, blocks and components are never arguments.";
 
 const WEAK_KEYS: &[&str] = &["refuse", "warn", "accept"];
@@ -68,7 +68,7 @@ static STREAMS: Group<'static> = group! {
         "weak-keys": Word("CHOICE", WEAK_KEYS) => "What to do with a weak key [default: refuse]";
         "from": Hidden => "";
         "blocks": Hidden => "";
-    }, Files, Progress, Key, Password, Derive, AnyCount] "\
+    }, Files, Hex, Progress, Key, Password, Derive, AnyCount] "\
 Limits: encrypt no more than 2^20 blocks (8 MiB) under one key (NIST SP 800-67 Rev. 2), and only
 what an old system needs: NIST disallows encryption with triple DES after 2023 (SP 800-131A Rev. 2).
 Nothing is authenticated.
@@ -86,7 +86,7 @@ Example:
         "weak-keys": Word("CHOICE", WEAK_KEYS) => "What to do with a weak key [default: warn]";
         "from": Number("BLOCK") => "Decrypt from this block of 8 bytes on, the first being 0";
         "blocks": Number("COUNT") => "Decrypt at most this number of blocks";
-    }, Files, Progress, Key, Password, Derive, AnyCount, {
+    }, Files, Hex, Progress, Key, Password, Derive, AnyCount, {
         "no-salt": Nothing => "The input has no salt, and does not begin with Salted__";
         "base64": Nothing => "The input is Base64 in lines";
     }] "\
@@ -122,7 +122,8 @@ static KEYS: Group<'static> = group! {
         "length": Word("BYTES", &["4", "5", "6", "7", "8"]) =>
             "Print this number of the tag's first bytes [default: 8]";
         "verify": Text("TAG") =>
-            "Print nothing, and end with 0 where these are the tag's first 4 to 8 bytes, else with 1";
+            "Print right where these are the tag's first 4 to 8 bytes, else wrong, and end with 1";
+        "hex": Nothing => "The message is hexadecimal digits, of either case, with white space between";
     }, Key] "Example:
   printf 'a message' | KEY=0123456789abcdeffedcba9876543210 cukvashe mac cmac --key-env KEY";
 
@@ -136,7 +137,7 @@ static KEYS: Group<'static> = group! {
     [Key] "Example:
   KEY=0022446688aaccee cukvashe parity --key-env KEY";
 
-    "weak": "Print whether a key is weak, and end with 1 where it is not";
+    "weak": "Print weak or not weak, and end with 1 for weak";
     [Key] "Example:
   KEY=0101010101010101 cukvashe weak --key-env KEY";
 

@@ -54,6 +54,7 @@ pub enum Arguments<'a> {
     Validation,
     Cryptogram,
     BlockFile,
+    Hex,
 }
 
 macro_rules! arguments {
@@ -150,6 +151,11 @@ const BLOCK_FILE: &[Argument<'static>] = arguments! {
     "block-file": Text("FILE") => "Read the key block from a file [default: standard input]";
 };
 
+const HEX: &[Argument<'static>] = arguments! {
+    "hex": Nothing =>
+        "Input and output are hexadecimal digits: of the input in either case, with white space between";
+};
+
 /// The arguments, in the help's order.
 pub fn list_of<'a>(arguments: Arguments<'a>) -> &'a [Argument<'a>] {
     match arguments {
@@ -170,5 +176,6 @@ pub fn list_of<'a>(arguments: Arguments<'a>) -> &'a [Argument<'a>] {
         Arguments::Validation => VALIDATION,
         Arguments::Cryptogram => CRYPTOGRAM,
         Arguments::BlockFile => BLOCK_FILE,
+        Arguments::Hex => HEX,
     }
 }
