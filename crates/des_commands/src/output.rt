@@ -14,7 +14,9 @@ use std::io::{self, ErrorKind, IsTerminal};
 use std::os::unix::fs::{MetadataExt, OpenOptionsExt, PermissionsExt, fchown};
 use std::path::Path;
 
-// The name of the file that standard output is.
+// What the system tells of this process, and of its standard output.
+const OWN_FOLDER: &str = "/proc/self";
+
 const STANDARD_OUTPUT: &str = "/proc/self/fd/1";
 
 // Who may read, write and run a file, of the bits of its mode: all, and the owner.
@@ -144,12 +146,18 @@ fn open_fault(error: io::Error) -> Kind {
     }
 }
 
+// The user who runs this, whose its folder of the system is, where the system has one.
+fn own_user(rt: &HostRuntime) -> Option<u32> {
+    Some(fs::metadata(rt, OWN_FOLDER).ok()?.uid())
+}
+
 // Opens the file that was looked up, under a name that is no link. A shell opens with `O_CREAT`, so that
 // the system refuses what another user has put into a folder where many may write. That would make a
 // file wherever a link leads that takes the name meanwhile: so it is refused here, by the same rule.
 fn open_looked_up(rt: &HostRuntime, name: &str, old: &Metadata) -> Result<File, Kind> {
     let folder = fs::metadata(rt, folder_of(name)).map_err(open_fault)?;
-    if is_refused_in_sticky(inode_of(&folder), inode_of(old), libc::geteuid()) {
+    let user = own_user(rt).unwrap_or(folder.uid());
+    if is_refused_in_sticky(inode_of(&folder), inode_of(old), user) {
         return Err(Kind::Write(Reason::Permission));
     }
     let file = OpenOptions::new()
@@ -175,7 +183,7 @@ fn open_old(rt: &HostRuntime, name: String, old: Metadata) -> Result<Target, Kin
         return Ok(Target::AsItIs(file));
     }
     let mode = old.permissions().mode() & OWNER_BITS;
-    let narrows = has_other_users(inode_of(&old), libc::geteuid());
+    let narrows = has_other_users(inode_of(&old), own_user(rt).unwrap_or(old.uid()));
     create_private(rt, name, Some(old), mode, narrows)
 }
 
