@@ -30,7 +30,7 @@
  * WHAT YOU MUST UPHOLD
  *
  * Behaviour is undefined if a pointer is not good for its length, if arguments overlap that must not, or if anything but
- * calls changed a context behind the mark of its init (see CIPHERS): they look at the mark alone. You may copy, move and
+ * calls changed a part of a context after its init: they look at its mark alone (see CIPHERS). You may copy, move and
  * overwrite whole contexts. Weak keys are accepted (see KEYS). No mode here authenticates. Use an initialization vector
  * that is fresh and that nobody can foresee. Wipe contexts, terminals, keys, passwords and PINs after use
  * (cukvashe_wipe).

@@ -1,6 +1,6 @@
 //! MACs of a message that comes in pieces, over contexts, by the number that ISO/IEC 9797-1:2011
 //! gives the algorithm: 1 is CBC-MAC, 3 the retail MAC over DES, 5 CMAC. The words of a MAC are a
-//! context of its key; those of the retail MAC are 34, the contexts of two keys of DES.
+//! context of its key with a mark of its own; those of the retail MAC are 34, of two keys of DES.
 
 ghost use Rattle.std.specs.Prelude.{◌≡◌, ◌≢◌, ◌↔◌, ℕ, List, [], ◌++◌, length, take, drop, IsTrue};
 ghost use Rattle.des.specs.Blocks.{IsKey};
