@@ -34,8 +34,8 @@ out/made_by: always
 	@echo $(made_by) | cmp -s - $@ || echo $(made_by) >$@
 
 # One recipe makes both libraries, which makes before 4.3 take of patterns alone.
-%/libcukvashe_des.a $(addprefix %/,$(notdir $(lastword $(library)))): out/made_by VERSION bindings/build bindings/targets bindings/c/soversion \
-  bindings/c/cukvashe_des.h generated/cukvashe_des.h $(wildcard bindings/c/src/* $(text)/library*.s)
+%/libcukvashe_des.a $(addprefix %/,$(notdir $(lastword $(library)))): out/made_by VERSION bindings/build bindings/targets \
+  $(addprefix bindings/c/,soversion flags cukvashe_des.h) generated/cukvashe_des.h $(wildcard bindings/c/src/* $(text)/library*.s)
 	@bindings/build --generated
 
 # Says why nothing is built.

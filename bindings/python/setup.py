@@ -29,15 +29,6 @@ GENERATED = TOP / "generated"
 WORK = Path(tempfile.mkdtemp())
 atexit.register(shutil.rmtree, WORK, ignore_errors=True)
 
-# The folders of `generated`, and what a compiler for them defines.
-TARGETS = {
-    "x86_64": {"__x86_64__", "__LP64__", "__linux__"},
-    "aarch64": {"__AARCH64EL__", "__LP64__", "__linux__"},
-    "riscv64": {"__riscv", "__LP64__", "__linux__"},
-    "windows": {"__x86_64__", "__MINGW64__"},
-    "macos/x86_64": {"__x86_64__", "__APPLE__"},
-    "macos/arm64": {"__aarch64__", "__APPLE__"},
-}
 # Processors by the number that a library's header has for them, in ELF and in Mach-O.
 ELF = {62: "x86_64", 183: "aarch64", 243: "riscv64"}
 MACH_O = {0x1000007: "x86_64", 0x100000C: "arm64"}
@@ -73,9 +64,11 @@ def compiled():
     """The library that the C compiler makes, for the system that it is for."""
     text, number = text_of_header(), (C / "soversion").read_text().strip()
     defined = set(re.findall(r"#define (\w+)", compiler("-E", "-dM", "-x", "c", os.devnull)))
-    target = next((target for target, names in TARGETS.items() if names <= defined), None)
+    rows = [line.split() for line in (C.parent / "targets").read_text(encoding="utf-8").splitlines() if line[0] != "#"]
+    target, marks = next(((row[0], row[5]) for row in rows if {*row[3].split(",")} <= defined), (None, None))
     if target is None:
-        raise SystemExit(f"the C compiler is for none of {', '.join(TARGETS)} with pointers of 64 bits: name another by CC")
+        raise SystemExit(f"the C compiler is for none of {', '.join(row[0] for row in rows)} with pointers of 64 bits: name another by CC")
+    flags = [*(C / "flags").read_text(encoding="utf-8").split(), *(marks,) * (marks != "-")]
     link = ["-shared", "-fPIC", f"-Wl,-soname,libcukvashe_des.so.{number}", "-Wl,-z,defs,-z,relro,-z,now"]
     if target == "windows":
         names = WORK / "names.def"
@@ -85,7 +78,7 @@ def compiled():
         link = ["-dynamiclib", "-mmacosx-version-min=11.0", f"-Wl,-install_name,@rpath/libcukvashe_des.{number}.dylib"]
     sources = [*sorted((C / "src").glob("*.c")), *sorted((GENERATED / target).glob("library*.s"))]
     made = WORK / "cukvashe_des.dll"  # for Windows this name goes into the file, and for others none does
-    compiler("-std=c99", "-O2", "-fvisibility=hidden", "-I", C, "-o", made, *sources, *link)
+    compiler(*flags, "-I", C, "-o", made, *sources, *link)
     return made
 
 
@@ -116,7 +109,7 @@ def kind():
         return "cukvashe_des.dll", "win_amd64"
     if number(0, 4) == 0xFEEDFACF and number(4, 4) in MACH_O:
         return "libcukvashe_des.dylib", "macosx_11_0_" + MACH_O[number(4, 4)]
-    raise SystemExit(f"{library()} is no shared library for {', '.join(TARGETS)}")
+    raise SystemExit(f"{library()} is no shared library for {', '.join(ELF.values())}, Windows or macOS")
 
 
 class WithLibrary(build_py):

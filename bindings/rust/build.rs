@@ -1,5 +1,5 @@
 //! Builds the library by a C compiler, of the assembly that the proofs gave: of the repository, or of `native/` in a packaged crate
-//! (`bindings/carry` makes it). Where CUKVASHE_DES_LIB_DIR names a folder, the library there is linked
+//! (`bindings/carry` makes it). The crate `cc` is not taken: whoever has no network, as the tests, has no other crate. Where CUKVASHE_DES_LIB_DIR names a folder, the library there is linked
 //! instead, the static one if it has both. One of another version is refused, and so is one that says none: its contexts could need
 //! more memory than this crate gives them.
 
@@ -12,9 +12,6 @@ const VERSION: &str = env!("CARGO_PKG_VERSION");
 
 /// What stands before the version in the header.
 const NAMED: &str = "#define CUKVASHE_VERSION ";
-
-/// How the C beside the assembly is compiled, as by `bindings/build`.
-const FLAGS: [&str; 6] = ["-std=c99", "-O2", "-fPIC", "-fvisibility=hidden", "-ffunction-sections", "-fdata-sections"];
 
 /// Says why the crate can't be built, and ends.
 fn refused(text: &str) -> ! {
@@ -30,56 +27,66 @@ fn said(variable: &str) -> String {
 /// What builds the library for the target.
 struct Tools {
     /// The folder of the assembly in generated/.
-    text: &'static str,
+    text: String,
+    /// Words for the C beside the assembly.
+    flags: Vec<String>,
     cc: Vec<String>,
     ar: Vec<String>,
     /// What to do where one of them is missing, or is too old.
     advice: String,
 }
 
-/// Of a target: the folder of its assembly, what the names of gcc's tools for it begin with, and how one comes by them.
-fn known() -> Option<[&'static str; 3]> {
+/// Of cargo's target, what the table of targets has beside its system and processor.
+fn known(table: &str) -> Option<[&str; 4]> {
     let of = |what: &str| said(&format!("CARGO_CFG_TARGET_{what}"));
-    if of("POINTER_WIDTH") != "64" || of("ENDIAN") != "little" {
-        return None;
-    }
-    Some(match (&*of("OS"), &*of("ENV"), &*of("ARCH")) {
-        ("linux", "gnu" | "musl", "x86_64") => ["x86_64", "x86_64-linux-gnu-", "apt-get install gcc-x86-64-linux-gnu"],
-        ("linux", "gnu" | "musl", "aarch64") => {
-            ["aarch64", "aarch64-linux-gnu-", "apt-get install gcc-aarch64-linux-gnu libc6-dev-arm64-cross"]
+    let (system, processor) = (of("OS"), of("ARCH"));
+    let is_known = match (&*system, &*of("ENV")) {
+        ("linux", "gnu" | "musl") | ("windows", "gnu") | ("macos", _) => {
+            of("POINTER_WIDTH") == "64" && of("ENDIAN") == "little"
         }
-        ("linux", "gnu" | "musl", "riscv64") => {
-            ["riscv64", "riscv64-linux-gnu-", "apt-get install gcc-riscv64-linux-gnu libc6-dev-riscv64-cross"]
+        _ => false,
+    };
+    table.lines().filter(|line| is_known && !line.starts_with('#')).find_map(|line| {
+        match line.split_whitespace().collect::<Vec<_>>()[..] {
+            [text, os, arch, _, begin, marks, packages] if os == system && arch == processor => {
+                Some([text, begin, marks, packages])
+            }
+            _ => None,
         }
-        ("windows", "gnu", "x86_64") => ["windows", "x86_64-w64-mingw32-", "apt-get install gcc-mingw-w64-x86-64"],
-        ("macos", _, "x86_64") => ["macos/x86_64", "", "xcode-select --install"],
-        ("macos", _, "aarch64") => ["macos/arm64", "", "xcode-select --install"],
-        _ => return None,
     })
 }
 
-/// What builds the library for cargo's target; refuses one for which there is no assembly.
-fn tools() -> Tools {
+/// What builds the library for cargo's target, by the tables beside the C; refuses one for which there is no assembly.
+fn tools(code: &Path) -> Tools {
     let (target, host) = (said("TARGET"), said("HOST"));
-    let Some([text, begin, install]) = known() else {
+    let [table, flags] = [code.join("../targets"), code.join("flags")].map(|file| {
+        println!("cargo:rerun-if-changed={}", file.display());
+        String::from_utf8_lossy(&read(&file)).into_owned()
+    });
+    let Some([text, begin, marks, packages]) = known(&table) else {
         refused(&format!(
             "{target} is not supported: take Linux on x86_64, aarch64 or riscv64 (gnu, musl), x86_64-pc-windows-gnu, or macOS"
         ));
     };
     let is_own = host.starts_with(&said("CARGO_CFG_TARGET_ARCH")) && host.contains(&said("CARGO_CFG_TARGET_OS"));
-    let (begin, install) = match (is_own, text) {
-        (true, "windows") => ("", "in MSYS2 pacman -S mingw-w64-x86_64-gcc"),
-        (true, _) => ("", "apt-get install gcc libc6-dev"),
-        _ => (begin, install),
+    let apple = text.strip_prefix("macos/");
+    let begin = if is_own || apple.is_some() { "" } else { begin };
+    let install = match (is_own, text) {
+        _ if apple.is_some() => "xcode-select --install".to_string(),
+        (true, "windows") => "in MSYS2 pacman -S mingw-w64-x86_64-gcc".to_string(),
+        (true, _) => "apt-get install gcc libc6-dev".to_string(),
+        _ => format!("apt-get install {}", packages.replace(',', " ")),
     };
-    let compiler = if begin.is_empty() && text != "windows" { "cc".to_string() } else { format!("{begin}gcc") };
-    let mut cc = tool("CC", &compiler);
+    let mut cc =
+        tool("CC", &if begin.is_empty() && text != "windows" { "cc".to_string() } else { format!("{begin}gcc") });
     // One compiler makes code for both of Apple's processors.
-    cc.extend(text.strip_prefix("macos/").map(|processor| format!("--target={processor}-apple-macosx11")));
+    cc.extend(apple.map(|processor| format!("--target={processor}-apple-macosx11")));
     let advice = format!(
         "{install}, or name by CC and AR tools for {target}: GCC with binutils from 2.35 on, or clang from 11 on"
     );
-    Tools { text, cc, ar: tool("AR", &format!("{begin}ar")), advice }
+    let flags =
+        flags.split_whitespace().chain([marks].into_iter().filter(|marks| *marks != "-")).map(String::from).collect();
+    Tools { text: text.to_string(), flags, cc, ar: tool("AR", &format!("{begin}ar")), advice }
 }
 
 /// The words of a tool: those of its variable, by the names that the crate `cc` has for it, else its usual name. Cargo asks again when
@@ -164,11 +171,11 @@ fn sources() -> (PathBuf, PathBuf) {
 
 /// Builds the library, and links it.
 fn build() {
-    let Tools { text, cc, ar, advice } = tools();
     let (code, generated) = sources();
-    let assembly = files(&generated.join(text), "library", ".s");
+    let Tools { text, flags, cc, ar, advice } = tools(&code);
+    let assembly = files(&generated.join(&text), "library", ".s");
     if assembly.is_empty() {
-        refused(&format!("{} has no assembly", generated.join(text).display()));
+        refused(&format!("{} has no assembly", generated.join(&text).display()));
     }
     let out = PathBuf::from(said("OUT_DIR"));
     let library = out.join("libcukvashe_des.a");
@@ -179,7 +186,7 @@ fn build() {
         let object = out.join(file.file_name().unwrap_or_default()).with_extension("o");
         let mut compile = command(&cc);
         if file.extension().is_some_and(|end| end == "c") {
-            compile.args(FLAGS).arg("-I").arg(&code);
+            compile.args(&flags).arg("-I").arg(&code);
         }
         run(compile.arg("-c").arg("-o").arg(&object).arg(file), &advice);
         archive.arg(object);
