@@ -1,4 +1,4 @@
-"""Puts the shared library into the wheel: the file that CUKVASHE_DES_LIBRARY names, else what a C compiler makes of the assembly that the
+"""Puts the shared library into the wheel: the file that CUKVASHE_DES_LIBRARY names, else what bindings/build builds of the assembly that the
 proofs give. That is in the repository, and in a source archive in `native`, where `bindings/carry` puts it. The wheel is for the system
 that the library is for. What is made meanwhile goes to a temporary folder."""
 
@@ -24,8 +24,6 @@ HERE = Path(__file__).resolve().parent
 NATIVE = HERE / "native"
 REPOSITORY = HERE.parent.parent
 TOP = REPOSITORY if (REPOSITORY / "bindings/c/cukvashe_des.h").exists() else NATIVE
-C = TOP / ("c" if TOP == NATIVE else "bindings/c")
-GENERATED = TOP / "generated"
 WORK = Path(tempfile.mkdtemp())
 atexit.register(shutil.rmtree, WORK, ignore_errors=True)
 
@@ -34,52 +32,18 @@ ELF = {62: "x86_64", 183: "aarch64", 243: "riscv64"}
 MACH_O = {0x1000007: "x86_64", 0x100000C: "arm64"}
 
 
-def text_of_header():
-    """The header, byte by byte. What is generated must be for it, and it must have the package's version."""
-    try:
-        text, generated_for = ((folder / "cukvashe_des.h").read_bytes() for folder in (C, GENERATED))
-    except OSError as error:
-        alone = "pip before 21.3 takes this folder alone, so run bindings/carry bindings/python first"
-        raise SystemExit(f"{error.filename} is missing: {alone}") from None
-    version = re.findall(b'__version__ = (".*")', (HERE / "cukvashe_des/_version.py").read_bytes())[0]
-    if text != generated_for or b"#define CUKVASHE_VERSION " + version not in text:
-        raise SystemExit("generated/ was made for another header than bindings/c/cukvashe_des.h: take both from one commit")
-    return text
-
-
-def compiler(*arguments):
-    """What the C compiler prints."""
-    name = os.environ.get("CC") or "cc"
-    needed = "install GCC or Clang, C's headers and binutils from 2.35 on (apt-get install gcc libc6-dev), or name a compiler by CC"
-    try:
-        return subprocess.run([*name.split(), *map(str, arguments)], capture_output=True, text=True, check=True).stdout
-    except OSError:
-        raise SystemExit(f"there is no C compiler '{name}': {needed}") from None
-    except subprocess.CalledProcessError as error:
-        said = re.findall("(?i).*(?:error|undefined|cannot).*", error.stderr) or ["which fails"]
-        raise SystemExit(f"the C compiler '{name}' can't build the library, {said[0]}: {needed}") from None
-
-
 def compiled():
-    """The library that the C compiler makes, for the system that it is for."""
-    text, number = text_of_header(), (C / "soversion").read_text().strip()
-    defined = set(re.findall(r"#define (\w+)", compiler("-E", "-dM", "-x", "c", os.devnull)))
-    rows = [line.split() for line in (C.parent / "targets").read_text(encoding="utf-8").splitlines() if line[0] != "#"]
-    target, marks = next(((row[0], row[5]) for row in rows if {*row[3].split(",")} <= defined), (None, None))
-    if target is None:
-        raise SystemExit(f"the C compiler is for none of {', '.join(row[0] for row in rows)} with pointers of 64 bits: name another by CC")
-    flags = [*(C / "flags").read_text(encoding="utf-8").split(), *(marks,) * (marks != "-")]
-    link = ["-shared", "-fPIC", f"-Wl,-soname,libcukvashe_des.so.{number}", "-Wl,-z,defs,-z,relro,-z,now"]
-    if target == "windows":
-        names = WORK / "names.def"
-        names.write_bytes(b"\n".join([b"EXPORTS", *sorted(set(re.findall(rb"\b(cukvashe_[a-z0-9_]+) ?\(", text)))]))
-        link = ["-shared", "-Wl,--no-insert-timestamp,--disable-auto-image-base", names]
-    elif "macos" in target:
-        link = ["-dynamiclib", "-mmacosx-version-min=11.0", f"-Wl,-install_name,@rpath/libcukvashe_des.{number}.dylib"]
-    sources = [*sorted((C / "src").glob("*.c")), *sorted((GENERATED / target).glob("library*.s"))]
-    made = WORK / "cukvashe_des.dll"  # for Windows this name goes into the file, and for others none does
-    compiler(*flags, "-I", C, "-o", made, *sources, *link)
-    return made
+    """The library that bindings/build builds, by the compiler that CC names."""
+    if not (TOP / "bindings/build").exists():
+        raise SystemExit(f"{TOP} is missing: pip before 21.3 takes this folder alone, so run bindings/carry bindings/python first")
+    built = WORK / "built"
+    try:
+        subprocess.run(["bash", TOP / "bindings/build", "--generated", "--into", built.as_posix()], capture_output=True, text=True, check=True)
+    except OSError as error:
+        raise SystemExit(f"there is no bash, which bindings/build needs: {error.strerror}") from None
+    except subprocess.CalledProcessError as error:
+        raise SystemExit(error.stderr.strip().splitlines()[-1]) from None
+    return next(file for ending in ("bin/*.dll", "lib/*.dylib", "lib/*.so") for file in built.glob(ending))
 
 
 @functools.lru_cache(maxsize=None)
@@ -124,7 +88,7 @@ class WithLibrary(build_py):
         for name in ("LICENSE-APACHE", "LICENSE-MIT"):
             shutil.copyfile(TOP / name, package / name)
         # Those of the toolchain's libraries whose code is in the library.
-        shutil.copytree(GENERATED / "licenses", package / "licenses")
+        shutil.copytree(TOP / "generated/licenses", package / "licenses")
 
 
 class ForOneSystem(bdist_wheel):
