@@ -5,14 +5,13 @@
 #   make install        the library and cukvashe below PREFIX, and all that below DESTDIR if you make a package; make uninstall removes them
 #   make clean
 #
-# CPPFLAGS, CFLAGS and LDFLAGS are words for the compiler, AR names the archiver, LIBDIR the folder of libraries.
+# CPPFLAGS, CFLAGS and LDFLAGS are words for the compiler, AR names the archiver, LIBDIR the folder of libraries. Make hands on what of these is
+# given.
 PREFIX ?= /usr/local
-CFLAGS ?= -O2
-export CC CPPFLAGS CFLAGS LDFLAGS
-ifneq ($(origin AR),default)
-export AR
-endif
-# A word for the shell, whatever characters are in it. Of a path make takes `$` as it is too.
+# CPPFLAGS, CFLAGS and LDFLAGS are words for the compiler, AR names the archiver, LIBDIR the folder of libraries. Make hands on what of these is
+# given.
+PREFIX = /usr/local
+LIBDIR =
 quoted = '$(subst ','\'',$(1))'
 # The folder in generated/, words for the compiler, and the libraries.
 built := $(shell CC=$(call quoted,$(CC)) bindings/build --names 2>/dev/null)
@@ -50,7 +49,7 @@ $(programs): %: $(text)/%.s bindings/programs/system.c out/made_by
 check: check-library check-programs
 
 # The tests call make themselves, with the words that it was called with, and take none of its jobs.
-tests = MAKEFLAGS=$(call quoted,-- $(MAKEOVERRIDES))
+tests = MAKEFLAGS=$(call quoted,-- $(MAKEOVERRIDES)) CC=$(call quoted,$(CC))
 
 check-library: $(library)
 	$(if $(filter generated/x86_64,$(text)),$(tests) bindings/c/test --leave-out,@echo 'the tests of C are left out: here they are for x86-64 with Linux')
