@@ -7,11 +7,9 @@
 #
 # CPPFLAGS, CFLAGS and LDFLAGS are words for the compiler, AR names the archiver, LIBDIR the folder of libraries. Make hands on what of these is
 # given.
-PREFIX ?= /usr/local
-# CPPFLAGS, CFLAGS and LDFLAGS are words for the compiler, AR names the archiver, LIBDIR the folder of libraries. Make hands on what of these is
-# given.
 PREFIX = /usr/local
 LIBDIR =
+# A word for the shell, whatever characters are in it. Of a path make takes `$` as it is too.
 quoted = '$(subst ','\'',$(1))'
 # The folder in generated/, words for the compiler, and the libraries.
 built := $(shell CC=$(call quoted,$(CC)) bindings/build --names 2>/dev/null)
