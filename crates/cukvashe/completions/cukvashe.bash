@@ -32,7 +32,7 @@ _cukvashe() {
         *':--option') words='a b' ;;
         *':--show') words='fields key' ;;
         *':--version') words='B C' ;;
-        *':--any-count' | *':--any-table' | *':--base64' | *':--hex' | *':--no-salt' | *':--progress' | *':--response' | *:*:[!-]*)
+        *':--any-count' | *':--any-table' | *':--base64' | *':--hex' | *':--initial-key' | *':--no-salt' | *':--progress' | *':--response' | *:*:[!-]*)
           case $command in
             encrypt)
               words='--iv --padding --weak-keys --in --out --hex --progress --key-file --key-fd --key-env --password-file --password-fd
@@ -48,7 +48,7 @@ _cukvashe() {
             parity) words='--key-file --key-fd --key-env' ;;
             weak) words='--key-file --key-fd --key-env' ;;
             combine) words='--part-file --count --key-file --key-fd --key-env' ;;
-            dukpt) words='--response --key-file --key-fd --key-env' ;;
+            dukpt) words='--response --initial-key --key-file --key-fd --key-env' ;;
             cvv) words='--expiry --service --account --account-file --check-digit --key-file --key-fd --key-env' ;;
             'pin encode') words='--pin-file --fill --account --account-file --check-digit' ;;
             'pin decode') words='--block-file --account --account-file --check-digit' ;;

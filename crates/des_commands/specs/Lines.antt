@@ -1,5 +1,5 @@
 -- What answers a calculation, by what was read for it.
-use Rattle.std.specs.Prelude.{◌≡◌, ◌⊎◌, ℕ, ◌*◌, ◌/◌, ◌==◌, ◌||◌, nat_lt, count_ones, if◌then◌else◌, List, length, map, replicate, take, codes, Option, Some, None, Result}
+use Rattle.std.specs.Prelude.{◌≡◌, ◌⊎◌, ℕ, ◌*◌, ◌/◌, ◌==◌, ◌||◌, nat_lt, count_ones, if◌then◌else◌, Bool, List, length, map, replicate, take, codes, Option, Some, None, Result}
 use Rattle.std.specs.Option.{option_map, option_or}
 use Rattle.std.specs.Simd.{first_chunks}
 use Rattle.std.specs.declared.vec.Vec.{Vec}
@@ -118,10 +118,14 @@ key_for (Mac message) transaction = mac_key message transaction
 key_for (Data message) transaction = data_key message transaction
 key_for (DataVariant message) transaction = data_variant message transaction
 
--- the key of the transaction of a serial number, from the base derivation key
-abbrev pub transaction_key_of : List ℕ → List ℕ → List ℕ
-transaction_key_of serial digits =
-    transaction_key (initial_key (bytes_of digits) (bytes_of serial)) (bytes_of serial)
+-- the initial key of a serial number, where a key is that or the base derivation key
+abbrev pub initial_key_of : (is_initial : Bool) → List ℕ → List ℕ → List ℕ
+initial_key_of is_initial key serial = if is_initial then key else initial_key key serial
+
+-- the key of the transaction of a serial number
+abbrev pub transaction_key_of : (is_initial : Bool) → List ℕ → List ℕ → List ℕ
+transaction_key_of is_initial serial digits =
+    transaction_key (initial_key_of is_initial (bytes_of digits) (bytes_of serial)) (bytes_of serial)
 
 -- no transaction has a counter of 0, nor one of more than ten one bits
 abbrev pub counter_fault : List ℕ → Option Kind
@@ -155,8 +159,8 @@ IsLine (Encode format fill) inputs line =
     (block : List ℕ) × (IsEncoded format fill.now inputs.account.now inputs.text.now block × (line ≡ hex_line block))
 IsLine (Decode format) inputs line =
     (pin : List ℕ) × (IsDecoded format inputs.account.now pin (bytes_of inputs.text.now) × (line ≡ text_line pin))
-IsLine (Transaction serial purpose) inputs line =
-    line ≡ hex_line (key_for purpose (transaction_key_of serial.now inputs.text.now))
+IsLine (Transaction serial purpose is_initial) inputs line =
+    line ≡ hex_line (key_for purpose (transaction_key_of is_initial serial.now inputs.text.now))
 IsLine (Cvv expiry service) inputs line = line ≡ text_line (cvv_of expiry.now service.now inputs)
 IsLine (PinByKey calculation) inputs line = IsPinLine calculation inputs line
 IsLine (EmvByKey calculation) inputs line = IsEmvLine calculation inputs line
@@ -178,7 +182,7 @@ FailsAs (Encode format fill) inputs result =
 FailsAs (Decode format) inputs result =
     FailsBy (option_or (digits_fault 8 BlockLength BlockText inputs.text.now)
     (decoding_fault format inputs.account.now (bytes_of inputs.text.now))) result
-FailsAs (Transaction serial purpose) inputs result = FailsBy (transaction_fault serial.now inputs.text.now) result
+FailsAs (Transaction serial purpose is_initial) inputs result = FailsBy (transaction_fault serial.now inputs.text.now) result
 FailsAs (Cvv expiry service) inputs result = FailsBy (cvv_fault expiry.now service.now inputs) result
 FailsAs (PinByKey calculation) inputs result = FailsBy (pin_line_fault calculation inputs) result
 FailsAs (EmvByKey calculation) inputs result = FailsAsEmv calculation inputs result

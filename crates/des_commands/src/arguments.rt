@@ -23,7 +23,7 @@ use crate::mac::{Method, PaddingMethod};
 use crate::source::Source;
 use clap::ArgMatches;
 use des_payment::dukpt::Message;
-pub use grammar::{names_of, parse};
+pub use grammar::{known_name, names_of, parse};
 use key_blocks::key_block_request;
 use passwords::private_key_request;
 use payment::{emv_request, offset_request, pin_request, pvv_request};
@@ -276,7 +276,12 @@ fn dukpt_request<'a>(matches: &ArgMatches<'a>) -> Requested<'a> {
     let serial = place_of(matches, "serial");
     let name = place_of(matches, "purpose");
     let purpose = purpose_of(name, is_set(matches, "response"))?;
-    by_key(Calculation::Transaction { serial, purpose }, matches)
+    let calculation = Calculation::Transaction {
+        serial,
+        purpose,
+        is_initial: is_set(matches, "initial-key"),
+    };
+    by_key(calculation, matches)
 }
 
 fn check_request<'a>(matches: &ArgMatches<'a>) -> Requested<'a> {

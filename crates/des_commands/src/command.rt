@@ -110,23 +110,42 @@ pub struct Inputs<'a> {
 #[derive(Clone, Copy)]
 pub enum Calculation<'a> {
     /// The first `bytes` bytes of a key's check value.
-    CheckValue { bytes: u8 },
+    CheckValue {
+        bytes: u8,
+    },
     /// The key with odd parity.
     Parity,
     /// Whether the key is weak.
     Weak,
     /// The key of `count` components.
-    Combine { count: u8 },
+    Combine {
+        count: u8,
+    },
     /// The key of components of `size` bytes. The input is their bytes, and no digits.
-    CombineBytes { size: u8 },
+    CombineBytes {
+        size: u8,
+    },
     /// The block of a PIN. The transaction or fill digits are `fill`, where the format takes them.
-    Encode { format: Format, fill: &'a str },
+    Encode {
+        format: Format,
+        fill: &'a str,
+    },
     /// The PIN of a block.
-    Decode { format: Format },
-    /// A key of the transaction of a key serial number, from the base derivation key.
-    Transaction { serial: &'a str, purpose: Purpose },
+    Decode {
+        format: Format,
+    },
+    /// A key of the transaction of a key serial number, from the base derivation key, or from the
+    /// initial key.
+    Transaction {
+        serial: &'a str,
+        purpose: Purpose,
+        is_initial: bool,
+    },
     /// The card verification value of a card's data under a key pair.
-    Cvv { expiry: &'a str, service: &'a str },
+    Cvv {
+        expiry: &'a str,
+        service: &'a str,
+    },
     Pin(PinCalculation<'a>),
     Emv(EmvCalculation<'a>),
     KeyBlock(KeyBlockCalculation<'a>),

@@ -56,6 +56,7 @@ pub enum Misuse {
     Account,
     AccountOfFormat,
     Arguments,
+    ArgumentValue,
     Components,
     Fill,
     FillNeeded,

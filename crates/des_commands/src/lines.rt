@@ -7,7 +7,7 @@ ghost use Rattle.des_commands.specs.Texts.{bytes_of as bytes_of_text, hex_line a
 ghost use Rattle.des_commands.specs.Faults.{FailsBy, FailsOnlyBy, FailsOrRefuses};
 ghost use Rattle.des_commands.specs.Keys.{key_fault, IsKeySize};
 ghost use Rattle.des_commands.specs.Lines.{check_value_of, IsWeakLine, key_of_components, key_size_of, key_of_count, few_fault, components_fault, encoding_fault, IsEncoded, decoding_fault, IsDecoded};
-ghost use Rattle.des_commands.specs.Lines.{FailsAs, IsLine, key_for, transaction_key_of, transaction_fault};
+ghost use Rattle.des_commands.specs.Lines.{FailsAs, IsLine, key_for, initial_key_of as initial_key_by, transaction_key_of, transaction_fault};
 
 use crate::command::{Calculation, Inputs, Purpose};
 use crate::digits::{Lines, bytes_of, decode, fill_of, hex_line, line_of};
@@ -54,9 +54,11 @@ pub fn lines_of(alloc: Global, calculation: Calculation, inputs: Inputs) -> Line
             let block = bytes_of::<8>(inputs.text, Kind::BlockLength, Kind::BlockText)?;
             Ok(line_of(alloc, pin_of(format, inputs.account, &block)?.text())?)
         }
-        Calculation::Transaction { serial, purpose } => {
-            transaction_line(alloc, serial, purpose, inputs.text)
-        }
+        Calculation::Transaction {
+            serial,
+            purpose,
+            is_initial,
+        } => transaction_line(alloc, serial, purpose, is_initial, inputs.text),
         Calculation::Cvv { expiry, service } => {
             let key = pair_of(inputs.text)?;
             let value = cvv(&key, inputs.account, expiry.as_bytes(), service.as_bytes())?;
@@ -228,16 +230,33 @@ fn key_of_purpose(purpose: Purpose, transaction: &[u8; 16]) -> [u8; 16]
     }
 }
 
-fn transaction_line(alloc: Global, serial: &str, purpose: Purpose, digits: &[u8]) -> Lines
+// The initial key of a key serial number, where a key is that or the base derivation key.
+fn initial_key_of(is_initial: bool, key: &[u8; 16], serial: &[u8; 10]) -> [u8; 16]
+    ensures { result ≡ initial_key_by is_initial key.now serial.now }
+{
+    if is_initial {
+        *key
+    } else {
+        dukpt::initial_key(key, serial)
+    }
+}
+
+fn transaction_line(
+    alloc: Global,
+    serial: &str,
+    purpose: Purpose,
+    is_initial: bool,
+    digits: &[u8],
+) -> Lines
     ensures fault { FailsBy (transaction_fault serial.now digits.now) result }
     ensures line { IfOk result (λ line. line.items
-        ≡ hex_line_of (key_for purpose (transaction_key_of serial.now digits.now))) }
+        ≡ hex_line_of (key_for purpose (transaction_key_of is_initial serial.now digits.now))) }
 {
-    let base = pair_of(digits)?;
+    let key = pair_of(digits)?;
     let serial = bytes_of::<10>(serial.as_bytes(), Kind::SerialLength, Kind::SerialText)?;
     if !dukpt::is_usable(&serial) {
         return Err(Kind::SerialCounter);
     }
-    let transaction = dukpt::transaction_key(&dukpt::initial_key(&base, &serial), &serial);
+    let transaction = dukpt::transaction_key(&initial_key_of(is_initial, &key, &serial), &serial);
     Ok(hex_line(alloc, &key_of_purpose(purpose, &transaction))?)
 }

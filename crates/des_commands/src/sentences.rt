@@ -51,7 +51,8 @@ impl Sentences for English {
             Kind::CryptogramData => "hexadecimal digits are needed, two for each byte",
             Kind::BlockLength => "a block of 16 hexadecimal digits is needed",
             Kind::BlockText => "the block has a character that is no hexadecimal digit",
-            Kind::SerialLength => "a key serial number has 20 hexadecimal digits",
+            Kind::SerialLength =>
+                "a key serial number has 20 hexadecimal digits: put FFFF before one of 16",
             Kind::SerialText =>
                 "the key serial number has a character that is no hexadecimal digit",
             Kind::SerialCounter =>
@@ -121,7 +122,8 @@ fn misuse_words(misuse: Misuse) -> &'static str {
         Misuse::PaddingNeeded => "CBC-MAC and retail MAC need --padding",
         Misuse::Account => "give one of --account and --account-file",
         Misuse::AccountOfFormat => "formats 1 and 2 have no account number",
-        Misuse::Arguments => "the command doesn't take these words (see --help)",
+        Misuse::Arguments => "unknown option or argument, or an abbreviated one (see --help)",
+        Misuse::ArgumentValue => "its value is missing or unknown (see --help)",
         Misuse::Components => "give --part-file twice or more, or --count and one source of all",
         Misuse::Fill => "formats 0 and 2 take no --fill",
         Misuse::FillNeeded => "formats 1 and 3 need --fill, ten digits",
@@ -240,7 +242,7 @@ fn verification_words(error: VerificationError) -> &'static str {
             "the decimalization table has a character that is no digit",
         VerificationError::TableVariety =>
             "the decimalization table has fewer than eight different digits",
-        VerificationError::WrongPin => "the PIN is wrong",
+        VerificationError::WrongPin => "wrong PIN",
     }
 }
 

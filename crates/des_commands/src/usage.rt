@@ -1,7 +1,7 @@
 //! What is shown of a command line that was not understood, or that asks for help. None of the words
 //! that were typed is shown where it may be a key.
 
-use crate::arguments::{names_of, parse};
+use crate::arguments::{known_name, names_of, parse};
 use crate::fault::{Fault, Kind, Misuse};
 use crate::report::{send, show, tell};
 use crate::sentences::English;
@@ -10,10 +10,73 @@ use std::alloc::AllocError;
 
 const USAGE: u8 = 2;
 
-// Help and the version go to standard output.
-fn show_help(rt: &HostRuntime, help: String) -> u8 {
-    show::<English, _, _>(&Ok(help.into_bytes()), &mut rt.stdout(), &mut rt.stderr())
+// The columns of help.
+const COLUMNS: usize = 80;
+
+// ---- help
+
+// Where what is said of an option or a command begins in its line of help, after two spaces; 0 in
+// another line.
+fn column_of(line: &[u8]) -> usize {
+    let mut is_named = false;
+    let mut is_space = false;
+    let mut is_gap = false;
+    for (at, byte) in line.iter().enumerate() {
+        if *byte != b' ' {
+            if is_gap {
+                return at;
+            }
+            is_named = true;
+        }
+        is_gap = is_named && is_space && *byte == b' ' || is_gap && *byte == b' ';
+        is_space = is_named && *byte == b' ';
+    }
+    0
 }
+
+// Adds a line of help. What is too long goes on below where its text begins.
+fn add_line(text: &mut Vec<u8>, line: &[u8]) -> Result<(), AllocError> {
+    if line.len() <= COLUMNS {
+        text.extend_from_slice(line)?;
+        return Ok(());
+    }
+    let (name, said) = line.split_at(column_of(line).min(line.len()));
+    text.extend_from_slice(name)?;
+    let mut column = name.len();
+    for word in said.split(|byte| *byte == b' ') {
+        if column > name.len() && column.saturating_add(word.len()) >= COLUMNS {
+            text.push(b'\n')?;
+            for _ in name {
+                text.push(b' ')?;
+            }
+            column = name.len();
+        } else if column > name.len() {
+            text.push(b' ')?;
+            column = column.saturating_add(1);
+        }
+        text.extend_from_slice(word)?;
+        column = column.saturating_add(word.len());
+    }
+    Ok(())
+}
+
+// Help in lines of 80 columns.
+fn wrapped(rt: &HostRuntime, help: &str) -> Result<Vec<u8>, AllocError> {
+    let mut text = Vec::new(rt.alloc());
+    for line in help.trim_end().as_bytes().split(|byte| *byte == b'\n') {
+        add_line(&mut text, line)?;
+        text.push(b'\n')?;
+    }
+    Ok(text)
+}
+
+// Help and the version go to standard output.
+fn show_help(rt: &HostRuntime, help: &str) -> Result<u8, AllocError> {
+    let text = wrapped(rt, help)?;
+    Ok(show::<English, _, _>(&Ok(text), &mut rt.stdout(), &mut rt.stderr()))
+}
+
+// ---- faults
 
 // The usage of the command that the words name: the end of the message on an option that there is
 // not, in place of what was typed.
@@ -47,6 +110,84 @@ fn between<'a>(message: &'a str, start: &str, end: &str) -> Option<&'a str> {
     Some(text)
 }
 
+// What others call the options and commands, and what serves here.
+const OTHER_NAMES: &[(&str, &str)] = &[
+    ("kcv", "check-value"),
+    ("enc", "encrypt"),
+    ("dec", "decrypt"),
+    ("xor", "combine"),
+    ("tr31", "key-block"),
+    ("ksn", "dukpt"),
+    ("bdk", "dukpt"),
+    ("-K", "--key-file"),
+    ("-k", "--password-file"),
+    ("-pass", "--password-file"),
+    ("--pass", "--password-file"),
+    ("--password", "--password-file"),
+    ("--key", "--key-file"),
+    ("-i", "--in"),
+    ("-o", "--out"),
+    ("--output", "--out"),
+    ("-d", "decrypt"),
+    ("-e", "encrypt"),
+    ("-a", "--base64"),
+    ("-md", "--derive"),
+    ("-pbkdf2", "--derive"),
+    ("-iter", "--derive"),
+    ("-nosalt", "--no-salt"),
+    ("-nopad", "--padding none"),
+    ("--pin", "standard input or --pin-file"),
+    ("--ksn", "the key serial number without an option"),
+];
+
+// What serves in the place of a word that others take; nothing of another word.
+fn other_name(word: &str) -> &'static str {
+    let found = OTHER_NAMES.iter().find(|name| name.0 == word);
+    found.map_or("", |name| name.1)
+}
+
+// The option with two dashes of a word with one.
+fn with_two_dashes(word: &str) -> &'static str {
+    match word.strip_prefix("-") {
+        Some(name) if !name.starts_with("-") => known_name(name),
+        _ => "",
+    }
+}
+
+// The last name that a message lists as a similar one, the best.
+fn similar_in<'a>(message: &'a str) -> &'a str {
+    let (_, rest) = message.rsplit_once(" exist").unwrap_or(("", ""));
+    let (line, _) = rest.split_once('\n').unwrap_or((rest, ""));
+    let (names, _) = line.rsplit_once("'").unwrap_or(("", ""));
+    let (_, name) = names.rsplit_once("'").unwrap_or(("", ""));
+    name
+}
+
+// What may have been meant: a name that others use, an option with one dash, or the name that
+// the message suggests. Nothing of it was typed, but what is a name here.
+fn meant(rt: &HostRuntime, message: &str, words: &[&str]) -> Result<String, AllocError> {
+    for word in words {
+        let (word, _) = word.split_once('=').unwrap_or((word, ""));
+        let other = other_name(word);
+        if other != "" {
+            return format!(in rt.alloc(); "  did you mean {other}?\n");
+        }
+        let name = with_two_dashes(word);
+        if name != "" {
+            return format!(in rt.alloc(); "  did you mean --{name}?\n");
+        }
+    }
+    let similar = similar_in(message);
+    let (dashes, word) = match similar.strip_prefix("--") {
+        Some(name) => ("--", name),
+        None => ("", similar),
+    };
+    match known_name(word) {
+        "" => Ok(String::new(rt.alloc())),
+        name => format!(in rt.alloc(); "  did you mean {dashes}{name}?\n"),
+    }
+}
+
 // The message without what was typed.
 fn tell_hidden(
     rt: &HostRuntime,
@@ -60,8 +201,12 @@ fn tell_hidden(
         ErrorKind::InvalidValue | ErrorKind::ValueValidation => between(message, " for '", "'"),
         _ => None,
     };
+    let misuse = match about {
+        Some(_) => Misuse::ArgumentValue,
+        None => Misuse::Arguments,
+    };
     let fault = Fault {
-        kind: Kind::Usage(Misuse::Arguments),
+        kind: Kind::Usage(misuse),
         about: about.unwrap_or(""),
     };
     // The words that the argument takes, where it takes some words alone.
@@ -70,7 +215,13 @@ fn tell_hidden(
         (ErrorKind::InvalidValue, Some(taken)) => {
             format!(in rt.alloc(); "  [possible values: {taken}]\n\n{usage}")?
         }
-        _ => format!(in rt.alloc(); "\n{usage}")?,
+        (ErrorKind::InvalidValue | ErrorKind::ValueValidation, _) => {
+            format!(in rt.alloc(); "\n{usage}")?
+        }
+        _ => {
+            let meant = meant(rt, message, words)?;
+            format!(in rt.alloc(); "{meant}\n{usage}")?
+        }
     };
     let status = tell::<English, _>(fault, &mut rt.stderr());
     tell_text(rt, text.as_str());
@@ -80,10 +231,10 @@ fn tell_hidden(
 fn show_by_kind(rt: &HostRuntime, error: &clap::Error, words: &[&str]) -> Result<u8, AllocError> {
     let text = format!(in rt.alloc(); "{error}")?;
     match error.kind() {
-        ErrorKind::DisplayHelp | ErrorKind::DisplayVersion => Ok(show_help(rt, text)),
+        ErrorKind::DisplayHelp | ErrorKind::DisplayVersion => show_help(rt, text.as_str()),
         // The help of a command that is given no words.
         ErrorKind::DisplayHelpOnMissingArgumentOrSubcommand => {
-            tell_text(rt, text.as_str());
+            let _ = send(&mut rt.stderr(), wrapped(rt, text.as_str())?.as_slice());
             Ok(USAGE)
         }
         ErrorKind::OutOfMemory => Err(AllocError),

@@ -140,6 +140,29 @@ pub fn parse<'a>(alloc: Global, words: &'a [&'a str]) -> Result<ArgMatches<'a>, 
     command(alloc, words)?.try_get_matches_from(words)
 }
 
+/// The name of an option, a command or a group that a word is, as it is known here; nothing of another
+/// word.
+pub fn known_name(word: &str) -> &'static str {
+    for group in groups() {
+        if group.name == word {
+            return group.name;
+        }
+        for row in group.commands {
+            if row.name == word {
+                return row.name;
+            }
+            for arguments in row.arguments {
+                for argument in list_of(*arguments) {
+                    if argument.0 == word {
+                        return argument.0;
+                    }
+                }
+            }
+        }
+    }
+    ""
+}
+
 /// The words that name the command, as they are known here: none that was typed.
 pub fn names_of(words: &[&str]) -> (&'static str, &'static str) {
     match *words {

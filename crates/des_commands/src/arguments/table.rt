@@ -47,8 +47,10 @@ macro_rules! group {
 
 /// What the program's own help ends with.
 pub const STATUSES: &str = "\
-Statuses: 0 done, 1 the answer is weak or wrong, 2 arguments, keys and inputs, 3 memory, 4 reading and writing,
-5 the data. Keys, PINs, blocks and components are never arguments.";
+Statuses: 0 done, 1 the answer is weak or wrong, 2 arguments, keys and inputs,
+3 memory, 4 reading and writing, 5 the data. Keys, PINs, blocks and components
+are never arguments: they are in files, descriptors or variables. Options are
+not abbreviated.";
 
 const WEAK_KEYS: &[&str] = &["refuse", "warn", "accept"];
 
@@ -68,14 +70,19 @@ static STREAMS: Group<'static> = group! {
         "weak-keys": Word("CHOICE", WEAK_KEYS) => "What to do with a weak key [default: refuse]";
         "from": Hidden => "";
         "blocks": Hidden => "";
-    }, Files, Hex, Progress, Key, Password, Derive, AnyCount] "\
-Limits: encrypt no more than 2^20 blocks (8 MiB) under one key (NIST SP 800-67 Rev. 2), and only
-what an old system needs: NIST disallows encryption with triple DES after 2023 (SP 800-131A Rev. 2).
-Nothing is authenticated.
+    }, Files, Hex, Progress, KeyOrPassword, Password, {
+        "derive": Text("METHOD") =>
+            "How a password gives the key: pbkdf2-sha256:COUNT [default: pbkdf2-sha256:600000]";
+    }, AnyCount] "\
+Limits: encrypt no more than 2^20 blocks (8 MiB) under one key, by
+NIST SP 800-67 Rev. 2, and only what an old system needs: NIST disallows
+encryption with triple DES after 2023 (SP 800-131A Rev. 2). Nothing is
+authenticated.
 
 Example:
-  printf 'a message' | KEY=0123456789abcdeffedcba9876543210 cukvashe encrypt des-ede-cbc \\
-    --iv random --key-env KEY | xxd -p";
+  echo 0123456789abcdeffedcba9876543210 >KEY
+  printf 'a message' | cukvashe encrypt des-ede-cbc \\
+    --iv random --key-file KEY | xxd -p";
 
     "decrypt": "Decrypt a file or a pipe, or a part of one";
     [Cipher, {
@@ -86,16 +93,20 @@ Example:
         "weak-keys": Word("CHOICE", WEAK_KEYS) => "What to do with a weak key [default: warn]";
         "from": Number("BLOCK") => "Decrypt from this block of 8 bytes on, the first being 0";
         "blocks": Number("COUNT") => "Decrypt at most this number of blocks";
-    }, Files, Hex, Progress, Key, Password, Derive, AnyCount, {
+    }, Files, Hex, Progress, KeyOrPassword, Password, {
+        "derive": Text("METHOD") =>
+            "Needed by a password: md5, sha1, sha256, pbkdf2-sha1:COUNT or pbkdf2-sha256:COUNT";
+    }, AnyCount, {
         "no-salt": Nothing => "The input has no salt, and does not begin with Salted__";
         "base64": Nothing => "The input is Base64 in lines";
     }] "\
-Limits: a changed input decrypts to something, mostly with no fault, since nothing is authenticated.
+Limits: a changed input decrypts to something, mostly with no fault, since
+nothing is authenticated.
 
 Example:
+  echo 0123456789abcdeffedcba9876543210 >KEY
   printf 1234567890abcdeff99822c1263dfada7f0373c3f4b6ba03 | xxd -r -p |
-    KEY=0123456789abcdeffedcba9876543210 cukvashe decrypt des-ede-cbc --iv first-block \\
-    --key-env KEY --out -";
+    cukvashe decrypt des-ede-cbc --iv first-block --key-file KEY --out -";
 
     "decrypt-pem": "Decrypt a private key under a password, in PEM or DER";
     [{
@@ -105,8 +116,9 @@ Example:
 Limits: a wrong password is found by the key's padding and form.
 
 Example:
-  openssl genrsa -des3 -traditional -passout pass:secret 2048 2>openssl.said |
-    PASSWORD=secret cukvashe decrypt-pem --password-env PASSWORD --out - | head -n 1";
+  echo secret >password
+  openssl genrsa -des3 -traditional -passout file:password 2048 2>openssl.said |
+    cukvashe decrypt-pem --password-file password --out - | head -n 1";
 };
 
 static KEYS: Group<'static> = group! {
@@ -125,46 +137,55 @@ static KEYS: Group<'static> = group! {
             "Print right where these are the tag's first 4 to 8 bytes, else wrong, and end with 1";
         "hex": Nothing => "The message is hexadecimal digits, of either case, with white space between";
     }, Key] "Example:
-  printf 'a message' | KEY=0123456789abcdeffedcba9876543210 cukvashe mac cmac --key-env KEY";
+  echo 0123456789abcdeffedcba9876543210 >KEY
+  printf 'a message' | cukvashe mac cmac --key-file KEY";
 
     "check-value": "Print the check value of a key, six digits or four";
     [{
         "bytes": Word("BYTES", &["2", "3"]) => "Print this number of its first bytes [default: 3]";
     }, Key] "Example:
-  KEY=0123456789abcdeffedcba9876543210 cukvashe check-value --key-env KEY";
+  echo 0123456789abcdeffedcba9876543210 >KEY
+  cukvashe check-value --key-file KEY";
 
     "parity": "Print a key with odd parity, each byte with an odd number of ones";
     [Key] "Example:
-  KEY=0022446688aaccee cukvashe parity --key-env KEY";
+  echo 0022446688aaccee >KEY
+  cukvashe parity --key-file KEY";
 
     "weak": "Print weak or not weak, and end with 1 for weak";
     [Key] "Example:
-  KEY=0101010101010101 cukvashe weak --key-env KEY";
+  echo 0123456789abcdef >KEY
+  cukvashe weak --key-file KEY";
 
     "combine": "Print the key of components: their xor, with odd parity";
     [{
         "part-file": Texts("FILE") =>
             "Read a component from a file, or - for standard input; twice or more";
         "count": Count("N") => "Take this number of components, one after another, from one source";
-    }, Key] "Example:
-  PARTS='0123456789abcdef 1111111111111111' cukvashe combine --count 2 --key-env PARTS";
+    }, KeyOfParts] "Example:
+  echo 0123456789abcdef >one.part
+  echo 1111111111111111 >two.part
+  cukvashe combine --part-file one.part --part-file two.part";
 
-    "dukpt": "Print a key of a transaction, from the base derivation key (ANSI X9.24-1)";
+    "dukpt": "Print a key of a transaction, from the base derivation key or the initial key (ANSI X9.24-1)";
     [{
         "serial": PlaceOfText("SERIAL") => "The key serial number, 20 hexadecimal digits";
         "purpose": Place("PURPOSE", &["pin", "mac", "data", "data-variant"]) =>
             "What the key is for; data-variant: data, without the last one-way step";
         "response": Nothing => "The response's key, not the request's; not of pin";
+        "initial-key": Nothing => "The key is the initial key (IPEK), not the base derivation key";
     }, Key] "Example:
-  KEY=0123456789abcdeffedcba9876543210 cukvashe dukpt ffff9876543210e00001 pin --key-env KEY";
+  echo 0123456789abcdeffedcba9876543210 >KEY
+  cukvashe dukpt ffff9876543210e00001 pin --key-file KEY";
 
     "cvv": "Print the card verification value of a card's data under a key pair";
     [{
         "expiry": Needed("DIGITS") => "The expiry date, 4 digits in the issuer's order (YYMM or MMYY)";
         "service": Needed("DIGITS") => "The service code, 3 digits";
     }, Account, Key] "Example:
-  KEY=0123456789abcdeffedcba9876543210 cukvashe cvv --account 4111111111111111 \\
-    --expiry 8701 --service 101 --key-env KEY";
+  echo 0123456789abcdeffedcba9876543210 >KEY
+  cukvashe cvv --account 4111111111111111 \\
+    --expiry 8701 --service 101 --key-file KEY";
 };
 
 static PIN: Group<'static> = group! {
@@ -191,9 +212,10 @@ static PIN: Group<'static> = group! {
             "Read the encrypted block's 16 digits from a file [default: standard input]";
         "fill": Text("DIGITS") => "Needed to format 3: ten random hexadecimal digits from a to f";
     }, Account, Key, ToKey] "Example:
-  printf c03d21cdbcb0c58b | KEY=0123456789abcdeffedcba9876543210 \\
-    TO_KEY=89e88cf7931444f334bd7547fc3f380c cukvashe pin translate 0 0 \\
-    --account 4012345678909 --key-env KEY --to-key-env TO_KEY";
+  echo 0123456789abcdeffedcba9876543210 >KEY
+  echo 89e88cf7931444f334bd7547fc3f380c >TO_KEY
+  printf c03d21cdbcb0c58b | cukvashe pin translate 0 0 \\
+    --account 4012345678909 --key-file KEY --to-key-file TO_KEY";
 };
 
 static PVV: Group<'static> = group! {
@@ -201,13 +223,15 @@ static PVV: Group<'static> = group! {
 
     "make": "Print the PIN verification value of a PIN under a key pair, four digits";
     [Index, PinFile, Account, Key] "Example:
-  printf 1234 | KEY=0123456789abcdeffedcba9876543210 cukvashe pvv make \\
-    --account 4111111111111111 --index 1 --key-env KEY";
+  echo 0123456789abcdeffedcba9876543210 >KEY
+  printf 1234 | cukvashe pvv make \\
+    --account 4111111111111111 --index 1 --key-file KEY";
 
     "verify": "Print right or wrong by a PIN's verification value, and end with 1 for wrong";
     [Index, { "value": Needed("DIGITS") => "The PIN verification value, 4 digits"; }, PinFile, Account, Key] "Example:
-  printf 1234 | KEY=0123456789abcdeffedcba9876543210 cukvashe pvv verify \\
-    --account 4111111111111111 --index 1 --value 9464 --key-env KEY";
+  echo 0123456789abcdeffedcba9876543210 >KEY
+  printf 1234 | cukvashe pvv verify \\
+    --account 4111111111111111 --index 1 --value 9464 --key-file KEY";
 };
 
 static OFFSET: Group<'static> = group! {
@@ -215,23 +239,26 @@ static OFFSET: Group<'static> = group! {
 
     "make": "Print the offset of a PIN";
     [Validation, PinFile, Key] "Example:
-  printf 9519 | KEY=0123456789abcdeffedcba9876543210 cukvashe offset make \\
-    --validation 4123456789012345 --table 0123456789012345 --key-env KEY";
+  echo 0123456789abcdeffedcba9876543210 >KEY
+  printf 9519 | cukvashe offset make \\
+    --validation 4123456789012345 --table 0123456789012345 --key-file KEY";
 
     "verify": "Print right or wrong by a PIN's offset, and end with 1 for wrong";
     [{
         "offset": Needed("DIGITS") => "The offset, as many digits as the PIN has";
     }, Validation, PinFile, Key] "Example:
-  printf 9519 | KEY=0123456789abcdeffedcba9876543210 cukvashe offset verify --offset 9999 \\
-    --validation 4123456789012345 --table 0123456789012345 --key-env KEY";
+  echo 0123456789abcdeffedcba9876543210 >KEY
+  printf 9519 | cukvashe offset verify --offset 9999 \\
+    --validation 4123456789012345 --table 0123456789012345 --key-file KEY";
 
     "natural": "Print the natural PIN, which has an offset of zeros";
     [Validation, {
         "length": Word("DIGITS", &["4", "5", "6", "7", "8", "9", "10", "11", "12"]) =>
             "Print this number of digits [default: 4]";
     }, Key] "Example:
-  KEY=0123456789abcdeffedcba9876543210 cukvashe offset natural \\
-    --validation 4123456789012345 --table 0123456789012345 --key-env KEY";
+  echo 0123456789abcdeffedcba9876543210 >KEY
+  cukvashe offset natural \\
+    --validation 4123456789012345 --table 0123456789012345 --key-file KEY";
 };
 
 static EMV: Group<'static> = group! {
@@ -244,8 +271,9 @@ static EMV: Group<'static> = group! {
         "option": Word("OPTION", &["a", "b"]) =>
             "By option A, or B, which differs for account numbers of more than 16 digits [default: a]";
     }, Account, Key] "Example:
-  KEY=0123456789abcdeffedcba9876543210 cukvashe emv card-key --account 4111111111111111 \\
-    --sequence 01 --key-env KEY";
+  echo 0123456789abcdeffedcba9876543210 >KEY
+  cukvashe emv card-key --account 4111111111111111 \\
+    --sequence 01 --key-file KEY";
 
     "session-key": "Print the key of a session, from the card's key";
     [{
@@ -254,29 +282,33 @@ static EMV: Group<'static> = group! {
         "cryptogram": Text("DIGITS") =>
             "The application cryptogram, 16 hexadecimal digits; for messages to the card";
     }, Key] "Example:
-  KEY=67f8292358083e5ea7ab7fda58d53b6b cukvashe emv session-key --counter 001c --key-env KEY";
+  echo 67f8292358083e5ea7ab7fda58d53b6b >KEY
+  cukvashe emv session-key --counter 001c --key-file KEY";
 
     "cryptogram": "Print the application cryptogram of data, under the session's key";
     [{
         "data-file": Text("FILE") =>
             "Read the data's hexadecimal digits from a file [default: standard input]";
     }, Key] "Example:
-  printf 000000005000 | KEY=38324e73f063efdd5ca88c322476a45b cukvashe emv cryptogram --key-env KEY";
+  echo 38324e73f063efdd5ca88c322476a45b >KEY
+  printf 000000005000 | cukvashe emv cryptogram --key-file KEY";
 
     "response-1": "Print the issuer's response by method 1, under the session's key";
     [Cryptogram, {
         "code": Needed("DIGITS") => "The response code, 4 hexadecimal digits: 3030 for the characters 00";
     }, Key] "Example:
-  KEY=38324e73f063efdd5ca88c322476a45b cukvashe emv response-1 --cryptogram ac06a6df7a7d00e8 \\
-    --code 3030 --key-env KEY";
+  echo 38324e73f063efdd5ca88c322476a45b >KEY
+  cukvashe emv response-1 --cryptogram ac06a6df7a7d00e8 \\
+    --code 3030 --key-file KEY";
 
     "response-2": "Print the issuer's response by method 2, under the session's key";
     [Cryptogram, {
         "status": Needed("DIGITS") => "The card status update, 8 hexadecimal digits";
         "data": Text("DIGITS") => "The issuer's data, at most 16 hexadecimal digits [default: none]";
     }, Key] "Example:
-  KEY=38324e73f063efdd5ca88c322476a45b cukvashe emv response-2 --cryptogram ac06a6df7a7d00e8 \\
-    --status 00820000 --key-env KEY";
+  echo 38324e73f063efdd5ca88c322476a45b >KEY
+  cukvashe emv response-2 --cryptogram ac06a6df7a7d00e8 \\
+    --status 00820000 --key-file KEY";
 };
 
 static KEY_BLOCK: Group<'static> = group! {
@@ -284,17 +316,18 @@ static KEY_BLOCK: Group<'static> = group! {
 
     "header": "Print the fields of a block's header and its optional blocks, none authenticated";
     [BlockFile] "Example:
-  printf B0080P0TE00E000094B420079CC80BA3461F86FE26EFC4A3B8E4FA4C5F5341176EED7B727B8A248E |
-    cukvashe key-block header";
+  printf %s B0080P0TE00E000094B420079CC80BA3461F86FE26EFC4A3B8E4FA4C \\
+    5F5341176EED7B727B8A248E | cukvashe key-block header";
 
     "unwrap": "Print what a block says of its key and the key's check value, or the key";
     [BlockFile, {
         "show": Word("WHAT", &["fields", "key"]) =>
             "Print the fields and the check value, or the key's digits alone [default: fields]";
     }, ProtectionKey] "Example:
-  printf B0080P0TE00E000094B420079CC80BA3461F86FE26EFC4A3B8E4FA4C5F5341176EED7B727B8A248E |
-    PROTECTION=dd7515f2bfc17f85ce48f3ca25cb21f6 cukvashe key-block unwrap \\
-      --protection-key-env PROTECTION";
+  echo dd7515f2bfc17f85ce48f3ca25cb21f6 >PROTECTION
+  printf %s B0080P0TE00E000094B420079CC80BA3461F86FE26EFC4A3B8E4FA4C \\
+    5F5341176EED7B727B8A248E |
+    cukvashe key-block unwrap --protection-key-file PROTECTION";
 
     "wrap": "Print the block of a key, under a key that protects key blocks";
     [{
@@ -313,8 +346,10 @@ static KEY_BLOCK: Group<'static> = group! {
         "optional": Text("BLOCKS") =>
             "Optional blocks, one after another, as they stand in a block [default: none]";
     }, Key, ProtectionKey] "Example:
-  KEY=0123456789abcdeffedcba9876543210 PROTECTION=89e88cf7931444f334bd7547fc3f380c \\
-    cukvashe key-block wrap --usage P0 --mode E --key-env KEY --protection-key-env PROTECTION";
+  echo 0123456789abcdeffedcba9876543210 >KEY
+  echo 89e88cf7931444f334bd7547fc3f380c >PROTECTION
+  cukvashe key-block wrap --usage P0 --mode E --key-file KEY \\
+    --protection-key-file PROTECTION";
 };
 
 /// The groups, in the help's order. Each is a static of its own, since the time of a proof grows by the

@@ -39,10 +39,11 @@ pub enum Arguments<'a> {
     /// Those of one command.
     Own(&'a [Argument<'a>]),
     Key,
+    KeyOrPassword,
+    KeyOfParts,
     ToKey,
     ProtectionKey,
     Password,
-    Derive,
     AnyCount,
     Cipher,
     Files,
@@ -63,12 +64,28 @@ macro_rules! arguments {
 
 pub(crate) use arguments;
 
-const KEY: &[Argument<'static>] = arguments! {
-    "key-file": Text("FILE") =>
-        "Read the key's hexadecimal digits from a file, or - for standard input; one of these is needed";
-    "key-fd": Number("N") => "Read them from an open descriptor, from its current position";
-    "key-env": Text("NAME") => "Take them from an environment variable";
-};
+// The places of a key, and when one of them is needed.
+macro_rules! key {
+    ($help:literal) => {
+        arguments! {
+            "key-file": Text("FILE") => $help;
+            "key-fd": Number("N") => "Read them from an open descriptor, from its current position";
+            "key-env": Text("NAME") => "Take them from an environment variable";
+        }
+    };
+}
+
+const KEY: &[Argument<'static>] = key!(
+    "Read the key's hexadecimal digits from a file, or - for standard input; one of these is needed"
+);
+
+const KEY_OR_PASSWORD: &[Argument<'static>] = key!(
+    "Read the key's hexadecimal digits from a file, or - for standard input; one of these is needed, or a password"
+);
+
+const KEY_OF_PARTS: &[Argument<'static>] = key!(
+    "Read the components' hexadecimal digits from a file, or - for standard input; with --count one of these is needed"
+);
 
 const TO_KEY: &[Argument<'static>] = arguments! {
     "to-key-file": Text("FILE") =>
@@ -88,12 +105,6 @@ const PASSWORD: &[Argument<'static>] = arguments! {
     "password-file": Text("FILE") => "Read the password, the first line of a file, or - for standard input";
     "password-fd": Number("N") => "Read it from an open descriptor, from its current position";
     "password-env": Text("NAME") => "Take it from an environment variable";
-};
-
-const DERIVE: &[Argument<'static>] = arguments! {
-    "derive": Text("METHOD") =>
-        "md5, sha1, sha256, pbkdf2-sha1:COUNT or pbkdf2-sha256:COUNT; to encrypt, the last alone \
-         [default: to encrypt pbkdf2-sha256:600000, to decrypt none]";
 };
 
 const ANY_COUNT: &[Argument<'static>] = arguments! {
@@ -161,10 +172,11 @@ pub fn list_of<'a>(arguments: Arguments<'a>) -> &'a [Argument<'a>] {
     match arguments {
         Arguments::Own(list) => list,
         Arguments::Key => KEY,
+        Arguments::KeyOrPassword => KEY_OR_PASSWORD,
+        Arguments::KeyOfParts => KEY_OF_PARTS,
         Arguments::ToKey => TO_KEY,
         Arguments::ProtectionKey => PROTECTION_KEY,
         Arguments::Password => PASSWORD,
-        Arguments::Derive => DERIVE,
         Arguments::AnyCount => ANY_COUNT,
         Arguments::Cipher => CIPHER,
         Arguments::Files => FILES,
