@@ -113,7 +113,7 @@ fn between<'a>(message: &'a str, start: &str, end: &str) -> Option<&'a str> {
 // What others call the options and commands, and what serves here.
 const OTHER_NAMES: &[(&str, &str)] = &[
     ("kcv", "check-value"),
-    ("enc", "encrypt"),
+    ("enc", "encrypt or decrypt"),
     ("dec", "decrypt"),
     ("xor", "combine"),
     ("tr31", "key-block"),
