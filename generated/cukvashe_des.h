@@ -10,30 +10,30 @@
  *
  * LENGTHS
  *
- * Every length and size is in bytes, every count in elements: keys, messages, records, or blocks of 8 bytes. Calls with
- * a count alone (check_values, macs, macs_each, transaction_keys, compare_tags, combine) read or write past a buffer if
- * you give bytes. Bit 1 of FIPS 46-3 is the highest bit of the first byte. Bytes and texts may stand at any address,
- * all else where its type may. Texts that you pass need no zero byte; after those that calls write stands one, which no
- * length counts.
+ * Every length and size is in bytes, every count in elements: keys, messages, records, or blocks of 8 bytes. A call of
+ * lists takes both, and refuses what does not agree (CUKVASHE_ERR_COUNTS). Bit 1 of FIPS 46-3 is the highest bit of
+ * the first byte. Bytes and texts may stand at any address, all else where its type may. Texts that you pass need no
+ * zero byte; after those that calls write stands one, which no length counts.
  *
  * POINTERS
  *
- * A pointer beside a length, a count or a size (of cukvashe_pad: the capacity) may be null if that is 0; no other may.
+ * A pointer may be null if the length, count or size beside it is 0, or the capacity where it has one; no other may be.
  * What a call writes must not overlap any other argument, but `input` and `output` of a call named _to may be one
  * pointer.
  *
  * STATUSES
  *
  * A call that can refuse its arguments returns CUKVASHE_OK, or a CUKVASHE_ERR_.., and then it has changed nothing. Each
- * section names its errors in order: the first that applies is returned. CUKVASHE_OK is 0: compare with it, since
- * `if (cukvashe_MAC_verify(..))` is true for a wrong tag, and `if (cukvashe_pvv_verify(..))` for a wrong PIN.
+ * section names its errors in order: the first that applies is returned. CUKVASHE_OK is 0, so `if` is true for a wrong
+ * tag or PIN where it asks verify: let it ask is_tag or is_pin, which are true for the right one alone.
  *
  * WHAT YOU MUST UPHOLD
  *
- * Behaviour is undefined if a pointer is not good for its length, if arguments overlap that must not, or if no init or
- * init_quiet wrote a context. You may copy, move and overwrite contexts. Weak keys are accepted (see KEYS). No mode
- * here authenticates. Use an initialization vector that is fresh and that nobody can foresee. Wipe contexts, terminals,
- * keys, passwords and PINs after use (cukvashe_wipe).
+ * Behaviour is undefined if a pointer is not good for its length, if arguments overlap that must not, or if anything but
+ * calls changed a part of a context after its init: they look at its mark alone (see CIPHERS). You may copy, move and
+ * overwrite whole contexts. Weak keys are accepted (see KEYS). No mode here authenticates. Use an initialization vector
+ * that is fresh and that nobody can foresee. Wipe contexts, terminals, keys, passwords and PINs after use
+ * (cukvashe_wipe).
  *
  * SECRETS AND TIME
  *
@@ -49,11 +49,25 @@
  *
  * SECRETS ON THE STACK
  *
- * A call that is given or gives a key, a password or a PIN writes zeros over the stack that it used. Calls with a
- * context, except init and init_quiet, do not: they may leave round keys and parts of blocks there. Registers are not
- * wiped: a signal may store parts of keys, and so may lazy binding, so link the static library with -z now. A call uses
- * at most 27,000 bytes of the stack; transaction_keys and calls of records and of many messages at most 66,000. Sizes
- * and zeros are tested on Linux.
+ * A call with an argument of one of these names is given or gives a key, a password or a PIN, and writes zeros over the
+ * stack that it used:
+ *
+ *     base, card, first, initial, issuer, key, keys, parts, password, pin, protection, session, terminal, transaction,
+ *     translation
+ *
+ * Calls with a context, except init and init_quiet, do not: they may leave round keys and parts of blocks there. These
+ * are given nothing of that kind:
+ *
+ *     compare_tags, decimal_table_init, decimal_table_init_any, dukpt_is_usable, dukpt_next_serial, key_block_context,
+ *     key_block_header, key_block_optional_block, pad, strerror, unpad, version, wipe
+ *
+ * Registers are not wiped: a signal may store parts of keys, and so may lazy binding, so link the static library with
+ * -z now. A call uses at most so many bytes of the stack; these sizes, and the zeros, are tested on Linux:
+ *
+ *      6,000   any that is not named below
+ *     27,000   _ecb, _ecb_to, _cbc, _cbc_to, _each, _check_values, _open_salted, key_block_
+ *     45,000   _macs, _macs_each, dukpt_transaction_keys_from_base
+ *     66,000   _cbc_records
  *
  * WHAT IS PROVED
  *
@@ -64,8 +78,8 @@
  *
  * cukvashe_unpad, cukvashe_dukpt_is_usable, cukvashe_dukpt_next_serial, cukvashe_decimal_table_init and _init_any, and
  * cukvashe_key_block_header, _context and _optional_block are such exports. wipe, strerror and version are C. Others are
- * C over hidden exports: it chooses the width of vectors, says which cipher or MAC is meant, reorders arguments, counts
- * the blocks of a length, compares them with the keys, and wipes the stack.
+ * C over hidden exports: it chooses the width of vectors, says which cipher or MAC is meant, reorders arguments, takes
+ * them out of a struct, counts the blocks of a length, compares counts with lengths, and wipes the stack.
  */
 #ifndef CUKVASHE_DES_H
 #define CUKVASHE_DES_H
@@ -148,6 +162,7 @@ extern "C" {
 #define CUKVASHE_ERR_ITERATIONS 41            /* the number of iterations is not 1 to 2^32 - 1 */
 #define CUKVASHE_ERR_NOT_SALTED 42            /* the bytes do not begin with Salted__ */
 #define CUKVASHE_ERR_SALT_LENGTH 43           /* the bytes end within the salt, or it does not have 0 or 8 bytes */
+#define CUKVASHE_ERR_CONTEXT 44               /* the context is not one that the init of this type made */
 
 /* Sizes, in bytes. */
 #define CUKVASHE_BLOCK_SIZE 8
@@ -204,7 +219,8 @@ void cukvashe_wipe(void *pointer, size_t size);
  *     tdes_ede2   triple DES (encrypt, decrypt, encrypt), first part again    a key of 16 bytes, two parts of 8
  *     tdes_ede3   triple DES (encrypt, decrypt, encrypt)                      a key of 24 bytes, three parts of 8
  *
- * A context holds the round keys: it is as secret as the key.
+ * A context holds the round keys: it is as secret as the key. At its end init writes a mark, by which a call tells a
+ * context of its type from all else: from zeros, and from a context of another type or of a MAC.
  */
 typedef struct {
   uint64_t words[17];
@@ -241,7 +257,7 @@ CUKVASHE_CHECK int cukvashe_tdes_ede3_init_quiet(cukvashe_tdes_ede3 *context, co
  * int cukvashe_NAME_decrypt_ecb_to(const cukvashe_NAME *context, const uint8_t *input, uint8_t *output, size_t length)
  *
  * Encrypts or decrypts each block of `length` bytes by itself, in place or from `input` to `output` (arguments in this
- * order). Nothing is padded (see PADDING). Errors: CUKVASHE_ERR_BLOCKS.
+ * order). Nothing is padded (see PADDING). Errors: CUKVASHE_ERR_CONTEXT, _BLOCKS.
  */
 CUKVASHE_CHECK int cukvashe_des_encrypt_ecb(const cukvashe_des *context, uint8_t *data, size_t length);
 CUKVASHE_CHECK int cukvashe_des_decrypt_ecb(const cukvashe_des *context, uint8_t *data, size_t length);
@@ -274,7 +290,7 @@ CUKVASHE_CHECK int cukvashe_tdes_ede3_decrypt_ecb_to(const cukvashe_tdes_ede3 *c
  *
  * Encrypts or decrypts whole blocks by cipher block chaining (FIPS 81) from the initialization vector. `iv` becomes the
  * last ciphertext block, the vector of the record's next piece; if `length` is 0, it stays. Keep a copy if you need it
- * again. Errors: CUKVASHE_ERR_BLOCKS.
+ * again. Errors: CUKVASHE_ERR_CONTEXT, _BLOCKS.
  */
 CUKVASHE_CHECK int cukvashe_des_encrypt_cbc(const cukvashe_des *context, uint8_t iv[8], uint8_t *data, size_t length);
 CUKVASHE_CHECK int cukvashe_des_decrypt_cbc(const cukvashe_des *context, uint8_t iv[8], uint8_t *data, size_t length);
@@ -318,32 +334,35 @@ CUKVASHE_CHECK int cukvashe_tdes_ede3_decrypt_each(const uint8_t *keys, size_t c
 /*
  * RECORDS
  *
- * int cukvashe_NAME_encrypt_cbc_records(const cukvashe_NAME *context, uint8_t *vectors, const size_t *counts,
- *                                       size_t records_count, uint8_t *bytes, size_t length)
- * int cukvashe_NAME_decrypt_cbc_records(const cukvashe_NAME *context, uint8_t *vectors, const size_t *counts,
- *                                       size_t records_count, uint8_t *bytes, size_t length)
+ * int cukvashe_NAME_encrypt_cbc_records(const cukvashe_NAME *context, uint8_t *vectors, size_t vectors_length,
+ *                                       const size_t *counts, size_t records_count, uint8_t *bytes, size_t length)
+ * int cukvashe_NAME_decrypt_cbc_records(const cukvashe_NAME *context, uint8_t *vectors, size_t vectors_length,
+ *                                       const size_t *counts, size_t records_count, uint8_t *bytes, size_t length)
  *
  * Encrypts or decrypts `records_count` records by CBC under one key, in place, each from a vector of its own. `bytes`
  * has them one after the other, `length` bytes in all: record k has `counts[k]` blocks of 8 bytes, or none, and its
  * vector is the k-th of `vectors`, of 8 bytes each, which becomes its last ciphertext block. For speed, sort records of
- * very different lengths. Errors: CUKVASHE_ERR_BLOCKS; _COUNTS if the sum of the counts is not `length` / 8.
+ * very different lengths. Errors: CUKVASHE_ERR_COUNTS if `vectors_length` is not that of `records_count` vectors; then
+ * _CONTEXT, _BLOCKS; _COUNTS if the sum of the counts is not `length` / 8.
  */
-CUKVASHE_CHECK int cukvashe_des_encrypt_cbc_records(const cukvashe_des *context, uint8_t *vectors, const size_t *counts,
-                                                    size_t records_count, uint8_t *bytes, size_t length);
-CUKVASHE_CHECK int cukvashe_des_decrypt_cbc_records(const cukvashe_des *context, uint8_t *vectors, const size_t *counts,
-                                                    size_t records_count, uint8_t *bytes, size_t length);
+CUKVASHE_CHECK int cukvashe_des_encrypt_cbc_records(const cukvashe_des *context, uint8_t *vectors,
+                                                    size_t vectors_length, const size_t *counts, size_t records_count,
+                                                    uint8_t *bytes, size_t length);
+CUKVASHE_CHECK int cukvashe_des_decrypt_cbc_records(const cukvashe_des *context, uint8_t *vectors,
+                                                    size_t vectors_length, const size_t *counts, size_t records_count,
+                                                    uint8_t *bytes, size_t length);
 CUKVASHE_CHECK int cukvashe_tdes_ede2_encrypt_cbc_records(const cukvashe_tdes_ede2 *context, uint8_t *vectors,
-                                                          const size_t *counts, size_t records_count, uint8_t *bytes,
-                                                          size_t length);
+                                                          size_t vectors_length, const size_t *counts,
+                                                          size_t records_count, uint8_t *bytes, size_t length);
 CUKVASHE_CHECK int cukvashe_tdes_ede2_decrypt_cbc_records(const cukvashe_tdes_ede2 *context, uint8_t *vectors,
-                                                          const size_t *counts, size_t records_count, uint8_t *bytes,
-                                                          size_t length);
+                                                          size_t vectors_length, const size_t *counts,
+                                                          size_t records_count, uint8_t *bytes, size_t length);
 CUKVASHE_CHECK int cukvashe_tdes_ede3_encrypt_cbc_records(const cukvashe_tdes_ede3 *context, uint8_t *vectors,
-                                                          const size_t *counts, size_t records_count, uint8_t *bytes,
-                                                          size_t length);
+                                                          size_t vectors_length, const size_t *counts,
+                                                          size_t records_count, uint8_t *bytes, size_t length);
 CUKVASHE_CHECK int cukvashe_tdes_ede3_decrypt_cbc_records(const cukvashe_tdes_ede3 *context, uint8_t *vectors,
-                                                          const size_t *counts, size_t records_count, uint8_t *bytes,
-                                                          size_t length);
+                                                          size_t vectors_length, const size_t *counts,
+                                                          size_t records_count, uint8_t *bytes, size_t length);
 
 /*
  * PADDING
@@ -388,8 +407,8 @@ CUKVASHE_CHECK bool cukvashe_equal_but_parity(const uint8_t *first, const uint8_
  *     cmac_tdes_ede3      CMAC over triple DES                                   a key of 24 bytes
  *
  * CBC-MAC is safe only if every message under a key has one length, which both sides know. Padding method 1 hides zeros
- * at the end of a message. Tags have 64 bits: use a key for far fewer than 2^32 messages. A context holds round keys
- * and bytes of the message; a copy is independent.
+ * at the end of a message. Tags have 64 bits: use a key for far fewer than 2^32 messages. A context holds round keys,
+ * the mark of its MAC and bytes of the message; a copy is independent.
  */
 typedef struct {
   uint64_t words[21];
@@ -448,36 +467,43 @@ CUKVASHE_CHECK int cukvashe_cmac_tdes_ede3_init_quiet(cukvashe_cmac_tdes_ede3 *c
                                                       size_t key_length);
 
 /*
- * void cukvashe_MAC_update(cukvashe_MAC *context, const uint8_t *message, size_t length)
+ * int cukvashe_MAC_update(cukvashe_MAC *context, const uint8_t *message, size_t length)
  *
- * Adds `length` bytes to the message, which may come in pieces of any length.
+ * Adds `length` bytes to the message, which may come in pieces of any length. Errors: CUKVASHE_ERR_CONTEXT.
  */
-void cukvashe_cbc_mac_des_update(cukvashe_cbc_mac_des *context, const uint8_t *message, size_t length);
-void cukvashe_cbc_mac_tdes_ede2_update(cukvashe_cbc_mac_tdes_ede2 *context, const uint8_t *message, size_t length);
-void cukvashe_cbc_mac_tdes_ede3_update(cukvashe_cbc_mac_tdes_ede3 *context, const uint8_t *message, size_t length);
-void cukvashe_retail_mac_des_update(cukvashe_retail_mac_des *context, const uint8_t *message, size_t length);
-void cukvashe_cmac_tdes_ede2_update(cukvashe_cmac_tdes_ede2 *context, const uint8_t *message, size_t length);
-void cukvashe_cmac_tdes_ede3_update(cukvashe_cmac_tdes_ede3 *context, const uint8_t *message, size_t length);
+CUKVASHE_CHECK int cukvashe_cbc_mac_des_update(cukvashe_cbc_mac_des *context, const uint8_t *message, size_t length);
+CUKVASHE_CHECK int cukvashe_cbc_mac_tdes_ede2_update(cukvashe_cbc_mac_tdes_ede2 *context, const uint8_t *message,
+                                                     size_t length);
+CUKVASHE_CHECK int cukvashe_cbc_mac_tdes_ede3_update(cukvashe_cbc_mac_tdes_ede3 *context, const uint8_t *message,
+                                                     size_t length);
+CUKVASHE_CHECK int cukvashe_retail_mac_des_update(cukvashe_retail_mac_des *context, const uint8_t *message,
+                                                  size_t length);
+CUKVASHE_CHECK int cukvashe_cmac_tdes_ede2_update(cukvashe_cmac_tdes_ede2 *context, const uint8_t *message,
+                                                  size_t length);
+CUKVASHE_CHECK int cukvashe_cmac_tdes_ede3_update(cukvashe_cmac_tdes_ede3 *context, const uint8_t *message,
+                                                  size_t length);
 
 /*
- * void cukvashe_MAC_final(const cukvashe_MAC *context, uint8_t tag[8])
+ * int cukvashe_MAC_final(const cukvashe_MAC *context, uint8_t tag[8])
  *
- * Writes the tag of the message, which may go on. To check a tag call verify: memcmp may stop at the first wrong byte.
+ * Writes the tag of the message, which may go on. To check a tag call is_tag: memcmp may stop at the first wrong byte.
+ * Errors: CUKVASHE_ERR_CONTEXT.
  */
-void cukvashe_cbc_mac_des_final(const cukvashe_cbc_mac_des *context, uint8_t tag[8]);
-void cukvashe_cbc_mac_tdes_ede2_final(const cukvashe_cbc_mac_tdes_ede2 *context, uint8_t tag[8]);
-void cukvashe_cbc_mac_tdes_ede3_final(const cukvashe_cbc_mac_tdes_ede3 *context, uint8_t tag[8]);
-void cukvashe_retail_mac_des_final(const cukvashe_retail_mac_des *context, uint8_t tag[8]);
-void cukvashe_cmac_tdes_ede2_final(const cukvashe_cmac_tdes_ede2 *context, uint8_t tag[8]);
-void cukvashe_cmac_tdes_ede3_final(const cukvashe_cmac_tdes_ede3 *context, uint8_t tag[8]);
+CUKVASHE_CHECK int cukvashe_cbc_mac_des_final(const cukvashe_cbc_mac_des *context, uint8_t tag[8]);
+CUKVASHE_CHECK int cukvashe_cbc_mac_tdes_ede2_final(const cukvashe_cbc_mac_tdes_ede2 *context, uint8_t tag[8]);
+CUKVASHE_CHECK int cukvashe_cbc_mac_tdes_ede3_final(const cukvashe_cbc_mac_tdes_ede3 *context, uint8_t tag[8]);
+CUKVASHE_CHECK int cukvashe_retail_mac_des_final(const cukvashe_retail_mac_des *context, uint8_t tag[8]);
+CUKVASHE_CHECK int cukvashe_cmac_tdes_ede2_final(const cukvashe_cmac_tdes_ede2 *context, uint8_t tag[8]);
+CUKVASHE_CHECK int cukvashe_cmac_tdes_ede3_final(const cukvashe_cmac_tdes_ede3 *context, uint8_t tag[8]);
 
 /*
+ * bool cukvashe_MAC_is_tag(const cukvashe_MAC *context, const uint8_t *tag, size_t tag_length)
  * int cukvashe_MAC_verify(const cukvashe_MAC *context, const uint8_t *tag, size_t tag_length)
  *
- * Returns CUKVASHE_OK, which is 0, for the tag of the message and for its first 4 to 7 bytes, and CUKVASHE_ERR_TAG for
- * all else. Every byte is compared. Give the `tag_length` that both sides agreed on, not the one that was sent: a
- * forger sends 4 bytes, of which one guess in 2^32 is right. (In Python, Rust and JavaScript verify takes whole tags
- * alone, and another call cut ones.)
+ * is_tag is true, and verify CUKVASHE_OK, which is 0, for the tag of the message and for its first 4 to 7 bytes; for
+ * all else is_tag is false, and verify CUKVASHE_ERR_TAG. Every byte is compared. Give the `tag_length` that both sides
+ * agreed on, not the one that was sent: a forger sends 4 bytes, of which one guess in 2^32 is right. (In Python, Rust
+ * and JavaScript verify takes whole tags alone, and another call cut ones.) Errors: CUKVASHE_ERR_CONTEXT, _TAG.
  */
 CUKVASHE_CHECK int cukvashe_cbc_mac_des_verify(const cukvashe_cbc_mac_des *context, const uint8_t *tag,
                                                size_t tag_length);
@@ -491,52 +517,79 @@ CUKVASHE_CHECK int cukvashe_cmac_tdes_ede2_verify(const cukvashe_cmac_tdes_ede2 
                                                   size_t tag_length);
 CUKVASHE_CHECK int cukvashe_cmac_tdes_ede3_verify(const cukvashe_cmac_tdes_ede3 *context, const uint8_t *tag,
                                                   size_t tag_length);
+CUKVASHE_CHECK bool cukvashe_cbc_mac_des_is_tag(const cukvashe_cbc_mac_des *context, const uint8_t *tag,
+                                                size_t tag_length);
+CUKVASHE_CHECK bool cukvashe_cbc_mac_tdes_ede2_is_tag(const cukvashe_cbc_mac_tdes_ede2 *context, const uint8_t *tag,
+                                                      size_t tag_length);
+CUKVASHE_CHECK bool cukvashe_cbc_mac_tdes_ede3_is_tag(const cukvashe_cbc_mac_tdes_ede3 *context, const uint8_t *tag,
+                                                      size_t tag_length);
+CUKVASHE_CHECK bool cukvashe_retail_mac_des_is_tag(const cukvashe_retail_mac_des *context, const uint8_t *tag,
+                                                   size_t tag_length);
+CUKVASHE_CHECK bool cukvashe_cmac_tdes_ede2_is_tag(const cukvashe_cmac_tdes_ede2 *context, const uint8_t *tag,
+                                                   size_t tag_length);
+CUKVASHE_CHECK bool cukvashe_cmac_tdes_ede3_is_tag(const cukvashe_cmac_tdes_ede3 *context, const uint8_t *tag,
+                                                   size_t tag_length);
 
 /*
  * MESSAGE AUTHENTICATION CODES OF MANY MESSAGES
  *
- * int cukvashe_MAC_macs(const uint8_t *key, int method, const cukvashe_message *messages, uint8_t *tags, size_t count)
- * int cukvashe_MAC_macs_each(const uint8_t *keys, int method, const cukvashe_message *messages, uint8_t *tags,
- *                            size_t count)
- * void cukvashe_CMAC_macs(const uint8_t *key, const cukvashe_message *messages, uint8_t *tags, size_t count)
- * void cukvashe_CMAC_macs_each(const uint8_t *keys, const cukvashe_message *messages, uint8_t *tags, size_t count)
+ * int cukvashe_MAC_macs(const uint8_t *key, size_t key_length, int method, const cukvashe_message *messages,
+ *                       uint8_t *tags, size_t tags_length, size_t count)
+ * int cukvashe_MAC_macs_each(const uint8_t *keys, size_t keys_length, int method, const cukvashe_message *messages,
+ *                            uint8_t *tags, size_t tags_length, size_t count)
  *
- * Writes the tags, of 8 bytes each, of `count` messages; MAC is a CBC-MAC or retail_mac_des, CMAC is cmac_tdes_ede2 or
- * cmac_tdes_ede3. `macs` takes one key for all, `macs_each` a key for each message, one after the other. Keys have the
- * MAC's key size. Errors: CUKVASHE_ERR_PADDING_METHOD.
+ * Writes the tags, of 8 bytes each, of `count` messages. `macs` takes one key for all, `macs_each` a key of the MAC's
+ * key size for each message, one after the other. CMAC takes no `method`. Errors: CUKVASHE_ERR_KEY_LENGTH of `macs`;
+ * _COUNTS if `keys_length` or `tags_length` is not that of `count` keys or tags; _PADDING_METHOD.
  *
- * void cukvashe_compare_tags(const uint8_t *tags, const uint8_t *expected, bool *right, size_t count)
+ * int cukvashe_compare_tags(const uint8_t *tags, size_t tags_length, const uint8_t *expected, size_t expected_length,
+ *                           bool *right, size_t count)
  *
  * Writes for each of `count` whole tags whether it is the one at its place in `expected`, which macs or macs_each made.
+ * Look at `right`: CUKVASHE_OK does not say that a tag is. Errors: CUKVASHE_ERR_COUNTS if `tags_length` or
+ * `expected_length` is not that of `count` tags.
  */
 typedef struct {
   const uint8_t *bytes;
   size_t length;
 } cukvashe_message;
 
-CUKVASHE_CHECK int cukvashe_cbc_mac_des_macs(const uint8_t *key, int method, const cukvashe_message *messages,
-                                             uint8_t *tags, size_t count);
-CUKVASHE_CHECK int cukvashe_cbc_mac_des_macs_each(const uint8_t *keys, int method, const cukvashe_message *messages,
-                                                  uint8_t *tags, size_t count);
-CUKVASHE_CHECK int cukvashe_cbc_mac_tdes_ede2_macs(const uint8_t *key, int method, const cukvashe_message *messages,
-                                                   uint8_t *tags, size_t count);
-CUKVASHE_CHECK int cukvashe_cbc_mac_tdes_ede2_macs_each(const uint8_t *keys, int method,
-                                                        const cukvashe_message *messages, uint8_t *tags, size_t count);
-CUKVASHE_CHECK int cukvashe_cbc_mac_tdes_ede3_macs(const uint8_t *key, int method, const cukvashe_message *messages,
-                                                   uint8_t *tags, size_t count);
-CUKVASHE_CHECK int cukvashe_cbc_mac_tdes_ede3_macs_each(const uint8_t *keys, int method,
-                                                        const cukvashe_message *messages, uint8_t *tags, size_t count);
-CUKVASHE_CHECK int cukvashe_retail_mac_des_macs(const uint8_t *key, int method, const cukvashe_message *messages,
-                                                uint8_t *tags, size_t count);
-CUKVASHE_CHECK int cukvashe_retail_mac_des_macs_each(const uint8_t *keys, int method, const cukvashe_message *messages,
-                                                     uint8_t *tags, size_t count);
-void cukvashe_cmac_tdes_ede2_macs(const uint8_t *key, const cukvashe_message *messages, uint8_t *tags, size_t count);
-void cukvashe_cmac_tdes_ede2_macs_each(const uint8_t *keys, const cukvashe_message *messages, uint8_t *tags,
-                                       size_t count);
-void cukvashe_cmac_tdes_ede3_macs(const uint8_t *key, const cukvashe_message *messages, uint8_t *tags, size_t count);
-void cukvashe_cmac_tdes_ede3_macs_each(const uint8_t *keys, const cukvashe_message *messages, uint8_t *tags,
-                                       size_t count);
-void cukvashe_compare_tags(const uint8_t *tags, const uint8_t *expected, bool *right, size_t count);
+CUKVASHE_CHECK int cukvashe_cbc_mac_des_macs(const uint8_t *key, size_t key_length, int method,
+                                             const cukvashe_message *messages, uint8_t *tags, size_t tags_length,
+                                             size_t count);
+CUKVASHE_CHECK int cukvashe_cbc_mac_des_macs_each(const uint8_t *keys, size_t keys_length, int method,
+                                                  const cukvashe_message *messages, uint8_t *tags, size_t tags_length,
+                                                  size_t count);
+CUKVASHE_CHECK int cukvashe_cbc_mac_tdes_ede2_macs(const uint8_t *key, size_t key_length, int method,
+                                                   const cukvashe_message *messages, uint8_t *tags, size_t tags_length,
+                                                   size_t count);
+CUKVASHE_CHECK int cukvashe_cbc_mac_tdes_ede2_macs_each(const uint8_t *keys, size_t keys_length, int method,
+                                                        const cukvashe_message *messages, uint8_t *tags,
+                                                        size_t tags_length, size_t count);
+CUKVASHE_CHECK int cukvashe_cbc_mac_tdes_ede3_macs(const uint8_t *key, size_t key_length, int method,
+                                                   const cukvashe_message *messages, uint8_t *tags, size_t tags_length,
+                                                   size_t count);
+CUKVASHE_CHECK int cukvashe_cbc_mac_tdes_ede3_macs_each(const uint8_t *keys, size_t keys_length, int method,
+                                                        const cukvashe_message *messages, uint8_t *tags,
+                                                        size_t tags_length, size_t count);
+CUKVASHE_CHECK int cukvashe_retail_mac_des_macs(const uint8_t *key, size_t key_length, int method,
+                                                const cukvashe_message *messages, uint8_t *tags, size_t tags_length,
+                                                size_t count);
+CUKVASHE_CHECK int cukvashe_retail_mac_des_macs_each(const uint8_t *keys, size_t keys_length, int method,
+                                                     const cukvashe_message *messages, uint8_t *tags,
+                                                     size_t tags_length, size_t count);
+CUKVASHE_CHECK int cukvashe_cmac_tdes_ede2_macs(const uint8_t *key, size_t key_length, const cukvashe_message *messages,
+                                                uint8_t *tags, size_t tags_length, size_t count);
+CUKVASHE_CHECK int cukvashe_cmac_tdes_ede2_macs_each(const uint8_t *keys, size_t keys_length,
+                                                     const cukvashe_message *messages, uint8_t *tags,
+                                                     size_t tags_length, size_t count);
+CUKVASHE_CHECK int cukvashe_cmac_tdes_ede3_macs(const uint8_t *key, size_t key_length, const cukvashe_message *messages,
+                                                uint8_t *tags, size_t tags_length, size_t count);
+CUKVASHE_CHECK int cukvashe_cmac_tdes_ede3_macs_each(const uint8_t *keys, size_t keys_length,
+                                                     const cukvashe_message *messages, uint8_t *tags,
+                                                     size_t tags_length, size_t count);
+CUKVASHE_CHECK int cukvashe_compare_tags(const uint8_t *tags, size_t tags_length, const uint8_t *expected,
+                                         size_t expected_length, bool *right, size_t count);
 
 /*
  * CHECK VALUES AND COMPONENTS
@@ -548,30 +601,36 @@ void cukvashe_compare_tags(const uint8_t *tags, const uint8_t *expected, bool *r
  * The check value of a key or component: the first three bytes of the block of zeros, encrypted under it by NAME, or by
  * the cipher of its length, 8, 16 or 24 bytes. `short` gives the first two. Errors: CUKVASHE_ERR_KEY_LENGTH.
  *
- * void cukvashe_NAME_check_values(const uint8_t *keys, uint8_t *values, size_t count)
+ * int cukvashe_NAME_check_values(const uint8_t *keys, size_t keys_length, uint8_t *values, size_t values_length,
+ *                                size_t count)
  *
- * The check values, of 3 bytes each, of `count` keys of the cipher, one after the other.
+ * The check values, of 3 bytes each, of `count` keys of the cipher, one after the other. Errors: CUKVASHE_ERR_COUNTS if
+ * `keys_length` or `values_length` is not that of `count` keys or values.
  *
  * int cukvashe_combine_SIZE(const uint8_t first[SIZE], const uint8_t second[SIZE], const uint8_t *others,
- *                           size_t others_count, uint8_t key[SIZE])
+ *                           size_t others_length, size_t others_count, uint8_t key[SIZE])
  *
  * The key of SIZE bytes, 8, 16 or 24, that two or more components make: their xor, with odd parity. `others` are
- * `others_count` more components, one after the other. Branches on the key. Errors: CUKVASHE_ERR_WEAK_KEY.
+ * `others_count` more components, one after the other. Branches on the key. Errors: CUKVASHE_ERR_COUNTS if
+ * `others_length` is not that of `others_count` components; _WEAK_KEY.
  */
 CUKVASHE_CHECK int cukvashe_des_check_value(const uint8_t *key, size_t key_length, uint8_t value[3]);
 CUKVASHE_CHECK int cukvashe_tdes_ede2_check_value(const uint8_t *key, size_t key_length, uint8_t value[3]);
 CUKVASHE_CHECK int cukvashe_tdes_ede3_check_value(const uint8_t *key, size_t key_length, uint8_t value[3]);
 CUKVASHE_CHECK int cukvashe_key_check_value(const uint8_t *key, size_t key_length, uint8_t value[3]);
 CUKVASHE_CHECK int cukvashe_short_key_check_value(const uint8_t *key, size_t key_length, uint8_t value[2]);
-void cukvashe_des_check_values(const uint8_t *keys, uint8_t *values, size_t count);
-void cukvashe_tdes_ede2_check_values(const uint8_t *keys, uint8_t *values, size_t count);
-void cukvashe_tdes_ede3_check_values(const uint8_t *keys, uint8_t *values, size_t count);
+CUKVASHE_CHECK int cukvashe_des_check_values(const uint8_t *keys, size_t keys_length, uint8_t *values,
+                                             size_t values_length, size_t count);
+CUKVASHE_CHECK int cukvashe_tdes_ede2_check_values(const uint8_t *keys, size_t keys_length, uint8_t *values,
+                                                   size_t values_length, size_t count);
+CUKVASHE_CHECK int cukvashe_tdes_ede3_check_values(const uint8_t *keys, size_t keys_length, uint8_t *values,
+                                                   size_t values_length, size_t count);
 CUKVASHE_CHECK int cukvashe_combine_8(const uint8_t first[8], const uint8_t second[8], const uint8_t *others,
-                                      size_t others_count, uint8_t key[8]);
+                                      size_t others_length, size_t others_count, uint8_t key[8]);
 CUKVASHE_CHECK int cukvashe_combine_16(const uint8_t first[16], const uint8_t second[16], const uint8_t *others,
-                                       size_t others_count, uint8_t key[16]);
+                                       size_t others_length, size_t others_count, uint8_t key[16]);
 CUKVASHE_CHECK int cukvashe_combine_24(const uint8_t first[24], const uint8_t second[24], const uint8_t *others,
-                                       size_t others_count, uint8_t key[24]);
+                                       size_t others_length, size_t others_count, uint8_t key[24]);
 
 /*
  * KEYS OF A TRANSACTION (DUKPT)
@@ -585,8 +644,9 @@ CUKVASHE_CHECK int cukvashe_combine_24(const uint8_t first[24], const uint8_t se
  * data_key those that authenticate and encrypt data of the request or, if `is_response`, of the response. data_variant
  * leaves out the last step of data_key, as some terminals do: its key reveals the transaction's other keys.
  *
- * transaction_keys writes, for each of `count` key serial numbers, one after the other, what transaction_key makes of
- * initial_key of the base derivation key.
+ * transaction_keys_from_base takes the base derivation key, not the initial key, and writes for each of `count` key
+ * serial numbers, one after the other, what transaction_key makes of initial_key. Errors: CUKVASHE_ERR_COUNTS if
+ * `serials_length` or `keys_length` is not that of `count` key serial numbers or keys.
  *
  * A transaction's counter is not 0 and has at most ten one bits: is_usable says whether that holds. The other counters
  * have keys here too, counter 0 the initial key itself: so ask is_usable of each key serial number that you are sent.
@@ -594,7 +654,9 @@ CUKVASHE_CHECK int cukvashe_combine_24(const uint8_t first[24], const uint8_t se
  */
 void cukvashe_dukpt_initial_key(const uint8_t base[16], const uint8_t serial[10], uint8_t key[16]);
 void cukvashe_dukpt_transaction_key(const uint8_t initial[16], const uint8_t serial[10], uint8_t key[16]);
-void cukvashe_dukpt_transaction_keys(const uint8_t base[16], const uint8_t *serials, uint8_t *keys, size_t count);
+CUKVASHE_CHECK int cukvashe_dukpt_transaction_keys_from_base(const uint8_t base[16], const uint8_t *serials,
+                                                             size_t serials_length, uint8_t *keys, size_t keys_length,
+                                                             size_t count);
 void cukvashe_dukpt_pin_key(const uint8_t transaction[16], uint8_t key[16]);
 void cukvashe_dukpt_mac_key(const uint8_t transaction[16], bool is_response, uint8_t key[16]);
 void cukvashe_dukpt_data_key(const uint8_t transaction[16], bool is_response, uint8_t key[16]);
@@ -657,23 +719,32 @@ CUKVASHE_CHECK int cukvashe_pin_decode_3(const uint8_t block[8], const char *acc
 /*
  * TRANSLATION OF PIN BLOCKS (ISO 9564-1)
  *
- * Decrypts a PIN block under the incoming key, makes the block of format 0 or 3 of its PIN, and encrypts that under the
- * outgoing key; the PIN does not come out. Keys have 8, 16 or 24 bytes: DES, or triple DES (EDE). `incoming_format` is
- * 0, 1 or 3. The account number, that of both blocks, and `fill` are as of PIN blocks. pin_translate_to_1 takes format
- * 1 alone, and keeps the transaction digits. Errors: CUKVASHE_ERR_KEY_LENGTH, _FORMATS, _ACCOUNT_LENGTH,
- * _ACCOUNT_DIGIT, _FILL; then _PIN_BLOCK, whatever is wrong with the block.
+ * Decrypts a PIN block under the incoming key, makes the block of format 0, 1 or 3 of its PIN, and encrypts that under
+ * the outgoing key; the PIN does not come out. Keys have 8, 16 or 24 bytes: DES, or triple DES (EDE). The account
+ * number, that of both blocks, and `fill` are as of PIN blocks. Set the fields by name: what you leave out is 0 or
+ * null, which is format 0, and else refused by a call that looks at it.
+ *
+ * Errors of pin_translate_to_0 and _to_3: CUKVASHE_ERR_KEY_LENGTH, _FORMATS, _ACCOUNT_LENGTH, _ACCOUNT_DIGIT; _FILL of
+ * _to_3 alone; then _PIN_BLOCK, whatever is wrong with the block. pin_translate_to_1 takes format 1 alone, and keeps
+ * the transaction digits. Errors: CUKVASHE_ERR_FORMATS, _KEY_LENGTH, _PIN_BLOCK.
  */
-CUKVASHE_CHECK int cukvashe_pin_translate_to_0(const uint8_t *incoming_key, size_t incoming_key_length,
-                                               int incoming_format, const uint8_t *outgoing_key,
-                                               size_t outgoing_key_length, const char *account, size_t account_length,
-                                               const uint8_t block[8], uint8_t translated[8]);
-CUKVASHE_CHECK int cukvashe_pin_translate_to_1(const uint8_t *incoming_key, size_t incoming_key_length,
-                                               const uint8_t *outgoing_key, size_t outgoing_key_length,
-                                               const uint8_t block[8], uint8_t translated[8]);
-CUKVASHE_CHECK int cukvashe_pin_translate_to_3(const uint8_t *incoming_key, size_t incoming_key_length,
-                                               int incoming_format, const uint8_t *outgoing_key,
-                                               size_t outgoing_key_length, const char *account, size_t account_length,
-                                               const uint8_t fill[10], const uint8_t block[8], uint8_t translated[8]);
+typedef struct {
+  const uint8_t *incoming_key;
+  size_t incoming_key_length;
+  int incoming_format; /* 0, 1 or 3 */
+  const uint8_t *outgoing_key;
+  size_t outgoing_key_length;
+  const char *account; /* pin_translate_to_1 does not look at it */
+  size_t account_length;
+  const uint8_t *fill; /* ten fill digits: pin_translate_to_3 alone looks at them */
+} cukvashe_pin_translation;
+
+CUKVASHE_CHECK int cukvashe_pin_translate_to_0(const cukvashe_pin_translation *translation, const uint8_t block[8],
+                                               uint8_t translated[8]);
+CUKVASHE_CHECK int cukvashe_pin_translate_to_1(const cukvashe_pin_translation *translation, const uint8_t block[8],
+                                               uint8_t translated[8]);
+CUKVASHE_CHECK int cukvashe_pin_translate_to_3(const cukvashe_pin_translation *translation, const uint8_t block[8],
+                                               uint8_t translated[8]);
 
 /*
  * PIN VERIFICATION
@@ -685,7 +756,8 @@ CUKVASHE_CHECK int cukvashe_pin_translate_to_3(const uint8_t *incoming_key, size
  * digits of the account number without its check digit, the index and the digits of the PIN is encrypted by triple DES
  * (EDE); of the sixteen digits of the answer those from 0 to 9 are taken in order, then the others in order, less ten:
  * the first four are the value. Errors: CUKVASHE_ERR_PIN_LENGTH, _PIN_DIGIT, _ACCOUNT_LENGTH, _ACCOUNT_DIGIT,
- * _KEY_INDEX; of cukvashe_pvv_verify then _WRONG_PIN, if `value` is not that of the PIN.
+ * _KEY_INDEX; of cukvashe_pvv_verify then _WRONG_PIN, if `value` is not that of the PIN. cukvashe_pvv_is_pin and
+ * cukvashe_pin_offset_is_pin are true for the right PIN, and false for a wrong one and for every error.
  *
  * The other calls are by the method of the IBM 3624. Validation data, sixteen digits in 8 bytes that the issuer
  * chooses, are encrypted under a key as of translation. Each digit of the answer becomes the one at its place in the
@@ -710,6 +782,8 @@ CUKVASHE_CHECK int cukvashe_pvv(const uint8_t key[16], const char *account, size
                                 const char *pin, size_t pin_length, char value[5]);
 CUKVASHE_CHECK int cukvashe_pvv_verify(const uint8_t key[16], const char *account, size_t account_length, int index,
                                        const char *pin, size_t pin_length, const char *value, size_t value_length);
+CUKVASHE_CHECK bool cukvashe_pvv_is_pin(const uint8_t key[16], const char *account, size_t account_length, int index,
+                                        const char *pin, size_t pin_length, const char *value, size_t value_length);
 CUKVASHE_CHECK int cukvashe_decimal_table_init(cukvashe_decimal_table *table, const char *digits, size_t length);
 CUKVASHE_CHECK int cukvashe_decimal_table_init_any(cukvashe_decimal_table *table, const char *digits, size_t length);
 CUKVASHE_CHECK int cukvashe_natural_pin(const uint8_t *key, size_t key_length, const cukvashe_decimal_table *table,
@@ -721,6 +795,10 @@ CUKVASHE_CHECK int cukvashe_pin_offset_verify(const uint8_t *key, size_t key_len
                                               const cukvashe_decimal_table *table, const uint8_t validation[8],
                                               const char *pin, size_t pin_length, const char *offset,
                                               size_t offset_length);
+CUKVASHE_CHECK bool cukvashe_pin_offset_is_pin(const uint8_t *key, size_t key_length,
+                                               const cukvashe_decimal_table *table, const uint8_t validation[8],
+                                               const char *pin, size_t pin_length, const char *offset,
+                                               size_t offset_length);
 
 /*
  * CARD VERIFICATION VALUES
@@ -747,8 +825,8 @@ CUKVASHE_CHECK int cukvashe_cvv(const uint8_t key[16], const char *account, size
  * messaging the application cryptogram. The third of them plays no part.
  *
  * application_cryptogram writes the cryptogram of `length` bytes (8.1.2), of the data that the card scheme names: the
- * retail MAC with padding method 2 under the session key. Compare one that a card sent by cukvashe_compare_tags, not by
- * memcmp.
+ * retail MAC with padding method 2 under the session key. To check one that a card sent, give the data to a context of
+ * retail_mac_des, and ask cukvashe_retail_mac_des_is_tag.
  *
  * response_1 writes the issuer's response by method 1 (8.2.1) to a cryptogram, with a response code of two ASCII
  * characters; response_2 that by method 2 (8.2.2), with a card status update of four bytes and `length` bytes of the
@@ -781,9 +859,10 @@ CUKVASHE_CHECK int cukvashe_emv_response_2(const uint8_t session[16], const uint
  * Errors: CUKVASHE_ERR_PROTECTION_KEY_LENGTH, _KEY_BLOCK_LENGTH, _VERSION, _HEADER, _OPTIONAL_BLOCK, _KEY_DATA_LENGTH,
  * _KEY_BLOCK_DIGIT, _KEY_BLOCK_MAC, _KEY_LENGTH.
  *
- * wrap writes the block and a zero byte, and into `length` how many characters the block has: without optional blocks
- * at most 96. `room` is the number of bytes at `block`, for the zero byte too. `padding` are random bytes of yours, new
- * each time: CUKVASHE_KEY_DATA_SIZE - 2 - key_length of them hide how long the key is.
+ * wrap writes the block of its parts and a zero byte, and into `length` how many characters the block has: without
+ * optional blocks at most 96. `capacity` is the number of bytes at `block`, for the zero byte too. `padding` are random
+ * bytes of yours, new each time: CUKVASHE_KEY_DATA_SIZE - 2 - key_length of them hide how long the key is. Set the
+ * parts by name: what you leave out is 0 or null, which is refused, but of `optional`.
  *
  * `optional` are the optional blocks, one after the other. Each is a name of two letters or digits, its whole length in
  * two hexadecimal digits in upper case, as KS1800604B120F9292800000, and its content, of printable ASCII, 0x20 to 0x7E;
@@ -794,8 +873,8 @@ CUKVASHE_CHECK int cukvashe_emv_response_2(const uint8_t session[16], const uint
  * Errors of wrap: CUKVASHE_ERR_VERSION; _OPTIONAL_BLOCK, if `optional` can't be read, or holds more than 99;
  * _PROTECTION_KEY_LENGTH; _HEADER; _KEY_LENGTH; _PADDING_LENGTH; _OPTIONAL_BLOCK, if a name or a content has other
  * characters; _KEY_BLOCK_LENGTH, if the optional blocks have more than 9999 characters; _OPTIONAL_BLOCK, if a `PB` is
- * not taken, or they are more than 99 with one that is added; _KEY_BLOCK_LENGTH, if the block has more, or `room` is
- * too small.
+ * not taken, or they are more than 99 with one that is added; _KEY_BLOCK_LENGTH, if the block has more, or `capacity`
+ * is too small.
  *
  * header writes the fields of a block's header. context writes where the key may be, character 15 of the header: '0' in
  * storage and exchange, as wrap writes it, '1' in storage only, '2' in exchange only. optional_block writes the name of
@@ -813,13 +892,22 @@ typedef struct {
                           S: sensitive, exportable in other forms too */
 } cukvashe_key_block_fields;
 
+typedef struct {
+  const uint8_t *protection;
+  size_t protection_length;
+  cukvashe_key_block_fields header;
+  const char *optional;
+  size_t optional_length;
+  const uint8_t *key;
+  size_t key_length;
+  const uint8_t *padding;
+  size_t padding_length;
+} cukvashe_key_block_parts;
+
 CUKVASHE_CHECK int cukvashe_key_block_unwrap(const uint8_t *protection, size_t protection_length, const char *block,
                                              size_t block_length, cukvashe_key_block_fields *header, uint8_t key[24],
                                              size_t *key_length);
-CUKVASHE_CHECK int cukvashe_key_block_wrap(const uint8_t *protection, size_t protection_length,
-                                           const cukvashe_key_block_fields *header, const char *optional,
-                                           size_t optional_length, const uint8_t *key, size_t key_length,
-                                           const uint8_t *padding, size_t padding_length, char *block, size_t room,
+CUKVASHE_CHECK int cukvashe_key_block_wrap(const cukvashe_key_block_parts *parts, char *block, size_t capacity,
                                            size_t *length);
 CUKVASHE_CHECK int cukvashe_key_block_header(const char *block, size_t block_length, cukvashe_key_block_fields *header);
 CUKVASHE_CHECK int cukvashe_key_block_context(const char *block, size_t block_length, char *context);
@@ -841,12 +929,13 @@ CUKVASHE_CHECK int cukvashe_key_block_optional_block(const char *block, size_t b
  * 8 bytes, without Salted__, or none (`-nosalt`). Errors: CUKVASHE_ERR_SALT_LENGTH, _HASH.
  *
  * int cukvashe_NAME_open_salted(int hash, size_t iterations, const uint8_t *password, size_t password_length,
- *                               const uint8_t *bytes, size_t length, uint8_t *plain, size_t room, size_t *plain_length)
+ *                               const uint8_t *bytes, size_t length, uint8_t *plain, size_t capacity,
+ *                               size_t *plain_length)
  *
  * Decrypts what openssl enc encrypted under a password by `-des-cbc` (des), `-des-ede-cbc` (tdes_ede2), or `-des3` or
  * `-des-ede3-cbc` (tdes_ede3). It writes the plaintext without padding, and into `plain_length` how many bytes it has;
- * `room` is the number of bytes at `plain`: `length` - 16 are always enough. `bytes` are the whole file: Salted__, a
- * salt of 8 bytes and the ciphertext, not Base64 (`-a`). `hash` is that of `-md`: by default CUKVASHE_SHA256, before
+ * `capacity` is the number of bytes at `plain`: `length` - 16 are always enough. `bytes` are the whole file: Salted__,
+ * a salt of 8 bytes and the ciphertext, not Base64 (`-a`). `hash` is that of `-md`: by default CUKVASHE_SHA256, before
  * OpenSSL 1.1.0 CUKVASHE_MD5. `iterations` is that of `-iter`; 10000 if only `-pbkdf2` was given; 0, not 1, if neither
  * was: then bytes_to_key is taken, and else PBKDF2.
  *
@@ -854,19 +943,19 @@ CUKVASHE_CHECK int cukvashe_key_block_optional_block(const char *block, size_t b
  * _CAPACITY. A wrong password, hash function or number of iterations is _PADDING, but for one in 256, which gives
  * CUKVASHE_OK and wrong bytes: nothing here authenticates. Tell nobody who sends you files which error they gave.
  */
-CUKVASHE_CHECK int cukvashe_pbkdf2(int hash, const uint8_t *password, size_t password_length, const uint8_t *salt,
-                                   size_t salt_length, size_t iterations, uint8_t *key, size_t key_length);
+CUKVASHE_CHECK int cukvashe_pbkdf2(int hash, size_t iterations, const uint8_t *password, size_t password_length,
+                                   const uint8_t *salt, size_t salt_length, uint8_t *key, size_t key_length);
 CUKVASHE_CHECK int cukvashe_bytes_to_key(int hash, const uint8_t *password, size_t password_length, const uint8_t *salt,
                                          size_t salt_length, uint8_t *key, size_t key_length);
 CUKVASHE_CHECK int cukvashe_des_open_salted(int hash, size_t iterations, const uint8_t *password,
                                             size_t password_length, const uint8_t *bytes, size_t length, uint8_t *plain,
-                                            size_t room, size_t *plain_length);
+                                            size_t capacity, size_t *plain_length);
 CUKVASHE_CHECK int cukvashe_tdes_ede2_open_salted(int hash, size_t iterations, const uint8_t *password,
                                                   size_t password_length, const uint8_t *bytes, size_t length,
-                                                  uint8_t *plain, size_t room, size_t *plain_length);
+                                                  uint8_t *plain, size_t capacity, size_t *plain_length);
 CUKVASHE_CHECK int cukvashe_tdes_ede3_open_salted(int hash, size_t iterations, const uint8_t *password,
                                                   size_t password_length, const uint8_t *bytes, size_t length,
-                                                  uint8_t *plain, size_t room, size_t *plain_length);
+                                                  uint8_t *plain, size_t capacity, size_t *plain_length);
 
 #if defined(__ELF__) || defined(__MACH__)
 #pragma GCC visibility pop

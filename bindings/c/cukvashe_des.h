@@ -49,11 +49,25 @@
  *
  * SECRETS ON THE STACK
  *
- * A call that is given or gives a key, a password or a PIN writes zeros over the stack that it used. Calls with a
- * context, except init and init_quiet, do not: they may leave round keys and parts of blocks there. Registers are not
- * wiped: a signal may store parts of keys, and so may lazy binding, so link the static library with -z now. A call uses
- * at most 27,000 bytes of the stack; transaction_keys_from_base and calls of records and of many messages at most
- * 66,000. Sizes and zeros are tested on Linux.
+ * A call with an argument of one of these names is given or gives a key, a password or a PIN, and writes zeros over the
+ * stack that it used:
+ *
+ *     base, card, first, initial, issuer, key, keys, parts, password, pin, protection, session, terminal, transaction,
+ *     translation
+ *
+ * Calls with a context, except init and init_quiet, do not: they may leave round keys and parts of blocks there. These
+ * are given nothing of that kind:
+ *
+ *     compare_tags, decimal_table_init, decimal_table_init_any, dukpt_is_usable, dukpt_next_serial, key_block_context,
+ *     key_block_header, key_block_optional_block, pad, strerror, unpad, version, wipe
+ *
+ * Registers are not wiped: a signal may store parts of keys, and so may lazy binding, so link the static library with
+ * -z now. A call uses at most so many bytes of the stack; these sizes, and the zeros, are tested on Linux:
+ *
+ *      6,000   any that is not named below
+ *     27,000   _ecb, _ecb_to, _cbc, _cbc_to, _each, _check_values, _open_salted, key_block_
+ *     45,000   _macs, _macs_each, dukpt_transaction_keys_from_base
+ *     66,000   _cbc_records
  *
  * WHAT IS PROVED
  *

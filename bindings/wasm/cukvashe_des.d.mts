@@ -55,7 +55,7 @@ export class StateLength extends CukvasheError {}
  * call of the module that did not end, as where the engine's stack ends within it: make it anew.
  */
 export class Closed extends CukvasheError {}
-// The errors of the statuses of cukvashe_des.h, with the sentence of each: made of it by bindings/statuses.
+// The errors of the statuses of cukvashe_des.h, with the sentence of each: made of it by bindings/describe.
 /** The key does not have a length that the call takes. */
 export class KeyLength extends CukvasheError {}
 /** The length is not a multiple of 8 bytes. */
@@ -137,7 +137,7 @@ export class IterationCount extends CukvasheError {}
 export class NotSalted extends CukvasheError {}
 /** The bytes end within the salt, or it does not have 0 or 8 bytes. */
 export class SaltLength extends CukvasheError {}
-// This ends what bindings/statuses made.
+// This ends what bindings/describe made.
 
 // ---- Ciphers and MACs
 

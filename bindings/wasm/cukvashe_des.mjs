@@ -89,7 +89,7 @@ export const IterationCount = fault("IterationCount");
 export const NotSalted = fault("NotSalted");
 export const SaltLength = fault("SaltLength");
 
-// The statuses of cukvashe_des.h and, at the place of its number, the sentence of each: made of it by bindings/statuses.
+// The statuses of cukvashe_des.h and, at the place of its number, the sentence of each: made of it by bindings/describe.
 const OK = 0;
 const KEY_LENGTH = 1;
 const BLOCKS = 2;
@@ -182,7 +182,7 @@ const SENTENCES = [
   "the bytes end within the salt, or it does not have 0 or 8 bytes",
   "the context is not one that the init of this type made",
 ];
-// This ends what bindings/statuses made.
+// This ends what bindings/describe made.
 
 // The error of each status that is one by itself.
 const FAULTS = new Map([

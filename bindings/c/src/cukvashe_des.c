@@ -5,11 +5,7 @@
 #include "internal.h"
 #include <string.h>
 
-/*
- * CHOOSE makes a call of an export of lists, for this many blocks, keys or messages. BY_WIDTH is how much of the stack it takes, in
- * bytes: NARROW for batches of 128, WIDE for those of 256, which may be taken above MOST_NARROW. It is the most that was seen on x86-64,
- * and on riscv64 beyond what is wiped there anyway.
- */
+/* CHOOSE makes a call of an export of lists, for this many blocks, keys or messages. */
 #if HAS_WIDE
 /* The processor is asked once, since a virtual one may take long to answer. Threads that ask at once all store one answer. */
 static bool processor_is_wide(void) {
@@ -28,11 +24,23 @@ static bool takes_wide(size_t count) { return count > MOST_NARROW && processor_i
 
 #define CHOOSE(COUNT, CALL, ...)                                                                                      \
   (takes_wide(COUNT) ? cukvashe_wide_##CALL(__VA_ARGS__) : cukvashe_internal_##CALL(__VA_ARGS__))
-#define BY_WIDTH(COUNT, NARROW, WIDE) ((COUNT) > MOST_NARROW ? (WIDE) : (NARROW))
 #else
 #define CHOOSE(COUNT, CALL, ...) cukvashe_internal_##CALL(__VA_ARGS__)
-#define BY_WIDTH(COUNT, NARROW, WIDE) (NARROW)
 #endif
+
+/* A call of the header that is given or gives a key, a password or a PIN: it goes on to the call that does the work, and wipes after it. */
+#define WIPES(RESULT, NAME, PARAMETERS, CALL)                                                                         \
+  RESULT cukvashe_##NAME PARAMETERS {                                                                                 \
+    const RESULT result = CALL;                                                                                       \
+    cukvashe_internal_wipe_stack(STACK_##NAME);                                                                       \
+    return result;                                                                                                    \
+  }
+
+#define WIPES_VOID(NAME, PARAMETERS, CALL)                                                                            \
+  void cukvashe_##NAME PARAMETERS {                                                                                   \
+    (void)(CALL);                                                                                                     \
+    cukvashe_internal_wipe_stack(STACK_##NAME);                                                                       \
+  }
 
 /* Blocks of `length` bytes. */
 #define BLOCKS (length / CUKVASHE_BLOCK_SIZE)
@@ -107,33 +115,33 @@ DEFINE_CIPHER(tdes_ede2, 33)
 DEFINE_CIPHER(tdes_ede3, 49)
 
 /* Calls with keys, or with passwords. */
-#define DEFINE_CIPHER_OF_KEYS(NAME, WORDS, KEY_SIZE, INIT, CHECK_VALUE, EACH, EACH_WIDE, VALUES, VALUES_WIDE, OPEN)   \
-  WIPES(int, NAME##_init, INIT, (cukvashe_##NAME * context, const uint8_t *key, size_t key_length),                   \
+#define DEFINE_CIPHER_OF_KEYS(NAME, WORDS, KEY_SIZE)                                                                  \
+  WIPES(int, NAME##_init, (cukvashe_##NAME * context, const uint8_t *key, size_t key_length),                         \
         cukvashe_internal_init(context->words, WORDS, key, key_length, false))                                        \
-  WIPES(int, NAME##_init_quiet, INIT, (cukvashe_##NAME * context, const uint8_t *key, size_t key_length),             \
+  WIPES(int, NAME##_init_quiet, (cukvashe_##NAME * context, const uint8_t *key, size_t key_length),                   \
         cukvashe_internal_init(context->words, WORDS, key, key_length, true))                                         \
-  WIPES(int, NAME##_encrypt_each, BY_WIDTH(count, EACH, EACH_WIDE),                                                   \
+  WIPES(int, NAME##_encrypt_each,                                                                                     \
         (const uint8_t *keys, size_t count, uint8_t *blocks, size_t length),                                          \
         OF_KEYS_AND_BLOCKS(CHOOSE(count, encrypt_each, KEY_SIZE, keys, count * KEY_SIZE, blocks, count)))             \
-  WIPES(int, NAME##_decrypt_each, BY_WIDTH(count, EACH, EACH_WIDE),                                                   \
+  WIPES(int, NAME##_decrypt_each,                                                                                     \
         (const uint8_t *keys, size_t count, uint8_t *blocks, size_t length),                                          \
         OF_KEYS_AND_BLOCKS(CHOOSE(count, decrypt_each, KEY_SIZE, keys, count * KEY_SIZE, blocks, count)))             \
-  WIPES(int, NAME##_check_value, CHECK_VALUE, (const uint8_t *key, size_t key_length, uint8_t value[3]),              \
+  WIPES(int, NAME##_check_value, (const uint8_t *key, size_t key_length, uint8_t value[3]),                           \
         cukvashe_internal_check_value(KEY_SIZE, key, key_length, value))                                              \
-  WIPES(int, NAME##_check_values, BY_WIDTH(count, VALUES, VALUES_WIDE),                                               \
+  WIPES(int, NAME##_check_values,                                                                                     \
         (const uint8_t *keys, size_t keys_length, uint8_t *values, size_t values_length, size_t count),               \
         OF_COUNTS(are_elements(count, KEY_SIZE, keys_length) &&                                                       \
                       are_elements(count, CUKVASHE_CHECK_VALUE_SIZE, values_length),                                  \
                   CHOOSE(count, check_values, KEY_SIZE, keys, keys_length, values, count)))                           \
-  WIPES(int, NAME##_open_salted, OPEN,                                                                                \
+  WIPES(int, NAME##_open_salted,                                                                                      \
         (int hash, size_t iterations, const uint8_t *password, size_t password_length, const uint8_t *bytes,          \
          size_t length, uint8_t *plain, size_t capacity, size_t *plain_length),                                       \
         cukvashe_internal_open_salted(KEY_SIZE, (uint32_t)hash, iterations, password, password_length, bytes, length, \
                                       plain, capacity, plain_length))
 
-DEFINE_CIPHER_OF_KEYS(des, 17, 8, 496, 1168, 10944, 19424, 13040, 21520, 13344)
-DEFINE_CIPHER_OF_KEYS(tdes_ede2, 33, 16, 496, 1168, 10768, 17360, 13040, 21632, 13344)
-DEFINE_CIPHER_OF_KEYS(tdes_ede3, 49, 24, 496, 1168, 10784, 17360, 13056, 19424, 13344)
+DEFINE_CIPHER_OF_KEYS(des, 17, 8)
+DEFINE_CIPHER_OF_KEYS(tdes_ede2, 33, 16)
+DEFINE_CIPHER_OF_KEYS(tdes_ede3, 49, 24)
 
 /* MACs of a message in pieces. */
 #define DEFINE_MAC(NAME, ALGORITHM, WORDS)                                                                            \
@@ -166,45 +174,45 @@ DEFINE_MAC(cmac_tdes_ede3, ALGORITHM_CMAC, 49)
             CHOOSE(count, macs_each, ALGORITHM, PADDING, KEY_SIZE, keys, keys_length, messages, count, tags, count))
 
 /* The calls of MACs with keys, with a padding method and without one. */
-#define DEFINE_MAC_OF_KEYS(NAME, ALGORITHM, WORDS, KEY_SIZE, INIT, MACS, MACS_WIDE, EACH, EACH_WIDE)                  \
-  WIPES(int, NAME##_init, INIT, (cukvashe_##NAME * context, const uint8_t *key, size_t key_length, int method),       \
+#define DEFINE_MAC_OF_KEYS(NAME, ALGORITHM, WORDS, KEY_SIZE)                                                          \
+  WIPES(int, NAME##_init, (cukvashe_##NAME * context, const uint8_t *key, size_t key_length, int method),             \
         cukvashe_internal_mac_init(ALGORITHM, context->words, WORDS, context->words + WORDS, key, key_length,         \
                                    (uint32_t)method, false))                                                          \
-  WIPES(int, NAME##_init_quiet, INIT, (cukvashe_##NAME * context, const uint8_t *key, size_t key_length, int method), \
+  WIPES(int, NAME##_init_quiet, (cukvashe_##NAME * context, const uint8_t *key, size_t key_length, int method),       \
         cukvashe_internal_mac_init(ALGORITHM, context->words, WORDS, context->words + WORDS, key, key_length,         \
                                    (uint32_t)method, true))                                                           \
-  WIPES(int, NAME##_macs, BY_WIDTH(count, MACS, MACS_WIDE),                                                           \
+  WIPES(int, NAME##_macs,                                                                                             \
         (const uint8_t *key, size_t key_length, int method, const cukvashe_message *messages, uint8_t *tags,          \
          size_t tags_length, size_t count),                                                                           \
         MACS_OF(KEY_SIZE, ALGORITHM, (uint32_t)method))                                                               \
-  WIPES(int, NAME##_macs_each, BY_WIDTH(count, EACH, EACH_WIDE),                                                      \
+  WIPES(int, NAME##_macs_each,                                                                                        \
         (const uint8_t *keys, size_t keys_length, int method, const cukvashe_message *messages, uint8_t *tags,        \
          size_t tags_length, size_t count),                                                                           \
         MACS_OF_EACH(KEY_SIZE, ALGORITHM, (uint32_t)method))
 
-DEFINE_MAC_OF_KEYS(cbc_mac_des, ALGORITHM_CBC_MAC, 17, 8, 576, 25936, 36736, 19360, 27872)
-DEFINE_MAC_OF_KEYS(cbc_mac_tdes_ede2, ALGORITHM_CBC_MAC, 33, 16, 576, 14352, 21824, 21536, 30144)
-DEFINE_MAC_OF_KEYS(cbc_mac_tdes_ede3, ALGORITHM_CBC_MAC, 49, 24, 576, 16176, 23648, 21536, 27888)
-DEFINE_MAC_OF_KEYS(retail_mac_des, ALGORITHM_RETAIL_MAC, 34, 16, 576, 15328, 21776, 19360, 27872)
+DEFINE_MAC_OF_KEYS(cbc_mac_des, ALGORITHM_CBC_MAC, 17, 8)
+DEFINE_MAC_OF_KEYS(cbc_mac_tdes_ede2, ALGORITHM_CBC_MAC, 33, 16)
+DEFINE_MAC_OF_KEYS(cbc_mac_tdes_ede3, ALGORITHM_CBC_MAC, 49, 24)
+DEFINE_MAC_OF_KEYS(retail_mac_des, ALGORITHM_RETAIL_MAC, 34, 16)
 
-#define DEFINE_CMAC_OF_KEYS(NAME, WORDS, KEY_SIZE, INIT, MACS, MACS_WIDE, EACH, EACH_WIDE)                            \
-  WIPES(int, NAME##_init, INIT, (cukvashe_##NAME * context, const uint8_t *key, size_t key_length),                   \
+#define DEFINE_CMAC_OF_KEYS(NAME, WORDS, KEY_SIZE)                                                                    \
+  WIPES(int, NAME##_init, (cukvashe_##NAME * context, const uint8_t *key, size_t key_length),                         \
         cukvashe_internal_mac_init(ALGORITHM_CMAC, context->words, WORDS, context->words + WORDS, key, key_length,    \
                                    CUKVASHE_MAC_PADDING_2, false))                                                    \
-  WIPES(int, NAME##_init_quiet, INIT, (cukvashe_##NAME * context, const uint8_t *key, size_t key_length),             \
+  WIPES(int, NAME##_init_quiet, (cukvashe_##NAME * context, const uint8_t *key, size_t key_length),                   \
         cukvashe_internal_mac_init(ALGORITHM_CMAC, context->words, WORDS, context->words + WORDS, key, key_length,    \
                                    CUKVASHE_MAC_PADDING_2, true))                                                     \
-  WIPES(int, NAME##_macs, BY_WIDTH(count, MACS, MACS_WIDE),                                                           \
+  WIPES(int, NAME##_macs,                                                                                             \
         (const uint8_t *key, size_t key_length, const cukvashe_message *messages, uint8_t *tags, size_t tags_length,  \
          size_t count),                                                                                               \
         MACS_OF(KEY_SIZE, ALGORITHM_CMAC, CUKVASHE_MAC_PADDING_2))                                                    \
-  WIPES(int, NAME##_macs_each, BY_WIDTH(count, EACH, EACH_WIDE),                                                      \
+  WIPES(int, NAME##_macs_each,                                                                                        \
         (const uint8_t *keys, size_t keys_length, const cukvashe_message *messages, uint8_t *tags,                    \
          size_t tags_length, size_t count),                                                                           \
         MACS_OF_EACH(KEY_SIZE, ALGORITHM_CMAC, CUKVASHE_MAC_PADDING_2))
 
-DEFINE_CMAC_OF_KEYS(cmac_tdes_ede2, 33, 16, 576, 14384, 21872, 21552, 30240)
-DEFINE_CMAC_OF_KEYS(cmac_tdes_ede3, 49, 24, 576, 16208, 23696, 21552, 27984)
+DEFINE_CMAC_OF_KEYS(cmac_tdes_ede2, 33, 16)
+DEFINE_CMAC_OF_KEYS(cmac_tdes_ede3, 49, 24)
 
 int cukvashe_compare_tags(const uint8_t *tags, size_t tags_length, const uint8_t *expected, size_t expected_length,
                           bool *right, size_t count) {
@@ -213,7 +221,7 @@ int cukvashe_compare_tags(const uint8_t *tags, size_t tags_length, const uint8_t
                    cukvashe_internal_compare_tags(tags, count, expected, count, right, count));
 }
 
-WIPES(int, dukpt_transaction_keys_from_base, BY_WIDTH(count, 40352, 42048),
+WIPES(int, dukpt_transaction_keys_from_base,
       (const uint8_t base[16], const uint8_t *serials, size_t serials_length, uint8_t *keys, size_t keys_length,
        size_t count),
       OF_COUNTS(are_elements(count, CUKVASHE_DUKPT_SERIAL_SIZE, serials_length) &&
@@ -224,19 +232,66 @@ int cukvashe_pad(uint8_t *buffer, size_t length, size_t capacity, int method, si
   return cukvashe_internal_pad(buffer, capacity, length, method, padded_length);
 }
 
-WIPES(bool, equal_but_parity, 32, (const uint8_t *first, const uint8_t *second, size_t key_length),
+WIPES(bool, equal_but_parity, (const uint8_t *first, const uint8_t *second, size_t key_length),
       cukvashe_internal_equal_but_parity(first, key_length, second, key_length))
 
-#define DEFINE_COMBINE(SIZE, STACK)                                                                                   \
-  WIPES(int, combine_##SIZE, STACK,                                                                                   \
+#define DEFINE_COMBINE(SIZE)                                                                                          \
+  WIPES(int, combine_##SIZE,                                                                                          \
         (const uint8_t first[SIZE], const uint8_t second[SIZE], const uint8_t *others, size_t others_length,          \
          size_t others_count, uint8_t key[SIZE]),                                                                     \
         OF_COUNTS(are_elements(others_count, SIZE, others_length),                                                    \
                   cukvashe_internal_combine(first, SIZE, second, SIZE, others, others_length, key, SIZE)))
 
-DEFINE_COMBINE(8, 304)
-DEFINE_COMBINE(16, 304)
-DEFINE_COMBINE(24, 304)
+DEFINE_COMBINE(8)
+DEFINE_COMBINE(16)
+DEFINE_COMBINE(24)
+
+/* In the place of fill digits that are not there: no format allows 0. */
+static const uint8_t no_fill[CUKVASHE_FILL_SIZE];
+
+/* Calls whose exports take one by one what the header has in a struct, or in another order. */
+WIPES(int, pin_translate_to_0,
+      (const cukvashe_pin_translation *translation, const uint8_t block[8], uint8_t translated[8]),
+      cukvashe_unwiped_pin_translate_to_0(translation->incoming_key, translation->incoming_key_length,
+                                          (uint32_t)translation->incoming_format, translation->outgoing_key,
+                                          translation->outgoing_key_length, (const uint8_t *)translation->account,
+                                          translation->account_length, block, translated))
+WIPES(int, pin_translate_to_1,
+      (const cukvashe_pin_translation *translation, const uint8_t block[8], uint8_t translated[8]),
+      translation->incoming_format != 1
+          ? CUKVASHE_ERR_FORMATS
+          : cukvashe_unwiped_pin_translate_to_1(translation->incoming_key, translation->incoming_key_length,
+                                                translation->outgoing_key, translation->outgoing_key_length, block,
+                                                translated))
+WIPES(int, pin_translate_to_3,
+      (const cukvashe_pin_translation *translation, const uint8_t block[8], uint8_t translated[8]),
+      cukvashe_unwiped_pin_translate_to_3(translation->incoming_key, translation->incoming_key_length,
+                                          (uint32_t)translation->incoming_format, translation->outgoing_key,
+                                          translation->outgoing_key_length, (const uint8_t *)translation->account,
+                                          translation->account_length,
+                                          translation->fill != NULL ? translation->fill : no_fill, block, translated))
+
+bool cukvashe_pvv_is_pin(const uint8_t key[16], const char *account, size_t account_length, int index, const char *pin,
+                         size_t pin_length, const char *value, size_t value_length) {
+  return cukvashe_pvv_verify(key, account, account_length, index, pin, pin_length, value, value_length) == CUKVASHE_OK;
+}
+
+bool cukvashe_pin_offset_is_pin(const uint8_t *key, size_t key_length, const cukvashe_decimal_table *table,
+                                const uint8_t validation[8], const char *pin, size_t pin_length, const char *offset,
+                                size_t offset_length) {
+  return cukvashe_pin_offset_verify(key, key_length, table, validation, pin, pin_length, offset, offset_length) ==
+         CUKVASHE_OK;
+}
+
+WIPES(int, key_block_wrap,
+      (const cukvashe_key_block_parts *parts, char *block, size_t capacity, size_t *length),
+      cukvashe_unwiped_key_block_wrap(parts->protection, parts->protection_length, &parts->header, (const uint8_t *)parts->optional,
+                                      parts->optional_length, parts->key, parts->key_length, parts->padding,
+                                      parts->padding_length, (uint8_t *)block, capacity, length))
+WIPES(int, pbkdf2,
+      (int hash, size_t iterations, const uint8_t *password, size_t password_length, const uint8_t *salt,
+       size_t salt_length, uint8_t *key, size_t key_length),
+      cukvashe_unwiped_pbkdf2((uint32_t)hash, password, password_length, salt, salt_length, iterations, key, key_length))
 
 const char *cukvashe_version(void) { return CUKVASHE_VERSION; }
 

@@ -1,4 +1,4 @@
-/* The rows of the table of cukvashe_strerror: made by bindings/statuses of cukvashe_des.h. */
+/* The rows of the table of cukvashe_strerror: made by bindings/describe of cukvashe_des.h. */
 [CUKVASHE_OK] = "success",
 [CUKVASHE_ERR_KEY_LENGTH] = "the key does not have a length that the call takes",
 [CUKVASHE_ERR_BLOCKS] = "the length is not a multiple of 8 bytes",

@@ -5,6 +5,7 @@
    is called, and could leave it out. */
 #define _POSIX_C_SOURCE 200809L
 #include "../src/cukvashe_des.c"
+#include "../src/wiped.c"
 #include <limits.h>
 #include <pthread.h>
 #include <stdio.h>
@@ -22,7 +23,7 @@
 struct call {
   const char *name;
   size_t size; /* of the arguments, in bytes */
-  uintptr_t arguments[10];
+  uintptr_t arguments[12];
 };
 
 static struct call last;
@@ -52,7 +53,7 @@ void cukvashe_internal_wipe_stack(size_t size) {
 #define A(POINTER) (uintptr_t)(POINTER)
 #define ARGUMENTS(...) (const uintptr_t[]){__VA_ARGS__}, sizeof((const uintptr_t[]){__VA_ARGS__})
 
-static int made(const char *name, const uintptr_t *arguments, size_t size) {
+static int noted(const char *name, const uintptr_t *arguments, size_t size) {
   CHECK(size <= sizeof last.arguments);
   last.name = name;
   last.size = size;
@@ -61,135 +62,10 @@ static int made(const char *name, const uintptr_t *arguments, size_t size) {
   return STATUS;
 }
 
-#define IN_PLACE(WIDTH, CALL)                                                                                         \
-  int cukvashe_##WIDTH##_##CALL(const uint64_t *context, size_t words, uint8_t *blocks, size_t blocks_count,          \
-                                size_t length) {                                                                      \
-    return made(#WIDTH " " #CALL, ARGUMENTS(A(context), words, A(blocks), blocks_count, length));                     \
-  }
-#define TO_OTHER(WIDTH, CALL)                                                                                         \
-  int cukvashe_##WIDTH##_##CALL(const uint64_t *context, size_t words, const uint8_t *input, size_t input_count,      \
-                                uint8_t *output, size_t output_count, size_t length) {                                \
-    return made(#WIDTH " " #CALL,                                                                                     \
-                ARGUMENTS(A(context), words, A(input), input_count, A(output), output_count, length));                \
-  }
-#define CHAIN(WIDTH, CALL)                                                                                            \
-  int cukvashe_##WIDTH##_##CALL(const uint64_t *context, size_t words, uint8_t iv[8], uint8_t *blocks,                \
-                                size_t blocks_count, size_t length) {                                                 \
-    return made(#WIDTH " " #CALL, ARGUMENTS(A(context), words, A(iv), A(blocks), blocks_count, length));              \
-  }
-#define CHAIN_TO_OTHER(WIDTH, CALL)                                                                                   \
-  int cukvashe_##WIDTH##_##CALL(const uint64_t *context, size_t words, uint8_t iv[8], const uint8_t *input,           \
-                                size_t input_count, uint8_t *output, size_t output_count, size_t length) {            \
-    return made(#WIDTH " " #CALL,                                                                                     \
-                ARGUMENTS(A(context), words, A(iv), A(input), input_count, A(output), output_count, length));         \
-  }
-#define RECORDS(WIDTH, CALL)                                                                                          \
-  int cukvashe_##WIDTH##_##CALL(const uint64_t *context, size_t words, uint8_t *vectors, size_t vectors_count,        \
-                                const size_t *sizes, size_t sizes_count, uint8_t *blocks, size_t blocks_count,        \
-                                size_t length) {                                                                      \
-    return made(#WIDTH " " #CALL, ARGUMENTS(A(context), words, A(vectors), vectors_count, A(sizes), sizes_count,      \
-                                            A(blocks), blocks_count, length));                                        \
-  }
-#define OF_EACH(WIDTH, CALL)                                                                                          \
-  int cukvashe_##WIDTH##_##CALL(size_t key_size, const uint8_t *keys, size_t keys_length, uint8_t *made_of,           \
-                                size_t count) {                                                                       \
-    return made(#WIDTH " " #CALL, ARGUMENTS(key_size, A(keys), keys_length, A(made_of), count));                      \
-  }
-#define LISTS(WIDTH)                                                                                                  \
-  IN_PLACE(WIDTH, encrypt_ecb)                                                                                        \
-  IN_PLACE(WIDTH, decrypt_ecb)                                                                                        \
-  TO_OTHER(WIDTH, encrypt_ecb_to)                                                                                     \
-  TO_OTHER(WIDTH, decrypt_ecb_to)                                                                                     \
-  CHAIN(WIDTH, decrypt_cbc)                                                                                           \
-  CHAIN_TO_OTHER(WIDTH, decrypt_cbc_to)                                                                               \
-  RECORDS(WIDTH, encrypt_cbc_records)                                                                                 \
-  RECORDS(WIDTH, decrypt_cbc_records)                                                                                 \
-  OF_EACH(WIDTH, encrypt_each)                                                                                        \
-  OF_EACH(WIDTH, decrypt_each)                                                                                        \
-  OF_EACH(WIDTH, check_values)                                                                                        \
-  int cukvashe_##WIDTH##_macs(uint32_t algorithm, uint32_t padding, const uint8_t *key, size_t key_length,            \
-                              const cukvashe_message *messages, size_t messages_count, uint8_t *tags,                 \
-                              size_t tags_count) {                                                                    \
-    return made(#WIDTH " macs", ARGUMENTS(algorithm, padding, A(key), key_length, A(messages), messages_count,        \
-                                          A(tags), tags_count));                                                      \
-  }                                                                                                                   \
-  int cukvashe_##WIDTH##_macs_each(uint32_t algorithm, uint32_t padding, size_t key_size, const uint8_t *keys,        \
-                                   size_t keys_length, const cukvashe_message *messages, size_t messages_count,       \
-                                   uint8_t *tags, size_t tags_count) {                                                \
-    return made(#WIDTH " macs_each", ARGUMENTS(algorithm, padding, key_size, A(keys), keys_length, A(messages),       \
-                                               messages_count, A(tags), tags_count));                                 \
-  }                                                                                                                   \
-  int cukvashe_##WIDTH##_dukpt_transaction_keys(const uint8_t base[16], const uint8_t *serials, size_t serials_count, \
-                                                uint8_t *keys, size_t keys_count) {                                   \
-    return made(#WIDTH " dukpt_transaction_keys", ARGUMENTS(A(base), A(serials), serials_count, A(keys), keys_count));\
-  }
-
-LISTS(internal)
-#if HAS_WIDE
-LISTS(wide)
-#endif
-
-CHAIN(internal, encrypt_cbc)
-CHAIN_TO_OTHER(internal, encrypt_cbc_to)
-
-int cukvashe_internal_init(uint64_t *context, size_t words, const uint8_t *key, size_t key_length, bool quiet) {
-  return made("internal init", ARGUMENTS(A(context), words, A(key), key_length, quiet));
-}
-
-int cukvashe_internal_check_value(size_t key_size, const uint8_t *key, size_t key_length, uint8_t value[3]) {
-  return made("internal check_value", ARGUMENTS(key_size, A(key), key_length, A(value)));
-}
-
-int cukvashe_internal_open_salted(size_t key_size, uint32_t hash, size_t iterations, const uint8_t *password,
-                                  size_t password_length, const uint8_t *bytes, size_t length, uint8_t *plain,
-                                  size_t room, size_t *plain_length) {
-  return made("internal open_salted", ARGUMENTS(key_size, hash, iterations, A(password), password_length, A(bytes),
-                                                length, A(plain), room, A(plain_length)));
-}
-
-int cukvashe_internal_mac_init(uint32_t algorithm, uint64_t *context, size_t words, uint64_t message[4],
-                               const uint8_t *key, size_t key_length, uint32_t padding, bool quiet) {
-  return made("internal mac_init",
-              ARGUMENTS(algorithm, A(context), words, A(message), A(key), key_length, padding, quiet));
-}
-
-int cukvashe_internal_mac_update(uint32_t algorithm, const uint64_t *context, size_t words, uint64_t message[4],
-                                 const uint8_t *bytes, size_t length) {
-  return made("internal mac_update", ARGUMENTS(algorithm, A(context), words, A(message), A(bytes), length));
-}
-
-int cukvashe_internal_mac_final(uint32_t algorithm, const uint64_t *context, size_t words, const uint64_t message[4],
-                                uint8_t tag[8]) {
-  return made("internal mac_final", ARGUMENTS(algorithm, A(context), words, A(message), A(tag)));
-}
-
-int cukvashe_internal_mac_verify(uint32_t algorithm, const uint64_t *context, size_t words, const uint64_t message[4],
-                                 const uint8_t *tag, size_t tag_length) {
-  return made("internal mac_verify", ARGUMENTS(algorithm, A(context), words, A(message), A(tag), tag_length));
-}
-
-int cukvashe_internal_combine(const uint8_t *first, size_t first_length, const uint8_t *second, size_t second_length,
-                              const uint8_t *others, size_t others_length, uint8_t *key, size_t key_length) {
-  return made("internal combine", ARGUMENTS(A(first), first_length, A(second), second_length, A(others),
-                                            others_length, A(key), key_length));
-}
-
-int cukvashe_internal_compare_tags(const uint8_t *tags, size_t tags_count, const uint8_t *expected,
-                                   size_t expected_count, bool *right, size_t right_count) {
-  return made("internal compare_tags", ARGUMENTS(A(tags), tags_count, A(expected), expected_count, A(right), right_count));
-}
-
-int cukvashe_internal_pad(uint8_t *buffer, size_t capacity, size_t length, int method, size_t *padded_length) {
-  return made("internal pad", ARGUMENTS(A(buffer), capacity, length, (uintptr_t)method, A(padded_length)));
-}
-
+/* What a call answers that does not return a status. */
 static bool answer;
 
-bool cukvashe_internal_equal_but_parity(const uint8_t *first, size_t first_length, const uint8_t *second,
-                                        size_t second_length) {
-  made("internal equal_but_parity", ARGUMENTS(A(first), first_length, A(second), second_length));
-  return answer;
-}
+#include "noted.h"
 
 /* The one call that was made since the last check had this name and these arguments, and the stack was wiped so often. */
 static void was(const char *width, const char *name, int wiped, const uintptr_t *arguments, size_t size) {
@@ -208,7 +84,7 @@ static const char *width_of(size_t count) { return is_v3 && count > MOST_NARROW 
 
 static const size_t sizes[1];
 static const cukvashe_message messages[1];
-static uint8_t iv[24], base[24], input[24], output[24];
+static uint8_t iv[24], base[64], input[24], output[24];
 static size_t number;
 
 /* The calls of a cipher; what the functions above are given is never read. */
@@ -450,6 +326,27 @@ static void hands_on_any_blocks(size_t length) {
   for (size_t i = 0; i < sizeof counts / sizeof *counts; i++) hands_on_blocks(counts[i], length);
 }
 
+/* Calls with structs, and one in another order. Their texts are a call's of its own, so any address will do. */
+static void hands_on_structs(void) {
+  const char *const text = (const char *)base;
+  cukvashe_pin_translation translation = {iv, 1, 1, base, 2, text, 3, NULL};
+  const cukvashe_key_block_parts parts = {.protection = iv, .protection_length = 1, .optional = text, .optional_length = 2, .key = input,
+                                          .key_length = 3, .padding = base, .padding_length = 4};
+  CHECK(cukvashe_pin_translate_to_0(&translation, input, output) == STATUS);
+  WAS_WIPED("unwiped", "pin_translate_to_0", A(iv), 1, 1, A(base), 2, A(text), 3, A(input), A(output));
+  CHECK(cukvashe_pin_translate_to_1(&translation, input, output) == STATUS);
+  WAS_WIPED("unwiped", "pin_translate_to_1", A(iv), 1, A(base), 2, A(input), A(output));
+  CHECK(cukvashe_pin_translate_to_3(&translation, input, output) == STATUS);
+  WAS_WIPED("unwiped", "pin_translate_to_3", A(iv), 1, 1, A(base), 2, A(text), 3, A(no_fill), A(input), A(output));
+  translation.fill = base;
+  CHECK(cukvashe_pin_translate_to_3(&translation, input, output) == STATUS);
+  WAS_WIPED("unwiped", "pin_translate_to_3", A(iv), 1, 1, A(base), 2, A(text), 3, A(base), A(input), A(output));
+  CHECK(cukvashe_key_block_wrap(&parts, (char *)output, 5, &number) == STATUS);
+  WAS_WIPED("unwiped", "key_block_wrap", A(iv), 1, A(&parts.header), A(text), 2, A(input), 3, A(base), 4, A(output), 5, A(&number));
+  CHECK(cukvashe_pbkdf2(1, 2, base, 3, iv, 4, output, 5) == STATUS);
+  WAS_WIPED("unwiped", "pbkdf2", 1, A(base), 3, A(iv), 4, 2, A(output), 5);
+}
+
 static void hands_on_the_rest(void) {
   des_of_key();
   tdes_ede2_of_key();
@@ -511,6 +408,8 @@ static bool leaves_secret(void *(*run)(void *)) {
   return found;
 }
 
+#include "handed.h"
+
 int main(int count, char **words) {
   static const size_t most = 8 * MOST_NARROW;
   const size_t lengths[] = {0, 1, 7, 8, 120, most - 8, most - 7, most - 1, most, most + 1, most + 8, 2 * most, 4 * most,
@@ -529,6 +428,8 @@ int main(int count, char **words) {
   for (size_t i = 0; i < sizeof lengths / sizeof *lengths; i++) hands_on_any_blocks(lengths[i]);
   CHECK(questions == HAS_WIDE);
   hands_on_the_rest();
+  hands_on_structs();
+  hands_all_on();
   cukvashe_wipe(NULL, 0);
   CHECK(cukvashe_strerror(-1) == cukvashe_strerror(INT_MIN) && cukvashe_strerror(0) != cukvashe_strerror(-1));
   for (size_t i = 0; i < SECRET; i++) secret[i] = (uint8_t)(3 * i + 101);

@@ -7,7 +7,6 @@ from typing import Any, Callable, ClassVar, Type, TypeVar, cast
 
 from ._data import BLOCK_SIZE, KINDS, Keyed, Kind, bytes_of, in_order, is_writable, kind_of, pointer_to, vector_of
 from ._faults import BlockLengthError
-from ._library import INT, POINTER, SIZE
 from ._statuses import OK
 from ._types import ReadableBuffer, WriteableBuffer
 
@@ -139,11 +138,5 @@ class TdesEde3(Cipher):
     name, key_size = "tdes_ede3", 24
 
 
-for _cipher, _words in ((Des, 17), (TdesEde2, 33), (TdesEde3, 49)):
-    _kind = KINDS[_cipher] = Kind(_cipher.name, _cipher.key_size, _words)
-    _kind.declare("check_value", INT, POINTER, SIZE, POINTER)
-    for _way in ("encrypt", "decrypt"):
-        _kind.declare(f"{_way}_ecb", INT, POINTER, POINTER, SIZE)
-        _kind.declare(f"{_way}_ecb_to", INT, POINTER, POINTER, POINTER, SIZE)
-        _kind.declare(f"{_way}_cbc", INT, POINTER, POINTER, POINTER, SIZE)
-        _kind.declare(f"{_way}_cbc_to", INT, POINTER, POINTER, POINTER, POINTER, SIZE)
+for _cipher in (Des, TdesEde2, TdesEde3):
+    KINDS[_cipher] = Kind(_cipher.name, _cipher.key_size)

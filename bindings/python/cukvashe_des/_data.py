@@ -6,10 +6,11 @@ import contextlib
 import ctypes
 import re
 from itertools import takewhile
-from typing import Any, Callable, Dict, Iterator, NoReturn, Optional, Tuple, Type, TypeVar
+from typing import Any, Dict, Iterator, NoReturn, Optional, Tuple, Type, TypeVar
 
+from ._calls import CALLS, INT, POINTER, WORDS
 from ._faults import BlockLengthError, ClosedError, Error, KeyLengthError, VectorLengthError, check
-from ._library import INT, POINTER, SIZE, function, wipe
+from ._library import function, wipe
 from ._types import ReadableBuffer, Text, WriteableBuffer
 
 BLOCK_SIZE = 8
@@ -240,21 +241,16 @@ def context_type(count: int, element: Any = ctypes.c_uint64) -> Any:
 
 
 class Kind:
-    """What a class of ciphers or MACs stands for in the library: the name of its calls, the size of its keys, the type of its
-    contexts, the types of a padding method where its keys take one, and its calls. A context says of which kind it is."""
+    """What a class of ciphers or MACs stands for in the library: the name of its calls, the size of its keys, whether they take a
+    padding method, the type of its contexts, and its calls by their names without that. A context says of which kind it is."""
 
-    __slots__ = ("name", "key_size", "paddings", "context", "calls")
+    __slots__ = ("name", "key_size", "is_padded", "context", "calls")
 
-    def __init__(self, name: str, key_size: int, words: int, *paddings: Any) -> None:
-        self.name, self.key_size, self.paddings = name, key_size, paddings
-        self.context = context_type(words)
+    def __init__(self, name: str, key_size: int) -> None:
+        self.name, self.key_size, self.is_padded = name, key_size, CALLS[name + "_init"][-1] is INT
+        self.context = context_type(WORDS[name])
         self.context.kind = self
-        starts = (INT, POINTER, POINTER, SIZE, *paddings)
-        self.calls: Dict[str, Callable[..., Any]] = {call: function(f"{name}_{call}", *starts) for call in ("init", "init_quiet")}
-
-    def declare(self, call: str, result: Any, *arguments: Any) -> None:
-        """Declares a call of the library's."""
-        self.calls[call] = function(f"{self.name}_{call}", result, *arguments)
+        self.calls = {call[len(name) + 1 :]: function(call) for call in CALLS if call.startswith(name + "_")}
 
     def context_of(self, key: ReadableBuffer, quiet: bool, *padding: int) -> Any:
         """The context of a key."""

@@ -7,16 +7,16 @@ from typing import Any, Callable
 from ._data import BLOCK_SIZE, bytes_from, bytes_of, data_of, key_of, room, text_of
 from ._faults import BlockLengthError, DataLengthError, check
 from ._keys import made_of_key
-from ._library import INT, POINTER, SIZE, function
+from ._library import function
 from ._types import ReadableBuffer, Text
 
-_card_key = function("emv_card_key", INT, POINTER, POINTER, SIZE, POINTER, SIZE, POINTER)
-_card_key_b = function("emv_card_key_b", INT, POINTER, POINTER, SIZE, POINTER, SIZE, POINTER)
-_session_key = function("emv_session_key", None, POINTER, POINTER, POINTER)
-_application_key = function("emv_application_key", None, POINTER, POINTER, POINTER)
-_cryptogram = function("emv_application_cryptogram", None, POINTER, POINTER, SIZE, POINTER)
-_response_1 = function("emv_response_1", None, POINTER, POINTER, POINTER, POINTER)
-_response_2 = function("emv_response_2", INT, POINTER, POINTER, POINTER, POINTER, SIZE, POINTER)
+_card_key = function("emv_card_key")
+_card_key_b = function("emv_card_key_b")
+_session_key = function("emv_session_key")
+_application_key = function("emv_application_key")
+_cryptogram = function("emv_application_cryptogram")
+_response_1 = function("emv_response_1")
+_response_2 = function("emv_response_2")
 
 
 def _cryptogram_of(cryptogram: ReadableBuffer) -> bytes:

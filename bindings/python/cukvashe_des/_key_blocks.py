@@ -7,10 +7,11 @@ import os
 from dataclasses import dataclass
 from typing import Any, List, Mapping, Optional, Tuple
 
+from ._calls import KeyBlockParts, SIZE
 from ._data import bytes_from, bytes_of, hint_of, no_text, place_of, room, secret_of
 from ._keys import KEY_SIZES
 from ._faults import KeyBlockDigitError, KeyBlockFieldError, KeyBlockLengthError, KeyBlockVersionError, OptionalBlockError, check
-from ._library import INT, POINTER, SIZE, function
+from ._library import function
 from ._statuses import KEY_LENGTH, NO_OPTIONAL_BLOCK, PROTECTION_KEY_LENGTH
 from ._types import OptionalBlocks, ReadableBuffer, Text
 
@@ -24,25 +25,11 @@ _MORE = 128
 # More characters than a block can have.
 _TOO_MANY = 10000
 
-_unwrap = function("key_block_unwrap", INT, POINTER, SIZE, POINTER, SIZE, POINTER, POINTER, POINTER)
-_wrap = function("key_block_wrap", INT, POINTER, POINTER, SIZE, POINTER)
-_header = function("key_block_header", INT, POINTER, SIZE, POINTER)
-_context = function("key_block_context", INT, POINTER, SIZE, POINTER)
-_optional_block = function("key_block_optional_block", INT, POINTER, SIZE, SIZE, POINTER, POINTER, POINTER)
-
-
-class _Parts(ctypes.Structure):
-    _fields_ = [
-        ("protection", POINTER),
-        ("protection_length", SIZE),
-        ("header", ctypes.c_uint8 * _FIELDS_SIZE),
-        ("optional", POINTER),
-        ("optional_length", SIZE),
-        ("key", POINTER),
-        ("key_length", SIZE),
-        ("padding", POINTER),
-        ("padding_length", SIZE),
-    ]
+_unwrap = function("key_block_unwrap")
+_wrap = function("key_block_wrap")
+_header = function("key_block_header")
+_context = function("key_block_context")
+_optional_block = function("key_block_optional_block")
 
 
 @dataclass(frozen=True)
@@ -153,7 +140,7 @@ def wrap_key_block(
     block, length = room(len(more) + _MORE), SIZE()
     with secret_of(no_text(protection)) as held, secret_of(no_text(key)) as bare:
         hiding = os.urandom(max(0, _KEY_DATA_SIZE - 2 - bare[1])) if padding is None else bytes_of(padding)
-        parts = _Parts(
+        parts = KeyBlockParts(
             protection=place_of(held[0]),
             protection_length=held[1],
             header=(ctypes.c_uint8 * _FIELDS_SIZE).from_buffer_copy(fields),

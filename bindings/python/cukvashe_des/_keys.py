@@ -8,26 +8,26 @@ from typing import Any, Callable, Optional, Type
 from ._ciphers import Cipher, class_of
 from ._data import bytes_from, bytes_of, key_of, room, wiped_room
 from ._faults import SerialLengthError, WeakKeyError, check
-from ._library import BOOL, INT, POINTER, SIZE, function
+from ._library import function
 from ._statuses import NO_SERIAL, WEAK_KEY
 from ._types import ReadableBuffer
 
 KEY_SIZES = (8, 16, 24)
 
-_weak_key_test = function("weak_key_test", INT, POINTER, SIZE)
-_set_odd_parity = function("set_odd_parity", None, POINTER, SIZE)
-_equal_but_parity = function("equal_but_parity", BOOL, POINTER, POINTER, SIZE)
-_combine = {size: function(f"combine_{size}", INT, POINTER, POINTER, POINTER, SIZE, SIZE, POINTER) for size in KEY_SIZES}
-_initial_key = function("dukpt_initial_key", None, POINTER, POINTER, POINTER)
-_transaction_key = function("dukpt_transaction_key", None, POINTER, POINTER, POINTER)
-_pin_key = function("dukpt_pin_key", None, POINTER, POINTER)
-_mac_key = function("dukpt_mac_key", None, POINTER, BOOL, POINTER)
-_data_key = function("dukpt_data_key", None, POINTER, BOOL, POINTER)
-_data_variant = function("dukpt_data_variant", None, POINTER, BOOL, POINTER)
-_key_check_value = function("key_check_value", INT, POINTER, SIZE, POINTER)
-_short_key_check_value = function("short_key_check_value", INT, POINTER, SIZE, POINTER)
-_next_serial = function("dukpt_next_serial", INT, POINTER, POINTER)
-_is_usable = function("dukpt_is_usable", BOOL, POINTER)
+_weak_key_test = function("weak_key_test")
+_set_odd_parity = function("set_odd_parity")
+_equal_but_parity = function("equal_but_parity")
+_combine = {size: function(f"combine_{size}") for size in KEY_SIZES}
+_initial_key = function("dukpt_initial_key")
+_transaction_key = function("dukpt_transaction_key")
+_pin_key = function("dukpt_pin_key")
+_mac_key = function("dukpt_mac_key")
+_data_key = function("dukpt_data_key")
+_data_variant = function("dukpt_data_variant")
+_key_check_value = function("key_check_value")
+_short_key_check_value = function("short_key_check_value")
+_next_serial = function("dukpt_next_serial")
+_is_usable = function("dukpt_is_usable")
 
 
 def is_weak_key(key: ReadableBuffer) -> bool:

@@ -1,4 +1,4 @@
-"""Finds the shared library and declares its calls."""
+"""Finds the shared library, and its calls as the header declares them."""
 
 from __future__ import annotations
 
@@ -7,9 +7,8 @@ import os
 import sys
 from typing import Any, Callable
 
+from ._calls import CALLS
 from ._version import __version__
-
-POINTER, SIZE, INT, BOOL = ctypes.c_void_p, ctypes.c_size_t, ctypes.c_int, ctypes.c_bool
 
 # The number of the shared library whose calls these are: that of bindings/c/soversion.
 SOVERSION = "0"
@@ -61,12 +60,11 @@ def _load() -> ctypes.CDLL:
 _library = _load()
 
 
-def function(name: str, result: Any, *arguments: Any) -> Callable[..., Any]:
+def function(name: str) -> Callable[..., Any]:
     """A call of the library, by its name without `cukvashe_`."""
     call = getattr(_library, "cukvashe_" + name)
-    call.restype = result
-    call.argtypes = arguments
+    call.restype, *call.argtypes = CALLS[name]
     return call  # type: ignore[no-any-return]
 
 
-wipe = function("wipe", None, POINTER, SIZE)
+wipe = function("wipe")

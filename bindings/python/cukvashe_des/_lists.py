@@ -6,45 +6,21 @@ from __future__ import annotations
 import contextlib
 from array import array
 from itertools import accumulate
-from typing import AbstractSet, Any, Iterable, Iterator, List, Mapping, Optional, Tuple, Type
+from typing import AbstractSet, Any, Callable, Iterable, Iterator, List, Mapping, Optional, Tuple, Type
 
 from ._ciphers import Cipher, class_of, vectors_by_name
 from ._data import BLOCK_SIZE, Kind, bytes_from, in_order, is_writable, kept_apart, key_of, lent, no_text, pointer_to, room, row_size
 from ._faults import BlockLengthError, CountMismatchError, Error, KeyLengthError, SerialLengthError, VectorLengthError
 from ._faults import check, fault_of
-from ._library import INT, POINTER, SIZE, function
+from ._library import function
 from ._macs import TAG_SIZE, Mac, mac_class_of
 from ._statuses import OK, PADDING_METHOD
 from ._types import ReadableBuffer, WriteableBuffer
 
 _CHECK_VALUE_SIZE, _SERIAL_SIZE, _TRANSACTION_KEY_SIZE = 3, 10, 16
 
-_EACH = {
-    (name, call): function(f"{name}_{call}", INT, POINTER, SIZE, POINTER, SIZE)
-    for name in ("des", "tdes_ede2", "tdes_ede3")
-    for call in ("encrypt_each", "decrypt_each")
-}
-_VALUES = {
-    name: function(f"{name}_check_values", INT, POINTER, SIZE, POINTER, SIZE, SIZE)
-    for name in ("des", "tdes_ede2", "tdes_ede3")
-}
-_RECORDS = {
-    (name, call): function(f"{name}_{call}", INT, POINTER, POINTER, SIZE, POINTER, SIZE, POINTER, SIZE)
-    for name in ("des", "tdes_ede2", "tdes_ede3")
-    for call in ("encrypt_cbc_records", "decrypt_cbc_records")
-}
-_MACS = {
-    name + call: function(f"{name}{call}", INT, POINTER, SIZE, INT, POINTER, POINTER, SIZE, SIZE)
-    for name in ("cbc_mac_des", "cbc_mac_tdes_ede2", "cbc_mac_tdes_ede3", "retail_mac_des")
-    for call in ("_macs", "_macs_each")
-}
-_CMACS = {
-    name + call: function(f"{name}{call}", INT, POINTER, SIZE, POINTER, POINTER, SIZE, SIZE)
-    for name in ("cmac_tdes_ede2", "cmac_tdes_ede3")
-    for call in ("_macs", "_macs_each")
-}
-_compare_tags = function("compare_tags", INT, POINTER, SIZE, POINTER, SIZE, POINTER, SIZE)
-_transaction_keys = function("dukpt_transaction_keys_from_base", INT, POINTER, POINTER, SIZE, POINTER, SIZE, SIZE)
+_compare_tags = function("compare_tags")
+_transaction_keys = function("dukpt_transaction_keys_from_base")
 
 
 def _count_of(length: int, size: int, fault: Type[Error], elements: str) -> int:
@@ -78,7 +54,7 @@ def _list_of(
 
 def _answer_each(call: str, kind: Kind, keys: Any, count: int, blocks: Any, length: int) -> None:
     """Takes each block of a length through a call in place, under the key at its place."""
-    if _EACH[kind.name, call](keys, count, pointer_to(blocks) if length else None, length) != OK:
+    if kind.calls[call](keys, count, pointer_to(blocks) if length else None, length) != OK:
         raise CountMismatchError("the numbers of keys and blocks differ")
 
 
@@ -134,7 +110,7 @@ def check_values(cipher: Type[Cipher], keys: ReadableBuffer) -> bytes:
     kind = class_of(cipher)
     with _list_of(keys, kind.key_size, KeyLengthError, "keys") as (start, count):
         values = room(_CHECK_VALUE_SIZE * count)
-        check(_VALUES[kind.name](start, kind.key_size * count, values, len(values), count))
+        check(kind.calls["check_values"](start, kind.key_size * count, values, len(values), count))
     return bytes(values)
 
 
@@ -181,7 +157,7 @@ def _recorded(
         raise CountMismatchError("the numbers of vectors and counts differ")
     first, sizes = (pointer_to(chains), pointer_to(held)) if records else (None, None)
     output = pointer_to(answer) if answer else None
-    if _RECORDS[context.kind.name, call](context, first, len(chains), sizes, records, output, len(answer)) != OK:
+    if context.kind.calls[call](context, first, len(chains), sizes, records, output, len(answer)) != OK:
         raise CountMismatchError("the counts do not add up to the number of blocks")
     return bytes(answer)
 
@@ -230,7 +206,7 @@ def _messages_of(start: int, length: int, lengths: Iterable[int]) -> array[int]:
 def _mac_of(mac: Type[Mac], padding: Optional[int]) -> Kind:
     """What a class of MACs that takes many messages stands for, with a padding method, or with None."""
     kind = mac_class_of(mac)
-    if not kind.paddings:
+    if not kind.is_padded:
         if padding is not None:
             raise TypeError("CMAC takes no padding method: the third argument is None")
         return kind
@@ -241,13 +217,13 @@ def _mac_of(mac: Type[Mac], padding: Optional[int]) -> Kind:
     return kind
 
 
-def _write_tags(call: str, keys: Any, length: int, padding: Optional[int], pairs: array[int], tags: Any) -> None:
+def _write_tags(call: Callable[..., Any], keys: Any, length: int, padding: Optional[int], pairs: array[int], tags: Any) -> None:
     """Takes keys of a length, a padding method or None, messages and the room of their tags to a call."""
     of_tags = pointer_to(pairs) if pairs else None, tags, len(tags), len(pairs) // 2
     if padding is None:
-        check(_CMACS[call](keys, length, *of_tags))
+        check(call(keys, length, *of_tags))
     else:
-        check(_MACS[call](keys, length, padding, *of_tags))
+        check(call(keys, length, padding, *of_tags))
 
 
 def macs(
@@ -262,7 +238,7 @@ def macs(
     with key_of(key, made.key_size) as held, _lent_bytes(messages) as (start, length):
         pairs = _messages_of(start or 0, length, lengths)
         tags = room(len(pairs) // 2 * TAG_SIZE)
-        _write_tags(made.name + "_macs", held, len(held), padding, pairs, tags)
+        _write_tags(made.calls["macs"], held, len(held), padding, pairs, tags)
     return bytes(tags)
 
 
@@ -278,7 +254,7 @@ def macs_each(
         if count != len(pairs) // 2:
             raise CountMismatchError("the numbers of keys and messages differ")
         tags = room(count * TAG_SIZE)
-        _write_tags(made.name + "_macs_each", first, made.key_size * count, padding, pairs, tags)
+        _write_tags(made.calls["macs_each"], first, made.key_size * count, padding, pairs, tags)
     return bytes(tags)
 
 

@@ -3,11 +3,10 @@
 # Annotations are evaluated here, as in _ciphers.py.
 
 import threading
-from typing import Any, ClassVar, Dict, Type, TypeVar
+from typing import Any, ClassVar, Tuple, Type, TypeVar
 
 from ._data import BLOCK_SIZE, KINDS, Keyed, Kind, bytes_of, kind_of, room
 from ._faults import check, fault_of
-from ._library import INT, POINTER, SIZE
 from ._statuses import OK, TAG
 from ._types import ReadableBuffer
 
@@ -163,12 +162,6 @@ class CmacTdesEde3(Cmac):
     name, key_size = "cmac_tdes_ede3", 24
 
 
-_WORDS: Dict[Type[Mac], int] = {
-    CbcMacDes: 21, CbcMacTdesEde2: 37, CbcMacTdesEde3: 53, RetailMacDes: 38, CmacTdesEde2: 37, CmacTdesEde3: 53
-}
-for _mac, _words in _WORDS.items():
-    _paddings = (INT,) if issubclass(_mac, PaddedMac) else ()
-    _kind = KINDS[_mac] = Kind(_mac.name, _mac.key_size, _words, *_paddings)
-    _kind.declare("update", INT, POINTER, POINTER, SIZE)
-    _kind.declare("final", INT, POINTER, POINTER)
-    _kind.declare("verify", INT, POINTER, POINTER, SIZE)
+_CLASSES: Tuple[Type[Mac], ...] = (CbcMacDes, CbcMacTdesEde2, CbcMacTdesEde3, RetailMacDes, CmacTdesEde2, CmacTdesEde3)
+for _mac in _CLASSES:
+    KINDS[_mac] = Kind(_mac.name, _mac.key_size)

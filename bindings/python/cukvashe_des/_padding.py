@@ -4,16 +4,17 @@ from __future__ import annotations
 
 import ctypes
 
+from ._calls import SIZE
 from ._data import BLOCK_SIZE, bytes_of, pointer_to
 from ._faults import BlockLengthError, PaddingMethodError, check
-from ._library import INT, POINTER, SIZE, function
+from ._library import function
 from ._statuses import BLOCKS
 from ._types import ReadableBuffer
 
 _METHODS = {"pkcs7": 11, "iso7816": 12}
 
-_pad = function("pad", INT, POINTER, SIZE, SIZE, INT, POINTER)
-_unpad = function("unpad", INT, POINTER, SIZE, INT, POINTER)
+_pad = function("pad")
+_unpad = function("unpad")
 
 
 def _method_of(method: str) -> int:

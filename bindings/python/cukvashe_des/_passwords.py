@@ -5,10 +5,11 @@ from __future__ import annotations
 import ctypes
 from typing import Optional, Type
 
+from ._calls import SIZE
 from ._ciphers import Cipher, class_of
 from ._data import bytes_from, bytes_of, room, secret_of
 from ._faults import BlockLengthError, HashNameError, KeyLengthError, SaltLengthError, check, fault_of
-from ._library import INT, POINTER, SIZE, function
+from ._library import function
 from ._statuses import BLOCKS, HASH, ITERATIONS, SALT_LENGTH
 from ._types import ReadableBuffer
 
@@ -17,12 +18,8 @@ _HASHES = {"md5": 21, "sha1": 22, "sha256": 23}
 # One more than PBKDF2 counts, which it refuses.
 _TOO_MANY = 2**32
 
-_pbkdf2 = function("pbkdf2", INT, INT, SIZE, POINTER, SIZE, POINTER, SIZE, POINTER, SIZE)
-_bytes_to_key = function("bytes_to_key", INT, INT, POINTER, SIZE, POINTER, SIZE, POINTER, SIZE)
-_open_salted = {
-    name: function(name + "_open_salted", INT, INT, SIZE, POINTER, SIZE, POINTER, SIZE, POINTER, SIZE, POINTER)
-    for name in ("des", "tdes_ede2", "tdes_ede3")
-}
+_pbkdf2 = function("pbkdf2")
+_bytes_to_key = function("bytes_to_key")
 
 
 def _hash_of(name: str, is_pbkdf2: bool) -> int:
@@ -94,7 +91,7 @@ def open_salted(
     was. HashNameError, NotSaltedError, SaltLengthError, IterationCountError, BlockLengthError, PaddingMismatchError. A wrong
     password, hash function or number of iterations is PaddingMismatchError, but for one in 256, which returns wrong bytes: nothing
     here authenticates."""
-    call, number = _open_salted[class_of(cipher).name], _hash_of(hash_name, iterations is not None)
+    call, number = class_of(cipher).calls["open_salted"], _hash_of(hash_name, iterations is not None)
     count = 0 if iterations is None else _iterations_of(iterations)
     given, length = bytes_of(data), SIZE()
     plain = room(len(given))

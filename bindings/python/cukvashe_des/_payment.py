@@ -5,47 +5,35 @@ from __future__ import annotations
 import ctypes
 from typing import Any, Callable, Optional, Tuple
 
+from ._calls import PinTranslation
 from ._data import BLOCK_SIZE, block_of, bytes_from, bytes_of, key_of, number_of, place_of, room, text_from, text_of
 from ._faults import FillLengthError, check
 from ._keys import KEY_SIZES
-from ._library import INT, POINTER, SIZE, function
+from ._library import function
 from ._types import ReadableBuffer, Text
 
 _PIN_SIZE = 13
 _CVV_SIZE = 4
 
-_encode_0 = function("pin_encode_0", INT, POINTER, SIZE, POINTER, SIZE, POINTER)
-_encode_1 = function("pin_encode_1", INT, POINTER, SIZE, POINTER, POINTER)
-_encode_2 = function("pin_encode_2", INT, POINTER, SIZE, POINTER)
-_encode_3 = function("pin_encode_3", INT, POINTER, SIZE, POINTER, SIZE, POINTER, POINTER)
-_decode_0 = function("pin_decode_0", INT, POINTER, POINTER, SIZE, POINTER)
-_decode_1 = function("pin_decode_1", INT, POINTER, POINTER)
-_decode_2 = function("pin_decode_2", INT, POINTER, POINTER)
-_decode_3 = function("pin_decode_3", INT, POINTER, POINTER, SIZE, POINTER)
-_to_0 = function("pin_translate_to_0", INT, POINTER, POINTER, POINTER)
-_to_1 = function("pin_translate_to_1", INT, POINTER, POINTER, POINTER)
-_to_3 = function("pin_translate_to_3", INT, POINTER, POINTER, POINTER)
-_cvv = function("cvv", INT, POINTER, POINTER, SIZE, POINTER, SIZE, POINTER, SIZE, POINTER)
-
-
-class _Translation(ctypes.Structure):
-    _fields_ = [
-        ("incoming_key", POINTER),
-        ("incoming_key_length", SIZE),
-        ("incoming_format", INT),
-        ("outgoing_key", POINTER),
-        ("outgoing_key_length", SIZE),
-        ("account", POINTER),
-        ("account_length", SIZE),
-        ("fill", POINTER),
-    ]
+_encode_0 = function("pin_encode_0")
+_encode_1 = function("pin_encode_1")
+_encode_2 = function("pin_encode_2")
+_encode_3 = function("pin_encode_3")
+_decode_0 = function("pin_decode_0")
+_decode_1 = function("pin_decode_1")
+_decode_2 = function("pin_decode_2")
+_decode_3 = function("pin_decode_3")
+_to_0 = function("pin_translate_to_0")
+_to_1 = function("pin_translate_to_1")
+_to_3 = function("pin_translate_to_3")
+_cvv = function("cvv")
 
 
 def _translation(
     incoming: Any, incoming_format: int, outgoing: Any, account: Tuple[Any, int] = (None, 0), fill: Optional[bytes] = None
 ) -> Any:
     """A translation, as a call takes it."""
-    fields = _Translation(
+    fields = PinTranslation(
         incoming_key=place_of(incoming),
         incoming_key_length=len(incoming),
         incoming_format=incoming_format,

@@ -1,4 +1,4 @@
-"""The statuses of the header and, at the place of its number, the sentence of each: made of it by bindings/statuses."""
+"""The statuses of the header and, at the place of its number, the sentence of each: made of it by bindings/describe."""
 
 OK = 0
 KEY_LENGTH = 1

@@ -9,7 +9,7 @@ from typing import Any, Tuple, Type, TypeVar
 from ._data import Keyed, bytes_from, context_type, key_of, room, secret_of
 from ._faults import NoSerialError, StateLengthError, check
 from ._keys import serial_of
-from ._library import INT, POINTER, function
+from ._library import function
 from ._statuses import NO_SERIAL
 from ._types import ReadableBuffer
 
@@ -18,8 +18,8 @@ _STATE_SIZE = 346
 
 _State = context_type(_STATE_SIZE, ctypes.c_uint8)
 
-_init = function("dukpt_terminal_init", None, POINTER, POINTER, POINTER)
-_next_key = function("dukpt_terminal_next_key", INT, POINTER, POINTER, POINTER)
+_init = function("dukpt_terminal_init")
+_next_key = function("dukpt_terminal_next_key")
 
 _Self = TypeVar("_Self", bound="DukptTerminal")
 

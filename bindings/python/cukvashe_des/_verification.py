@@ -7,20 +7,20 @@ from typing import Any
 from ._data import BLOCK_SIZE, data_of, key_of, number_of, room, text_from, text_of
 from ._faults import BlockLengthError, check
 from ._keys import KEY_SIZES
-from ._library import INT, POINTER, SIZE, function
+from ._library import function
 from ._types import ReadableBuffer, Text
 
 _PIN_SIZE = 13
 _PVV_SIZE = 5
 _TABLE_SIZE = 16
 
-_pvv = function("pvv", INT, POINTER, POINTER, SIZE, INT, POINTER, SIZE, POINTER)
-_pvv_verify = function("pvv_verify", INT, POINTER, POINTER, SIZE, INT, POINTER, SIZE, POINTER, SIZE)
-_init = function("decimal_table_init", INT, POINTER, POINTER, SIZE)
-_init_any = function("decimal_table_init_any", INT, POINTER, POINTER, SIZE)
-_natural_pin = function("natural_pin", INT, POINTER, SIZE, POINTER, POINTER, SIZE, POINTER)
-_pin_offset = function("pin_offset", INT, POINTER, SIZE, POINTER, POINTER, POINTER, SIZE, POINTER)
-_verify = function("pin_offset_verify", INT, POINTER, SIZE, POINTER, POINTER, POINTER, SIZE, POINTER, SIZE)
+_pvv = function("pvv")
+_pvv_verify = function("pvv_verify")
+_init = function("decimal_table_init")
+_init_any = function("decimal_table_init_any")
+_natural_pin = function("natural_pin")
+_pin_offset = function("pin_offset")
+_verify = function("pin_offset_verify")
 
 
 def pvv(key: ReadableBuffer, account: Text, index: int, pin: Text) -> str:

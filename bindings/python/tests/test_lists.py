@@ -28,6 +28,7 @@ from cukvashe_des import (
     encrypt_each,
     encrypt_each_into,
 )
+from cukvashe_des._data import KINDS
 
 from .test_data import WatchesWiping, by_columns, views, words
 from .values import ANSWERS, CMACS, COUNTS, ELEMENTS, KEY, LISTS, PADDED_MACS, PAIR, SERIALS, TEXT, decrypt_records, encrypt_records
@@ -359,7 +360,7 @@ class Kinds(unittest.TestCase):
                 return _lists.OK
 
             for call in (encrypt_each_into, decrypt_each_into):
-                with mock.patch.dict(_lists._EACH, {(kind.name, call.__name__[: -len("_into")]): noting}):
+                with mock.patch.dict(KINDS[kind].calls, {call.__name__[: -len("_into")]: noting}):
                     for at in range(size + 17):
                         call(kind, memoryview(memory)[at : at + size], memoryview(memory)[size : size + 16])
                         keys, blocks, taken = given.pop()

@@ -1,4 +1,4 @@
-//! The statuses of `cukvashe_des.h` and the sentence of each: made of it by `bindings/statuses`.
+//! The statuses of `cukvashe_des.h` and the sentence of each: made of it by `bindings/describe`.
 // All are here, also those that no call of this crate returns.
 #![allow(dead_code)]
 

@@ -2,61 +2,30 @@
 
 import re
 
-from .c_code import Code, without_comments
+from description.header import PLACE
+from description.header import read as read_header
+
+from .c_code import Code
 from .documents import contents
 from .rattle import Crate
 from .text import Refused, filled, listed, read, table
 
-HEADER = "bindings/c/cukvashe_des.h"
 KEPT_WORDS = {"ECB", "CBC", "MAC", "MACs", "DES", "DUKPT", "PIN", "EMV", "ISO"}
 
-# Lines of code that are for the compiler alone.
-OF_COMPILER = re.compile(r"#(if|ifdef|ifndef|endif|else|include|pragma)\b|#define CUKVASHE_(DES_H|CHECK|VERSION)\b|extern \"C\" \{|\}$")
 DECLARES = re.compile(r"(int|void|bool|const char \*) ?cukvashe_")
 
 
-def blocks(text):
-    """The header in blocks: ("comment", text) and ("code", text), one after the other."""
-    at = 0
-    while at < len(text):
-        found = re.compile(r"/\*(.*?)\*/[ \t]*\n", re.DOTALL).match(text, at)
-        if found:
-            yield "comment", "\n".join(re.sub(r"^ ?\* ?", "", line).rstrip() for line in found[1].strip("\n").split("\n"))
-            at = found.end()
-            continue
-        end = re.compile(r"^/\*", re.MULTILINE).search(text, at)
-        end = end.start() if end else len(text)
-        yield "code", text[at:end]
-        at = end
-
-
-def constants(code):
-    """The constants of a piece of code: name, value, and the comment beside it."""
-    for name, value, comment in re.findall(r"^#define CUKVASHE_(\w+) +(\d+)[ \t]*(?:/\*(.*?)\*/)?$", code, re.DOTALL | re.MULTILINE):
-        yield f"CUKVASHE_{name}", value, " ".join(comment.split())
-
-
-def declarations(code):
-    """What a piece of code declares: types as they stand, and each call in a line, wrapped."""
-    lines = [line for line in code.split("\n") if line and (line.startswith("} cukvashe_") or not OF_COMPILER.match(line))]
-    shown, at = [], 0
-    while at < len(lines):
-        if lines[at].startswith("typedef struct {"):
-            end = next(place for place in range(at, len(lines)) if lines[place].startswith("}"))
-            shown += lines[at : end + 1]
-            at = end + 1
-            continue
-        call = lines[at]
-        while not call.endswith(";"):
-            at += 1
-            call += f" {lines[at].strip()}"
-        at += 1
-        call = call.removeprefix("CUKVASHE_CHECK ")
-        if not DECLARES.match(call):
-            raise Refused(f"{HEADER}: this line declares no call: {call}")
-        # A line is broken after a comma, and within no parameter.
-        shown += [line.replace("\0", " ") for line in filled(re.sub("(?<!,) ", "\0", call), "    ", 120).split("\n")]
-    return shown
+def declarations(piece):
+    """What a piece of code declares: types as they stand, and each call in a line, which is broken after a comma, and within no parameter."""
+    statement = ""
+    for line in piece.code:
+        statement += f"{line}\n" if not DECLARES.match(statement) else f" {line.strip()}"
+        if line.endswith(";") and statement.count("{") == statement.count("}"):
+            call = statement.strip().removeprefix("CUKVASHE_CHECK ")
+            if DECLARES.match(call):
+                call = filled(re.sub("(?<!,) ", "\0", " ".join(call.split())), "    ", 120).replace("\0", " ")
+            yield from call.split("\n")
+            statement = ""
 
 
 def heading_of(line):
@@ -115,36 +84,31 @@ def comment_lines(comment):
     yield from ended()
 
 
-def sections(text):
+def sections(header):
     """The lines of the header's sections."""
     after = ""
-    for kind, block in blocks(text):
-        if kind == "comment":
-            after = block
-            if "\n" in block:
-                yield from comment_lines(block.strip("\n"))
+    for piece in header.pieces:
+        if piece.is_comment:
+            after = piece.text
+            if "\n" in after:
+                yield from comment_lines(after)
             continue
-        found = list(constants(block))
-        if any(name.startswith("CUKVASHE_ERR_") for name, _, _ in found):
-            yield from ["## Statuses by their numbers", "", marked(after.strip()), ""]
-            yield from table(["Number", "Status", "What it says"], ((number, f"`{name}`", said) for name, number, said in found))
+        found = [it for it in header.constants if piece.line <= it.line < piece.line + piece.text.count("\n")]
+        if any(it in header.statuses for it in found):
+            yield from ["## Statuses by their numbers", "", marked(after), ""]
+            yield from table(["Number", "Status", "What it says"], ((str(it.number), f"`CUKVASHE_{it.name}`", it.text) for it in found))
             yield ""
         elif found:
-            if after.strip().startswith("Sizes"):
+            if after.startswith("Sizes"):
                 yield from ["## Sizes and other numbers", ""]
-            yield from [filled(marked(after.strip())), ""]
-            yield from table(["Name", "Value", "What it is"], ((f"`{name}`", number, said) for name, number, said in found))
+            yield from [filled(marked(after)), ""]
+            yield from table(["Name", "Value", "What it is"], ((f"`CUKVASHE_{it.name}`", str(it.number), it.text) for it in found))
             yield ""
-        elif shown := declarations(block):
-            yield from ["```c", *shown, "```", ""]
+        elif piece.code:
+            yield from ["```c", *declarations(piece), "```", ""]
 
 
 # ---- which export carries each call
-
-
-def names(text):
-    """The calls that the header declares, in its order."""
-    return list(dict.fromkeys(re.findall(r"\b(cukvashe_\w+) ?\(", re.sub(r"(?m)^#.*", "", without_comments(text)))))
 
 
 def exports():
@@ -158,14 +122,14 @@ def exports():
     return found
 
 
-def carriers(text):
+def carriers(header):
     """For each call of the header: the proved exports behind it, and what C adds to them."""
     proved = exports()
-    code = Code("cukvashe_des.c", "stack.c", "processor.c")
-    for name in names(text):
+    code = Code(header)
+    for name in (f"cukvashe_{call}" for call in header.calls):
         if name not in code.functions:
             if name not in proved:
-                raise Refused(f"{HEADER}: no export and no C is {name}")
+                raise Refused(f"{PLACE}: no export and no C is {name}")
             yield name, [name], []
             continue
         called, statuses = code.calls(name)
@@ -175,28 +139,28 @@ def carriers(text):
             if export in proved and it not in code.functions:
                 behind[export] = None
             elif it.startswith(("cukvashe_internal_", "cukvashe_wide_", "cukvashe_unwiped_")) and it not in code.functions:
-                raise Refused(f"{HEADER}: {name} calls {it}, which is no proved export")
-        if behind and code.declared_alike.isdisjoint(called):
+                raise Refused(f"{PLACE}: {name} calls {it}, which is no proved export")
+        if behind and code.alike.isdisjoint(called):
             adds.append("arguments")
         if any(it.startswith("cukvashe_wide_") for it in called):
             adds.append("width")
         adds += [f"`{status}`" for status in statuses if behind]
-        if "CUKVASHE_OK" in code.functions[name]:
+        if code.functions[name].is_truth:
             adds.append("truth")
         if "cukvashe_internal_wipe_stack" in called:
             adds.append("wiping")
         yield name, list(behind), adds
 
 
-def carrier_rows(text):
+def carrier_rows(header):
     proved, rows = exports(), {}
-    for name, behind, adds in carriers(text):
+    for name, behind, adds in carriers(header):
         rows.setdefault((tuple(behind), tuple(adds)), []).append(name)
     for (behind, adds), calls in rows.items():
         clauses = {it: tuple(proved[it]) for it in behind}
         said = {listed(filter(None, each)) or "unnamed" for each in clauses.values()}
         if len(said) > 1:
-            raise Refused(f"{HEADER}: {calls[0]} goes on to exports with different clauses")
+            raise Refused(f"{PLACE}: {calls[0]} goes on to exports with different clauses")
         own = list(behind) == calls
         carried = "" if not behind else "the export of this name" if own or behind[0] in calls else f"C over {listed(behind)}"
         yield listed(calls), carried or "**C alone, not proved**", "".join(said), ", ".join(adds)
@@ -204,8 +168,8 @@ def carrier_rows(text):
 
 def made():
     """The lines of c.md."""
-    text = read(HEADER)
-    body = list(sections(text))
+    header = read_header(read(PLACE))
+    body = list(sections(header))
     ending = [
         "## Which export carries each call",
         "",
@@ -225,7 +189,7 @@ def made():
         "- wiping: zeros over the part of the stack that the export took",
         "",
     ]
-    rows = list(table(["Call", "Carried by", "Clauses", "C adds"], carrier_rows(text)))
+    rows = list(table(["Call", "Carried by", "Clauses", "C adds"], carrier_rows(header)))
     body = [*body, *ending, *rows]
     yield "# The calls of C"
     yield ""

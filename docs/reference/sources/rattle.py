@@ -21,7 +21,7 @@ class Clause:
 
 class Item:
     """An item: its kind, name, visibility ("pub", "pub(crate)" or ""), its comment, its place in the text, and what its kind has:
-    `clauses` of a function, `inner` of a trait and an impl, `head` of what stands between its keyword and its braces."""
+    `clauses` of a function, `inner` of a trait and an impl, `head` of these and of a function: what stands before its braces or clauses."""
 
     def __init__(self, kind, name, visibility="", comment="", span=(0, 0), clauses=(), inner=(), head=""):
         self.kind, self.name, self.visibility, self.comment, self.span = kind, name, visibility, comment, span
@@ -206,7 +206,7 @@ class Reader:
     def function(self):
         name = self.take()
         clauses = []
-        self.until("requires", "ensures", "{", ";")
+        head = self.until("requires", "ensures", "{", ";")
         while True:
             comment = self.comment()
             if self.peek() not in ("requires", "ensures"):
@@ -219,7 +219,7 @@ class Reader:
             self.take()
         else:
             self.group()
-        return Item("fn", name, clauses=clauses)
+        return Item("fn", name, clauses=clauses, head=head)
 
 
 def is_sort(text):

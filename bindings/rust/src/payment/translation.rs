@@ -136,7 +136,7 @@ fn translation(
         outgoing_key_length: outgoing.len(),
         account: account.as_ptr().cast(),
         account_length: account.len(),
-        fill,
+        fill: fill.cast(),
     }
 }
 

@@ -3,7 +3,6 @@
 mod cards;
 mod ciphers;
 mod common;
-mod header;
 mod key_blocks;
 mod keys;
 mod lists;

@@ -1,0 +1,221 @@
+/* Calls of the header that are given or give a key, a password or a PIN, and whose export has their arguments: each wipes after it.
+   Made by bindings/describe of the header. */
+#include "internal.h"
+
+int cukvashe_weak_key_test(const uint8_t *key, size_t key_length) {
+  const int result = cukvashe_unwiped_weak_key_test(key, key_length);
+  cukvashe_internal_wipe_stack(STACK_weak_key_test);
+  return result;
+}
+
+void cukvashe_set_odd_parity(uint8_t *key, size_t key_length) {
+  cukvashe_unwiped_set_odd_parity(key, key_length);
+  cukvashe_internal_wipe_stack(STACK_set_odd_parity);
+}
+
+int cukvashe_key_check_value(const uint8_t *key, size_t key_length, uint8_t value[3]) {
+  const int result = cukvashe_unwiped_key_check_value(key, key_length, value);
+  cukvashe_internal_wipe_stack(STACK_key_check_value);
+  return result;
+}
+
+int cukvashe_short_key_check_value(const uint8_t *key, size_t key_length, uint8_t value[2]) {
+  const int result = cukvashe_unwiped_short_key_check_value(key, key_length, value);
+  cukvashe_internal_wipe_stack(STACK_short_key_check_value);
+  return result;
+}
+
+void cukvashe_dukpt_initial_key(const uint8_t base[16], const uint8_t serial[10], uint8_t key[16]) {
+  cukvashe_unwiped_dukpt_initial_key(base, serial, key);
+  cukvashe_internal_wipe_stack(STACK_dukpt_initial_key);
+}
+
+void cukvashe_dukpt_transaction_key(const uint8_t initial[16], const uint8_t serial[10], uint8_t key[16]) {
+  cukvashe_unwiped_dukpt_transaction_key(initial, serial, key);
+  cukvashe_internal_wipe_stack(STACK_dukpt_transaction_key);
+}
+
+void cukvashe_dukpt_pin_key(const uint8_t transaction[16], uint8_t key[16]) {
+  cukvashe_unwiped_dukpt_pin_key(transaction, key);
+  cukvashe_internal_wipe_stack(STACK_dukpt_pin_key);
+}
+
+void cukvashe_dukpt_mac_key(const uint8_t transaction[16], bool is_response, uint8_t key[16]) {
+  cukvashe_unwiped_dukpt_mac_key(transaction, is_response, key);
+  cukvashe_internal_wipe_stack(STACK_dukpt_mac_key);
+}
+
+void cukvashe_dukpt_data_key(const uint8_t transaction[16], bool is_response, uint8_t key[16]) {
+  cukvashe_unwiped_dukpt_data_key(transaction, is_response, key);
+  cukvashe_internal_wipe_stack(STACK_dukpt_data_key);
+}
+
+void cukvashe_dukpt_data_variant(const uint8_t transaction[16], bool is_response, uint8_t key[16]) {
+  cukvashe_unwiped_dukpt_data_variant(transaction, is_response, key);
+  cukvashe_internal_wipe_stack(STACK_dukpt_data_variant);
+}
+
+void cukvashe_dukpt_terminal_init(cukvashe_dukpt_terminal *terminal, const uint8_t initial[16],
+    const uint8_t serial[10]) {
+  cukvashe_unwiped_dukpt_terminal_init(terminal, initial, serial);
+  cukvashe_internal_wipe_stack(STACK_dukpt_terminal_init);
+}
+
+int cukvashe_dukpt_terminal_next_key(cukvashe_dukpt_terminal *terminal, uint8_t serial[10], uint8_t key[16]) {
+  const int result = cukvashe_unwiped_dukpt_terminal_next_key(terminal, serial, key);
+  cukvashe_internal_wipe_stack(STACK_dukpt_terminal_next_key);
+  return result;
+}
+
+int cukvashe_pin_encode_0(const char *pin, size_t pin_length, const char *account, size_t account_length,
+    uint8_t block[8]) {
+  const int result = cukvashe_unwiped_pin_encode_0(pin, pin_length, account, account_length, block);
+  cukvashe_internal_wipe_stack(STACK_pin_encode_0);
+  return result;
+}
+
+int cukvashe_pin_encode_1(const char *pin, size_t pin_length, const uint8_t transaction[10], uint8_t block[8]) {
+  const int result = cukvashe_unwiped_pin_encode_1(pin, pin_length, transaction, block);
+  cukvashe_internal_wipe_stack(STACK_pin_encode_1);
+  return result;
+}
+
+int cukvashe_pin_encode_2(const char *pin, size_t pin_length, uint8_t block[8]) {
+  const int result = cukvashe_unwiped_pin_encode_2(pin, pin_length, block);
+  cukvashe_internal_wipe_stack(STACK_pin_encode_2);
+  return result;
+}
+
+int cukvashe_pin_encode_3(const char *pin, size_t pin_length, const char *account, size_t account_length,
+    const uint8_t fill[10], uint8_t block[8]) {
+  const int result = cukvashe_unwiped_pin_encode_3(pin, pin_length, account, account_length, fill, block);
+  cukvashe_internal_wipe_stack(STACK_pin_encode_3);
+  return result;
+}
+
+int cukvashe_pin_decode_0(const uint8_t block[8], const char *account, size_t account_length, char pin[13]) {
+  const int result = cukvashe_unwiped_pin_decode_0(block, account, account_length, pin);
+  cukvashe_internal_wipe_stack(STACK_pin_decode_0);
+  return result;
+}
+
+int cukvashe_pin_decode_1(const uint8_t block[8], char pin[13]) {
+  const int result = cukvashe_unwiped_pin_decode_1(block, pin);
+  cukvashe_internal_wipe_stack(STACK_pin_decode_1);
+  return result;
+}
+
+int cukvashe_pin_decode_2(const uint8_t block[8], char pin[13]) {
+  const int result = cukvashe_unwiped_pin_decode_2(block, pin);
+  cukvashe_internal_wipe_stack(STACK_pin_decode_2);
+  return result;
+}
+
+int cukvashe_pin_decode_3(const uint8_t block[8], const char *account, size_t account_length, char pin[13]) {
+  const int result = cukvashe_unwiped_pin_decode_3(block, account, account_length, pin);
+  cukvashe_internal_wipe_stack(STACK_pin_decode_3);
+  return result;
+}
+
+int cukvashe_pvv(const uint8_t key[16], const char *account, size_t account_length, int index, const char *pin,
+    size_t pin_length, char value[5]) {
+  const int result = cukvashe_unwiped_pvv(key, account, account_length, index, pin, pin_length, value);
+  cukvashe_internal_wipe_stack(STACK_pvv);
+  return result;
+}
+
+int cukvashe_pvv_verify(const uint8_t key[16], const char *account, size_t account_length, int index, const char *pin,
+    size_t pin_length, const char *value, size_t value_length) {
+  const int result = cukvashe_unwiped_pvv_verify(key, account, account_length, index, pin, pin_length, value,
+    value_length);
+  cukvashe_internal_wipe_stack(STACK_pvv_verify);
+  return result;
+}
+
+int cukvashe_natural_pin(const uint8_t *key, size_t key_length, const cukvashe_decimal_table *table,
+    const uint8_t validation[8], size_t pin_length, char pin[13]) {
+  const int result = cukvashe_unwiped_natural_pin(key, key_length, table, validation, pin_length, pin);
+  cukvashe_internal_wipe_stack(STACK_natural_pin);
+  return result;
+}
+
+int cukvashe_pin_offset(const uint8_t *key, size_t key_length, const cukvashe_decimal_table *table,
+    const uint8_t validation[8], const char *pin, size_t pin_length, char offset[13]) {
+  const int result = cukvashe_unwiped_pin_offset(key, key_length, table, validation, pin, pin_length, offset);
+  cukvashe_internal_wipe_stack(STACK_pin_offset);
+  return result;
+}
+
+int cukvashe_pin_offset_verify(const uint8_t *key, size_t key_length, const cukvashe_decimal_table *table,
+    const uint8_t validation[8], const char *pin, size_t pin_length, const char *offset, size_t offset_length) {
+  const int result = cukvashe_unwiped_pin_offset_verify(key, key_length, table, validation, pin, pin_length, offset,
+    offset_length);
+  cukvashe_internal_wipe_stack(STACK_pin_offset_verify);
+  return result;
+}
+
+int cukvashe_cvv(const uint8_t key[16], const char *account, size_t account_length, const char *expiry,
+    size_t expiry_length, const char *service, size_t service_length, char value[4]) {
+  const int result = cukvashe_unwiped_cvv(key, account, account_length, expiry, expiry_length, service, service_length,
+    value);
+  cukvashe_internal_wipe_stack(STACK_cvv);
+  return result;
+}
+
+int cukvashe_emv_card_key(const uint8_t issuer[16], const char *account, size_t account_length, const char *sequence,
+    size_t sequence_length, uint8_t key[16]) {
+  const int result = cukvashe_unwiped_emv_card_key(issuer, account, account_length, sequence, sequence_length, key);
+  cukvashe_internal_wipe_stack(STACK_emv_card_key);
+  return result;
+}
+
+int cukvashe_emv_card_key_b(const uint8_t issuer[16], const char *account, size_t account_length, const char *sequence,
+    size_t sequence_length, uint8_t key[16]) {
+  const int result = cukvashe_unwiped_emv_card_key_b(issuer, account, account_length, sequence, sequence_length, key);
+  cukvashe_internal_wipe_stack(STACK_emv_card_key_b);
+  return result;
+}
+
+void cukvashe_emv_application_key(const uint8_t card[16], const uint8_t counter[2], uint8_t key[16]) {
+  cukvashe_unwiped_emv_application_key(card, counter, key);
+  cukvashe_internal_wipe_stack(STACK_emv_application_key);
+}
+
+void cukvashe_emv_session_key(const uint8_t card[16], const uint8_t block[8], uint8_t key[16]) {
+  cukvashe_unwiped_emv_session_key(card, block, key);
+  cukvashe_internal_wipe_stack(STACK_emv_session_key);
+}
+
+void cukvashe_emv_application_cryptogram(const uint8_t session[16], const uint8_t *data, size_t length,
+    uint8_t cryptogram[8]) {
+  cukvashe_unwiped_emv_application_cryptogram(session, data, length, cryptogram);
+  cukvashe_internal_wipe_stack(STACK_emv_application_cryptogram);
+}
+
+void cukvashe_emv_response_1(const uint8_t session[16], const uint8_t cryptogram[8], const uint8_t code[2],
+    uint8_t response[8]) {
+  cukvashe_unwiped_emv_response_1(session, cryptogram, code, response);
+  cukvashe_internal_wipe_stack(STACK_emv_response_1);
+}
+
+int cukvashe_emv_response_2(const uint8_t session[16], const uint8_t cryptogram[8], const uint8_t status[4],
+    const uint8_t *data, size_t length, uint8_t response[4]) {
+  const int result = cukvashe_unwiped_emv_response_2(session, cryptogram, status, data, length, response);
+  cukvashe_internal_wipe_stack(STACK_emv_response_2);
+  return result;
+}
+
+int cukvashe_key_block_unwrap(const uint8_t *protection, size_t protection_length, const char *block,
+    size_t block_length, cukvashe_key_block_fields *header, uint8_t key[24], size_t *key_length) {
+  const int result = cukvashe_unwiped_key_block_unwrap(protection, protection_length, block, block_length, header, key,
+    key_length);
+  cukvashe_internal_wipe_stack(STACK_key_block_unwrap);
+  return result;
+}
+
+int cukvashe_bytes_to_key(int hash, const uint8_t *password, size_t password_length, const uint8_t *salt,
+    size_t salt_length, uint8_t *key, size_t key_length) {
+  const int result = cukvashe_unwiped_bytes_to_key(hash, password, password_length, salt, salt_length, key, key_length);
+  cukvashe_internal_wipe_stack(STACK_bytes_to_key);
+  return result;
+}

@@ -1,0 +1,446 @@
+/* Each call of the header with arguments that it takes, by its name. Made by bindings/describe. */
+static void call_version(void) { returned = *cukvashe_version(); }
+static void call_strerror(void) { returned = *cukvashe_strerror(3); }
+static void call_wipe(void) { cukvashe_wipe((void *)rooms[0], sizeof blocks); }
+static void call_des_init(void) { returned = cukvashe_des_init((void *)contexts[0], key, CUKVASHE_DES_KEY_SIZE); }
+static void call_tdes_ede2_init(void) { returned = cukvashe_tdes_ede2_init((void *)contexts[1], key,
+    CUKVASHE_TDES_EDE2_KEY_SIZE); }
+static void call_tdes_ede3_init(void) { returned = cukvashe_tdes_ede3_init((void *)contexts[2], key,
+    CUKVASHE_TDES_EDE3_KEY_SIZE); }
+static void call_des_init_quiet(void) { returned = cukvashe_des_init_quiet((void *)contexts[0], key,
+    CUKVASHE_DES_KEY_SIZE); }
+static void call_tdes_ede2_init_quiet(void) { returned = cukvashe_tdes_ede2_init_quiet((void *)contexts[1], key,
+    CUKVASHE_TDES_EDE2_KEY_SIZE); }
+static void call_tdes_ede3_init_quiet(void) { returned = cukvashe_tdes_ede3_init_quiet((void *)contexts[2], key,
+    CUKVASHE_TDES_EDE3_KEY_SIZE); }
+static void call_des_encrypt_ecb(void) { returned = cukvashe_des_encrypt_ecb((void *)contexts[0], (void *)rooms[0],
+    8 * count); }
+static void call_des_decrypt_ecb(void) { returned = cukvashe_des_decrypt_ecb((void *)contexts[0], (void *)rooms[0],
+    8 * count); }
+static void call_des_encrypt_ecb_to(void) { returned = cukvashe_des_encrypt_ecb_to((void *)contexts[0], blocks,
+    (void *)rooms[0], 8 * count); }
+static void call_des_decrypt_ecb_to(void) { returned = cukvashe_des_decrypt_ecb_to((void *)contexts[0], blocks,
+    (void *)rooms[0], 8 * count); }
+static void call_tdes_ede2_encrypt_ecb(void) { returned = cukvashe_tdes_ede2_encrypt_ecb((void *)contexts[1],
+    (void *)rooms[0], 8 * count); }
+static void call_tdes_ede2_decrypt_ecb(void) { returned = cukvashe_tdes_ede2_decrypt_ecb((void *)contexts[1],
+    (void *)rooms[0], 8 * count); }
+static void call_tdes_ede2_encrypt_ecb_to(void) { returned = cukvashe_tdes_ede2_encrypt_ecb_to((void *)contexts[1],
+    blocks, (void *)rooms[0], 8 * count); }
+static void call_tdes_ede2_decrypt_ecb_to(void) { returned = cukvashe_tdes_ede2_decrypt_ecb_to((void *)contexts[1],
+    blocks, (void *)rooms[0], 8 * count); }
+static void call_tdes_ede3_encrypt_ecb(void) { returned = cukvashe_tdes_ede3_encrypt_ecb((void *)contexts[2],
+    (void *)rooms[0], 8 * count); }
+static void call_tdes_ede3_decrypt_ecb(void) { returned = cukvashe_tdes_ede3_decrypt_ecb((void *)contexts[2],
+    (void *)rooms[0], 8 * count); }
+static void call_tdes_ede3_encrypt_ecb_to(void) { returned = cukvashe_tdes_ede3_encrypt_ecb_to((void *)contexts[2],
+    blocks, (void *)rooms[0], 8 * count); }
+static void call_tdes_ede3_decrypt_ecb_to(void) { returned = cukvashe_tdes_ede3_decrypt_ecb_to((void *)contexts[2],
+    blocks, (void *)rooms[0], 8 * count); }
+static void call_des_encrypt_cbc(void) { returned = cukvashe_des_encrypt_cbc((void *)contexts[0], (void *)rooms[0],
+    (void *)rooms[1], 8 * count); }
+static void call_des_decrypt_cbc(void) { returned = cukvashe_des_decrypt_cbc((void *)contexts[0], (void *)rooms[0],
+    (void *)rooms[1], 8 * count); }
+static void call_des_encrypt_cbc_to(void) { returned = cukvashe_des_encrypt_cbc_to((void *)contexts[0],
+    (void *)rooms[0], blocks, (void *)rooms[1], 8 * count); }
+static void call_des_decrypt_cbc_to(void) { returned = cukvashe_des_decrypt_cbc_to((void *)contexts[0],
+    (void *)rooms[0], blocks, (void *)rooms[1], 8 * count); }
+static void call_tdes_ede2_encrypt_cbc(void) { returned = cukvashe_tdes_ede2_encrypt_cbc((void *)contexts[1],
+    (void *)rooms[0], (void *)rooms[1], 8 * count); }
+static void call_tdes_ede2_decrypt_cbc(void) { returned = cukvashe_tdes_ede2_decrypt_cbc((void *)contexts[1],
+    (void *)rooms[0], (void *)rooms[1], 8 * count); }
+static void call_tdes_ede2_encrypt_cbc_to(void) { returned = cukvashe_tdes_ede2_encrypt_cbc_to((void *)contexts[1],
+    (void *)rooms[0], blocks, (void *)rooms[1], 8 * count); }
+static void call_tdes_ede2_decrypt_cbc_to(void) { returned = cukvashe_tdes_ede2_decrypt_cbc_to((void *)contexts[1],
+    (void *)rooms[0], blocks, (void *)rooms[1], 8 * count); }
+static void call_tdes_ede3_encrypt_cbc(void) { returned = cukvashe_tdes_ede3_encrypt_cbc((void *)contexts[2],
+    (void *)rooms[0], (void *)rooms[1], 8 * count); }
+static void call_tdes_ede3_decrypt_cbc(void) { returned = cukvashe_tdes_ede3_decrypt_cbc((void *)contexts[2],
+    (void *)rooms[0], (void *)rooms[1], 8 * count); }
+static void call_tdes_ede3_encrypt_cbc_to(void) { returned = cukvashe_tdes_ede3_encrypt_cbc_to((void *)contexts[2],
+    (void *)rooms[0], blocks, (void *)rooms[1], 8 * count); }
+static void call_tdes_ede3_decrypt_cbc_to(void) { returned = cukvashe_tdes_ede3_decrypt_cbc_to((void *)contexts[2],
+    (void *)rooms[0], blocks, (void *)rooms[1], 8 * count); }
+static void call_des_encrypt_each(void) { returned = cukvashe_des_encrypt_each(keys, count, (void *)rooms[0],
+    8 * count); }
+static void call_des_decrypt_each(void) { returned = cukvashe_des_decrypt_each(keys, count, (void *)rooms[0],
+    8 * count); }
+static void call_tdes_ede2_encrypt_each(void) { returned = cukvashe_tdes_ede2_encrypt_each(keys, count,
+    (void *)rooms[0], 8 * count); }
+static void call_tdes_ede2_decrypt_each(void) { returned = cukvashe_tdes_ede2_decrypt_each(keys, count,
+    (void *)rooms[0], 8 * count); }
+static void call_tdes_ede3_encrypt_each(void) { returned = cukvashe_tdes_ede3_encrypt_each(keys, count,
+    (void *)rooms[0], 8 * count); }
+static void call_tdes_ede3_decrypt_each(void) { returned = cukvashe_tdes_ede3_decrypt_each(keys, count,
+    (void *)rooms[0], 8 * count); }
+static void call_des_encrypt_cbc_records(void) { returned = cukvashe_des_encrypt_cbc_records((void *)contexts[0],
+    (void *)rooms[0], 8 * count, ones, count, (void *)rooms[1], 8 * count); }
+static void call_des_decrypt_cbc_records(void) { returned = cukvashe_des_decrypt_cbc_records((void *)contexts[0],
+    (void *)rooms[0], 8 * count, ones, count, (void *)rooms[1], 8 * count); }
+static void call_tdes_ede2_encrypt_cbc_records(void) { returned = cukvashe_tdes_ede2_encrypt_cbc_records((void *)contexts[1],
+    (void *)rooms[0], 8 * count, ones, count, (void *)rooms[1], 8 * count); }
+static void call_tdes_ede2_decrypt_cbc_records(void) { returned = cukvashe_tdes_ede2_decrypt_cbc_records((void *)contexts[1],
+    (void *)rooms[0], 8 * count, ones, count, (void *)rooms[1], 8 * count); }
+static void call_tdes_ede3_encrypt_cbc_records(void) { returned = cukvashe_tdes_ede3_encrypt_cbc_records((void *)contexts[2],
+    (void *)rooms[0], 8 * count, ones, count, (void *)rooms[1], 8 * count); }
+static void call_tdes_ede3_decrypt_cbc_records(void) { returned = cukvashe_tdes_ede3_decrypt_cbc_records((void *)contexts[2],
+    (void *)rooms[0], 8 * count, ones, count, (void *)rooms[1], 8 * count); }
+static void call_pad(void) { returned = cukvashe_pad((void *)rooms[0], 77, sizeof blocks, CUKVASHE_PKCS7,
+    (void *)rooms[1]); }
+static void call_unpad(void) { returned = cukvashe_unpad(blocks, 80, CUKVASHE_PKCS7, (void *)rooms[0]); }
+static void call_weak_key_test(void) { returned = cukvashe_weak_key_test(key, 24); }
+static void call_set_odd_parity(void) { cukvashe_set_odd_parity((void *)rooms[0], 24); }
+static void call_equal_but_parity(void) { returned = cukvashe_equal_but_parity(key, others, 24); }
+static void call_cbc_mac_des_init(void) { returned = cukvashe_cbc_mac_des_init((void *)contexts[3], key,
+    CUKVASHE_CBC_MAC_DES_KEY_SIZE, 1); }
+static void call_cbc_mac_tdes_ede2_init(void) { returned = cukvashe_cbc_mac_tdes_ede2_init((void *)contexts[4], key,
+    CUKVASHE_CBC_MAC_TDES_EDE2_KEY_SIZE, 1); }
+static void call_cbc_mac_tdes_ede3_init(void) { returned = cukvashe_cbc_mac_tdes_ede3_init((void *)contexts[5], key,
+    CUKVASHE_CBC_MAC_TDES_EDE3_KEY_SIZE, 1); }
+static void call_retail_mac_des_init(void) { returned = cukvashe_retail_mac_des_init((void *)contexts[6], key,
+    CUKVASHE_RETAIL_MAC_DES_KEY_SIZE, 1); }
+static void call_cmac_tdes_ede2_init(void) { returned = cukvashe_cmac_tdes_ede2_init((void *)contexts[7], key,
+    CUKVASHE_CMAC_TDES_EDE2_KEY_SIZE); }
+static void call_cmac_tdes_ede3_init(void) { returned = cukvashe_cmac_tdes_ede3_init((void *)contexts[8], key,
+    CUKVASHE_CMAC_TDES_EDE3_KEY_SIZE); }
+static void call_cbc_mac_des_init_quiet(void) { returned = cukvashe_cbc_mac_des_init_quiet((void *)contexts[3], key,
+    CUKVASHE_CBC_MAC_DES_KEY_SIZE, 1); }
+static void call_cbc_mac_tdes_ede2_init_quiet(void) { returned = cukvashe_cbc_mac_tdes_ede2_init_quiet((void *)contexts[4],
+    key, CUKVASHE_CBC_MAC_TDES_EDE2_KEY_SIZE, 1); }
+static void call_cbc_mac_tdes_ede3_init_quiet(void) { returned = cukvashe_cbc_mac_tdes_ede3_init_quiet((void *)contexts[5],
+    key, CUKVASHE_CBC_MAC_TDES_EDE3_KEY_SIZE, 1); }
+static void call_retail_mac_des_init_quiet(void) { returned = cukvashe_retail_mac_des_init_quiet((void *)contexts[6],
+    key, CUKVASHE_RETAIL_MAC_DES_KEY_SIZE, 1); }
+static void call_cmac_tdes_ede2_init_quiet(void) { returned = cukvashe_cmac_tdes_ede2_init_quiet((void *)contexts[7],
+    key, CUKVASHE_CMAC_TDES_EDE2_KEY_SIZE); }
+static void call_cmac_tdes_ede3_init_quiet(void) { returned = cukvashe_cmac_tdes_ede3_init_quiet((void *)contexts[8],
+    key, CUKVASHE_CMAC_TDES_EDE3_KEY_SIZE); }
+static void call_cbc_mac_des_update(void) { returned = cukvashe_cbc_mac_des_update((void *)contexts[3], blocks,
+    8 * count); }
+static void call_cbc_mac_tdes_ede2_update(void) { returned = cukvashe_cbc_mac_tdes_ede2_update((void *)contexts[4],
+    blocks, 8 * count); }
+static void call_cbc_mac_tdes_ede3_update(void) { returned = cukvashe_cbc_mac_tdes_ede3_update((void *)contexts[5],
+    blocks, 8 * count); }
+static void call_retail_mac_des_update(void) { returned = cukvashe_retail_mac_des_update((void *)contexts[6], blocks,
+    8 * count); }
+static void call_cmac_tdes_ede2_update(void) { returned = cukvashe_cmac_tdes_ede2_update((void *)contexts[7], blocks,
+    8 * count); }
+static void call_cmac_tdes_ede3_update(void) { returned = cukvashe_cmac_tdes_ede3_update((void *)contexts[8], blocks,
+    8 * count); }
+static void call_cbc_mac_des_final(void) { returned = cukvashe_cbc_mac_des_final((void *)contexts[3],
+    (void *)rooms[0]); }
+static void call_cbc_mac_tdes_ede2_final(void) { returned = cukvashe_cbc_mac_tdes_ede2_final((void *)contexts[4],
+    (void *)rooms[0]); }
+static void call_cbc_mac_tdes_ede3_final(void) { returned = cukvashe_cbc_mac_tdes_ede3_final((void *)contexts[5],
+    (void *)rooms[0]); }
+static void call_retail_mac_des_final(void) { returned = cukvashe_retail_mac_des_final((void *)contexts[6],
+    (void *)rooms[0]); }
+static void call_cmac_tdes_ede2_final(void) { returned = cukvashe_cmac_tdes_ede2_final((void *)contexts[7],
+    (void *)rooms[0]); }
+static void call_cmac_tdes_ede3_final(void) { returned = cukvashe_cmac_tdes_ede3_final((void *)contexts[8],
+    (void *)rooms[0]); }
+static void call_cbc_mac_des_verify(void) { returned = cukvashe_cbc_mac_des_verify((void *)contexts[3], blocks, 8); }
+static void call_cbc_mac_tdes_ede2_verify(void) { returned = cukvashe_cbc_mac_tdes_ede2_verify((void *)contexts[4],
+    blocks, 8); }
+static void call_cbc_mac_tdes_ede3_verify(void) { returned = cukvashe_cbc_mac_tdes_ede3_verify((void *)contexts[5],
+    blocks, 8); }
+static void call_retail_mac_des_verify(void) { returned = cukvashe_retail_mac_des_verify((void *)contexts[6], blocks,
+    8); }
+static void call_cmac_tdes_ede2_verify(void) { returned = cukvashe_cmac_tdes_ede2_verify((void *)contexts[7], blocks,
+    8); }
+static void call_cmac_tdes_ede3_verify(void) { returned = cukvashe_cmac_tdes_ede3_verify((void *)contexts[8], blocks,
+    8); }
+static void call_cbc_mac_des_is_tag(void) { returned = cukvashe_cbc_mac_des_is_tag((void *)contexts[3], blocks, 8); }
+static void call_cbc_mac_tdes_ede2_is_tag(void) { returned = cukvashe_cbc_mac_tdes_ede2_is_tag((void *)contexts[4],
+    blocks, 8); }
+static void call_cbc_mac_tdes_ede3_is_tag(void) { returned = cukvashe_cbc_mac_tdes_ede3_is_tag((void *)contexts[5],
+    blocks, 8); }
+static void call_retail_mac_des_is_tag(void) { returned = cukvashe_retail_mac_des_is_tag((void *)contexts[6], blocks,
+    8); }
+static void call_cmac_tdes_ede2_is_tag(void) { returned = cukvashe_cmac_tdes_ede2_is_tag((void *)contexts[7], blocks,
+    8); }
+static void call_cmac_tdes_ede3_is_tag(void) { returned = cukvashe_cmac_tdes_ede3_is_tag((void *)contexts[8], blocks,
+    8); }
+static void call_cbc_mac_des_macs(void) { returned = cukvashe_cbc_mac_des_macs(key, CUKVASHE_CBC_MAC_DES_KEY_SIZE, 1,
+    messages, (void *)rooms[0], 8 * count, count); }
+static void call_cbc_mac_des_macs_each(void) { returned = cukvashe_cbc_mac_des_macs_each(keys,
+    CUKVASHE_CBC_MAC_DES_KEY_SIZE * count, 1, messages, (void *)rooms[0], 8 * count, count); }
+static void call_cbc_mac_tdes_ede2_macs(void) { returned = cukvashe_cbc_mac_tdes_ede2_macs(key,
+    CUKVASHE_CBC_MAC_TDES_EDE2_KEY_SIZE, 1, messages, (void *)rooms[0], 8 * count, count); }
+static void call_cbc_mac_tdes_ede2_macs_each(void) { returned = cukvashe_cbc_mac_tdes_ede2_macs_each(keys,
+    CUKVASHE_CBC_MAC_TDES_EDE2_KEY_SIZE * count, 1, messages, (void *)rooms[0], 8 * count, count); }
+static void call_cbc_mac_tdes_ede3_macs(void) { returned = cukvashe_cbc_mac_tdes_ede3_macs(key,
+    CUKVASHE_CBC_MAC_TDES_EDE3_KEY_SIZE, 1, messages, (void *)rooms[0], 8 * count, count); }
+static void call_cbc_mac_tdes_ede3_macs_each(void) { returned = cukvashe_cbc_mac_tdes_ede3_macs_each(keys,
+    CUKVASHE_CBC_MAC_TDES_EDE3_KEY_SIZE * count, 1, messages, (void *)rooms[0], 8 * count, count); }
+static void call_retail_mac_des_macs(void) { returned = cukvashe_retail_mac_des_macs(key,
+    CUKVASHE_RETAIL_MAC_DES_KEY_SIZE, 1, messages, (void *)rooms[0], 8 * count, count); }
+static void call_retail_mac_des_macs_each(void) { returned = cukvashe_retail_mac_des_macs_each(keys,
+    CUKVASHE_RETAIL_MAC_DES_KEY_SIZE * count, 1, messages, (void *)rooms[0], 8 * count, count); }
+static void call_cmac_tdes_ede2_macs(void) { returned = cukvashe_cmac_tdes_ede2_macs(key,
+    CUKVASHE_CMAC_TDES_EDE2_KEY_SIZE, messages, (void *)rooms[0], 8 * count, count); }
+static void call_cmac_tdes_ede2_macs_each(void) { returned = cukvashe_cmac_tdes_ede2_macs_each(keys,
+    CUKVASHE_CMAC_TDES_EDE2_KEY_SIZE * count, messages, (void *)rooms[0], 8 * count, count); }
+static void call_cmac_tdes_ede3_macs(void) { returned = cukvashe_cmac_tdes_ede3_macs(key,
+    CUKVASHE_CMAC_TDES_EDE3_KEY_SIZE, messages, (void *)rooms[0], 8 * count, count); }
+static void call_cmac_tdes_ede3_macs_each(void) { returned = cukvashe_cmac_tdes_ede3_macs_each(keys,
+    CUKVASHE_CMAC_TDES_EDE3_KEY_SIZE * count, messages, (void *)rooms[0], 8 * count, count); }
+static void call_compare_tags(void) { returned = cukvashe_compare_tags(blocks, 8 * count, blocks, 8 * count,
+    (void *)rooms[0], count); }
+static void call_des_check_value(void) { returned = cukvashe_des_check_value(key, CUKVASHE_DES_KEY_SIZE,
+    (void *)rooms[0]); }
+static void call_tdes_ede2_check_value(void) { returned = cukvashe_tdes_ede2_check_value(key,
+    CUKVASHE_TDES_EDE2_KEY_SIZE, (void *)rooms[0]); }
+static void call_tdes_ede3_check_value(void) { returned = cukvashe_tdes_ede3_check_value(key,
+    CUKVASHE_TDES_EDE3_KEY_SIZE, (void *)rooms[0]); }
+static void call_key_check_value(void) { returned = cukvashe_key_check_value(key, 24, (void *)rooms[0]); }
+static void call_short_key_check_value(void) { returned = cukvashe_short_key_check_value(key, 24, (void *)rooms[0]); }
+static void call_des_check_values(void) { returned = cukvashe_des_check_values(keys, CUKVASHE_DES_KEY_SIZE * count,
+    (void *)rooms[0], 3 * count, count); }
+static void call_tdes_ede2_check_values(void) { returned = cukvashe_tdes_ede2_check_values(keys,
+    CUKVASHE_TDES_EDE2_KEY_SIZE * count, (void *)rooms[0], 3 * count, count); }
+static void call_tdes_ede3_check_values(void) { returned = cukvashe_tdes_ede3_check_values(keys,
+    CUKVASHE_TDES_EDE3_KEY_SIZE * count, (void *)rooms[0], 3 * count, count); }
+static void call_combine_8(void) { returned = cukvashe_combine_8(key, others, others, 8, 1, (void *)rooms[0]); }
+static void call_combine_16(void) { returned = cukvashe_combine_16(key, others, others, 16, 1, (void *)rooms[0]); }
+static void call_combine_24(void) { returned = cukvashe_combine_24(key, others, others, 24, 1, (void *)rooms[0]); }
+static void call_dukpt_initial_key(void) { cukvashe_dukpt_initial_key(key, serial, (void *)rooms[0]); }
+static void call_dukpt_transaction_key(void) { cukvashe_dukpt_transaction_key(key, serial, (void *)rooms[0]); }
+static void call_dukpt_transaction_keys_from_base(void) { returned = cukvashe_dukpt_transaction_keys_from_base(key,
+    blocks, 10 * count, (void *)rooms[0], 16 * count, count); }
+static void call_dukpt_pin_key(void) { cukvashe_dukpt_pin_key(key, (void *)rooms[0]); }
+static void call_dukpt_mac_key(void) { cukvashe_dukpt_mac_key(key, true, (void *)rooms[0]); }
+static void call_dukpt_data_key(void) { cukvashe_dukpt_data_key(key, true, (void *)rooms[0]); }
+static void call_dukpt_data_variant(void) { cukvashe_dukpt_data_variant(key, true, (void *)rooms[0]); }
+static void call_dukpt_is_usable(void) { returned = cukvashe_dukpt_is_usable(serial); }
+static void call_dukpt_next_serial(void) { returned = cukvashe_dukpt_next_serial(serial, (void *)rooms[0]); }
+static void call_dukpt_terminal_init(void) { cukvashe_dukpt_terminal_init(&terminal, key, serial); }
+static void call_dukpt_terminal_next_key(void) { returned = cukvashe_dukpt_terminal_next_key(&terminal,
+    (void *)rooms[0], (void *)rooms[1]); }
+static void call_pin_encode_0(void) { returned = cukvashe_pin_encode_0(pin_digits, 12, "4012345678909", 13,
+    (void *)rooms[0]); }
+static void call_pin_encode_1(void) { returned = cukvashe_pin_encode_1(pin_digits, 12, fill, (void *)rooms[0]); }
+static void call_pin_encode_2(void) { returned = cukvashe_pin_encode_2(pin_digits, 12, (void *)rooms[0]); }
+static void call_pin_encode_3(void) { returned = cukvashe_pin_encode_3(pin_digits, 12, "4012345678909", 13, fill,
+    (void *)rooms[0]); }
+static void call_pin_decode_0(void) { returned = cukvashe_pin_decode_0(sent, "4012345678909", 13, (void *)rooms[0]); }
+static void call_pin_decode_1(void) { returned = cukvashe_pin_decode_1(sent + 8, (void *)rooms[0]); }
+static void call_pin_decode_2(void) { returned = cukvashe_pin_decode_2(sent, (void *)rooms[0]); }
+static void call_pin_decode_3(void) { returned = cukvashe_pin_decode_3(sent, "4012345678909", 13, (void *)rooms[0]); }
+static void call_pin_translate_to_0(void) { returned = cukvashe_pin_translate_to_0(&translations[0], sent,
+    (void *)rooms[0]); }
+static void call_pin_translate_to_1(void) { returned = cukvashe_pin_translate_to_1(&translations[1], sent + 8,
+    (void *)rooms[0]); }
+static void call_pin_translate_to_3(void) { returned = cukvashe_pin_translate_to_3(&translations[0], sent,
+    (void *)rooms[0]); }
+static void call_pvv(void) { returned = cukvashe_pvv(key, "4012345678909", 13, 1, pin_digits, 12, (void *)rooms[0]); }
+static void call_pvv_verify(void) { returned = cukvashe_pvv_verify(key, "4012345678909", 13, 1, pin_digits, 12,
+    pin_digits, 4); }
+static void call_pvv_is_pin(void) { returned = cukvashe_pvv_is_pin(key, "4012345678909", 13, 1, pin_digits, 12,
+    pin_digits, 4); }
+static void call_decimal_table_init(void) { returned = cukvashe_decimal_table_init((void *)rooms[0], "0123456789012345",
+    16); }
+static void call_decimal_table_init_any(void) { returned = cukvashe_decimal_table_init_any((void *)rooms[0],
+    "0000000000000000", 16); }
+static void call_natural_pin(void) { returned = cukvashe_natural_pin(key, 24, &table, blocks, 12, (void *)rooms[0]); }
+static void call_pin_offset(void) { returned = cukvashe_pin_offset(key, 24, &table, blocks, pin_digits, 12,
+    (void *)rooms[0]); }
+static void call_pin_offset_verify(void) { returned = cukvashe_pin_offset_verify(key, 24, &table, blocks, pin_digits,
+    12, pin_digits, 12); }
+static void call_pin_offset_is_pin(void) { returned = cukvashe_pin_offset_is_pin(key, 24, &table, blocks, pin_digits,
+    12, pin_digits, 12); }
+static void call_cvv(void) { returned = cukvashe_cvv(key, "4012345678909", 13, "8701", 4, "101", 3, (void *)rooms[0]); }
+static void call_emv_card_key(void) { returned = cukvashe_emv_card_key(key, "4012345678909", 13, "00", 2,
+    (void *)rooms[0]); }
+static void call_emv_card_key_b(void) { returned = cukvashe_emv_card_key_b(key, "6304000000000000001", 19, "00", 2,
+    (void *)rooms[0]); }
+static void call_emv_application_key(void) { cukvashe_emv_application_key(key, blocks, (void *)rooms[0]); }
+static void call_emv_session_key(void) { cukvashe_emv_session_key(key, sent, (void *)rooms[0]); }
+static void call_emv_application_cryptogram(void) { cukvashe_emv_application_cryptogram(key, blocks, sizeof blocks,
+    (void *)rooms[0]); }
+static void call_emv_response_1(void) { cukvashe_emv_response_1(key, blocks, blocks, (void *)rooms[0]); }
+static void call_emv_response_2(void) { returned = cukvashe_emv_response_2(key, blocks, blocks, blocks, 8,
+    (void *)rooms[0]); }
+static void call_key_block_unwrap(void) { returned = cukvashe_key_block_unwrap(key, 24, key_block, key_block_length,
+    (void *)rooms[0], (void *)rooms[1], (void *)rooms[2]); }
+static void call_key_block_wrap(void) { returned = cukvashe_key_block_wrap(&parts, key_block, sizeof key_block,
+    &key_block_length); }
+static void call_key_block_header(void) { returned = cukvashe_key_block_header(key_block, key_block_length,
+    (void *)rooms[0]); }
+static void call_key_block_context(void) { returned = cukvashe_key_block_context(key_block, key_block_length,
+    (void *)rooms[0]); }
+static void call_key_block_optional_block(void) { returned = cukvashe_key_block_optional_block(key_block,
+    key_block_length, 0, (void *)rooms[0], (void *)rooms[1], (void *)rooms[2]); }
+static void call_pbkdf2(void) { returned = cukvashe_pbkdf2(CUKVASHE_SHA256, 2, others, sizeof others, blocks, 8,
+    (void *)rooms[0], 24); }
+static void call_bytes_to_key(void) { returned = cukvashe_bytes_to_key(CUKVASHE_SHA256, others, sizeof others, blocks,
+    8, (void *)rooms[0], 24); }
+static void call_des_open_salted(void) { returned = cukvashe_des_open_salted(CUKVASHE_SHA1, 2, others, sizeof others,
+    salted, sizeof salted, (void *)rooms[0], sizeof salted, (void *)rooms[1]); }
+static void call_tdes_ede2_open_salted(void) { returned = cukvashe_tdes_ede2_open_salted(CUKVASHE_MD5, 0, others,
+    sizeof others, salted, sizeof salted, (void *)rooms[0], sizeof salted, (void *)rooms[1]); }
+static void call_tdes_ede3_open_salted(void) { returned = cukvashe_tdes_ede3_open_salted(CUKVASHE_SHA256, 0, others,
+    sizeof others, salted, sizeof salted, (void *)rooms[0], sizeof salted, (void *)rooms[1]); }
+
+/* The name of each call, the most that it uses of the stack, whether it wipes that, and whether it takes a list, and a context. */
+static const struct call calls[] = {
+    {"version", call_version, 6000, 0, 0, 0},
+    {"strerror", call_strerror, 6000, 0, 0, 0},
+    {"wipe", call_wipe, 6000, 0, 0, 0},
+    {"des_init", call_des_init, 6000, 1, 0, 1},
+    {"tdes_ede2_init", call_tdes_ede2_init, 6000, 1, 0, 1},
+    {"tdes_ede3_init", call_tdes_ede3_init, 6000, 1, 0, 1},
+    {"des_init_quiet", call_des_init_quiet, 6000, 1, 0, 1},
+    {"tdes_ede2_init_quiet", call_tdes_ede2_init_quiet, 6000, 1, 0, 1},
+    {"tdes_ede3_init_quiet", call_tdes_ede3_init_quiet, 6000, 1, 0, 1},
+    {"des_encrypt_ecb", call_des_encrypt_ecb, 27000, 0, 1, 1},
+    {"des_decrypt_ecb", call_des_decrypt_ecb, 27000, 0, 1, 1},
+    {"des_encrypt_ecb_to", call_des_encrypt_ecb_to, 27000, 0, 1, 1},
+    {"des_decrypt_ecb_to", call_des_decrypt_ecb_to, 27000, 0, 1, 1},
+    {"tdes_ede2_encrypt_ecb", call_tdes_ede2_encrypt_ecb, 27000, 0, 1, 1},
+    {"tdes_ede2_decrypt_ecb", call_tdes_ede2_decrypt_ecb, 27000, 0, 1, 1},
+    {"tdes_ede2_encrypt_ecb_to", call_tdes_ede2_encrypt_ecb_to, 27000, 0, 1, 1},
+    {"tdes_ede2_decrypt_ecb_to", call_tdes_ede2_decrypt_ecb_to, 27000, 0, 1, 1},
+    {"tdes_ede3_encrypt_ecb", call_tdes_ede3_encrypt_ecb, 27000, 0, 1, 1},
+    {"tdes_ede3_decrypt_ecb", call_tdes_ede3_decrypt_ecb, 27000, 0, 1, 1},
+    {"tdes_ede3_encrypt_ecb_to", call_tdes_ede3_encrypt_ecb_to, 27000, 0, 1, 1},
+    {"tdes_ede3_decrypt_ecb_to", call_tdes_ede3_decrypt_ecb_to, 27000, 0, 1, 1},
+    {"des_encrypt_cbc", call_des_encrypt_cbc, 27000, 0, 1, 1},
+    {"des_decrypt_cbc", call_des_decrypt_cbc, 27000, 0, 1, 1},
+    {"des_encrypt_cbc_to", call_des_encrypt_cbc_to, 27000, 0, 1, 1},
+    {"des_decrypt_cbc_to", call_des_decrypt_cbc_to, 27000, 0, 1, 1},
+    {"tdes_ede2_encrypt_cbc", call_tdes_ede2_encrypt_cbc, 27000, 0, 1, 1},
+    {"tdes_ede2_decrypt_cbc", call_tdes_ede2_decrypt_cbc, 27000, 0, 1, 1},
+    {"tdes_ede2_encrypt_cbc_to", call_tdes_ede2_encrypt_cbc_to, 27000, 0, 1, 1},
+    {"tdes_ede2_decrypt_cbc_to", call_tdes_ede2_decrypt_cbc_to, 27000, 0, 1, 1},
+    {"tdes_ede3_encrypt_cbc", call_tdes_ede3_encrypt_cbc, 27000, 0, 1, 1},
+    {"tdes_ede3_decrypt_cbc", call_tdes_ede3_decrypt_cbc, 27000, 0, 1, 1},
+    {"tdes_ede3_encrypt_cbc_to", call_tdes_ede3_encrypt_cbc_to, 27000, 0, 1, 1},
+    {"tdes_ede3_decrypt_cbc_to", call_tdes_ede3_decrypt_cbc_to, 27000, 0, 1, 1},
+    {"des_encrypt_each", call_des_encrypt_each, 27000, 1, 1, 0},
+    {"des_decrypt_each", call_des_decrypt_each, 27000, 1, 1, 0},
+    {"tdes_ede2_encrypt_each", call_tdes_ede2_encrypt_each, 27000, 1, 1, 0},
+    {"tdes_ede2_decrypt_each", call_tdes_ede2_decrypt_each, 27000, 1, 1, 0},
+    {"tdes_ede3_encrypt_each", call_tdes_ede3_encrypt_each, 27000, 1, 1, 0},
+    {"tdes_ede3_decrypt_each", call_tdes_ede3_decrypt_each, 27000, 1, 1, 0},
+    {"des_encrypt_cbc_records", call_des_encrypt_cbc_records, 66000, 0, 1, 1},
+    {"des_decrypt_cbc_records", call_des_decrypt_cbc_records, 66000, 0, 1, 1},
+    {"tdes_ede2_encrypt_cbc_records", call_tdes_ede2_encrypt_cbc_records, 66000, 0, 1, 1},
+    {"tdes_ede2_decrypt_cbc_records", call_tdes_ede2_decrypt_cbc_records, 66000, 0, 1, 1},
+    {"tdes_ede3_encrypt_cbc_records", call_tdes_ede3_encrypt_cbc_records, 66000, 0, 1, 1},
+    {"tdes_ede3_decrypt_cbc_records", call_tdes_ede3_decrypt_cbc_records, 66000, 0, 1, 1},
+    {"pad", call_pad, 6000, 0, 0, 0},
+    {"unpad", call_unpad, 6000, 0, 0, 0},
+    {"weak_key_test", call_weak_key_test, 6000, 1, 0, 0},
+    {"set_odd_parity", call_set_odd_parity, 6000, 1, 0, 0},
+    {"equal_but_parity", call_equal_but_parity, 6000, 1, 0, 0},
+    {"cbc_mac_des_init", call_cbc_mac_des_init, 6000, 1, 0, 1},
+    {"cbc_mac_tdes_ede2_init", call_cbc_mac_tdes_ede2_init, 6000, 1, 0, 1},
+    {"cbc_mac_tdes_ede3_init", call_cbc_mac_tdes_ede3_init, 6000, 1, 0, 1},
+    {"retail_mac_des_init", call_retail_mac_des_init, 6000, 1, 0, 1},
+    {"cmac_tdes_ede2_init", call_cmac_tdes_ede2_init, 6000, 1, 0, 1},
+    {"cmac_tdes_ede3_init", call_cmac_tdes_ede3_init, 6000, 1, 0, 1},
+    {"cbc_mac_des_init_quiet", call_cbc_mac_des_init_quiet, 6000, 1, 0, 1},
+    {"cbc_mac_tdes_ede2_init_quiet", call_cbc_mac_tdes_ede2_init_quiet, 6000, 1, 0, 1},
+    {"cbc_mac_tdes_ede3_init_quiet", call_cbc_mac_tdes_ede3_init_quiet, 6000, 1, 0, 1},
+    {"retail_mac_des_init_quiet", call_retail_mac_des_init_quiet, 6000, 1, 0, 1},
+    {"cmac_tdes_ede2_init_quiet", call_cmac_tdes_ede2_init_quiet, 6000, 1, 0, 1},
+    {"cmac_tdes_ede3_init_quiet", call_cmac_tdes_ede3_init_quiet, 6000, 1, 0, 1},
+    {"cbc_mac_des_update", call_cbc_mac_des_update, 6000, 0, 1, 1},
+    {"cbc_mac_tdes_ede2_update", call_cbc_mac_tdes_ede2_update, 6000, 0, 1, 1},
+    {"cbc_mac_tdes_ede3_update", call_cbc_mac_tdes_ede3_update, 6000, 0, 1, 1},
+    {"retail_mac_des_update", call_retail_mac_des_update, 6000, 0, 1, 1},
+    {"cmac_tdes_ede2_update", call_cmac_tdes_ede2_update, 6000, 0, 1, 1},
+    {"cmac_tdes_ede3_update", call_cmac_tdes_ede3_update, 6000, 0, 1, 1},
+    {"cbc_mac_des_final", call_cbc_mac_des_final, 6000, 0, 0, 1},
+    {"cbc_mac_tdes_ede2_final", call_cbc_mac_tdes_ede2_final, 6000, 0, 0, 1},
+    {"cbc_mac_tdes_ede3_final", call_cbc_mac_tdes_ede3_final, 6000, 0, 0, 1},
+    {"retail_mac_des_final", call_retail_mac_des_final, 6000, 0, 0, 1},
+    {"cmac_tdes_ede2_final", call_cmac_tdes_ede2_final, 6000, 0, 0, 1},
+    {"cmac_tdes_ede3_final", call_cmac_tdes_ede3_final, 6000, 0, 0, 1},
+    {"cbc_mac_des_verify", call_cbc_mac_des_verify, 6000, 0, 0, 1},
+    {"cbc_mac_tdes_ede2_verify", call_cbc_mac_tdes_ede2_verify, 6000, 0, 0, 1},
+    {"cbc_mac_tdes_ede3_verify", call_cbc_mac_tdes_ede3_verify, 6000, 0, 0, 1},
+    {"retail_mac_des_verify", call_retail_mac_des_verify, 6000, 0, 0, 1},
+    {"cmac_tdes_ede2_verify", call_cmac_tdes_ede2_verify, 6000, 0, 0, 1},
+    {"cmac_tdes_ede3_verify", call_cmac_tdes_ede3_verify, 6000, 0, 0, 1},
+    {"cbc_mac_des_is_tag", call_cbc_mac_des_is_tag, 6000, 0, 0, 1},
+    {"cbc_mac_tdes_ede2_is_tag", call_cbc_mac_tdes_ede2_is_tag, 6000, 0, 0, 1},
+    {"cbc_mac_tdes_ede3_is_tag", call_cbc_mac_tdes_ede3_is_tag, 6000, 0, 0, 1},
+    {"retail_mac_des_is_tag", call_retail_mac_des_is_tag, 6000, 0, 0, 1},
+    {"cmac_tdes_ede2_is_tag", call_cmac_tdes_ede2_is_tag, 6000, 0, 0, 1},
+    {"cmac_tdes_ede3_is_tag", call_cmac_tdes_ede3_is_tag, 6000, 0, 0, 1},
+    {"cbc_mac_des_macs", call_cbc_mac_des_macs, 45000, 1, 1, 0},
+    {"cbc_mac_des_macs_each", call_cbc_mac_des_macs_each, 45000, 1, 1, 0},
+    {"cbc_mac_tdes_ede2_macs", call_cbc_mac_tdes_ede2_macs, 45000, 1, 1, 0},
+    {"cbc_mac_tdes_ede2_macs_each", call_cbc_mac_tdes_ede2_macs_each, 45000, 1, 1, 0},
+    {"cbc_mac_tdes_ede3_macs", call_cbc_mac_tdes_ede3_macs, 45000, 1, 1, 0},
+    {"cbc_mac_tdes_ede3_macs_each", call_cbc_mac_tdes_ede3_macs_each, 45000, 1, 1, 0},
+    {"retail_mac_des_macs", call_retail_mac_des_macs, 45000, 1, 1, 0},
+    {"retail_mac_des_macs_each", call_retail_mac_des_macs_each, 45000, 1, 1, 0},
+    {"cmac_tdes_ede2_macs", call_cmac_tdes_ede2_macs, 45000, 1, 1, 0},
+    {"cmac_tdes_ede2_macs_each", call_cmac_tdes_ede2_macs_each, 45000, 1, 1, 0},
+    {"cmac_tdes_ede3_macs", call_cmac_tdes_ede3_macs, 45000, 1, 1, 0},
+    {"cmac_tdes_ede3_macs_each", call_cmac_tdes_ede3_macs_each, 45000, 1, 1, 0},
+    {"compare_tags", call_compare_tags, 6000, 0, 1, 0},
+    {"des_check_value", call_des_check_value, 6000, 1, 0, 0},
+    {"tdes_ede2_check_value", call_tdes_ede2_check_value, 6000, 1, 0, 0},
+    {"tdes_ede3_check_value", call_tdes_ede3_check_value, 6000, 1, 0, 0},
+    {"key_check_value", call_key_check_value, 6000, 1, 0, 0},
+    {"short_key_check_value", call_short_key_check_value, 6000, 1, 0, 0},
+    {"des_check_values", call_des_check_values, 27000, 1, 1, 0},
+    {"tdes_ede2_check_values", call_tdes_ede2_check_values, 27000, 1, 1, 0},
+    {"tdes_ede3_check_values", call_tdes_ede3_check_values, 27000, 1, 1, 0},
+    {"combine_8", call_combine_8, 6000, 1, 0, 0},
+    {"combine_16", call_combine_16, 6000, 1, 0, 0},
+    {"combine_24", call_combine_24, 6000, 1, 0, 0},
+    {"dukpt_initial_key", call_dukpt_initial_key, 6000, 1, 0, 0},
+    {"dukpt_transaction_key", call_dukpt_transaction_key, 6000, 1, 0, 0},
+    {"dukpt_transaction_keys_from_base", call_dukpt_transaction_keys_from_base, 45000, 1, 1, 0},
+    {"dukpt_pin_key", call_dukpt_pin_key, 6000, 1, 0, 0},
+    {"dukpt_mac_key", call_dukpt_mac_key, 6000, 1, 0, 0},
+    {"dukpt_data_key", call_dukpt_data_key, 6000, 1, 0, 0},
+    {"dukpt_data_variant", call_dukpt_data_variant, 6000, 1, 0, 0},
+    {"dukpt_is_usable", call_dukpt_is_usable, 6000, 0, 0, 0},
+    {"dukpt_next_serial", call_dukpt_next_serial, 6000, 0, 0, 0},
+    {"dukpt_terminal_init", call_dukpt_terminal_init, 6000, 1, 0, 0},
+    {"dukpt_terminal_next_key", call_dukpt_terminal_next_key, 6000, 1, 0, 0},
+    {"pin_encode_0", call_pin_encode_0, 6000, 1, 0, 0},
+    {"pin_encode_1", call_pin_encode_1, 6000, 1, 0, 0},
+    {"pin_encode_2", call_pin_encode_2, 6000, 1, 0, 0},
+    {"pin_encode_3", call_pin_encode_3, 6000, 1, 0, 0},
+    {"pin_decode_0", call_pin_decode_0, 6000, 1, 0, 0},
+    {"pin_decode_1", call_pin_decode_1, 6000, 1, 0, 0},
+    {"pin_decode_2", call_pin_decode_2, 6000, 1, 0, 0},
+    {"pin_decode_3", call_pin_decode_3, 6000, 1, 0, 0},
+    {"pin_translate_to_0", call_pin_translate_to_0, 6000, 1, 0, 0},
+    {"pin_translate_to_1", call_pin_translate_to_1, 6000, 1, 0, 0},
+    {"pin_translate_to_3", call_pin_translate_to_3, 6000, 1, 0, 0},
+    {"pvv", call_pvv, 6000, 1, 0, 0},
+    {"pvv_verify", call_pvv_verify, 6000, 1, 0, 0},
+    {"pvv_is_pin", call_pvv_is_pin, 6000, 1, 0, 0},
+    {"decimal_table_init", call_decimal_table_init, 6000, 0, 0, 0},
+    {"decimal_table_init_any", call_decimal_table_init_any, 6000, 0, 0, 0},
+    {"natural_pin", call_natural_pin, 6000, 1, 0, 0},
+    {"pin_offset", call_pin_offset, 6000, 1, 0, 0},
+    {"pin_offset_verify", call_pin_offset_verify, 6000, 1, 0, 0},
+    {"pin_offset_is_pin", call_pin_offset_is_pin, 6000, 1, 0, 0},
+    {"cvv", call_cvv, 6000, 1, 0, 0},
+    {"emv_card_key", call_emv_card_key, 6000, 1, 0, 0},
+    {"emv_card_key_b", call_emv_card_key_b, 6000, 1, 0, 0},
+    {"emv_application_key", call_emv_application_key, 6000, 1, 0, 0},
+    {"emv_session_key", call_emv_session_key, 6000, 1, 0, 0},
+    {"emv_application_cryptogram", call_emv_application_cryptogram, 6000, 1, 0, 0},
+    {"emv_response_1", call_emv_response_1, 6000, 1, 0, 0},
+    {"emv_response_2", call_emv_response_2, 6000, 1, 0, 0},
+    {"key_block_unwrap", call_key_block_unwrap, 27000, 1, 0, 0},
+    {"key_block_wrap", call_key_block_wrap, 27000, 1, 0, 0},
+    {"key_block_header", call_key_block_header, 27000, 0, 0, 0},
+    {"key_block_context", call_key_block_context, 27000, 0, 0, 0},
+    {"key_block_optional_block", call_key_block_optional_block, 27000, 0, 0, 0},
+    {"pbkdf2", call_pbkdf2, 6000, 1, 0, 0},
+    {"bytes_to_key", call_bytes_to_key, 6000, 1, 0, 0},
+    {"des_open_salted", call_des_open_salted, 27000, 1, 0, 0},
+    {"tdes_ede2_open_salted", call_tdes_ede2_open_salted, 27000, 1, 0, 0},
+    {"tdes_ede3_open_salted", call_tdes_ede3_open_salted, 27000, 1, 0, 0},
+};

@@ -1,0 +1,58 @@
+"""The package's declarations of the header, for ctypes."""
+
+import math
+
+from sources.text import Refused
+
+from .rust import camel
+
+BASES = {"size_t": "SIZE", "int": "INT", "bool": "BOOL", "void": "None"}
+HEAD = '''\
+"""What each call of cukvashe_des.h returns and takes, how many words its contexts have, and its structs: made of it by bindings/describe."""
+
+import ctypes
+from typing import Any, Dict, Tuple
+
+POINTER, SIZE, INT, BOOL, TEXT = ctypes.c_void_p, ctypes.c_size_t, ctypes.c_int, ctypes.c_bool, ctypes.c_char_p
+'''
+
+
+def shown(kind, is_result=False):
+    if kind.is_pointer:
+        return "TEXT" if is_result else "POINTER"
+    if kind.base not in BASES:
+        raise Refused(f"the package has no type for '{kind.base}'")
+    return BASES[kind.base]
+
+
+def field(header, kind):
+    """The type of a field; a struct of characters within another one is so many bytes."""
+    if not kind.struct:
+        return shown(kind)
+    inner = header.structs[kind.struct].fields
+    if any(it.type.base not in ("char", "uint8_t") or it.type.is_pointer and not it.type.sizes for it in inner):
+        raise Refused(f"the package has no type for a struct like '{kind.base}' within another")
+    return f"ctypes.c_uint8 * {sum(math.prod(it.type.sizes) for it in inner)}"
+
+
+def structs(header):
+    """The structs that have pointers, which a call takes."""
+    for it in header.structs.values():
+        if any(one.type.is_pointer and not one.type.sizes for one in it.fields):
+            yield from ["", "", f"class {camel(it.name)}(ctypes.Structure):", "    _fields_ = ["]
+            yield from (f'        ("{one.name}", {field(header, one.type)}),' for one in it.fields)
+            yield "    ]"
+
+
+def declarations(header):
+    yield HEAD
+    yield "CALLS: Dict[str, Tuple[Any, ...]] = {"
+    for it in header.calls.values():
+        words = [shown(it.result, is_result=True), *(shown(one.type) for one in it.parameters)]
+        yield f'    "{it.name}": ({", ".join(words)}{"," if len(words) == 1 else ""}),'
+    yield "}"
+    yield ""
+    yield "WORDS = {"
+    yield from (f'    "{name}": {header.structs[name].words},' for name in header.kinds)
+    yield "}"
+    yield from structs(header)

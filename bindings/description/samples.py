@@ -1,0 +1,90 @@
+"""Each call of the header with arguments that it takes, for tests of C: what they are is told by their names, and by few exceptions."""
+
+import re
+
+from sources.text import Refused
+
+from .c import filled
+
+# The arguments that a call reads, and its numbers; what it writes goes to room of the test's. `count` is the length of a list.
+BY_NAME = {
+    "account": '"4012345678909"', "account_length": "13", "base": "key", "block": "sent", "buffer": "blocks", "bytes": "salted",
+    "capacity": "sizeof blocks", "card": "key", "code": "blocks", "count": "count", "counter": "blocks", "counts": "ones", "cryptogram": "blocks",
+    "data": "blocks", "digits": '"0123456789012345"', "expected": "blocks", "expiry": '"8701"', "expiry_length": "4", "fill": "fill",
+    "first": "key", "hash": "CUKVASHE_SHA256", "index": "1", "initial": "key", "input": "blocks", "is_response": "true", "issuer": "key", "iterations": "2", "key": "key", "key_length": "24",
+    "keys": "keys", "length": "8 * count", "message": "blocks", "messages": "messages", "method": "1", "offset": "pin_digits",
+    "offset_length": "12", "others": "others", "others_count": "1",
+    "parts": "&parts", "password": "others", "password_length": "sizeof others", "pin": "pin_digits", "pin_length": "12", "place": "0", "protection": "key", "protection_length": "24",
+    "records_count": "count", "salt": "blocks", "salt_length": "8", "second": "others", "sequence": '"00"',
+    "sequence_length": "2", "serial": "serial", "serials": "blocks", "service": '"101"', "service_length": "3", "session": "key",
+    "size": "sizeof blocks", "status": "3", "table": "&table", "tag": "blocks", "tag_length": "8", "tags": "blocks", "terminal": "&terminal",
+    "transaction": "key", "translation": "&translations[0]", "validation": "blocks", "value": "pin_digits", "value_length": "4",
+}  # fmt: skip
+# Of lists that have a length beside their count, the size of an element.
+ELEMENTS = {"keys_length": 16, "tags_length": 8, "expected_length": 8, "values_length": 3, "serials_length": 10, "vectors_length": 8}
+EXCEPTIONS = {
+    ("emv_response_2", "status"): "blocks", ("emv_response_2", "length"): "8", ("emv_application_cryptogram", "length"): "sizeof blocks",
+    ("decimal_table_init", "length"): "16", ("decimal_table_init_any", "length"): "16", ("pin_encode_1", "transaction"): "fill",
+    ("pin_decode_1", "block"): "sent + 8", ("pin_translate_to_1", "block"): "sent + 8", ("pin_translate_to_1", "translation"): "&translations[1]", ("pad", "method"): "CUKVASHE_PKCS7",
+    ("unpad", "method"): "CUKVASHE_PKCS7", ("pad", "length"): "77", ("unpad", "length"): "80", ("emv_card_key_b", "account"): '"6304000000000000001"',
+    ("emv_card_key_b", "account_length"): "19", ("key_block_wrap", "block"): "key_block", ("key_block_wrap", "capacity"): "sizeof key_block",
+    ("key_block_wrap", "length"): "&key_block_length", ("dukpt_terminal_init", "terminal"): "&terminal",
+    ("dukpt_terminal_next_key", "terminal"): "&terminal", ("des_open_salted", "hash"): "CUKVASHE_SHA1",
+    ("tdes_ede2_open_salted", "hash"): "CUKVASHE_MD5", ("tdes_ede2_open_salted", "iterations"): "0",
+    ("tdes_ede3_open_salted", "iterations"): "0", ("decimal_table_init_any", "digits"): '"0000000000000000"',
+}  # fmt: skip
+# Of what the name of a call begins with.
+BY_SECTION = {("key_block_", "block"): "key_block", ("key_block_", "block_length"): "key_block_length"}
+BY_END = {("_open_salted", "length"): "sizeof salted", ("_open_salted", "capacity"): "sizeof salted"}
+
+
+class Samples:
+    """The calls in their order, each as a function that makes it."""
+
+    def __init__(self, header, stack):
+        self.header, self.stack = header, stack
+
+    def kind_of(self, call):
+        """The cipher or MAC whose name the call has, or None."""
+        return next((it for it in self.header.kinds if call.name.startswith(f"{it}_")), None)
+
+    def argument(self, call, one, room):
+        kind, size = self.kind_of(call), f"CUKVASHE_{(self.kind_of(call) or '').upper()}_KEY_SIZE"
+        if (call.name, one.name) in EXCEPTIONS:
+            return EXCEPTIONS[call.name, one.name]
+        for (begin, name), given in BY_SECTION.items():
+            if call.name.startswith(begin) and name == one.name and (one.type.is_const or not one.type.is_pointer):
+                return given
+        for (end, name), given in BY_END.items():
+            if call.name.endswith(end) and name == one.name:
+                return given
+        if one.type.struct and self.header.structs[one.type.struct].words:
+            return f"(void *)contexts[{self.header.kinds.index(one.type.struct)}]"
+        if one.type.is_pointer and not one.type.is_const:
+            return f"(void *)rooms[{next(room)}]"
+        if kind and one.name == "key_length":
+            return size
+        if one.name in ELEMENTS:
+            return f"{size if kind and one.name == 'keys_length' else ELEMENTS[one.name]} * count"
+        if one.name == "others_length":
+            return call.name.rpartition("_")[2]
+        if one.name not in BY_NAME:
+            raise Refused(f"bindings/description/samples.py: it has no value for the argument '{one.name}' of {call.name}")
+        return BY_NAME[one.name]
+
+    def functions(self):
+        yield "/* Each call of the header with arguments that it takes, by its name. Made by bindings/describe. */"
+        rows = []
+        for call in self.header.calls.values():
+            room = iter(range(9))
+            given = ", ".join(self.argument(call, one, room) for one in call.parameters)
+            made = f"cukvashe_{call.name}({given})"
+            if call.result.base != "void":
+                made = f"returned = {'*' * call.result.is_pointer}{made}"
+            yield filled(f"static void call_{call.name}(void) {{ {made}", "; }")
+            takes_context = any(one.type.struct and self.header.structs[one.type.struct].words for one in call.parameters)
+            words = [self.stack.limit(call), *map(int, (self.stack.wipes(call), "count" in re.findall(r"\w+", given), takes_context))]
+            rows.append(f'    {{"{call.name}", call_{call.name}, {", ".join(map(str, words))}}},')
+        yield ""
+        yield "/* The name of each call, the most that it uses of the stack, whether it wipes that, and whether it takes a list, and a context. */"
+        yield from ["static const struct call calls[] = {", *rows, "};"]
