@@ -270,8 +270,10 @@ class Stack:
         if len(lists) != 3:
             raise Refused(f"{PLACE}: {self.HEADING} has {len(lists)} lists, and not one of arguments, one of calls, and one of sizes")
         self.secrets, others = listed(lists[0]), listed(lists[1])
-        rows = re.findall(r"^ +([\d,]+)   +(.*(?:\n {12,}.*)*)", lists[2], re.MULTILINE)
-        self.sizes = [(int(size.replace(",", "")), listed(names)) for size, names in rows]
+        row = re.compile(r"^ +([\d,]+)   +(.*(?:\n {12,}.*)*)\n?", re.MULTILINE)
+        self.sizes = [(int(size.replace(",", "")), listed(names)) for size, names in row.findall(lists[2])]
+        if row.sub("", lists[2]).strip():
+            raise Refused(f"{PLACE}: {self.HEADING} has sizes that can't be read")
         self.header = header
         self._check(others)
 

@@ -88,3 +88,12 @@ class Samples:
         yield ""
         yield "/* The name of each call, the most that it uses of the stack, whether it wipes that, and whether it takes a list, and a context. */"
         yield from ["static const struct call calls[] = {", *rows, "};"]
+
+    def ignored(self):
+        """Each call that returns a status or an answer, with what it returns thrown away."""
+        yield "/* Each call that returns a status or an answer, which is thrown away: the compiler warns. Made by bindings/describe. */"
+        yield from ["#include <cukvashe_des.h>", "void ignores(void);", "void ignores(void) {"]
+        for call in self.header.calls.values():
+            if call.result.base in ("int", "bool"):
+                yield f"  cukvashe_{call.name}({', '.join('0' for _ in call.parameters)});"
+        yield "}"

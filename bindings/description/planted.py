@@ -1,0 +1,40 @@
+"""Mistakes in the header that must be refused: what stands there once, what stands in its place, and a part of the refusal."""
+
+from sources.text import Refused
+
+MISTAKES = [
+    ("ERR_BLOCKS 2 ", "ERR_BLOCKS 3 ", "does not have the number after"),
+    ("/* the key does not have a length", "/* The key does not have a length", "has no sentence"),
+    ("/* the PIN is not the one */", "/* the tag is not that of the message */", "has the sentence of another status"),
+    ("#define CUKVASHE_PKCS7 11", "#define CUKVASHE_PKCS7 sizeof", "is no number"),
+    ("#ifndef CUKVASHE_CHECK", "#undef CUKVASHE_OK\n#ifndef CUKVASHE_CHECK", "a directive that is not known"),
+    ("void cukvashe_wipe(void *pointer, size_t size);", "void cukvashe_wipe(void *pointer, size_t size)", "cukvashe_des.h:"),
+    ("void cukvashe_wipe(void *pointer, size_t size);", "void cukvashe_wipe(void *, size_t size);", "has no name of the library's"),
+    ("void cukvashe_wipe(void *pointer", "void cukvashe_wipe(void **pointer", "which no language takes"),
+    ("void cukvashe_wipe(void *pointer", "int wiped;\nvoid cukvashe_wipe(void *pointer", "neither a call nor a struct"),
+    ("void cukvashe_wipe(void *pointer", "const char *cukvashe_version(void);\nvoid cukvashe_wipe(void *pointer", "is declared twice"),
+    ("void cukvashe_wipe(void *pointer, size_t", "void cukvashe_wipe(void *pointer, long double", "has no type for"),
+    ("base, card, first", "base, card, cart, first", "which is no argument of a call"),
+    ("session, terminal,", "terminal,", "differ in who is given no secret"),
+    ("compare_tags, decimal_table_init,", "decimal_table_init,", "differ in who is given no secret"),
+    ("_macs, _macs_each", "_macs, _macs_every", "which is that of no call"),
+    ("45,000   _macs", "_macs", "has sizes that can't be read"),
+    ("void cukvashe_dukpt_pin_key(const uint8_t transaction[16]", "void cukvashe_dukpt_pin_key(const uint8_t transaction[8]", "C does not"),
+    ("bool cukvashe_dukpt_is_usable(const uint8_t serial[10]", "bool cukvashe_dukpt_is_usable(uint8_t serial[10]", "does not take and return"),
+    ("CUKVASHE_CHECK int cukvashe_pvv(const uint8_t key[16]", "CUKVASHE_CHECK int cukvashe_pvv(const uint8_t pair[16]", "it has no value for"),
+]
+
+
+def test(text, make):
+    """Makes all that is made of each mistaken header. How many there were."""
+    for old, new, refusal in MISTAKES:
+        if text.count(old) != 1:
+            raise Refused(f"bindings/description/planted.py: the header has {text.count(old)} times '{old}', and not once")
+        try:
+            make(text.replace(old, new))
+        except Refused as it:
+            if refusal not in str(it):
+                raise Refused(f"of '{new}' it says: {it}") from None
+        else:
+            raise Refused(f"it takes '{new}' in the place of '{old}'")
+    return len(MISTAKES)
