@@ -47,15 +47,15 @@ def passed(name, kind):
 
 
 class Export:
-    """A proved export: its name without `cukvashe_`, what it returns, its arguments as C passes them, and whether it is made for both
-    widths of vectors."""
+    """A proved export: its name without `cukvashe_`, what it returns, its arguments by name and kind, and as C passes them, and whether it
+    is made for both widths of vectors."""
 
     def __init__(self, item, module):
         found = re.fullmatch(r"\((.*?),? ?\)(?: -> (\w+))?", item.head)
-        pairs = [it.split(": ", 1) for it in re.split(r", (?=\w+: )", found[1].strip())]
+        self.pairs = [it.split(": ", 1) for it in re.split(r", (?=\w+: )", found[1].strip())]
         self.name = item.name.removeprefix("cukvashe_")
         self.result = NUMBERS[found[2]] if found[2] else "void"
-        self.arguments = [it for name, kind in pairs for it in passed(name, kind)]
+        self.arguments = [it for name, kind in self.pairs for it in passed(name, kind)]
         self.is_wide = module.split("::")[0] == "lists"
 
 

@@ -551,19 +551,98 @@ function renew() {
   workspace = new Workspace(new WebAssembly.Instance(compiled, {}).exports);
 }
 
-/** What a call writes to room of a size, after its other arguments. */
-function written(size, name, lay) {
+// How an argument of a call is laid down: bytes as they stand, a list with its length, a number, or one of 64 bits. In the place of
+// those that a call writes stands how many bytes it writes.
+const BYTES = (memory, bytes) => [memory.put(bytes)];
+const LIST = (memory, bytes) => memory.list(bytes);
+const NUMBER = (memory, number) => [Number(number)];
+const SIZE = (memory, number) => [BigInt(number)];
+
+// What calls of the module take, by the names of their arguments: made of crates/des_c by bindings/describe.
+const CALLS = {
+  weak_key_test: [["key", LIST]],
+  internal_equal_but_parity: [["first", LIST], ["second", LIST]],
+  unpad: [["bytes", LIST], ["method", NUMBER], ["unpaddedLength", 8]],
+  cvv: [["key", BYTES], ["account", LIST], ["expiry", LIST], ["service", LIST], ["value", 4]],
+  key_check_value: [["key", LIST], ["value", 3]],
+  short_key_check_value: [["key", LIST], ["value", 2]],
+  internal_check_value: [["keySize", SIZE], ["key", LIST], ["value", 3]],
+  dukpt_initial_key: [["base", BYTES], ["serial", BYTES], ["key", 16]],
+  dukpt_transaction_key: [["initial", BYTES], ["serial", BYTES], ["key", 16]],
+  dukpt_pin_key: [["transaction", BYTES], ["key", 16]],
+  dukpt_mac_key: [["transaction", BYTES], ["isResponse", NUMBER], ["key", 16]],
+  dukpt_data_variant: [["transaction", BYTES], ["isResponse", NUMBER], ["key", 16]],
+  dukpt_data_key: [["transaction", BYTES], ["isResponse", NUMBER], ["key", 16]],
+  dukpt_is_usable: [["serial", BYTES]],
+  dukpt_next_serial: [["serial", BYTES], ["next", 10]],
+  emv_card_key: [["issuer", BYTES], ["account", LIST], ["sequence", LIST], ["key", 16]],
+  emv_card_key_b: [["issuer", BYTES], ["account", LIST], ["sequence", LIST], ["key", 16]],
+  emv_session_key: [["card", BYTES], ["block", BYTES], ["key", 16]],
+  emv_application_key: [["card", BYTES], ["counter", BYTES], ["key", 16]],
+  emv_application_cryptogram: [["session", BYTES], ["bytes", LIST], ["cryptogram", 8]],
+  emv_response_1: [["session", BYTES], ["cryptogram", BYTES], ["code", BYTES], ["response", 8]],
+  emv_response_2: [["session", BYTES], ["cryptogram", BYTES], ["status", BYTES], ["bytes", LIST], ["response", 4]],
+  key_block_unwrap: [["protection", LIST], ["block", LIST], ["header", 10], ["key", 24], ["length", 8]],
+  key_block_header: [["block", LIST], ["text", 10]],
+  key_block_context: [["block", LIST], ["context", 1]],
+  key_block_optional_block: [["block", LIST], ["place", SIZE], ["name", 3], ["offset", 8], ["length", 8]],
+  pin_encode_0: [["pin", LIST], ["account", LIST], ["block", 8]],
+  pin_encode_1: [["pin", LIST], ["transaction", BYTES], ["block", 8]],
+  pin_encode_2: [["pin", LIST], ["block", 8]],
+  pin_encode_3: [["pin", LIST], ["account", LIST], ["fill", BYTES], ["block", 8]],
+  pin_decode_0: [["block", BYTES], ["account", LIST], ["pin", 13]],
+  pin_decode_1: [["block", BYTES], ["pin", 13]],
+  pin_decode_2: [["block", BYTES], ["pin", 13]],
+  pin_decode_3: [["block", BYTES], ["account", LIST], ["pin", 13]],
+  pvv: [["key", BYTES], ["account", LIST], ["index", NUMBER], ["pin", LIST], ["value", 5]],
+  pvv_verify: [["key", BYTES], ["account", LIST], ["index", NUMBER], ["pin", LIST], ["value", LIST]],
+  decimal_table_init: [["table", 16], ["text", LIST]],
+  decimal_table_init_any: [["table", 16], ["text", LIST]],
+  natural_pin: [["key", LIST], ["table", BYTES], ["validation", BYTES], ["count", SIZE], ["pin", 13]],
+  pin_offset: [["key", LIST], ["table", BYTES], ["validation", BYTES], ["pin", LIST], ["offset", 13]],
+  pin_offset_verify: [["key", LIST], ["table", BYTES], ["validation", BYTES], ["pin", LIST], ["offset", LIST]],
+  pin_translate_to_0: [
+    ["incoming", LIST],
+    ["format", NUMBER],
+    ["outgoing", LIST],
+    ["account", LIST],
+    ["block", BYTES],
+    ["translated", 8],
+  ],
+  pin_translate_to_1: [["incoming", LIST], ["outgoing", LIST], ["block", BYTES], ["translated", 8]],
+  pin_translate_to_3: [
+    ["incoming", LIST],
+    ["format", NUMBER],
+    ["outgoing", LIST],
+    ["account", LIST],
+    ["fill", BYTES],
+    ["block", BYTES],
+    ["translated", 8],
+  ],
+};
+// This ends what bindings/describe made.
+
+/** Makes a call with arguments by their names, and gives what it writes by its names. `given` may ask for the state of an object. */
+function made(name, given) {
   return inside((memory) => {
-    const words = lay(memory);
-    const at = memory.room(size);
-    memory.call(name, ...words, at);
-    return memory.taken(at, size);
+    const values = typeof given === "function" ? given(memory) : given;
+    const rooms = [];
+    const words = CALLS[name].flatMap(([argument, how]) => {
+      if (typeof how === "function") return how(memory, values[argument]);
+      rooms.push([argument, memory.room(how), how]);
+      return [rooms.at(-1)[1]];
+    });
+    memory.call(name, ...words);
+    return Object.fromEntries(rooms.map(([argument, at, size]) => [argument, memory.taken(at, size)]));
   });
 }
 
+/** The bytes that a call writes, which writes nothing else. */
+const written = (name, given) => Object.values(made(name, given))[0];
+
 /** The digits that a call writes, up to its zero byte. */
-function writtenText(size, name, lay) {
-  const bytes = written(size, name, lay);
+function writtenText(name, given) {
+  const bytes = written(name, given);
   const text = String.fromCharCode(...bytes.filter((byte) => byte !== 0));
   bytes.fill(0);
   return text;
@@ -756,9 +835,11 @@ class Mac extends Keyed {
 
   digest(encoding) {
     if (encoding !== undefined && encoding !== "hex") throw new TypeError('digest takes no argument but "hex"');
-    const tag = written(TAG_SIZE, "internal_mac_final", (memory) => {
+    const tag = inside((memory) => {
       const { kind, context } = memory.state(this, Mac);
-      return contextAt(kind, memory.put(context));
+      const at = memory.room(TAG_SIZE);
+      memory.call("internal_mac_final", ...contextAt(kind, memory.put(context)), at);
+      return memory.taken(at, TAG_SIZE);
     });
     return encoding === "hex" ? hexOf(tag) : tag;
   }
@@ -914,22 +995,18 @@ export function equalButParity(first, second) {
   return inside((memory) => memory.ask("internal_equal_but_parity", ...memory.list(one), ...memory.list(other))) !== 0;
 }
 
-const CHECK_VALUE_SIZE = 3;
-
 export function checkValue(cipher, key) {
   const { keySize } = cipherOf(cipher);
   const bytes = keyOf(key, keySize);
-  return written(CHECK_VALUE_SIZE, "internal_check_value", (memory) => [BigInt(keySize), ...memory.list(bytes)]);
+  return written("internal_check_value", { keySize, key: bytes });
 }
 
 export function keyCheckValue(key) {
-  const bytes = keyOf(key, ...SIZES);
-  return written(CHECK_VALUE_SIZE, "key_check_value", (memory) => memory.list(bytes));
+  return written("key_check_value", { key: keyOf(key, ...SIZES) });
 }
 
 export function shortKeyCheckValue(key) {
-  const bytes = keyOf(key, ...SIZES);
-  return written(2, "short_key_check_value", (memory) => memory.list(bytes));
+  return written("short_key_check_value", { key: keyOf(key, ...SIZES) });
 }
 
 export function combine(first, second, ...others) {
@@ -954,39 +1031,39 @@ export function combine(first, second, ...others) {
 const SERIAL_SIZE = 10;
 const TRANSACTION_KEY_SIZE = 16;
 
-/** A key of 16 bytes that a call makes of another. */
-function madeOf(name, key, lay) {
-  const bytes = keyOf(key, TRANSACTION_KEY_SIZE);
-  return written(TRANSACTION_KEY_SIZE, name, (memory) => [memory.put(bytes), ...lay(memory)]);
-}
+/** A key of a transaction. */
+const transactionKeyOf = (key) => keyOf(key, TRANSACTION_KEY_SIZE);
 
 export function dukptInitialKey(base, serial) {
   const number = serialOf(serial);
-  return madeOf("dukpt_initial_key", base, (memory) => [memory.put(number)]);
+  return written("dukpt_initial_key", { base: transactionKeyOf(base), serial: number });
 }
 
 export function dukptTransactionKey(initial, serial) {
   const number = serialOf(serial);
-  return madeOf("dukpt_transaction_key", initial, (memory) => [memory.put(number)]);
+  return written("dukpt_transaction_key", { initial: transactionKeyOf(initial), serial: number });
 }
 
 export function dukptPinKey(transaction) {
-  return madeOf("dukpt_pin_key", transaction, () => []);
+  return written("dukpt_pin_key", { transaction: transactionKeyOf(transaction) });
 }
 
 export function dukptMacKey(transaction, isResponse = false) {
-  const word = responseOf(isResponse);
-  return madeOf("dukpt_mac_key", transaction, () => [Number(word)]);
+  return keyOfMessage("dukpt_mac_key", transaction, isResponse);
 }
 
 export function dukptDataKey(transaction, isResponse = false) {
-  const word = responseOf(isResponse);
-  return madeOf("dukpt_data_key", transaction, () => [Number(word)]);
+  return keyOfMessage("dukpt_data_key", transaction, isResponse);
 }
 
 export function dukptDataVariant(transaction, isResponse = false) {
+  return keyOfMessage("dukpt_data_variant", transaction, isResponse);
+}
+
+/** The key for the request or the response. */
+function keyOfMessage(name, transaction, isResponse) {
   const word = responseOf(isResponse);
-  return madeOf("dukpt_data_variant", transaction, () => [Number(word)]);
+  return written(name, { transaction: transactionKeyOf(transaction), isResponse: word });
 }
 
 export function dukptNextSerial(serial) {
@@ -1043,103 +1120,83 @@ export class DukptTerminal extends Keyed {
 
 // ---- PIN blocks (ISO 9564-1) and their translation. Numbers are strings, or bytes, of digits -----------------
 
-const PIN_SIZE = 13;
-const CVV_SIZE = 4;
+const pinOf = (pin) => textOf(pin, "a PIN");
+const accountOf = (account) => textOf(account, "an account number");
 
 export function pinEncode0(pin, account) {
-  const [digits, number] = [textOf(pin, "a PIN"), textOf(account, "an account number")];
-  return written(BLOCK_SIZE, "pin_encode_0", (memory) => [...memory.list(digits), ...memory.list(number)]);
+  return written("pin_encode_0", { pin: pinOf(pin), account: accountOf(account) });
 }
 
 export function pinEncode1(pin, transaction) {
-  const [digits, fill] = [textOf(pin, "a PIN"), fillOf(transaction)];
-  return written(BLOCK_SIZE, "pin_encode_1", (memory) => [...memory.list(digits), memory.put(fill)]);
+  return written("pin_encode_1", { pin: pinOf(pin), transaction: fillOf(transaction) });
 }
 
 export function pinEncode2(pin) {
-  const digits = textOf(pin, "a PIN");
-  return written(BLOCK_SIZE, "pin_encode_2", (memory) => memory.list(digits));
+  return written("pin_encode_2", { pin: pinOf(pin) });
 }
 
 export function pinEncode3(pin, account, fill) {
-  const [digits, number, random] = [textOf(pin, "a PIN"), textOf(account, "an account number"), fillOf(fill)];
-  const lay = (memory) => [...memory.list(digits), ...memory.list(number), memory.put(random)];
-  return written(BLOCK_SIZE, "pin_encode_3", lay);
+  return written("pin_encode_3", { pin: pinOf(pin), account: accountOf(account), fill: fillOf(fill) });
 }
 
 export function pinDecode0(block, account) {
-  const [number, bytes] = [textOf(account, "an account number"), blockOf(block)];
-  return writtenText(PIN_SIZE, "pin_decode_0", (memory) => [memory.put(bytes), ...memory.list(number)]);
+  return writtenText("pin_decode_0", { account: accountOf(account), block: blockOf(block) });
 }
 
 export function pinDecode1(block) {
-  const bytes = blockOf(block);
-  return writtenText(PIN_SIZE, "pin_decode_1", (memory) => [memory.put(bytes)]);
+  return writtenText("pin_decode_1", { block: blockOf(block) });
 }
 
 export function pinDecode2(block) {
-  const bytes = blockOf(block);
-  return writtenText(PIN_SIZE, "pin_decode_2", (memory) => [memory.put(bytes)]);
+  return writtenText("pin_decode_2", { block: blockOf(block) });
 }
 
 export function pinDecode3(block, account) {
-  const [number, bytes] = [textOf(account, "an account number"), blockOf(block)];
-  return writtenText(PIN_SIZE, "pin_decode_3", (memory) => [memory.put(bytes), ...memory.list(number)]);
+  return writtenText("pin_decode_3", { account: accountOf(account), block: blockOf(block) });
 }
 
 export function pinTranslateTo0(incomingFormat, account, block, keys) {
-  return written(BLOCK_SIZE, "pin_translate_to_0", translated(incomingFormat, account, [], block, keys));
+  return written("pin_translate_to_0", translated(incomingFormat, account, [], block, keys));
 }
 
 export function pinTranslateTo1(block, keys) {
   const { incomingKey, outgoingKey } = translationOf(keys);
-  const [incoming, outgoing, bytes] = [keyOf(incomingKey, ...SIZES), keyOf(outgoingKey, ...SIZES), blockOf(block)];
-  const lay = (memory) => [...memory.list(incoming), ...memory.list(outgoing), memory.put(bytes)];
-  return written(BLOCK_SIZE, "pin_translate_to_1", lay);
+  const [incoming, outgoing] = [keyOf(incomingKey, ...SIZES), keyOf(outgoingKey, ...SIZES)];
+  return written("pin_translate_to_1", { incoming, outgoing, block: blockOf(block) });
 }
 
 export function pinTranslateTo3(incomingFormat, account, fill, block, keys) {
-  return written(BLOCK_SIZE, "pin_translate_to_3", translated(incomingFormat, account, [fill], block, keys));
+  return written("pin_translate_to_3", translated(incomingFormat, account, [fill], block, keys));
 }
 
 /** The keys of a translation, by their names. */
 const translationOf = (keys) => optionsOf(keys, "incomingKey", "outgoingKey");
 
-/** What a translation takes, laid down. */
+/** What a translation takes, with fill digits or without. */
 function translated(incomingFormat, account, fills, block, keys) {
   const { incomingKey, outgoingKey } = translationOf(keys);
-  const [format, digits] = [numberOf(incomingFormat, 0, 3, "the incoming format"), fills.map(fillOf)];
+  const [format, [fill]] = [numberOf(incomingFormat, 0, 3, "the incoming format"), fills.map(fillOf)];
   const [incoming, outgoing] = [keyOf(incomingKey, ...SIZES), keyOf(outgoingKey, ...SIZES)];
-  const [number, bytes] = [textOf(account, "an account number"), blockOf(block)];
-  return (memory) => [
-    ...memory.list(incoming), format, ...memory.list(outgoing), ...memory.list(number),
-    ...digits.map((fill) => memory.put(fill)), memory.put(bytes),
-  ];
+  return { incoming, format, outgoing, account: accountOf(account), fill, block: blockOf(block) };
 }
 
 // ---- PIN verification: the PIN verification value (PVV), and natural PINs and offsets by the method of the IBM 3624
 
-const PVV_SIZE = 5;
-
 export function pvv(key, account, index, pin) {
-  return writtenText(PVV_SIZE, "pvv", valueOf(key, account, index, pin));
+  return writtenText("pvv", valueOf(key, account, index, pin));
 }
 
 export function pvvVerify(key, account, index, pin, value) {
-  const lay = valueOf(key, account, index, pin);
-  const kept = textOf(value, "a PIN verification value");
-  inside((memory) => memory.call("pvv_verify", ...lay(memory), ...memory.list(kept)));
+  const given = valueOf(key, account, index, pin);
+  made("pvv_verify", { ...given, value: textOf(value, "a PIN verification value") });
   return true;
 }
 
-/** What the calls of PIN verification values take, laid down. */
+/** What the calls of PIN verification values take. */
 function valueOf(key, account, index, pin) {
   const place = numberOf(index, 1, 6, "the index of the key pair");
-  const [pair, number, digits] = [keyOf(key, 16), textOf(account, "an account number"), textOf(pin, "a PIN")];
-  return (memory) => [memory.put(pair), ...memory.list(number), place, ...memory.list(digits)];
+  return { key: keyOf(key, 16), account: accountOf(account), index: place, pin: pinOf(pin) };
 }
-
-const TABLE_SIZE = 16;
 
 export class DecimalTable {
   constructor(digits) {
@@ -1153,43 +1210,27 @@ export class DecimalTable {
 }
 
 /** The table that a call makes of digits. */
-function tableOf(call, digits) {
-  const text = textOf(digits, "a decimalization table");
-  return inside((memory) => {
-    const at = memory.room(TABLE_SIZE);
-    memory.call(call, at, ...memory.list(text));
-    return memory.taken(at, TABLE_SIZE);
-  });
-}
+const tableOf = (call, digits) => written(call, { text: textOf(digits, "a decimalization table") });
 
-/** A key, a decimalization table and validation data, sixteen digits in 8 bytes, as the calls below take them. */
-function naturalOf(key, table, validation) {
+/** A key, a decimalization table and validation data, sixteen digits in 8 bytes, as the calls below take them, and more. */
+function naturalOf(key, table, validation, more) {
   const data = dataOf(validation, BLOCK_SIZE, "validation data", "have", BlockLength);
-  const held = keyOf(key, ...SIZES);
-  return (memory) => {
-    const { context } = memory.state(table, DecimalTable, "the decimalization table");
-    return [...memory.list(held), memory.put(context), memory.put(data)];
-  };
+  const given = { key: keyOf(key, ...SIZES), validation: data, ...more() };
+  return (memory) => ({ ...given, table: memory.state(table, DecimalTable, "the decimalization table").context });
 }
 
 export function naturalPin(key, table, validation, length) {
-  const lay = naturalOf(key, table, validation);
-  const count = BigInt(numberOf(length, 4, 12, "the length of the PIN"));
-  return writtenText(PIN_SIZE, "natural_pin", (memory) => [...lay(memory), count]);
+  const count = () => ({ count: numberOf(length, 4, 12, "the length of the PIN") });
+  return writtenText("natural_pin", naturalOf(key, table, validation, count));
 }
 
 export function pinOffset(key, table, validation, pin) {
-  const lay = naturalOf(key, table, validation);
-  const digits = textOf(pin, "a PIN");
-  return writtenText(PIN_SIZE, "pin_offset", (memory) => [...lay(memory), ...memory.list(digits)]);
+  return writtenText("pin_offset", naturalOf(key, table, validation, () => ({ pin: pinOf(pin) })));
 }
 
 export function pinOffsetVerify(key, table, validation, pin, offset) {
-  const lay = naturalOf(key, table, validation);
-  const texts = [textOf(pin, "a PIN"), textOf(offset, "an offset")];
-  inside((memory) => {
-    memory.call("pin_offset_verify", ...lay(memory), ...texts.flatMap((text) => memory.list(text)));
-  });
+  const texts = () => ({ pin: pinOf(pin), offset: textOf(offset, "an offset") });
+  made("pin_offset_verify", naturalOf(key, table, validation, texts));
   return true;
 }
 
@@ -1199,8 +1240,7 @@ const cryptogramOf = (bytes) => dataOf(bytes, BLOCK_SIZE, "an application crypto
 
 function cardKeyBy(name, issuer, account, sequence) {
   const key = keyOf(issuer, 16);
-  const texts = [textOf(account, "an account number"), textOf(sequence, "a sequence number")];
-  return written(16, name, (memory) => [memory.put(key), ...texts.flatMap((text) => memory.list(text))]);
+  return written(name, { issuer: key, account: accountOf(account), sequence: textOf(sequence, "a sequence number") });
 }
 
 export function emvCardKey(issuer, account, sequence) {
@@ -1213,45 +1253,40 @@ export function emvCardKeyB(issuer, account, sequence) {
 
 export function emvSessionKey(card, block) {
   const bytes = dataOf(block, BLOCK_SIZE, "the block of a session", "has", BlockLength);
-  return madeOf("emv_session_key", card, (memory) => [memory.put(bytes)]);
+  return written("emv_session_key", { card: keyOf(card, 16), block: bytes });
 }
 
 export function emvApplicationKey(card, counter) {
   const bytes = dataOf(counter, 2, "a transaction counter", "has", DataLength);
-  return madeOf("emv_application_key", card, (memory) => [memory.put(bytes)]);
+  return written("emv_application_key", { card: keyOf(card, 16), counter: bytes });
 }
 
 export function emvApplicationCryptogram(session, data) {
-  const [key, bytes] = [keyOf(session, 16), bytesOf(data, "data")];
-  return written(BLOCK_SIZE, "emv_application_cryptogram", (memory) => [memory.put(key), ...memory.list(bytes)]);
+  return written("emv_application_cryptogram", { session: keyOf(session, 16), bytes: bytesOf(data, "data") });
 }
 
 export function emvResponse1(session, cryptogram, code) {
   const request = cryptogramOf(cryptogram);
   const word = dataOf(code, 2, "a response code", "has", DataLength);
-  const key = keyOf(session, 16);
-  return written(BLOCK_SIZE, "emv_response_1", (memory) => [memory.put(key), memory.put(request), memory.put(word)]);
+  return written("emv_response_1", { session: keyOf(session, 16), cryptogram: request, code: word });
 }
 
 export function emvResponse2(session, cryptogram, status, data = new Uint8Array()) {
   const request = cryptogramOf(cryptogram);
   const word = dataOf(status, 4, "a card status update", "has", DataLength);
-  const [bytes, key] = [bytesOf(data, "data"), keyOf(session, 16)];
-  const lay = (memory) => [memory.put(key), memory.put(request), memory.put(word), ...memory.list(bytes)];
-  return written(4, "emv_response_2", lay);
+  const bytes = bytesOf(data, "data");
+  return written("emv_response_2", { session: keyOf(session, 16), cryptogram: request, status: word, bytes });
 }
 
 // ---- Card verification values
 
 export function cvv(key, account, expiry, service) {
-  const pair = keyOf(key, 16);
-  const texts = [textOf(account, "an account number"), textOf(expiry, "an expiry date"), textOf(service, "a service code")];
-  return writtenText(CVV_SIZE, "cvv", (memory) => [memory.put(pair), ...texts.flatMap((text) => memory.list(text))]);
+  const given = { key: keyOf(key, 16), account: accountOf(account), expiry: textOf(expiry, "an expiry date") };
+  return writtenText("cvv", { ...given, service: textOf(service, "a service code") });
 }
 
 // ---- Key blocks (ANSI X9.143, ASC X9 TR-31): a key with what it is for, encrypted and authenticated under another -----
 
-const FIELDS_SIZE = 10;
 const KEY_DATA_SIZE = 32;
 
 // More characters than a block has besides its optional blocks, and a zero byte; and more than it can have.
@@ -1318,12 +1353,11 @@ function optionalOf(optional) {
 export function unwrapKeyBlock(protection, block) {
   const held = bytesOf(protection, "a protection key");
   const text = keyBlockOf(block);
-  return inside((memory) => {
-    const laid = [...memory.list(held), ...memory.list(text)];
-    const [fields, key, length] = [FIELDS_SIZE, 24, 8].map((size) => memory.room(size));
-    memory.call("key_block_unwrap", ...laid, fields, key, length);
-    return { header: headerFrom(memory.taken(fields, FIELDS_SIZE)), key: memory.taken(key, memory.word(length)) };
-  });
+  const { header, key, length } = made("key_block_unwrap", { protection: held, block: text });
+  const size = Number(new DataView(length.buffer).getBigUint64(0, true));
+  const bare = key.slice(0, size);
+  key.fill(0);
+  return { header: headerFrom(header), key: bare };
 }
 
 export function wrapKeyBlock(protection, header, key, options = {}) {
@@ -1342,13 +1376,11 @@ export function wrapKeyBlock(protection, header, key, options = {}) {
 }
 
 export function keyBlockHeader(block) {
-  const text = keyBlockOf(block);
-  return headerFrom(written(FIELDS_SIZE, "key_block_header", (memory) => memory.list(text)));
+  return headerFrom(written("key_block_header", { block: keyBlockOf(block) }));
 }
 
 export function keyBlockContext(block) {
-  const text = keyBlockOf(block);
-  return charactersOf(written(1, "key_block_context", (memory) => memory.list(text)));
+  return charactersOf(written("key_block_context", { block: keyBlockOf(block) }));
 }
 
 export function keyBlockOptionalBlocks(block) {
@@ -1455,6 +1487,8 @@ function answeredEach(call, cipher, keys, blocks) {
     return memory.taken(at, given.length);
   });
 }
+
+const CHECK_VALUE_SIZE = 3;
 
 export function checkValues(cipher, keys) {
   const { keySize } = cipherOf(cipher);

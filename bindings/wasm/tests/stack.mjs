@@ -9,8 +9,9 @@ const SIZE = 131072;
 const used = new Map();
 let memory;
 
-/** An export that says how much of the stack a call took. */
+/** An export that says how much of the stack a call took. It gets as many words as it takes: the engine would pass over others, and 0 for none. */
 const measured = (name, call) => (...words) => {
+  assert.equal(words.length, call.length, name);
   const stack = () => new Uint8Array(memory.buffer, 0, SIZE);
   stack().fill(0xa5);
   const answer = call(...words);
