@@ -13,6 +13,14 @@ FRAMES = 350
 # What a function in the place of an export does with what was noted.
 NOTED = {"int": "return {}", "void": "{}", "bool": "return {} == STATUS && answer"}
 
+# The words of a MAC's context after those of its cipher, and arguments that a call tells by its name or by its method.
+MESSAGE_WORDS = 4
+OF_KIND = {
+    "algorithm": lambda algorithm, call, names: algorithm,
+    "padding": lambda algorithm, call, names: "(uint32_t)method" if "method" in names else "CUKVASHE_MAC_PADDING_2",
+    "quiet": lambda algorithm, call, names: "true" if call.name.endswith("_quiet") else "false",
+}
+
 # How C passes what the exports take: a slice is a pointer and a number of elements, and a slice of slices is a pointer to such pairs.
 NUMBERS = {"u8": "uint8_t", "u32": "uint32_t", "u64": "uint64_t", "i32": "int", "usize": "size_t", "bool": "bool"}
 STRUCTS = {
@@ -163,7 +171,7 @@ class Wiped:
 
     def handed(self):
         """Calls of what is made here, each of which must go on to its export, with its arguments in their order, and wipe."""
-        yield "/* Each call of wiped.c goes on to its export with its arguments in their order, and wipes. Made by bindings/describe. */"
+        yield "/* Each call of calls.c goes on to its export with its arguments in their order, and wipes. Made by bindings/describe. */"
         yield "static void hands_all_on(void) {"
         for it in self.alike:
             given = [f"(void *)(base + {at})" if one.type.is_pointer else str(at + 1) for at, one in enumerate(it.parameters)]
@@ -174,15 +182,91 @@ class Wiped:
         yield "}"
 
     def definitions(self):
-        yield "/* Calls of the header that are given or give a key, a password or a PIN, and whose export has their arguments: each wipes after it."
-        yield "   Made by bindings/describe of the header. */"
+        yield "/* Calls of the header that follow a rule: those whose export has their arguments, those with a context, and those that say in a bool"
+        yield "   what another says in a status. Made by bindings/describe of the header and the exports. */"
         yield '#include "internal.h"'
-        for it in self.alike:
-            given = ", ".join(one.name for one in it.parameters)
-            result = "" if it.result.base == "void" else f"const {it.result.base} result = "
-            yield ""
-            yield declared(it.result.base, f"cukvashe_{it.name}", arguments_of(it), " {")
-            yield filled(f"  {result}cukvashe_unwiped_{it.name}({given})", ";")
-            yield f"  cukvashe_internal_wipe_stack(STACK_{it.name});"
+        for it in self.header.calls.values():
+            if it in self.alike:
+                given = ", ".join(one.name for one in it.parameters)
+                yield from self._defined(it, [f"cukvashe_unwiped_{it.name}({given})"])
+            elif verify := self.verified(it):
+                given = ", ".join(one.name for one in it.parameters)
+                yield from ["", declared("bool", f"cukvashe_{it.name}", arguments_of(it), " {")]
+                yield from [filled(f"  return cukvashe_{verify}({given}) == CUKVASHE_OK", ";"), "}"]
+            elif export := self.of_context(it):
+                yield from self._defined(it, list(self._goes_on(it, export)))
+
+    def verified(self, call):
+        """The name of the call that says in a status what a call named is_tag or is_pin says in a bool, or None."""
+        name = re.sub("_is_(tag|pin)$", "_verify", call.name)
+        return name if name != call.name and call.result.base == "bool" and name in self.header.calls else None
+
+    def kind_of(self, call):
+        return next((it for it in self.header.kinds if call.name.startswith(f"{it}_")), None)
+
+    def of_context(self, call):
+        """The export of a call that takes a context and no list of counts, or None."""
+        kind = self.kind_of(call)
+        if kind is None or call.parameters[0].name != "context" or any("count" in it.name for it in call.parameters):
+            return None
+        name = call.name.removeprefix(f"{kind}_").removesuffix("_quiet")
+        found = self.exports.get(f"internal_{'mac_' if self.algorithm(kind) else ''}{name}")
+        if found is None:
+            raise Refused(f"cukvashe_{call.name} has no export in crates/des_c")
+        return found
+
+    @staticmethod
+    def algorithm(kind):
+        """The name of a MAC's algorithm, or None of a cipher."""
+        return next((f"ALGORITHM_{it.upper()}" for it in ("cbc_mac", "retail_mac", "cmac") if kind.startswith(it)), None)
+
+    def _goes_on(self, call, export):
+        """The lines of a call over the export that serves all ciphers or MACs."""
+        kind = self.kind_of(call)
+        words = self.header.structs[kind].words - (MESSAGE_WORDS if self.algorithm(kind) else 0)
+        names = [it.name for it in call.parameters[1:]]
+        if "input" in names:
+            given = ", ".join(it for it in ["context", *names] if it != "input")
+            yield f"if (input == output) return cukvashe_{call.name.removesuffix('_to')}({given});"
+        pointers = [it for it in call.parameters[1:] if it.type.is_pointer]
+        given, taken = [], {"context"}
+        for name, rust in export.pairs:
+            if name == "context":
+                given += ["context->words", str(words)]
+            elif rust.endswith("Message"):
+                given.append(f"context->words + {words}")
+            elif name in OF_KIND:
+                given.append(OF_KIND[name](self.algorithm(kind), call, names))
+                taken.add("method")
+            elif rust == "usize":
+                given.append("length")
+                taken.add("length")
+            else:
+                pointer = pointers.pop(0)
+                length = f"{pointer.name}_length" if f"{pointer.name}_length" in names else "length"
+                given.append(pointer.name)
+                taken |= {pointer.name} | ({length} if "[" in rust and ";" not in rust else set())
+                if re.search(r"\[\[u8; 8\]\]", rust):
+                    given.append("length / CUKVASHE_BLOCK_SIZE")
+                elif ";" not in rust:
+                    given.append(length)
+        if pointers or not taken.issuperset(names):
+            raise Refused(f"cukvashe_{call.name} does not have the arguments of cukvashe_{export.name}")
+        name = export.name.removeprefix("internal_")
+        if export.is_wide:
+            yield f"CHOOSE(length / CUKVASHE_BLOCK_SIZE, {name}, {', '.join(given)})"
+        else:
+            yield f"cukvashe_{export.name}({', '.join(given)})"
+
+    def _defined(self, call, lines):
+        """A call, whose last line is what it goes on to, and which wipes after it where it must."""
+        yield from ["", declared(call.result.base, f"cukvashe_{call.name}", arguments_of(call), " {")]
+        yield from (f"  {it}" for it in lines[:-1])
+        if not self.stack.wipes(call):
+            yield filled(f"  return {lines[-1]}", ";")
+        else:
+            result = "" if call.result.base == "void" else f"const {call.result.base} result = "
+            yield filled(f"  {result}{lines[-1]}", ";")
+            yield f"  cukvashe_internal_wipe_stack(STACK_{call.name});"
             yield from ["  return result;"] * bool(result)
-            yield "}"
+        yield "}"

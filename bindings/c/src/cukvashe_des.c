@@ -1,11 +1,10 @@
 /*
- * The C of the library: calls of the header over proved exports, which serve all ciphers and MACs and take arguments in another order;
- * the choice between two exports, by the length of a list and the processor; lengths of lists in bytes; texts; and wiping.
+ * The C of the library that follows no rule (calls.c has the rest): calls of lists and with structs over proved exports; the choice between
+ * two exports, by the length of a list and the processor; texts; and wiping.
  */
 #include "internal.h"
 #include <string.h>
 
-/* CHOOSE makes a call of an export of lists, for this many blocks, keys or messages. */
 #if HAS_WIDE
 /* The processor is asked once, since a virtual one may take long to answer. Threads that ask at once all store one answer. */
 static bool processor_is_wide(void) {
@@ -20,12 +19,7 @@ static bool processor_is_wide(void) {
   return known == YES;
 }
 
-static bool takes_wide(size_t count) { return count > MOST_NARROW && processor_is_wide(); }
-
-#define CHOOSE(COUNT, CALL, ...)                                                                                      \
-  (takes_wide(COUNT) ? cukvashe_wide_##CALL(__VA_ARGS__) : cukvashe_internal_##CALL(__VA_ARGS__))
-#else
-#define CHOOSE(COUNT, CALL, ...) cukvashe_internal_##CALL(__VA_ARGS__)
+bool cukvashe_internal_takes_wide(size_t count) { return count > MOST_NARROW && processor_is_wide(); }
 #endif
 
 /* A call of the header that is given or gives a key, a password or a PIN: it goes on to the call that does the work, and wipes after it. */
@@ -34,12 +28,6 @@ static bool takes_wide(size_t count) { return count > MOST_NARROW && processor_i
     const RESULT result = CALL;                                                                                       \
     cukvashe_internal_wipe_stack(STACK_##NAME);                                                                       \
     return result;                                                                                                    \
-  }
-
-#define WIPES_VOID(NAME, PARAMETERS, CALL)                                                                            \
-  void cukvashe_##NAME PARAMETERS {                                                                                   \
-    (void)(CALL);                                                                                                     \
-    cukvashe_internal_wipe_stack(STACK_##NAME);                                                                       \
   }
 
 /* Blocks of `length` bytes. */
@@ -63,40 +51,7 @@ static bool are_elements(size_t count, size_t size, size_t length) {
 /* Lists of messages under one key. The exports take keys of the MAC's size alone. */
 #define OF_KEY(SIZE, CALL) (key_length != (SIZE) ? CUKVASHE_ERR_KEY_LENGTH : (CALL))
 
-/* Calls with a context. From a buffer to itself is the call in place: the exports of two buffers take two that do not overlap. */
-#define DEFINE_CIPHER(NAME, WORDS)                                                                                    \
-  int cukvashe_##NAME##_encrypt_ecb(const cukvashe_##NAME *context, uint8_t *data, size_t length) {                   \
-    return CHOOSE(BLOCKS, encrypt_ecb, context->words, WORDS, data, BLOCKS, length);                                  \
-  }                                                                                                                   \
-  int cukvashe_##NAME##_decrypt_ecb(const cukvashe_##NAME *context, uint8_t *data, size_t length) {                   \
-    return CHOOSE(BLOCKS, decrypt_ecb, context->words, WORDS, data, BLOCKS, length);                                  \
-  }                                                                                                                   \
-  int cukvashe_##NAME##_encrypt_ecb_to(const cukvashe_##NAME *context, const uint8_t *input, uint8_t *output,         \
-                                       size_t length) {                                                               \
-    if (input == output) return cukvashe_##NAME##_encrypt_ecb(context, output, length);                               \
-    return CHOOSE(BLOCKS, encrypt_ecb_to, context->words, WORDS, input, BLOCKS, output, BLOCKS, length);              \
-  }                                                                                                                   \
-  int cukvashe_##NAME##_decrypt_ecb_to(const cukvashe_##NAME *context, const uint8_t *input, uint8_t *output,         \
-                                       size_t length) {                                                               \
-    if (input == output) return cukvashe_##NAME##_decrypt_ecb(context, output, length);                               \
-    return CHOOSE(BLOCKS, decrypt_ecb_to, context->words, WORDS, input, BLOCKS, output, BLOCKS, length);              \
-  }                                                                                                                   \
-  int cukvashe_##NAME##_encrypt_cbc(const cukvashe_##NAME *context, uint8_t iv[8], uint8_t *data, size_t length) {    \
-    return cukvashe_internal_encrypt_cbc(context->words, WORDS, iv, data, BLOCKS, length);                            \
-  }                                                                                                                   \
-  int cukvashe_##NAME##_decrypt_cbc(const cukvashe_##NAME *context, uint8_t iv[8], uint8_t *data, size_t length) {    \
-    return CHOOSE(BLOCKS, decrypt_cbc, context->words, WORDS, iv, data, BLOCKS, length);                              \
-  }                                                                                                                   \
-  int cukvashe_##NAME##_encrypt_cbc_to(const cukvashe_##NAME *context, uint8_t iv[8], const uint8_t *input,           \
-                                       uint8_t *output, size_t length) {                                              \
-    if (input == output) return cukvashe_##NAME##_encrypt_cbc(context, iv, output, length);                           \
-    return cukvashe_internal_encrypt_cbc_to(context->words, WORDS, iv, input, BLOCKS, output, BLOCKS, length);        \
-  }                                                                                                                   \
-  int cukvashe_##NAME##_decrypt_cbc_to(const cukvashe_##NAME *context, uint8_t iv[8], const uint8_t *input,           \
-                                       uint8_t *output, size_t length) {                                              \
-    if (input == output) return cukvashe_##NAME##_decrypt_cbc(context, iv, output, length);                           \
-    return CHOOSE(BLOCKS, decrypt_cbc_to, context->words, WORDS, iv, input, BLOCKS, output, BLOCKS, length);          \
-  }                                                                                                                   \
+#define DEFINE_RECORDS(NAME, WORDS)                                                                                   \
   int cukvashe_##NAME##_encrypt_cbc_records(const cukvashe_##NAME *context, uint8_t *vectors,                         \
                                             size_t vectors_length, const size_t *counts, size_t records_count,        \
                                             uint8_t *bytes, size_t length) {                                          \
@@ -110,16 +65,12 @@ static bool are_elements(size_t count, size_t size, size_t length) {
                              counts, records_count, bytes, BLOCKS, length));                                          \
   }
 
-DEFINE_CIPHER(des, 17)
-DEFINE_CIPHER(tdes_ede2, 33)
-DEFINE_CIPHER(tdes_ede3, 49)
+DEFINE_RECORDS(des, 17)
+DEFINE_RECORDS(tdes_ede2, 33)
+DEFINE_RECORDS(tdes_ede3, 49)
 
 /* Calls with keys, or with passwords. */
-#define DEFINE_CIPHER_OF_KEYS(NAME, WORDS, KEY_SIZE)                                                                  \
-  WIPES(int, NAME##_init, (cukvashe_##NAME * context, const uint8_t *key, size_t key_length),                         \
-        cukvashe_internal_init(context->words, WORDS, key, key_length, false))                                        \
-  WIPES(int, NAME##_init_quiet, (cukvashe_##NAME * context, const uint8_t *key, size_t key_length),                   \
-        cukvashe_internal_init(context->words, WORDS, key, key_length, true))                                         \
+#define DEFINE_CIPHER_OF_KEYS(NAME, KEY_SIZE)                                                                         \
   WIPES(int, NAME##_encrypt_each,                                                                                     \
         (const uint8_t *keys, size_t count, uint8_t *blocks, size_t length),                                          \
         OF_KEYS_AND_BLOCKS(CHOOSE(count, encrypt_each, KEY_SIZE, keys, count * KEY_SIZE, blocks, count)))             \
@@ -139,31 +90,9 @@ DEFINE_CIPHER(tdes_ede3, 49)
         cukvashe_internal_open_salted(KEY_SIZE, (uint32_t)hash, iterations, password, password_length, bytes, length, \
                                       plain, capacity, plain_length))
 
-DEFINE_CIPHER_OF_KEYS(des, 17, 8)
-DEFINE_CIPHER_OF_KEYS(tdes_ede2, 33, 16)
-DEFINE_CIPHER_OF_KEYS(tdes_ede3, 49, 24)
-
-/* MACs of a message in pieces. */
-#define DEFINE_MAC(NAME, ALGORITHM, WORDS)                                                                            \
-  int cukvashe_##NAME##_update(cukvashe_##NAME *context, const uint8_t *message, size_t length) {                     \
-    return cukvashe_internal_mac_update(ALGORITHM, context->words, WORDS, context->words + WORDS, message, length);   \
-  }                                                                                                                   \
-  int cukvashe_##NAME##_final(const cukvashe_##NAME *context, uint8_t tag[8]) {                                       \
-    return cukvashe_internal_mac_final(ALGORITHM, context->words, WORDS, context->words + WORDS, tag);                \
-  }                                                                                                                   \
-  int cukvashe_##NAME##_verify(const cukvashe_##NAME *context, const uint8_t *tag, size_t tag_length) {               \
-    return cukvashe_internal_mac_verify(ALGORITHM, context->words, WORDS, context->words + WORDS, tag, tag_length);   \
-  }                                                                                                                   \
-  bool cukvashe_##NAME##_is_tag(const cukvashe_##NAME *context, const uint8_t *tag, size_t tag_length) {              \
-    return cukvashe_##NAME##_verify(context, tag, tag_length) == CUKVASHE_OK;                                         \
-  }
-
-DEFINE_MAC(cbc_mac_des, ALGORITHM_CBC_MAC, 17)
-DEFINE_MAC(cbc_mac_tdes_ede2, ALGORITHM_CBC_MAC, 33)
-DEFINE_MAC(cbc_mac_tdes_ede3, ALGORITHM_CBC_MAC, 49)
-DEFINE_MAC(retail_mac_des, ALGORITHM_RETAIL_MAC, 34)
-DEFINE_MAC(cmac_tdes_ede2, ALGORITHM_CMAC, 33)
-DEFINE_MAC(cmac_tdes_ede3, ALGORITHM_CMAC, 49)
+DEFINE_CIPHER_OF_KEYS(des, 8)
+DEFINE_CIPHER_OF_KEYS(tdes_ede2, 16)
+DEFINE_CIPHER_OF_KEYS(tdes_ede3, 24)
 
 /* The tags of messages under one key, and under a key for each. */
 #define MACS_OF(KEY_SIZE, ALGORITHM, PADDING)                                                                         \
@@ -174,13 +103,7 @@ DEFINE_MAC(cmac_tdes_ede3, ALGORITHM_CMAC, 49)
             CHOOSE(count, macs_each, ALGORITHM, PADDING, KEY_SIZE, keys, keys_length, messages, count, tags, count))
 
 /* The calls of MACs with keys, with a padding method and without one. */
-#define DEFINE_MAC_OF_KEYS(NAME, ALGORITHM, WORDS, KEY_SIZE)                                                          \
-  WIPES(int, NAME##_init, (cukvashe_##NAME * context, const uint8_t *key, size_t key_length, int method),             \
-        cukvashe_internal_mac_init(ALGORITHM, context->words, WORDS, context->words + WORDS, key, key_length,         \
-                                   (uint32_t)method, false))                                                          \
-  WIPES(int, NAME##_init_quiet, (cukvashe_##NAME * context, const uint8_t *key, size_t key_length, int method),       \
-        cukvashe_internal_mac_init(ALGORITHM, context->words, WORDS, context->words + WORDS, key, key_length,         \
-                                   (uint32_t)method, true))                                                           \
+#define DEFINE_MAC_OF_KEYS(NAME, ALGORITHM, KEY_SIZE)                                                                 \
   WIPES(int, NAME##_macs,                                                                                             \
         (const uint8_t *key, size_t key_length, int method, const cukvashe_message *messages, uint8_t *tags,          \
          size_t tags_length, size_t count),                                                                           \
@@ -190,18 +113,12 @@ DEFINE_MAC(cmac_tdes_ede3, ALGORITHM_CMAC, 49)
          size_t tags_length, size_t count),                                                                           \
         MACS_OF_EACH(KEY_SIZE, ALGORITHM, (uint32_t)method))
 
-DEFINE_MAC_OF_KEYS(cbc_mac_des, ALGORITHM_CBC_MAC, 17, 8)
-DEFINE_MAC_OF_KEYS(cbc_mac_tdes_ede2, ALGORITHM_CBC_MAC, 33, 16)
-DEFINE_MAC_OF_KEYS(cbc_mac_tdes_ede3, ALGORITHM_CBC_MAC, 49, 24)
-DEFINE_MAC_OF_KEYS(retail_mac_des, ALGORITHM_RETAIL_MAC, 34, 16)
+DEFINE_MAC_OF_KEYS(cbc_mac_des, ALGORITHM_CBC_MAC, 8)
+DEFINE_MAC_OF_KEYS(cbc_mac_tdes_ede2, ALGORITHM_CBC_MAC, 16)
+DEFINE_MAC_OF_KEYS(cbc_mac_tdes_ede3, ALGORITHM_CBC_MAC, 24)
+DEFINE_MAC_OF_KEYS(retail_mac_des, ALGORITHM_RETAIL_MAC, 16)
 
-#define DEFINE_CMAC_OF_KEYS(NAME, WORDS, KEY_SIZE)                                                                    \
-  WIPES(int, NAME##_init, (cukvashe_##NAME * context, const uint8_t *key, size_t key_length),                         \
-        cukvashe_internal_mac_init(ALGORITHM_CMAC, context->words, WORDS, context->words + WORDS, key, key_length,    \
-                                   CUKVASHE_MAC_PADDING_2, false))                                                    \
-  WIPES(int, NAME##_init_quiet, (cukvashe_##NAME * context, const uint8_t *key, size_t key_length),                   \
-        cukvashe_internal_mac_init(ALGORITHM_CMAC, context->words, WORDS, context->words + WORDS, key, key_length,    \
-                                   CUKVASHE_MAC_PADDING_2, true))                                                     \
+#define DEFINE_CMAC_OF_KEYS(NAME, KEY_SIZE)                                                                           \
   WIPES(int, NAME##_macs,                                                                                             \
         (const uint8_t *key, size_t key_length, const cukvashe_message *messages, uint8_t *tags, size_t tags_length,  \
          size_t count),                                                                                               \
@@ -211,8 +128,8 @@ DEFINE_MAC_OF_KEYS(retail_mac_des, ALGORITHM_RETAIL_MAC, 34, 16)
          size_t tags_length, size_t count),                                                                           \
         MACS_OF_EACH(KEY_SIZE, ALGORITHM_CMAC, CUKVASHE_MAC_PADDING_2))
 
-DEFINE_CMAC_OF_KEYS(cmac_tdes_ede2, 33, 16)
-DEFINE_CMAC_OF_KEYS(cmac_tdes_ede3, 49, 24)
+DEFINE_CMAC_OF_KEYS(cmac_tdes_ede2, 16)
+DEFINE_CMAC_OF_KEYS(cmac_tdes_ede3, 24)
 
 int cukvashe_compare_tags(const uint8_t *tags, size_t tags_length, const uint8_t *expected, size_t expected_length,
                           bool *right, size_t count) {
@@ -270,18 +187,6 @@ WIPES(int, pin_translate_to_3,
                                           translation->outgoing_key_length, (const uint8_t *)translation->account,
                                           translation->account_length,
                                           translation->fill != NULL ? translation->fill : no_fill, block, translated))
-
-bool cukvashe_pvv_is_pin(const uint8_t key[16], const char *account, size_t account_length, int index, const char *pin,
-                         size_t pin_length, const char *value, size_t value_length) {
-  return cukvashe_pvv_verify(key, account, account_length, index, pin, pin_length, value, value_length) == CUKVASHE_OK;
-}
-
-bool cukvashe_pin_offset_is_pin(const uint8_t *key, size_t key_length, const cukvashe_decimal_table *table,
-                                const uint8_t validation[8], const char *pin, size_t pin_length, const char *offset,
-                                size_t offset_length) {
-  return cukvashe_pin_offset_verify(key, key_length, table, validation, pin, pin_length, offset, offset_length) ==
-         CUKVASHE_OK;
-}
 
 WIPES(int, key_block_wrap,
       (const cukvashe_key_block_parts *parts, char *block, size_t capacity, size_t *length),

@@ -23,7 +23,12 @@
 /* MACs by the numbers of their algorithms in ISO/IEC 9797-1:2011. CMAC takes padding method 1 or 2 here too, which plays no part. */
 enum algorithm { ALGORITHM_CBC_MAC = 1, ALGORITHM_RETAIL_MAC = 3, ALGORITHM_CMAC = 5 };
 
+/* CHOOSE makes a call of an export of lists, for this many blocks, keys or messages. */
 #if HAS_WIDE
+bool cukvashe_internal_takes_wide(size_t count);
+#define CHOOSE(COUNT, CALL, ...)                                                                                      \
+  (cukvashe_internal_takes_wide(COUNT) ? cukvashe_wide_##CALL(__VA_ARGS__) : cukvashe_internal_##CALL(__VA_ARGS__))
+
 /* What decides whether a processor is of x86-64-v3: words that `cpuid` writes, and 0 for those that it does not have. */
 struct processor {
   uint32_t leaf_1_ecx, leaf_7_ebx, leaf_80000001_ecx;
@@ -32,6 +37,8 @@ struct processor {
 
 bool cukvashe_internal_is_v3(const struct processor *words);
 struct processor cukvashe_internal_processor(void);
+#else
+#define CHOOSE(COUNT, CALL, ...) cukvashe_internal_##CALL(__VA_ARGS__)
 #endif
 
 /* Writes zeros over `size` bytes of the stack below its caller's frame: there lies what the caller's calls left. */

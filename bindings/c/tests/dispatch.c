@@ -5,7 +5,7 @@
    is called, and could leave it out. */
 #define _POSIX_C_SOURCE 200809L
 #include "../src/cukvashe_des.c"
-#include "../src/wiped.c"
+#include "../src/calls.c"
 #include <limits.h>
 #include <pthread.h>
 #include <stdio.h>

@@ -9,8 +9,8 @@ from pycparser import c_ast, c_parser
 
 from .text import ROOT, Refused
 
-PLACES = tuple(f"bindings/c/src/{name}.c" for name in ("cukvashe_des", "wiped", "stack", "processor"))
-WIPED = "bindings/c/src/wiped.c"
+PLACES = tuple(f"bindings/c/src/{name}.c" for name in ("cukvashe_des", "calls", "stack", "processor"))
+CALLS = "bindings/c/src/calls.c"
 
 # What no parser of plain C knows, and the processor that is meant.
 WORDS = ["-D__attribute__(x)=", "-D__typeof__(x)=int", "-D__asm__=", "-D__volatile__(...)=", "-D__x86_64__=1", "-U_WIN32"]
@@ -47,7 +47,7 @@ class Code:
             read = {place: dict(self._functions(place, folder)) for place in PLACES}
         self.functions = {name: body for functions in read.values() for name, body in functions.items()}
         # The exports that have the arguments of a call of the header.
-        self.alike = {it for body in read[WIPED].values() for it in body.called if it.startswith("cukvashe_unwiped_")}
+        self.alike = {it for body in read[CALLS].values() for it in body.called if it.startswith("cukvashe_unwiped_")}
 
     @staticmethod
     def _functions(place, folder):

@@ -1,0 +1,596 @@
+/* Calls of the header that follow a rule: those whose export has their arguments, those with a context, and those that say in a bool
+   what another says in a status. Made by bindings/describe of the header and the exports. */
+#include "internal.h"
+
+int cukvashe_des_init(cukvashe_des *context, const uint8_t *key, size_t key_length) {
+  const int result = cukvashe_internal_init(context->words, 17, key, key_length, false);
+  cukvashe_internal_wipe_stack(STACK_des_init);
+  return result;
+}
+
+int cukvashe_tdes_ede2_init(cukvashe_tdes_ede2 *context, const uint8_t *key, size_t key_length) {
+  const int result = cukvashe_internal_init(context->words, 33, key, key_length, false);
+  cukvashe_internal_wipe_stack(STACK_tdes_ede2_init);
+  return result;
+}
+
+int cukvashe_tdes_ede3_init(cukvashe_tdes_ede3 *context, const uint8_t *key, size_t key_length) {
+  const int result = cukvashe_internal_init(context->words, 49, key, key_length, false);
+  cukvashe_internal_wipe_stack(STACK_tdes_ede3_init);
+  return result;
+}
+
+int cukvashe_des_init_quiet(cukvashe_des *context, const uint8_t *key, size_t key_length) {
+  const int result = cukvashe_internal_init(context->words, 17, key, key_length, true);
+  cukvashe_internal_wipe_stack(STACK_des_init_quiet);
+  return result;
+}
+
+int cukvashe_tdes_ede2_init_quiet(cukvashe_tdes_ede2 *context, const uint8_t *key, size_t key_length) {
+  const int result = cukvashe_internal_init(context->words, 33, key, key_length, true);
+  cukvashe_internal_wipe_stack(STACK_tdes_ede2_init_quiet);
+  return result;
+}
+
+int cukvashe_tdes_ede3_init_quiet(cukvashe_tdes_ede3 *context, const uint8_t *key, size_t key_length) {
+  const int result = cukvashe_internal_init(context->words, 49, key, key_length, true);
+  cukvashe_internal_wipe_stack(STACK_tdes_ede3_init_quiet);
+  return result;
+}
+
+int cukvashe_des_encrypt_ecb(const cukvashe_des *context, uint8_t *data, size_t length) {
+  return CHOOSE(length / CUKVASHE_BLOCK_SIZE, encrypt_ecb, context->words, 17, data, length / CUKVASHE_BLOCK_SIZE,
+    length);
+}
+
+int cukvashe_des_decrypt_ecb(const cukvashe_des *context, uint8_t *data, size_t length) {
+  return CHOOSE(length / CUKVASHE_BLOCK_SIZE, decrypt_ecb, context->words, 17, data, length / CUKVASHE_BLOCK_SIZE,
+    length);
+}
+
+int cukvashe_des_encrypt_ecb_to(const cukvashe_des *context, const uint8_t *input, uint8_t *output, size_t length) {
+  if (input == output) return cukvashe_des_encrypt_ecb(context, output, length);
+  return CHOOSE(length / CUKVASHE_BLOCK_SIZE, encrypt_ecb_to, context->words, 17, input, length / CUKVASHE_BLOCK_SIZE,
+    output, length / CUKVASHE_BLOCK_SIZE, length);
+}
+
+int cukvashe_des_decrypt_ecb_to(const cukvashe_des *context, const uint8_t *input, uint8_t *output, size_t length) {
+  if (input == output) return cukvashe_des_decrypt_ecb(context, output, length);
+  return CHOOSE(length / CUKVASHE_BLOCK_SIZE, decrypt_ecb_to, context->words, 17, input, length / CUKVASHE_BLOCK_SIZE,
+    output, length / CUKVASHE_BLOCK_SIZE, length);
+}
+
+int cukvashe_tdes_ede2_encrypt_ecb(const cukvashe_tdes_ede2 *context, uint8_t *data, size_t length) {
+  return CHOOSE(length / CUKVASHE_BLOCK_SIZE, encrypt_ecb, context->words, 33, data, length / CUKVASHE_BLOCK_SIZE,
+    length);
+}
+
+int cukvashe_tdes_ede2_decrypt_ecb(const cukvashe_tdes_ede2 *context, uint8_t *data, size_t length) {
+  return CHOOSE(length / CUKVASHE_BLOCK_SIZE, decrypt_ecb, context->words, 33, data, length / CUKVASHE_BLOCK_SIZE,
+    length);
+}
+
+int cukvashe_tdes_ede2_encrypt_ecb_to(const cukvashe_tdes_ede2 *context, const uint8_t *input, uint8_t *output,
+    size_t length) {
+  if (input == output) return cukvashe_tdes_ede2_encrypt_ecb(context, output, length);
+  return CHOOSE(length / CUKVASHE_BLOCK_SIZE, encrypt_ecb_to, context->words, 33, input, length / CUKVASHE_BLOCK_SIZE,
+    output, length / CUKVASHE_BLOCK_SIZE, length);
+}
+
+int cukvashe_tdes_ede2_decrypt_ecb_to(const cukvashe_tdes_ede2 *context, const uint8_t *input, uint8_t *output,
+    size_t length) {
+  if (input == output) return cukvashe_tdes_ede2_decrypt_ecb(context, output, length);
+  return CHOOSE(length / CUKVASHE_BLOCK_SIZE, decrypt_ecb_to, context->words, 33, input, length / CUKVASHE_BLOCK_SIZE,
+    output, length / CUKVASHE_BLOCK_SIZE, length);
+}
+
+int cukvashe_tdes_ede3_encrypt_ecb(const cukvashe_tdes_ede3 *context, uint8_t *data, size_t length) {
+  return CHOOSE(length / CUKVASHE_BLOCK_SIZE, encrypt_ecb, context->words, 49, data, length / CUKVASHE_BLOCK_SIZE,
+    length);
+}
+
+int cukvashe_tdes_ede3_decrypt_ecb(const cukvashe_tdes_ede3 *context, uint8_t *data, size_t length) {
+  return CHOOSE(length / CUKVASHE_BLOCK_SIZE, decrypt_ecb, context->words, 49, data, length / CUKVASHE_BLOCK_SIZE,
+    length);
+}
+
+int cukvashe_tdes_ede3_encrypt_ecb_to(const cukvashe_tdes_ede3 *context, const uint8_t *input, uint8_t *output,
+    size_t length) {
+  if (input == output) return cukvashe_tdes_ede3_encrypt_ecb(context, output, length);
+  return CHOOSE(length / CUKVASHE_BLOCK_SIZE, encrypt_ecb_to, context->words, 49, input, length / CUKVASHE_BLOCK_SIZE,
+    output, length / CUKVASHE_BLOCK_SIZE, length);
+}
+
+int cukvashe_tdes_ede3_decrypt_ecb_to(const cukvashe_tdes_ede3 *context, const uint8_t *input, uint8_t *output,
+    size_t length) {
+  if (input == output) return cukvashe_tdes_ede3_decrypt_ecb(context, output, length);
+  return CHOOSE(length / CUKVASHE_BLOCK_SIZE, decrypt_ecb_to, context->words, 49, input, length / CUKVASHE_BLOCK_SIZE,
+    output, length / CUKVASHE_BLOCK_SIZE, length);
+}
+
+int cukvashe_des_encrypt_cbc(const cukvashe_des *context, uint8_t iv[8], uint8_t *data, size_t length) {
+  return cukvashe_internal_encrypt_cbc(context->words, 17, iv, data, length / CUKVASHE_BLOCK_SIZE, length);
+}
+
+int cukvashe_des_decrypt_cbc(const cukvashe_des *context, uint8_t iv[8], uint8_t *data, size_t length) {
+  return CHOOSE(length / CUKVASHE_BLOCK_SIZE, decrypt_cbc, context->words, 17, iv, data, length / CUKVASHE_BLOCK_SIZE,
+    length);
+}
+
+int cukvashe_des_encrypt_cbc_to(const cukvashe_des *context, uint8_t iv[8], const uint8_t *input, uint8_t *output,
+    size_t length) {
+  if (input == output) return cukvashe_des_encrypt_cbc(context, iv, output, length);
+  return cukvashe_internal_encrypt_cbc_to(context->words, 17, iv, input, length / CUKVASHE_BLOCK_SIZE, output,
+    length / CUKVASHE_BLOCK_SIZE, length);
+}
+
+int cukvashe_des_decrypt_cbc_to(const cukvashe_des *context, uint8_t iv[8], const uint8_t *input, uint8_t *output,
+    size_t length) {
+  if (input == output) return cukvashe_des_decrypt_cbc(context, iv, output, length);
+  return CHOOSE(length / CUKVASHE_BLOCK_SIZE, decrypt_cbc_to, context->words, 17, iv, input,
+    length / CUKVASHE_BLOCK_SIZE, output, length / CUKVASHE_BLOCK_SIZE, length);
+}
+
+int cukvashe_tdes_ede2_encrypt_cbc(const cukvashe_tdes_ede2 *context, uint8_t iv[8], uint8_t *data, size_t length) {
+  return cukvashe_internal_encrypt_cbc(context->words, 33, iv, data, length / CUKVASHE_BLOCK_SIZE, length);
+}
+
+int cukvashe_tdes_ede2_decrypt_cbc(const cukvashe_tdes_ede2 *context, uint8_t iv[8], uint8_t *data, size_t length) {
+  return CHOOSE(length / CUKVASHE_BLOCK_SIZE, decrypt_cbc, context->words, 33, iv, data, length / CUKVASHE_BLOCK_SIZE,
+    length);
+}
+
+int cukvashe_tdes_ede2_encrypt_cbc_to(const cukvashe_tdes_ede2 *context, uint8_t iv[8], const uint8_t *input,
+    uint8_t *output, size_t length) {
+  if (input == output) return cukvashe_tdes_ede2_encrypt_cbc(context, iv, output, length);
+  return cukvashe_internal_encrypt_cbc_to(context->words, 33, iv, input, length / CUKVASHE_BLOCK_SIZE, output,
+    length / CUKVASHE_BLOCK_SIZE, length);
+}
+
+int cukvashe_tdes_ede2_decrypt_cbc_to(const cukvashe_tdes_ede2 *context, uint8_t iv[8], const uint8_t *input,
+    uint8_t *output, size_t length) {
+  if (input == output) return cukvashe_tdes_ede2_decrypt_cbc(context, iv, output, length);
+  return CHOOSE(length / CUKVASHE_BLOCK_SIZE, decrypt_cbc_to, context->words, 33, iv, input,
+    length / CUKVASHE_BLOCK_SIZE, output, length / CUKVASHE_BLOCK_SIZE, length);
+}
+
+int cukvashe_tdes_ede3_encrypt_cbc(const cukvashe_tdes_ede3 *context, uint8_t iv[8], uint8_t *data, size_t length) {
+  return cukvashe_internal_encrypt_cbc(context->words, 49, iv, data, length / CUKVASHE_BLOCK_SIZE, length);
+}
+
+int cukvashe_tdes_ede3_decrypt_cbc(const cukvashe_tdes_ede3 *context, uint8_t iv[8], uint8_t *data, size_t length) {
+  return CHOOSE(length / CUKVASHE_BLOCK_SIZE, decrypt_cbc, context->words, 49, iv, data, length / CUKVASHE_BLOCK_SIZE,
+    length);
+}
+
+int cukvashe_tdes_ede3_encrypt_cbc_to(const cukvashe_tdes_ede3 *context, uint8_t iv[8], const uint8_t *input,
+    uint8_t *output, size_t length) {
+  if (input == output) return cukvashe_tdes_ede3_encrypt_cbc(context, iv, output, length);
+  return cukvashe_internal_encrypt_cbc_to(context->words, 49, iv, input, length / CUKVASHE_BLOCK_SIZE, output,
+    length / CUKVASHE_BLOCK_SIZE, length);
+}
+
+int cukvashe_tdes_ede3_decrypt_cbc_to(const cukvashe_tdes_ede3 *context, uint8_t iv[8], const uint8_t *input,
+    uint8_t *output, size_t length) {
+  if (input == output) return cukvashe_tdes_ede3_decrypt_cbc(context, iv, output, length);
+  return CHOOSE(length / CUKVASHE_BLOCK_SIZE, decrypt_cbc_to, context->words, 49, iv, input,
+    length / CUKVASHE_BLOCK_SIZE, output, length / CUKVASHE_BLOCK_SIZE, length);
+}
+
+int cukvashe_weak_key_test(const uint8_t *key, size_t key_length) {
+  const int result = cukvashe_unwiped_weak_key_test(key, key_length);
+  cukvashe_internal_wipe_stack(STACK_weak_key_test);
+  return result;
+}
+
+void cukvashe_set_odd_parity(uint8_t *key, size_t key_length) {
+  cukvashe_unwiped_set_odd_parity(key, key_length);
+  cukvashe_internal_wipe_stack(STACK_set_odd_parity);
+}
+
+int cukvashe_cbc_mac_des_init(cukvashe_cbc_mac_des *context, const uint8_t *key, size_t key_length, int method) {
+  const int result = cukvashe_internal_mac_init(ALGORITHM_CBC_MAC, context->words, 17, context->words + 17, key,
+    key_length, (uint32_t)method, false);
+  cukvashe_internal_wipe_stack(STACK_cbc_mac_des_init);
+  return result;
+}
+
+int cukvashe_cbc_mac_tdes_ede2_init(cukvashe_cbc_mac_tdes_ede2 *context, const uint8_t *key, size_t key_length,
+    int method) {
+  const int result = cukvashe_internal_mac_init(ALGORITHM_CBC_MAC, context->words, 33, context->words + 33, key,
+    key_length, (uint32_t)method, false);
+  cukvashe_internal_wipe_stack(STACK_cbc_mac_tdes_ede2_init);
+  return result;
+}
+
+int cukvashe_cbc_mac_tdes_ede3_init(cukvashe_cbc_mac_tdes_ede3 *context, const uint8_t *key, size_t key_length,
+    int method) {
+  const int result = cukvashe_internal_mac_init(ALGORITHM_CBC_MAC, context->words, 49, context->words + 49, key,
+    key_length, (uint32_t)method, false);
+  cukvashe_internal_wipe_stack(STACK_cbc_mac_tdes_ede3_init);
+  return result;
+}
+
+int cukvashe_retail_mac_des_init(cukvashe_retail_mac_des *context, const uint8_t *key, size_t key_length, int method) {
+  const int result = cukvashe_internal_mac_init(ALGORITHM_RETAIL_MAC, context->words, 34, context->words + 34, key,
+    key_length, (uint32_t)method, false);
+  cukvashe_internal_wipe_stack(STACK_retail_mac_des_init);
+  return result;
+}
+
+int cukvashe_cmac_tdes_ede2_init(cukvashe_cmac_tdes_ede2 *context, const uint8_t *key, size_t key_length) {
+  const int result = cukvashe_internal_mac_init(ALGORITHM_CMAC, context->words, 33, context->words + 33, key,
+    key_length, CUKVASHE_MAC_PADDING_2, false);
+  cukvashe_internal_wipe_stack(STACK_cmac_tdes_ede2_init);
+  return result;
+}
+
+int cukvashe_cmac_tdes_ede3_init(cukvashe_cmac_tdes_ede3 *context, const uint8_t *key, size_t key_length) {
+  const int result = cukvashe_internal_mac_init(ALGORITHM_CMAC, context->words, 49, context->words + 49, key,
+    key_length, CUKVASHE_MAC_PADDING_2, false);
+  cukvashe_internal_wipe_stack(STACK_cmac_tdes_ede3_init);
+  return result;
+}
+
+int cukvashe_cbc_mac_des_init_quiet(cukvashe_cbc_mac_des *context, const uint8_t *key, size_t key_length, int method) {
+  const int result = cukvashe_internal_mac_init(ALGORITHM_CBC_MAC, context->words, 17, context->words + 17, key,
+    key_length, (uint32_t)method, true);
+  cukvashe_internal_wipe_stack(STACK_cbc_mac_des_init_quiet);
+  return result;
+}
+
+int cukvashe_cbc_mac_tdes_ede2_init_quiet(cukvashe_cbc_mac_tdes_ede2 *context, const uint8_t *key, size_t key_length,
+    int method) {
+  const int result = cukvashe_internal_mac_init(ALGORITHM_CBC_MAC, context->words, 33, context->words + 33, key,
+    key_length, (uint32_t)method, true);
+  cukvashe_internal_wipe_stack(STACK_cbc_mac_tdes_ede2_init_quiet);
+  return result;
+}
+
+int cukvashe_cbc_mac_tdes_ede3_init_quiet(cukvashe_cbc_mac_tdes_ede3 *context, const uint8_t *key, size_t key_length,
+    int method) {
+  const int result = cukvashe_internal_mac_init(ALGORITHM_CBC_MAC, context->words, 49, context->words + 49, key,
+    key_length, (uint32_t)method, true);
+  cukvashe_internal_wipe_stack(STACK_cbc_mac_tdes_ede3_init_quiet);
+  return result;
+}
+
+int cukvashe_retail_mac_des_init_quiet(cukvashe_retail_mac_des *context, const uint8_t *key, size_t key_length,
+    int method) {
+  const int result = cukvashe_internal_mac_init(ALGORITHM_RETAIL_MAC, context->words, 34, context->words + 34, key,
+    key_length, (uint32_t)method, true);
+  cukvashe_internal_wipe_stack(STACK_retail_mac_des_init_quiet);
+  return result;
+}
+
+int cukvashe_cmac_tdes_ede2_init_quiet(cukvashe_cmac_tdes_ede2 *context, const uint8_t *key, size_t key_length) {
+  const int result = cukvashe_internal_mac_init(ALGORITHM_CMAC, context->words, 33, context->words + 33, key,
+    key_length, CUKVASHE_MAC_PADDING_2, true);
+  cukvashe_internal_wipe_stack(STACK_cmac_tdes_ede2_init_quiet);
+  return result;
+}
+
+int cukvashe_cmac_tdes_ede3_init_quiet(cukvashe_cmac_tdes_ede3 *context, const uint8_t *key, size_t key_length) {
+  const int result = cukvashe_internal_mac_init(ALGORITHM_CMAC, context->words, 49, context->words + 49, key,
+    key_length, CUKVASHE_MAC_PADDING_2, true);
+  cukvashe_internal_wipe_stack(STACK_cmac_tdes_ede3_init_quiet);
+  return result;
+}
+
+int cukvashe_cbc_mac_des_update(cukvashe_cbc_mac_des *context, const uint8_t *message, size_t length) {
+  return cukvashe_internal_mac_update(ALGORITHM_CBC_MAC, context->words, 17, context->words + 17, message, length);
+}
+
+int cukvashe_cbc_mac_tdes_ede2_update(cukvashe_cbc_mac_tdes_ede2 *context, const uint8_t *message, size_t length) {
+  return cukvashe_internal_mac_update(ALGORITHM_CBC_MAC, context->words, 33, context->words + 33, message, length);
+}
+
+int cukvashe_cbc_mac_tdes_ede3_update(cukvashe_cbc_mac_tdes_ede3 *context, const uint8_t *message, size_t length) {
+  return cukvashe_internal_mac_update(ALGORITHM_CBC_MAC, context->words, 49, context->words + 49, message, length);
+}
+
+int cukvashe_retail_mac_des_update(cukvashe_retail_mac_des *context, const uint8_t *message, size_t length) {
+  return cukvashe_internal_mac_update(ALGORITHM_RETAIL_MAC, context->words, 34, context->words + 34, message, length);
+}
+
+int cukvashe_cmac_tdes_ede2_update(cukvashe_cmac_tdes_ede2 *context, const uint8_t *message, size_t length) {
+  return cukvashe_internal_mac_update(ALGORITHM_CMAC, context->words, 33, context->words + 33, message, length);
+}
+
+int cukvashe_cmac_tdes_ede3_update(cukvashe_cmac_tdes_ede3 *context, const uint8_t *message, size_t length) {
+  return cukvashe_internal_mac_update(ALGORITHM_CMAC, context->words, 49, context->words + 49, message, length);
+}
+
+int cukvashe_cbc_mac_des_final(const cukvashe_cbc_mac_des *context, uint8_t tag[8]) {
+  return cukvashe_internal_mac_final(ALGORITHM_CBC_MAC, context->words, 17, context->words + 17, tag);
+}
+
+int cukvashe_cbc_mac_tdes_ede2_final(const cukvashe_cbc_mac_tdes_ede2 *context, uint8_t tag[8]) {
+  return cukvashe_internal_mac_final(ALGORITHM_CBC_MAC, context->words, 33, context->words + 33, tag);
+}
+
+int cukvashe_cbc_mac_tdes_ede3_final(const cukvashe_cbc_mac_tdes_ede3 *context, uint8_t tag[8]) {
+  return cukvashe_internal_mac_final(ALGORITHM_CBC_MAC, context->words, 49, context->words + 49, tag);
+}
+
+int cukvashe_retail_mac_des_final(const cukvashe_retail_mac_des *context, uint8_t tag[8]) {
+  return cukvashe_internal_mac_final(ALGORITHM_RETAIL_MAC, context->words, 34, context->words + 34, tag);
+}
+
+int cukvashe_cmac_tdes_ede2_final(const cukvashe_cmac_tdes_ede2 *context, uint8_t tag[8]) {
+  return cukvashe_internal_mac_final(ALGORITHM_CMAC, context->words, 33, context->words + 33, tag);
+}
+
+int cukvashe_cmac_tdes_ede3_final(const cukvashe_cmac_tdes_ede3 *context, uint8_t tag[8]) {
+  return cukvashe_internal_mac_final(ALGORITHM_CMAC, context->words, 49, context->words + 49, tag);
+}
+
+int cukvashe_cbc_mac_des_verify(const cukvashe_cbc_mac_des *context, const uint8_t *tag, size_t tag_length) {
+  return cukvashe_internal_mac_verify(ALGORITHM_CBC_MAC, context->words, 17, context->words + 17, tag, tag_length);
+}
+
+int cukvashe_cbc_mac_tdes_ede2_verify(const cukvashe_cbc_mac_tdes_ede2 *context, const uint8_t *tag,
+    size_t tag_length) {
+  return cukvashe_internal_mac_verify(ALGORITHM_CBC_MAC, context->words, 33, context->words + 33, tag, tag_length);
+}
+
+int cukvashe_cbc_mac_tdes_ede3_verify(const cukvashe_cbc_mac_tdes_ede3 *context, const uint8_t *tag,
+    size_t tag_length) {
+  return cukvashe_internal_mac_verify(ALGORITHM_CBC_MAC, context->words, 49, context->words + 49, tag, tag_length);
+}
+
+int cukvashe_retail_mac_des_verify(const cukvashe_retail_mac_des *context, const uint8_t *tag, size_t tag_length) {
+  return cukvashe_internal_mac_verify(ALGORITHM_RETAIL_MAC, context->words, 34, context->words + 34, tag, tag_length);
+}
+
+int cukvashe_cmac_tdes_ede2_verify(const cukvashe_cmac_tdes_ede2 *context, const uint8_t *tag, size_t tag_length) {
+  return cukvashe_internal_mac_verify(ALGORITHM_CMAC, context->words, 33, context->words + 33, tag, tag_length);
+}
+
+int cukvashe_cmac_tdes_ede3_verify(const cukvashe_cmac_tdes_ede3 *context, const uint8_t *tag, size_t tag_length) {
+  return cukvashe_internal_mac_verify(ALGORITHM_CMAC, context->words, 49, context->words + 49, tag, tag_length);
+}
+
+bool cukvashe_cbc_mac_des_is_tag(const cukvashe_cbc_mac_des *context, const uint8_t *tag, size_t tag_length) {
+  return cukvashe_cbc_mac_des_verify(context, tag, tag_length) == CUKVASHE_OK;
+}
+
+bool cukvashe_cbc_mac_tdes_ede2_is_tag(const cukvashe_cbc_mac_tdes_ede2 *context, const uint8_t *tag,
+    size_t tag_length) {
+  return cukvashe_cbc_mac_tdes_ede2_verify(context, tag, tag_length) == CUKVASHE_OK;
+}
+
+bool cukvashe_cbc_mac_tdes_ede3_is_tag(const cukvashe_cbc_mac_tdes_ede3 *context, const uint8_t *tag,
+    size_t tag_length) {
+  return cukvashe_cbc_mac_tdes_ede3_verify(context, tag, tag_length) == CUKVASHE_OK;
+}
+
+bool cukvashe_retail_mac_des_is_tag(const cukvashe_retail_mac_des *context, const uint8_t *tag, size_t tag_length) {
+  return cukvashe_retail_mac_des_verify(context, tag, tag_length) == CUKVASHE_OK;
+}
+
+bool cukvashe_cmac_tdes_ede2_is_tag(const cukvashe_cmac_tdes_ede2 *context, const uint8_t *tag, size_t tag_length) {
+  return cukvashe_cmac_tdes_ede2_verify(context, tag, tag_length) == CUKVASHE_OK;
+}
+
+bool cukvashe_cmac_tdes_ede3_is_tag(const cukvashe_cmac_tdes_ede3 *context, const uint8_t *tag, size_t tag_length) {
+  return cukvashe_cmac_tdes_ede3_verify(context, tag, tag_length) == CUKVASHE_OK;
+}
+
+int cukvashe_key_check_value(const uint8_t *key, size_t key_length, uint8_t value[3]) {
+  const int result = cukvashe_unwiped_key_check_value(key, key_length, value);
+  cukvashe_internal_wipe_stack(STACK_key_check_value);
+  return result;
+}
+
+int cukvashe_short_key_check_value(const uint8_t *key, size_t key_length, uint8_t value[2]) {
+  const int result = cukvashe_unwiped_short_key_check_value(key, key_length, value);
+  cukvashe_internal_wipe_stack(STACK_short_key_check_value);
+  return result;
+}
+
+void cukvashe_dukpt_initial_key(const uint8_t base[16], const uint8_t serial[10], uint8_t key[16]) {
+  cukvashe_unwiped_dukpt_initial_key(base, serial, key);
+  cukvashe_internal_wipe_stack(STACK_dukpt_initial_key);
+}
+
+void cukvashe_dukpt_transaction_key(const uint8_t initial[16], const uint8_t serial[10], uint8_t key[16]) {
+  cukvashe_unwiped_dukpt_transaction_key(initial, serial, key);
+  cukvashe_internal_wipe_stack(STACK_dukpt_transaction_key);
+}
+
+void cukvashe_dukpt_pin_key(const uint8_t transaction[16], uint8_t key[16]) {
+  cukvashe_unwiped_dukpt_pin_key(transaction, key);
+  cukvashe_internal_wipe_stack(STACK_dukpt_pin_key);
+}
+
+void cukvashe_dukpt_mac_key(const uint8_t transaction[16], bool is_response, uint8_t key[16]) {
+  cukvashe_unwiped_dukpt_mac_key(transaction, is_response, key);
+  cukvashe_internal_wipe_stack(STACK_dukpt_mac_key);
+}
+
+void cukvashe_dukpt_data_key(const uint8_t transaction[16], bool is_response, uint8_t key[16]) {
+  cukvashe_unwiped_dukpt_data_key(transaction, is_response, key);
+  cukvashe_internal_wipe_stack(STACK_dukpt_data_key);
+}
+
+void cukvashe_dukpt_data_variant(const uint8_t transaction[16], bool is_response, uint8_t key[16]) {
+  cukvashe_unwiped_dukpt_data_variant(transaction, is_response, key);
+  cukvashe_internal_wipe_stack(STACK_dukpt_data_variant);
+}
+
+void cukvashe_dukpt_terminal_init(cukvashe_dukpt_terminal *terminal, const uint8_t initial[16],
+    const uint8_t serial[10]) {
+  cukvashe_unwiped_dukpt_terminal_init(terminal, initial, serial);
+  cukvashe_internal_wipe_stack(STACK_dukpt_terminal_init);
+}
+
+int cukvashe_dukpt_terminal_next_key(cukvashe_dukpt_terminal *terminal, uint8_t serial[10], uint8_t key[16]) {
+  const int result = cukvashe_unwiped_dukpt_terminal_next_key(terminal, serial, key);
+  cukvashe_internal_wipe_stack(STACK_dukpt_terminal_next_key);
+  return result;
+}
+
+int cukvashe_pin_encode_0(const char *pin, size_t pin_length, const char *account, size_t account_length,
+    uint8_t block[8]) {
+  const int result = cukvashe_unwiped_pin_encode_0(pin, pin_length, account, account_length, block);
+  cukvashe_internal_wipe_stack(STACK_pin_encode_0);
+  return result;
+}
+
+int cukvashe_pin_encode_1(const char *pin, size_t pin_length, const uint8_t transaction[10], uint8_t block[8]) {
+  const int result = cukvashe_unwiped_pin_encode_1(pin, pin_length, transaction, block);
+  cukvashe_internal_wipe_stack(STACK_pin_encode_1);
+  return result;
+}
+
+int cukvashe_pin_encode_2(const char *pin, size_t pin_length, uint8_t block[8]) {
+  const int result = cukvashe_unwiped_pin_encode_2(pin, pin_length, block);
+  cukvashe_internal_wipe_stack(STACK_pin_encode_2);
+  return result;
+}
+
+int cukvashe_pin_encode_3(const char *pin, size_t pin_length, const char *account, size_t account_length,
+    const uint8_t fill[10], uint8_t block[8]) {
+  const int result = cukvashe_unwiped_pin_encode_3(pin, pin_length, account, account_length, fill, block);
+  cukvashe_internal_wipe_stack(STACK_pin_encode_3);
+  return result;
+}
+
+int cukvashe_pin_decode_0(const uint8_t block[8], const char *account, size_t account_length, char pin[13]) {
+  const int result = cukvashe_unwiped_pin_decode_0(block, account, account_length, pin);
+  cukvashe_internal_wipe_stack(STACK_pin_decode_0);
+  return result;
+}
+
+int cukvashe_pin_decode_1(const uint8_t block[8], char pin[13]) {
+  const int result = cukvashe_unwiped_pin_decode_1(block, pin);
+  cukvashe_internal_wipe_stack(STACK_pin_decode_1);
+  return result;
+}
+
+int cukvashe_pin_decode_2(const uint8_t block[8], char pin[13]) {
+  const int result = cukvashe_unwiped_pin_decode_2(block, pin);
+  cukvashe_internal_wipe_stack(STACK_pin_decode_2);
+  return result;
+}
+
+int cukvashe_pin_decode_3(const uint8_t block[8], const char *account, size_t account_length, char pin[13]) {
+  const int result = cukvashe_unwiped_pin_decode_3(block, account, account_length, pin);
+  cukvashe_internal_wipe_stack(STACK_pin_decode_3);
+  return result;
+}
+
+int cukvashe_pvv(const uint8_t key[16], const char *account, size_t account_length, int index, const char *pin,
+    size_t pin_length, char value[5]) {
+  const int result = cukvashe_unwiped_pvv(key, account, account_length, index, pin, pin_length, value);
+  cukvashe_internal_wipe_stack(STACK_pvv);
+  return result;
+}
+
+int cukvashe_pvv_verify(const uint8_t key[16], const char *account, size_t account_length, int index, const char *pin,
+    size_t pin_length, const char *value, size_t value_length) {
+  const int result = cukvashe_unwiped_pvv_verify(key, account, account_length, index, pin, pin_length, value,
+    value_length);
+  cukvashe_internal_wipe_stack(STACK_pvv_verify);
+  return result;
+}
+
+bool cukvashe_pvv_is_pin(const uint8_t key[16], const char *account, size_t account_length, int index, const char *pin,
+    size_t pin_length, const char *value, size_t value_length) {
+  return cukvashe_pvv_verify(key, account, account_length, index, pin, pin_length, value, value_length) == CUKVASHE_OK;
+}
+
+int cukvashe_natural_pin(const uint8_t *key, size_t key_length, const cukvashe_decimal_table *table,
+    const uint8_t validation[8], size_t pin_length, char pin[13]) {
+  const int result = cukvashe_unwiped_natural_pin(key, key_length, table, validation, pin_length, pin);
+  cukvashe_internal_wipe_stack(STACK_natural_pin);
+  return result;
+}
+
+int cukvashe_pin_offset(const uint8_t *key, size_t key_length, const cukvashe_decimal_table *table,
+    const uint8_t validation[8], const char *pin, size_t pin_length, char offset[13]) {
+  const int result = cukvashe_unwiped_pin_offset(key, key_length, table, validation, pin, pin_length, offset);
+  cukvashe_internal_wipe_stack(STACK_pin_offset);
+  return result;
+}
+
+int cukvashe_pin_offset_verify(const uint8_t *key, size_t key_length, const cukvashe_decimal_table *table,
+    const uint8_t validation[8], const char *pin, size_t pin_length, const char *offset, size_t offset_length) {
+  const int result = cukvashe_unwiped_pin_offset_verify(key, key_length, table, validation, pin, pin_length, offset,
+    offset_length);
+  cukvashe_internal_wipe_stack(STACK_pin_offset_verify);
+  return result;
+}
+
+bool cukvashe_pin_offset_is_pin(const uint8_t *key, size_t key_length, const cukvashe_decimal_table *table,
+    const uint8_t validation[8], const char *pin, size_t pin_length, const char *offset, size_t offset_length) {
+  return cukvashe_pin_offset_verify(key, key_length, table, validation, pin, pin_length, offset,
+    offset_length) == CUKVASHE_OK;
+}
+
+int cukvashe_cvv(const uint8_t key[16], const char *account, size_t account_length, const char *expiry,
+    size_t expiry_length, const char *service, size_t service_length, char value[4]) {
+  const int result = cukvashe_unwiped_cvv(key, account, account_length, expiry, expiry_length, service, service_length,
+    value);
+  cukvashe_internal_wipe_stack(STACK_cvv);
+  return result;
+}
+
+int cukvashe_emv_card_key(const uint8_t issuer[16], const char *account, size_t account_length, const char *sequence,
+    size_t sequence_length, uint8_t key[16]) {
+  const int result = cukvashe_unwiped_emv_card_key(issuer, account, account_length, sequence, sequence_length, key);
+  cukvashe_internal_wipe_stack(STACK_emv_card_key);
+  return result;
+}
+
+int cukvashe_emv_card_key_b(const uint8_t issuer[16], const char *account, size_t account_length, const char *sequence,
+    size_t sequence_length, uint8_t key[16]) {
+  const int result = cukvashe_unwiped_emv_card_key_b(issuer, account, account_length, sequence, sequence_length, key);
+  cukvashe_internal_wipe_stack(STACK_emv_card_key_b);
+  return result;
+}
+
+void cukvashe_emv_application_key(const uint8_t card[16], const uint8_t counter[2], uint8_t key[16]) {
+  cukvashe_unwiped_emv_application_key(card, counter, key);
+  cukvashe_internal_wipe_stack(STACK_emv_application_key);
+}
+
+void cukvashe_emv_session_key(const uint8_t card[16], const uint8_t block[8], uint8_t key[16]) {
+  cukvashe_unwiped_emv_session_key(card, block, key);
+  cukvashe_internal_wipe_stack(STACK_emv_session_key);
+}
+
+void cukvashe_emv_application_cryptogram(const uint8_t session[16], const uint8_t *data, size_t length,
+    uint8_t cryptogram[8]) {
+  cukvashe_unwiped_emv_application_cryptogram(session, data, length, cryptogram);
+  cukvashe_internal_wipe_stack(STACK_emv_application_cryptogram);
+}
+
+void cukvashe_emv_response_1(const uint8_t session[16], const uint8_t cryptogram[8], const uint8_t code[2],
+    uint8_t response[8]) {
+  cukvashe_unwiped_emv_response_1(session, cryptogram, code, response);
+  cukvashe_internal_wipe_stack(STACK_emv_response_1);
+}
+
+int cukvashe_emv_response_2(const uint8_t session[16], const uint8_t cryptogram[8], const uint8_t status[4],
+    const uint8_t *data, size_t length, uint8_t response[4]) {
+  const int result = cukvashe_unwiped_emv_response_2(session, cryptogram, status, data, length, response);
+  cukvashe_internal_wipe_stack(STACK_emv_response_2);
+  return result;
+}
+
+int cukvashe_key_block_unwrap(const uint8_t *protection, size_t protection_length, const char *block,
+    size_t block_length, cukvashe_key_block_fields *header, uint8_t key[24], size_t *key_length) {
+  const int result = cukvashe_unwiped_key_block_unwrap(protection, protection_length, block, block_length, header, key,
+    key_length);
+  cukvashe_internal_wipe_stack(STACK_key_block_unwrap);
+  return result;
+}
+
+int cukvashe_bytes_to_key(int hash, const uint8_t *password, size_t password_length, const uint8_t *salt,
+    size_t salt_length, uint8_t *key, size_t key_length) {
+  const int result = cukvashe_unwiped_bytes_to_key(hash, password, password_length, salt, salt_length, key, key_length);
+  cukvashe_internal_wipe_stack(STACK_bytes_to_key);
+  return result;
+}
