@@ -1,4 +1,4 @@
-/* Each call of calls.c goes on to its export with its arguments in their order, and wipes. Made by bindings/describe. */
+/* Each call of calls.c whose export has its arguments goes on to it with these in their order, and wipes. Made by bindings/describe. */
 static void hands_all_on(void) {
   CHECK(cukvashe_weak_key_test((void *)(base + 0), 2) == STATUS);
   WAS_WIPED("unwiped", "weak_key_test", (uintptr_t)(void *)(base + 0), (uintptr_t)2);

@@ -221,21 +221,6 @@ int cukvashe_unwiped_weak_key_test(const uint8_t *key, size_t key_length) {
 void cukvashe_unwiped_set_odd_parity(uint8_t *key, size_t key_length) {
   noted("unwiped set_odd_parity", ARGUMENTS((uintptr_t)key, (uintptr_t)key_length));
 }
-int cukvashe_unwiped_pbkdf2(uint32_t hash, const uint8_t *password, size_t password_count, const uint8_t *salt,
-    size_t salt_count, size_t iterations, uint8_t *key, size_t key_count) {
-  return noted("unwiped pbkdf2", ARGUMENTS((uintptr_t)hash, (uintptr_t)password, (uintptr_t)password_count,
-    (uintptr_t)salt, (uintptr_t)salt_count, (uintptr_t)iterations, (uintptr_t)key, (uintptr_t)key_count));
-}
-int cukvashe_unwiped_bytes_to_key(int hash, const uint8_t *password, size_t password_length, const uint8_t *salt,
-    size_t salt_length, uint8_t *key, size_t key_length) {
-  return noted("unwiped bytes_to_key", ARGUMENTS((uintptr_t)hash, (uintptr_t)password, (uintptr_t)password_length,
-    (uintptr_t)salt, (uintptr_t)salt_length, (uintptr_t)key, (uintptr_t)key_length));
-}
-int cukvashe_unwiped_cvv(const uint8_t key[16], const char *account, size_t account_length, const char *expiry,
-    size_t expiry_length, const char *service, size_t service_length, char value[4]) {
-  return noted("unwiped cvv", ARGUMENTS((uintptr_t)key, (uintptr_t)account, (uintptr_t)account_length,
-    (uintptr_t)expiry, (uintptr_t)expiry_length, (uintptr_t)service, (uintptr_t)service_length, (uintptr_t)value));
-}
 int cukvashe_unwiped_key_check_value(const uint8_t *key, size_t key_length, uint8_t value[3]) {
   return noted("unwiped key_check_value", ARGUMENTS((uintptr_t)key, (uintptr_t)key_length, (uintptr_t)value));
 }
@@ -254,55 +239,18 @@ void cukvashe_unwiped_dukpt_pin_key(const uint8_t transaction[16], uint8_t key[1
 void cukvashe_unwiped_dukpt_mac_key(const uint8_t transaction[16], bool is_response, uint8_t key[16]) {
   noted("unwiped dukpt_mac_key", ARGUMENTS((uintptr_t)transaction, (uintptr_t)is_response, (uintptr_t)key));
 }
-void cukvashe_unwiped_dukpt_data_variant(const uint8_t transaction[16], bool is_response, uint8_t key[16]) {
-  noted("unwiped dukpt_data_variant", ARGUMENTS((uintptr_t)transaction, (uintptr_t)is_response, (uintptr_t)key));
-}
 void cukvashe_unwiped_dukpt_data_key(const uint8_t transaction[16], bool is_response, uint8_t key[16]) {
   noted("unwiped dukpt_data_key", ARGUMENTS((uintptr_t)transaction, (uintptr_t)is_response, (uintptr_t)key));
 }
-int cukvashe_unwiped_emv_card_key(const uint8_t issuer[16], const char *account, size_t account_length,
-    const char *sequence, size_t sequence_length, uint8_t key[16]) {
-  return noted("unwiped emv_card_key", ARGUMENTS((uintptr_t)issuer, (uintptr_t)account, (uintptr_t)account_length,
-    (uintptr_t)sequence, (uintptr_t)sequence_length, (uintptr_t)key));
+void cukvashe_unwiped_dukpt_data_variant(const uint8_t transaction[16], bool is_response, uint8_t key[16]) {
+  noted("unwiped dukpt_data_variant", ARGUMENTS((uintptr_t)transaction, (uintptr_t)is_response, (uintptr_t)key));
 }
-int cukvashe_unwiped_emv_card_key_b(const uint8_t issuer[16], const char *account, size_t account_length,
-    const char *sequence, size_t sequence_length, uint8_t key[16]) {
-  return noted("unwiped emv_card_key_b", ARGUMENTS((uintptr_t)issuer, (uintptr_t)account, (uintptr_t)account_length,
-    (uintptr_t)sequence, (uintptr_t)sequence_length, (uintptr_t)key));
+void cukvashe_unwiped_dukpt_terminal_init(cukvashe_dukpt_terminal *terminal, const uint8_t initial[16],
+    const uint8_t serial[10]) {
+  noted("unwiped dukpt_terminal_init", ARGUMENTS((uintptr_t)terminal, (uintptr_t)initial, (uintptr_t)serial));
 }
-void cukvashe_unwiped_emv_session_key(const uint8_t card[16], const uint8_t block[8], uint8_t key[16]) {
-  noted("unwiped emv_session_key", ARGUMENTS((uintptr_t)card, (uintptr_t)block, (uintptr_t)key));
-}
-void cukvashe_unwiped_emv_application_key(const uint8_t card[16], const uint8_t counter[2], uint8_t key[16]) {
-  noted("unwiped emv_application_key", ARGUMENTS((uintptr_t)card, (uintptr_t)counter, (uintptr_t)key));
-}
-void cukvashe_unwiped_emv_application_cryptogram(const uint8_t session[16], const uint8_t *data, size_t length,
-    uint8_t cryptogram[8]) {
-  noted("unwiped emv_application_cryptogram", ARGUMENTS((uintptr_t)session, (uintptr_t)data, (uintptr_t)length,
-    (uintptr_t)cryptogram));
-}
-void cukvashe_unwiped_emv_response_1(const uint8_t session[16], const uint8_t cryptogram[8], const uint8_t code[2],
-    uint8_t response[8]) {
-  noted("unwiped emv_response_1", ARGUMENTS((uintptr_t)session, (uintptr_t)cryptogram, (uintptr_t)code,
-    (uintptr_t)response));
-}
-int cukvashe_unwiped_emv_response_2(const uint8_t session[16], const uint8_t cryptogram[8], const uint8_t status[4],
-    const uint8_t *data, size_t length, uint8_t response[4]) {
-  return noted("unwiped emv_response_2", ARGUMENTS((uintptr_t)session, (uintptr_t)cryptogram, (uintptr_t)status,
-    (uintptr_t)data, (uintptr_t)length, (uintptr_t)response));
-}
-int cukvashe_unwiped_key_block_unwrap(const uint8_t *protection, size_t protection_length, const char *block,
-    size_t block_length, cukvashe_key_block_fields *header, uint8_t key[24], size_t *key_length) {
-  return noted("unwiped key_block_unwrap", ARGUMENTS((uintptr_t)protection, (uintptr_t)protection_length,
-    (uintptr_t)block, (uintptr_t)block_length, (uintptr_t)header, (uintptr_t)key, (uintptr_t)key_length));
-}
-int cukvashe_unwiped_key_block_wrap(const uint8_t *protection, size_t protection_count,
-    const cukvashe_key_block_fields *header, const uint8_t *optional, size_t optional_count, const uint8_t *key,
-    size_t key_count, const uint8_t *padding, size_t padding_count, uint8_t *block, size_t block_count,
-    size_t *length) {
-  return noted("unwiped key_block_wrap", ARGUMENTS((uintptr_t)protection, (uintptr_t)protection_count,
-    (uintptr_t)header, (uintptr_t)optional, (uintptr_t)optional_count, (uintptr_t)key, (uintptr_t)key_count,
-    (uintptr_t)padding, (uintptr_t)padding_count, (uintptr_t)block, (uintptr_t)block_count, (uintptr_t)length));
+int cukvashe_unwiped_dukpt_terminal_next_key(cukvashe_dukpt_terminal *terminal, uint8_t serial[10], uint8_t key[16]) {
+  return noted("unwiped dukpt_terminal_next_key", ARGUMENTS((uintptr_t)terminal, (uintptr_t)serial, (uintptr_t)key));
 }
 int cukvashe_unwiped_pin_encode_0(const char *pin, size_t pin_length, const char *account, size_t account_length,
     uint8_t block[8]) {
@@ -335,6 +283,25 @@ int cukvashe_unwiped_pin_decode_3(const uint8_t block[8], const char *account, s
   return noted("unwiped pin_decode_3", ARGUMENTS((uintptr_t)block, (uintptr_t)account, (uintptr_t)account_length,
     (uintptr_t)pin));
 }
+int cukvashe_unwiped_pin_translate_to_0(const uint8_t *incoming, size_t incoming_count, uint32_t format,
+    const uint8_t *outgoing, size_t outgoing_count, const uint8_t *account, size_t account_count,
+    const uint8_t block[8], uint8_t translated[8]) {
+  return noted("unwiped pin_translate_to_0", ARGUMENTS((uintptr_t)incoming, (uintptr_t)incoming_count,
+    (uintptr_t)format, (uintptr_t)outgoing, (uintptr_t)outgoing_count, (uintptr_t)account, (uintptr_t)account_count,
+    (uintptr_t)block, (uintptr_t)translated));
+}
+int cukvashe_unwiped_pin_translate_to_1(const uint8_t *incoming, size_t incoming_count, const uint8_t *outgoing,
+    size_t outgoing_count, const uint8_t block[8], uint8_t translated[8]) {
+  return noted("unwiped pin_translate_to_1", ARGUMENTS((uintptr_t)incoming, (uintptr_t)incoming_count,
+    (uintptr_t)outgoing, (uintptr_t)outgoing_count, (uintptr_t)block, (uintptr_t)translated));
+}
+int cukvashe_unwiped_pin_translate_to_3(const uint8_t *incoming, size_t incoming_count, uint32_t format,
+    const uint8_t *outgoing, size_t outgoing_count, const uint8_t *account, size_t account_count,
+    const uint8_t fill[10], const uint8_t block[8], uint8_t translated[8]) {
+  return noted("unwiped pin_translate_to_3", ARGUMENTS((uintptr_t)incoming, (uintptr_t)incoming_count,
+    (uintptr_t)format, (uintptr_t)outgoing, (uintptr_t)outgoing_count, (uintptr_t)account, (uintptr_t)account_count,
+    (uintptr_t)fill, (uintptr_t)block, (uintptr_t)translated));
+}
 int cukvashe_unwiped_pvv(const uint8_t key[16], const char *account, size_t account_length, int index, const char *pin,
     size_t pin_length, char value[5]) {
   return noted("unwiped pvv", ARGUMENTS((uintptr_t)key, (uintptr_t)account, (uintptr_t)account_length, (uintptr_t)index,
@@ -360,29 +327,62 @@ int cukvashe_unwiped_pin_offset_verify(const uint8_t *key, size_t key_length, co
   return noted("unwiped pin_offset_verify", ARGUMENTS((uintptr_t)key, (uintptr_t)key_length, (uintptr_t)table,
     (uintptr_t)validation, (uintptr_t)pin, (uintptr_t)pin_length, (uintptr_t)offset, (uintptr_t)offset_length));
 }
-void cukvashe_unwiped_dukpt_terminal_init(cukvashe_dukpt_terminal *terminal, const uint8_t initial[16],
-    const uint8_t serial[10]) {
-  noted("unwiped dukpt_terminal_init", ARGUMENTS((uintptr_t)terminal, (uintptr_t)initial, (uintptr_t)serial));
+int cukvashe_unwiped_cvv(const uint8_t key[16], const char *account, size_t account_length, const char *expiry,
+    size_t expiry_length, const char *service, size_t service_length, char value[4]) {
+  return noted("unwiped cvv", ARGUMENTS((uintptr_t)key, (uintptr_t)account, (uintptr_t)account_length,
+    (uintptr_t)expiry, (uintptr_t)expiry_length, (uintptr_t)service, (uintptr_t)service_length, (uintptr_t)value));
 }
-int cukvashe_unwiped_dukpt_terminal_next_key(cukvashe_dukpt_terminal *terminal, uint8_t serial[10], uint8_t key[16]) {
-  return noted("unwiped dukpt_terminal_next_key", ARGUMENTS((uintptr_t)terminal, (uintptr_t)serial, (uintptr_t)key));
+int cukvashe_unwiped_emv_card_key(const uint8_t issuer[16], const char *account, size_t account_length,
+    const char *sequence, size_t sequence_length, uint8_t key[16]) {
+  return noted("unwiped emv_card_key", ARGUMENTS((uintptr_t)issuer, (uintptr_t)account, (uintptr_t)account_length,
+    (uintptr_t)sequence, (uintptr_t)sequence_length, (uintptr_t)key));
 }
-int cukvashe_unwiped_pin_translate_to_0(const uint8_t *incoming, size_t incoming_count, uint32_t format,
-    const uint8_t *outgoing, size_t outgoing_count, const uint8_t *account, size_t account_count,
-    const uint8_t block[8], uint8_t translated[8]) {
-  return noted("unwiped pin_translate_to_0", ARGUMENTS((uintptr_t)incoming, (uintptr_t)incoming_count,
-    (uintptr_t)format, (uintptr_t)outgoing, (uintptr_t)outgoing_count, (uintptr_t)account, (uintptr_t)account_count,
-    (uintptr_t)block, (uintptr_t)translated));
+int cukvashe_unwiped_emv_card_key_b(const uint8_t issuer[16], const char *account, size_t account_length,
+    const char *sequence, size_t sequence_length, uint8_t key[16]) {
+  return noted("unwiped emv_card_key_b", ARGUMENTS((uintptr_t)issuer, (uintptr_t)account, (uintptr_t)account_length,
+    (uintptr_t)sequence, (uintptr_t)sequence_length, (uintptr_t)key));
 }
-int cukvashe_unwiped_pin_translate_to_1(const uint8_t *incoming, size_t incoming_count, const uint8_t *outgoing,
-    size_t outgoing_count, const uint8_t block[8], uint8_t translated[8]) {
-  return noted("unwiped pin_translate_to_1", ARGUMENTS((uintptr_t)incoming, (uintptr_t)incoming_count,
-    (uintptr_t)outgoing, (uintptr_t)outgoing_count, (uintptr_t)block, (uintptr_t)translated));
+void cukvashe_unwiped_emv_application_key(const uint8_t card[16], const uint8_t counter[2], uint8_t key[16]) {
+  noted("unwiped emv_application_key", ARGUMENTS((uintptr_t)card, (uintptr_t)counter, (uintptr_t)key));
 }
-int cukvashe_unwiped_pin_translate_to_3(const uint8_t *incoming, size_t incoming_count, uint32_t format,
-    const uint8_t *outgoing, size_t outgoing_count, const uint8_t *account, size_t account_count,
-    const uint8_t fill[10], const uint8_t block[8], uint8_t translated[8]) {
-  return noted("unwiped pin_translate_to_3", ARGUMENTS((uintptr_t)incoming, (uintptr_t)incoming_count,
-    (uintptr_t)format, (uintptr_t)outgoing, (uintptr_t)outgoing_count, (uintptr_t)account, (uintptr_t)account_count,
-    (uintptr_t)fill, (uintptr_t)block, (uintptr_t)translated));
+void cukvashe_unwiped_emv_session_key(const uint8_t card[16], const uint8_t block[8], uint8_t key[16]) {
+  noted("unwiped emv_session_key", ARGUMENTS((uintptr_t)card, (uintptr_t)block, (uintptr_t)key));
+}
+void cukvashe_unwiped_emv_application_cryptogram(const uint8_t session[16], const uint8_t *data, size_t length,
+    uint8_t cryptogram[8]) {
+  noted("unwiped emv_application_cryptogram", ARGUMENTS((uintptr_t)session, (uintptr_t)data, (uintptr_t)length,
+    (uintptr_t)cryptogram));
+}
+void cukvashe_unwiped_emv_response_1(const uint8_t session[16], const uint8_t cryptogram[8], const uint8_t code[2],
+    uint8_t response[8]) {
+  noted("unwiped emv_response_1", ARGUMENTS((uintptr_t)session, (uintptr_t)cryptogram, (uintptr_t)code,
+    (uintptr_t)response));
+}
+int cukvashe_unwiped_emv_response_2(const uint8_t session[16], const uint8_t cryptogram[8], const uint8_t status[4],
+    const uint8_t *data, size_t length, uint8_t response[4]) {
+  return noted("unwiped emv_response_2", ARGUMENTS((uintptr_t)session, (uintptr_t)cryptogram, (uintptr_t)status,
+    (uintptr_t)data, (uintptr_t)length, (uintptr_t)response));
+}
+int cukvashe_unwiped_key_block_unwrap(const uint8_t *protection, size_t protection_length, const char *block,
+    size_t block_length, cukvashe_key_block_fields *header, uint8_t key[24], size_t *key_length) {
+  return noted("unwiped key_block_unwrap", ARGUMENTS((uintptr_t)protection, (uintptr_t)protection_length,
+    (uintptr_t)block, (uintptr_t)block_length, (uintptr_t)header, (uintptr_t)key, (uintptr_t)key_length));
+}
+int cukvashe_unwiped_key_block_wrap(const uint8_t *protection, size_t protection_count,
+    const cukvashe_key_block_fields *header, const uint8_t *optional, size_t optional_count, const uint8_t *key,
+    size_t key_count, const uint8_t *padding, size_t padding_count, uint8_t *block, size_t block_count,
+    size_t *length) {
+  return noted("unwiped key_block_wrap", ARGUMENTS((uintptr_t)protection, (uintptr_t)protection_count,
+    (uintptr_t)header, (uintptr_t)optional, (uintptr_t)optional_count, (uintptr_t)key, (uintptr_t)key_count,
+    (uintptr_t)padding, (uintptr_t)padding_count, (uintptr_t)block, (uintptr_t)block_count, (uintptr_t)length));
+}
+int cukvashe_unwiped_pbkdf2(uint32_t hash, const uint8_t *password, size_t password_count, const uint8_t *salt,
+    size_t salt_count, size_t iterations, uint8_t *key, size_t key_count) {
+  return noted("unwiped pbkdf2", ARGUMENTS((uintptr_t)hash, (uintptr_t)password, (uintptr_t)password_count,
+    (uintptr_t)salt, (uintptr_t)salt_count, (uintptr_t)iterations, (uintptr_t)key, (uintptr_t)key_count));
+}
+int cukvashe_unwiped_bytes_to_key(int hash, const uint8_t *password, size_t password_length, const uint8_t *salt,
+    size_t salt_length, uint8_t *key, size_t key_length) {
+  return noted("unwiped bytes_to_key", ARGUMENTS((uintptr_t)hash, (uintptr_t)password, (uintptr_t)password_length,
+    (uintptr_t)salt, (uintptr_t)salt_length, (uintptr_t)key, (uintptr_t)key_length));
 }
