@@ -7,10 +7,12 @@
 //! The exports that begin with `cukvashe_internal_` are not the header's: they take other arguments,
 //! or serve all ciphers or MACs, and are told by the number of a context's words, the size of a key
 //! or a number of a standard which one is meant. The library hides them. The header's calls
-//! are lines of C over them, in `bindings/c/src/cukvashe_des.c`, and `bindings/c/src/internal.h`
-//! declares them. Every other export has the name and the arguments of a call of the header. Of those
-//! that take or give a secret the library changes the name: `bindings/c/src/stack.c` has the header's
-//! call, which calls them and wipes the stack.
+//! are lines of C over them, in `bindings/c/src`, where `exports.h` declares them. Every other export
+//! has the name and, but for a few, the arguments of a call of the header. Those that take or give a
+//! secret have another name in the library, which stands in `bindings/c/names`: the header's call
+//! calls them, and wipes the stack.
+//!
+//! `bindings/describe` makes most of that C of the header and of this crate's exports.
 //!
 //! The exports of `lists`, and no others, depend on the width of vectors. The library has them
 //! twice, from this one text: as they stand here, and for vectors of 256 bits.
