@@ -74,7 +74,8 @@ class Library:
         yield from ["#ifndef EXPORTS_H", "#define EXPORTS_H", "", "#include <cukvashe_des.h>", ""]
         for it in self.internal():
             yield declared(it.result, f"cukvashe_{it.name}", it.arguments)
-        yield from ["", "/* Those calls for x86-64-v3, which take 256 at a time: what bindings/widen and bindings/generate make of the same source. */"]
+        yield ""
+        yield "/* Those of lists for x86-64-v3, which take 256 at a time: what bindings/widen and bindings/generate make of the same source. */"
         for it in self.internal():
             if it.is_wide:
                 yield declared(it.result, f"cukvashe_{it.name}".replace("_internal_", "_wide_"), it.arguments)

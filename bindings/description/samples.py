@@ -1,6 +1,7 @@
 """Each call of the header with arguments that it takes, for tests of C: what they are is told by their names, and by few exceptions."""
 
 import re
+from fnmatch import fnmatchcase
 
 from sources.text import Refused
 
@@ -9,33 +10,32 @@ from .c import filled
 # The arguments that a call reads, and its numbers; what it writes goes to room of the test's. `count` is the length of a list.
 BY_NAME = {
     "account": '"4012345678909"', "account_length": "13", "base": "key", "block": "sent", "buffer": "blocks", "bytes": "salted",
-    "capacity": "sizeof blocks", "card": "key", "code": "blocks", "count": "count", "counter": "blocks", "counts": "ones", "cryptogram": "blocks",
-    "data": "blocks", "digits": '"0123456789012345"', "expected": "blocks", "expiry": '"8701"', "expiry_length": "4", "fill": "fill",
-    "first": "key", "hash": "CUKVASHE_SHA256", "index": "1", "initial": "key", "input": "blocks", "is_response": "true", "issuer": "key", "iterations": "2", "key": "key", "key_length": "24",
-    "keys": "keys", "length": "8 * count", "message": "blocks", "messages": "messages", "method": "1", "offset": "pin_digits",
-    "offset_length": "12", "others": "others", "others_count": "1",
-    "parts": "&parts", "password": "others", "password_length": "sizeof others", "pin": "pin_digits", "pin_length": "12", "place": "0", "protection": "key", "protection_length": "24",
-    "records_count": "count", "salt": "blocks", "salt_length": "8", "second": "others", "sequence": '"00"',
-    "sequence_length": "2", "serial": "serial", "serials": "blocks", "service": '"101"', "service_length": "3", "session": "key",
-    "size": "sizeof blocks", "status": "3", "table": "&table", "tag": "blocks", "tag_length": "8", "tags": "blocks", "terminal": "&terminal",
-    "transaction": "key", "translation": "&translations[0]", "validation": "blocks", "value": "pin_digits", "value_length": "4",
+    "capacity": "sizeof blocks", "card": "key", "code": "blocks", "count": "count", "counter": "blocks", "counts": "ones",
+    "cryptogram": "blocks", "data": "blocks", "digits": '"0123456789012345"', "expected": "blocks", "expiry": '"8701"',
+    "expiry_length": "4", "fill": "fill", "first": "key", "hash": "CUKVASHE_SHA256", "index": "1", "initial": "key", "input": "blocks",
+    "is_response": "true", "issuer": "key", "iterations": "2", "key": "key", "key_length": "24", "keys": "keys", "length": "8 * count",
+    "message": "blocks", "messages": "messages", "method": "1", "offset": "pin_digits", "offset_length": "12", "others": "others",
+    "others_count": "1", "parts": "&parts", "password": "others", "password_length": "sizeof others", "pin": "pin_digits",
+    "pin_length": "12", "place": "0", "protection": "key", "protection_length": "24", "records_count": "count", "salt": "blocks",
+    "salt_length": "8", "second": "others", "sequence": '"00"', "sequence_length": "2", "serial": "serial", "serials": "blocks",
+    "service": '"101"', "service_length": "3", "session": "key", "size": "sizeof blocks", "status": "3", "table": "&table",
+    "tag": "blocks", "tag_length": "8", "tags": "blocks", "terminal": "&terminal", "transaction": "key",
+    "translation": "&translations[0]", "validation": "blocks", "value": "pin_digits", "value_length": "4",
 }  # fmt: skip
 # Of lists that have a length beside their count, the size of an element.
 ELEMENTS = {"keys_length": 16, "tags_length": 8, "expected_length": 8, "values_length": 3, "serials_length": 10, "vectors_length": 8}
+# By patterns of a call and an argument, of which the first one counts.
 EXCEPTIONS = {
-    ("emv_response_2", "status"): "blocks", ("emv_response_2", "length"): "8", ("emv_application_cryptogram", "length"): "sizeof blocks",
-    ("decimal_table_init", "length"): "16", ("decimal_table_init_any", "length"): "16", ("pin_encode_1", "transaction"): "fill",
-    ("pin_decode_1", "block"): "sent + 8", ("pin_translate_to_1", "block"): "sent + 8", ("pin_translate_to_1", "translation"): "&translations[1]", ("pad", "method"): "CUKVASHE_PKCS7",
-    ("unpad", "method"): "CUKVASHE_PKCS7", ("pad", "length"): "77", ("unpad", "length"): "80", ("emv_card_key_b", "account"): '"6304000000000000001"',
-    ("emv_card_key_b", "account_length"): "19", ("key_block_wrap", "block"): "key_block", ("key_block_wrap", "capacity"): "sizeof key_block",
-    ("key_block_wrap", "length"): "&key_block_length", ("dukpt_terminal_init", "terminal"): "&terminal",
-    ("dukpt_terminal_next_key", "terminal"): "&terminal", ("des_open_salted", "hash"): "CUKVASHE_SHA1",
-    ("tdes_ede2_open_salted", "hash"): "CUKVASHE_MD5", ("tdes_ede2_open_salted", "iterations"): "0",
-    ("tdes_ede3_open_salted", "iterations"): "0", ("decimal_table_init_any", "digits"): '"0000000000000000"',
+    "decimal_table_init*.length": "16", "decimal_table_init_any.digits": '"0000000000000000"', "des_open_salted.hash": "CUKVASHE_SHA1",
+    "dukpt_terminal_*.terminal": "&terminal", "emv_application_cryptogram.length": "sizeof blocks",
+    "emv_card_key_b.account": '"6304000000000000001"', "emv_card_key_b.account_length": "19", "emv_response_2.length": "8",
+    "emv_response_2.status": "blocks", "key_block_*.block": "key_block", "key_block_*.block_length": "key_block_length",
+    "key_block_wrap.capacity": "sizeof key_block", "key_block_wrap.length": "&key_block_length", "pad.length": "77",
+    "*pad.method": "CUKVASHE_PKCS7", "pin_decode_1.block": "sent + 8", "pin_encode_1.transaction": "fill",
+    "pin_translate_to_1.block": "sent + 8", "pin_translate_to_1.translation": "&translations[1]",
+    "tdes_ede2_open_salted.hash": "CUKVASHE_MD5", "tdes_*_open_salted.iterations": "0", "unpad.length": "80",
+    "*_open_salted.length": "sizeof salted", "*_open_salted.capacity": "sizeof salted",
 }  # fmt: skip
-# Of what the name of a call begins with.
-BY_SECTION = {("key_block_", "block"): "key_block", ("key_block_", "block_length"): "key_block_length"}
-BY_END = {("_open_salted", "length"): "sizeof salted", ("_open_salted", "capacity"): "sizeof salted"}
 
 
 class Samples:
@@ -50,13 +50,8 @@ class Samples:
 
     def argument(self, call, one, room):
         kind, size = self.kind_of(call), f"CUKVASHE_{(self.kind_of(call) or '').upper()}_KEY_SIZE"
-        if (call.name, one.name) in EXCEPTIONS:
-            return EXCEPTIONS[call.name, one.name]
-        for (begin, name), given in BY_SECTION.items():
-            if call.name.startswith(begin) and name == one.name and (one.type.is_const or not one.type.is_pointer):
-                return given
-        for (end, name), given in BY_END.items():
-            if call.name.endswith(end) and name == one.name:
+        for pattern, given in EXCEPTIONS.items():
+            if fnmatchcase(f"{call.name}.{one.name}", pattern):
                 return given
         if one.type.struct and self.header.structs[one.type.struct].words:
             return f"(void *)contexts[{self.header.kinds.index(one.type.struct)}]"

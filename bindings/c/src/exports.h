@@ -58,7 +58,7 @@ int cukvashe_internal_check_value(size_t key_size, const uint8_t *key, size_t ke
 int cukvashe_internal_combine(const uint8_t *first, size_t first_count, const uint8_t *second, size_t second_count,
     const uint8_t *others, size_t others_count, uint8_t *key, size_t key_count);
 
-/* Those calls for x86-64-v3, which take 256 at a time: what bindings/widen and bindings/generate make of the same source. */
+/* Those of lists for x86-64-v3, which take 256 at a time: what bindings/widen and bindings/generate make of the same source. */
 int cukvashe_wide_encrypt_ecb(const uint64_t *context, size_t context_count, uint8_t *blocks, size_t blocks_count,
     size_t size);
 int cukvashe_wide_decrypt_ecb(const uint64_t *context, size_t context_count, uint8_t *blocks, size_t blocks_count,
