@@ -5,6 +5,20 @@ import textwrap
 
 from sources.text import Refused
 
+# The errors for Python and JavaScript whose names are not those of their statuses.
+NAMES = {
+    "BLOCKS": "BlockLength",
+    "TAG": "TagMismatch",
+    "PADDING": "PaddingMismatch",
+    "COUNTS": "CountMismatch",
+    "VERSION": "KeyBlockVersion",
+    "HEADER": "KeyBlockField",
+    "HASH": "HashName",
+    "ITERATIONS": "IterationCount",
+}
+# Those that no caller meets, and those of which a call says more than their sentence.
+NO_ERRORS = {"OK", "CAPACITY", "NO_OPTIONAL_BLOCK", "CONTEXT", "WEAK_KEY", "NO_SERIAL"}
+
 SAID = "made of it by bindings/describe"
 
 
@@ -14,6 +28,13 @@ def capitalized(text):
 
 def short(status):
     return status.name.removeprefix("ERR_")
+
+
+def errors(header):
+    """Each status that is an error by itself, with the error's name."""
+    for it in header.statuses:
+        if short(it) not in NO_ERRORS:
+            yield it, NAMES.get(short(it)) or "".join(word.capitalize() for word in short(it).split("_"))
 
 
 def of_rattle(header):
@@ -38,6 +59,11 @@ def of_python(header):
     yield "SENTENCES = ("
     yield from (f'    "{it.text}",' for it in header.statuses)
     yield ")"
+    yield ""
+    yield "# The error of each status that is one by itself."
+    yield "ERRORS = {"
+    yield from (f'    {short(it)}: "{name}Error",' for it, name in errors(header))
+    yield "}"
 
 
 def of_rust(header):
@@ -56,15 +82,16 @@ def of_javascript(header):
     yield "const SENTENCES = ["
     yield from (f'  "{it.text}",' for it in header.statuses)
     yield "];"
+    yield from (f'export const {name} = fault("{name}");' for _, name in errors(header))
+    yield "const FAULTS = new Map(["
+    yield from (f"  [{short(it)}, {name}]," for it, name in errors(header))
+    yield "]);"
 
 
-def of_types(header, wrapper):
-    """The errors for JavaScript: of each status that the wrapper's table FAULTS names."""
-    sentences = {short(it): f"{capitalized(it.text)}." for it in header.statuses}
-    for status, name in re.findall(r"^  \[([A-Z_]+), (\w+)\],$", wrapper, re.MULTILINE):
-        if status not in sentences:
-            raise Refused(f"bindings/wasm/cukvashe_des.mjs: FAULTS has {status}, which is no status")
-        lines = textwrap.wrap(sentences[status], 112, break_on_hyphens=False)
+def of_types(header):
+    """The errors for JavaScript."""
+    for it, name in errors(header):
+        lines = textwrap.wrap(f"{capitalized(it.text)}.", 112, break_on_hyphens=False)
         yield from [f"/** {lines[0]} */"] if len(lines) == 1 else ["/**", *(f" * {line}" for line in lines), " */"]
         yield f"export class {name} extends CukvasheError {{}}"
 

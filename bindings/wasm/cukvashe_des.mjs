@@ -42,54 +42,15 @@ function fault(name) {
 export const NotLoaded = fault("NotLoaded");
 export const NotSupported = fault("NotSupported");
 export const ModuleMismatch = fault("ModuleMismatch");
-export const KeyLength = fault("KeyLength");
-export const BlockLength = fault("BlockLength");
 export const VectorLength = fault("VectorLength");
-export const PaddingMethod = fault("PaddingMethod");
-export const PaddingMismatch = fault("PaddingMismatch");
 export const SerialLength = fault("SerialLength");
-export const CountMismatch = fault("CountMismatch");
 export const WeakKey = fault("WeakKey");
-export const TagMismatch = fault("TagMismatch");
 export const Closed = fault("Closed");
-export const Format = fault("Format");
-export const PinLength = fault("PinLength");
-export const PinDigit = fault("PinDigit");
-export const AccountLength = fault("AccountLength");
-export const AccountDigit = fault("AccountDigit");
-export const Fill = fault("Fill");
 export const FillLength = fault("FillLength");
-export const ExpiryLength = fault("ExpiryLength");
-export const ExpiryDigit = fault("ExpiryDigit");
-export const ServiceLength = fault("ServiceLength");
-export const ServiceDigit = fault("ServiceDigit");
 export const NoSerial = fault("NoSerial");
 export const StateLength = fault("StateLength");
-export const KeyIndex = fault("KeyIndex");
-export const TableLength = fault("TableLength");
-export const TableDigit = fault("TableDigit");
-export const TableVariety = fault("TableVariety");
-export const WrongPin = fault("WrongPin");
-export const Formats = fault("Formats");
-export const PinBlock = fault("PinBlock");
-export const SequenceLength = fault("SequenceLength");
-export const SequenceDigit = fault("SequenceDigit");
-export const DataLength = fault("DataLength");
-export const ProtectionKeyLength = fault("ProtectionKeyLength");
-export const KeyBlockLength = fault("KeyBlockLength");
-export const KeyBlockVersion = fault("KeyBlockVersion");
-export const KeyBlockField = fault("KeyBlockField");
-export const OptionalBlock = fault("OptionalBlock");
-export const KeyDataLength = fault("KeyDataLength");
-export const KeyBlockDigit = fault("KeyBlockDigit");
-export const KeyBlockMac = fault("KeyBlockMac");
-export const PaddingLength = fault("PaddingLength");
-export const HashName = fault("HashName");
-export const IterationCount = fault("IterationCount");
-export const NotSalted = fault("NotSalted");
-export const SaltLength = fault("SaltLength");
 
-// The statuses of cukvashe_des.h and, at the place of its number, the sentence of each: made of it by bindings/describe.
+// The statuses of cukvashe_des.h, the sentence of each at the place of its number, and their errors: made of it by bindings/describe.
 const OK = 0;
 const KEY_LENGTH = 1;
 const BLOCKS = 2;
@@ -182,9 +143,45 @@ const SENTENCES = [
   "the bytes end within the salt, or it does not have 0 or 8 bytes",
   "the context is not one that the init of this type made",
 ];
-// This ends what bindings/describe made.
-
-// The error of each status that is one by itself.
+export const KeyLength = fault("KeyLength");
+export const BlockLength = fault("BlockLength");
+export const PaddingMethod = fault("PaddingMethod");
+export const TagMismatch = fault("TagMismatch");
+export const Format = fault("Format");
+export const PinLength = fault("PinLength");
+export const PinDigit = fault("PinDigit");
+export const AccountLength = fault("AccountLength");
+export const AccountDigit = fault("AccountDigit");
+export const Fill = fault("Fill");
+export const ExpiryLength = fault("ExpiryLength");
+export const ExpiryDigit = fault("ExpiryDigit");
+export const ServiceLength = fault("ServiceLength");
+export const ServiceDigit = fault("ServiceDigit");
+export const PaddingMismatch = fault("PaddingMismatch");
+export const CountMismatch = fault("CountMismatch");
+export const KeyIndex = fault("KeyIndex");
+export const TableLength = fault("TableLength");
+export const TableDigit = fault("TableDigit");
+export const TableVariety = fault("TableVariety");
+export const WrongPin = fault("WrongPin");
+export const Formats = fault("Formats");
+export const PinBlock = fault("PinBlock");
+export const SequenceLength = fault("SequenceLength");
+export const SequenceDigit = fault("SequenceDigit");
+export const DataLength = fault("DataLength");
+export const ProtectionKeyLength = fault("ProtectionKeyLength");
+export const KeyBlockLength = fault("KeyBlockLength");
+export const KeyBlockVersion = fault("KeyBlockVersion");
+export const KeyBlockField = fault("KeyBlockField");
+export const OptionalBlock = fault("OptionalBlock");
+export const KeyDataLength = fault("KeyDataLength");
+export const KeyBlockDigit = fault("KeyBlockDigit");
+export const KeyBlockMac = fault("KeyBlockMac");
+export const PaddingLength = fault("PaddingLength");
+export const HashName = fault("HashName");
+export const IterationCount = fault("IterationCount");
+export const NotSalted = fault("NotSalted");
+export const SaltLength = fault("SaltLength");
 const FAULTS = new Map([
   [KEY_LENGTH, KeyLength],
   [BLOCKS, BlockLength],
@@ -226,6 +223,7 @@ const FAULTS = new Map([
   [NOT_SALTED, NotSalted],
   [SALT_LENGTH, SaltLength],
 ]);
+// This ends what bindings/describe made.
 
 // What stands after a sentence that leaves it to the call.
 const TAKEN = new Map([

@@ -203,45 +203,7 @@ class SaltLengthError(Error, ValueError):
     """Data end within the salt, or the salt of bytes_to_key does not have 0 or 8 bytes."""
 
 
-_FAULTS: Dict[int, Type[Error]] = {
-    _statuses.PADDING_METHOD: PaddingMethodError,
-    _statuses.TAG: TagMismatchError,
-    _statuses.FORMAT: FormatError,
-    _statuses.PIN_LENGTH: PinLengthError,
-    _statuses.PIN_DIGIT: PinDigitError,
-    _statuses.ACCOUNT_LENGTH: AccountLengthError,
-    _statuses.ACCOUNT_DIGIT: AccountDigitError,
-    _statuses.FILL: FillError,
-    _statuses.EXPIRY_LENGTH: ExpiryLengthError,
-    _statuses.EXPIRY_DIGIT: ExpiryDigitError,
-    _statuses.SERVICE_LENGTH: ServiceLengthError,
-    _statuses.SERVICE_DIGIT: ServiceDigitError,
-    _statuses.PADDING: PaddingMismatchError,
-    _statuses.KEY_INDEX: KeyIndexError,
-    _statuses.TABLE_LENGTH: TableLengthError,
-    _statuses.TABLE_DIGIT: TableDigitError,
-    _statuses.TABLE_VARIETY: TableVarietyError,
-    _statuses.WRONG_PIN: WrongPinError,
-    _statuses.FORMATS: FormatsError,
-    _statuses.PIN_BLOCK: PinBlockError,
-    _statuses.SEQUENCE_LENGTH: SequenceLengthError,
-    _statuses.SEQUENCE_DIGIT: SequenceDigitError,
-    _statuses.DATA_LENGTH: DataLengthError,
-    _statuses.KEY_LENGTH: KeyLengthError,
-    _statuses.PROTECTION_KEY_LENGTH: ProtectionKeyLengthError,
-    _statuses.KEY_BLOCK_LENGTH: KeyBlockLengthError,
-    _statuses.VERSION: KeyBlockVersionError,
-    _statuses.HEADER: KeyBlockFieldError,
-    _statuses.OPTIONAL_BLOCK: OptionalBlockError,
-    _statuses.KEY_DATA_LENGTH: KeyDataLengthError,
-    _statuses.KEY_BLOCK_DIGIT: KeyBlockDigitError,
-    _statuses.KEY_BLOCK_MAC: KeyBlockMacError,
-    _statuses.PADDING_LENGTH: PaddingLengthError,
-    _statuses.HASH: HashNameError,
-    _statuses.ITERATIONS: IterationCountError,
-    _statuses.NOT_SALTED: NotSaltedError,
-    _statuses.SALT_LENGTH: SaltLengthError,
-}
+_FAULTS: Dict[int, Type[Error]] = {status: globals()[name] for status, name in _statuses.ERRORS.items()}
 
 # What stands after a sentence that leaves it to the call.
 _TAKEN = {
