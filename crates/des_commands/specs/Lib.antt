@@ -1,5 +1,6 @@
 pub mod Texts
 pub mod HexTexts
+pub mod HexStreams
 pub mod Faults
 pub mod Written
 pub mod PinLines

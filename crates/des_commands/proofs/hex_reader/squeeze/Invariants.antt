@@ -1,6 +1,6 @@
-use Rattle.std.specs.Prelude.{◌≤◌}
+use Rattle.des_commands.proofs.StreamedDigits.{IsSqueezed}
 use Rattle.des_commands.proofs.hex_reader.squeeze.Given as goal
 
--- no more bytes are kept than characters were read
+-- the bytes so far are in front
 abbrev pub invariant-characters : goal.invariant-characters
-invariant-characters l = l.kept ≤ l.at
+invariant-characters l = IsSqueezed l.initial.position l.position l.initial.text l.text l.at l.kept

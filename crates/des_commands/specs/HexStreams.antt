@@ -1,0 +1,87 @@
+-- Hexadecimal digits of either case, with white space between, as a stream gives them, a character after another: the bytes
+-- that they write, and the line of the first character that is no digit.
+use Rattle.std.specs.Prelude.{ℕ, ◌+◌, ◌*◌, ◌%◌, ◌-◌, ◌^◌, min, ◌==◌, ◌&&◌, Bool, not, if◌then◌else◌, List, [], ◌∷◌, Option, Some, None, is_some, option_map, option_and_then}
+use Rattle.base64.specs.Read.{Outlook}
+use Rattle.hex.specs.Hex.{hex_digit_value}
+use Rattle.des_passwords.specs.Base64Streams.{in_front}
+use Rattle.des_commands.specs.Texts.{is_space}
+use Rattle.des_commands.specs.declared.hex_reader.HexFault.{HexFault}
+use Rattle.des_commands.specs.declared.hex_reader.HexFault.TheVariants.{Line, Odd}
+use Rattle.des_commands.specs.declared.hex_reader.HexReader.{HexReader}
+use Rattle.des_commands.specs.declared.hex_reader.Position.{Position}
+
+-- before the first character
+abbrev pub beginning : Position
+beginning = record { line = 1; first = None; fault = None }
+
+-- ---- characters
+
+-- a digit is the first of its byte, or the second
+abbrev pub first_after : (first : Option ℕ) → (value : ℕ) → Option ℕ
+first_after None value = Some value
+first_after (Some first) value = None
+
+abbrev pub after_digit : Position → (value : Option ℕ) → Position
+after_digit position None = record position { fault = Some position.line }
+after_digit position (Some value) = record position { first = first_after position.first value }
+
+-- where a text is after a character more: nothing is read after one that is no digit, and lines are counted up to 2 ^ 64 - 1
+unfoldable pub after : Position → ℕ → Position
+after position character =
+    if is_some position.fault then position
+    else if character == 10 then record position { line = min (position.line + 1) (2 ^ 64 - 1) }
+    else if is_space character then position
+    else after_digit position (hex_digit_value character)
+
+-- the byte of two digits, whose values are below 16
+abbrev pub byte_of_digits : (first second : Option ℕ) → Option ℕ
+byte_of_digits (Some first) (Some second) = Some (first % 16 * 16 + second % 16)
+byte_of_digits _ _ = None
+
+-- the byte that a character ends, if it ends one
+unfoldable pub byte_of : Position → ℕ → Option ℕ
+byte_of position character =
+    if is_some position.fault then None else byte_of_digits position.first (hex_digit_value character)
+
+-- the bytes that a text ends from a position on, and the position after it
+unfoldable pub bytes_ended : Position → List ℕ → List ℕ
+bytes_ended position [] = []
+bytes_ended position (character ∷ rest) =
+    in_front (byte_of position character) (bytes_ended (after position character) rest)
+
+unfoldable pub after_all : Position → List ℕ → Position
+after_all position [] = position
+after_all position (character ∷ rest) = after_all (after position character) rest
+
+-- all that was read are digits, and each byte has two
+abbrev pub is_whole : Position → Bool
+is_whole position = not (is_some position.fault) && not (is_some position.first)
+
+-- the bytes that a text writes from a position on, if it is one of digits to its end
+abbrev pub bytes_from : Position → List ℕ → Option (List ℕ)
+bytes_from position text = if is_whole (after_all position text) then Some (bytes_ended position text) else None
+
+-- the bytes that a text of digits writes
+abbrev pub bytes_of : List ℕ → Option (List ℕ)
+bytes_of text = bytes_from beginning text
+
+-- why what was read is no text of digits: the first line that has others is told before a digit that is alone
+abbrev pub fault_at : (fault first : Option ℕ) → Option HexFault
+fault_at (Some line) first = Some (Line line)
+fault_at None (Some first) = Some Odd
+fault_at None None = None
+
+-- ---- readers
+
+module _ {R : Type 0} (remaining : R → Option (List ℕ)) where
+  -- the bytes to come, where the text is known, or none where it is no text of digits
+  abbrev pub outlook_on : HexReader R → Outlook
+  outlook_on reader = option_map (bytes_from reader.position) (remaining reader.inner)
+
+  -- the bytes to come, where the text is known and is one of digits
+  abbrev pub bytes_remaining : HexReader R → Option (List ℕ)
+  bytes_remaining reader = option_and_then (λ bytes. bytes) (outlook_on reader)
+
+-- it is told where a read failed by it
+abbrev pub fault_of : {R : Type 0} → HexReader R → Option HexFault
+fault_of reader = if reader.is_malformed then fault_at reader.position.fault reader.position.first else None
