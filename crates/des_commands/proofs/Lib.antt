@@ -12,3 +12,4 @@ pub mod ShownTexts
 pub mod UnwrapFaults
 pub mod ObjectIdentifiers
 pub mod StreamedDigits
+pub mod DigitsOfText

@@ -28,7 +28,7 @@ ended_more : (position : Position) (character : ℕ) (rest : List ℕ) → bytes
 unfolding bytes_ended
 ended_more position character rest = refl
 
-after_more : (position : Position) (character : ℕ) (rest : List ℕ)
+pub after_more : (position : Position) (character : ℕ) (rest : List ℕ)
     → after_all position (character ∷ rest) ≡ after_all (after position character) rest
 unfolding after_all
 after_more position character rest = refl
@@ -93,7 +93,7 @@ none_ended : (position : Position) → bytes_ended position [] ≡ []
 unfolding bytes_ended
 none_ended position = refl
 
-none_after : (position : Position) → after_all position [] ≡ position
+pub none_after : (position : Position) → after_all position [] ≡ position
 unfolding after_all
 none_after position = refl
 
@@ -146,7 +146,7 @@ known_both : (whole : Bool) (xs ys : List ℕ)
 known_both true xs ys = refl
 known_both false xs ys = refl
 
-from_both : (position next : Position) (xs ys : List ℕ) → next ≡ after_all position xs
+pub from_both : (position next : Position) (xs ys : List ℕ) → next ≡ after_all position xs
     → bytes_from position (xs ++ ys) ≡ prepend_known (bytes_ended position xs) (bytes_from next ys)
 from_both position next xs ys is =
     let last = after_all (after_all position xs) ys in
@@ -199,7 +199,7 @@ outlook_kept position None read_to keeps = tt
 outlook_kept position (Some all) None keeps = absurd keeps
 outlook_kept position (Some all) (Some rest) keeps = ap (λ (l : List ℕ). Some (bytes_from position l)) keeps
 
-prepend_none : (bytes : List ℕ) (known : Option (List ℕ)) → bytes ≡ [] → prepend_known bytes known ≡ known
+pub prepend_none : (bytes : List ℕ) (known : Option (List ℕ)) → bytes ≡ [] → prepend_known bytes known ≡ known
 prepend_none bytes None none = refl
 prepend_none bytes (Some rest) none = ap (λ (l : List ℕ). Some (l ++ rest)) none
 

@@ -1,18 +1,15 @@
 -- Hexadecimal digits of either case, with white space between, as a stream gives them, a character after another: the bytes
 -- that they write, and the line of the first character that is no digit.
 use Rattle.std.specs.Prelude.{ℕ, ◌+◌, ◌*◌, ◌%◌, ◌-◌, ◌^◌, min, ◌==◌, ◌&&◌, Bool, not, if◌then◌else◌, List, [], ◌∷◌, Option, Some, None, is_some, option_map, option_and_then}
+use Rattle.std.specs.Result.{result_ok}
 use Rattle.base64.specs.Read.{Outlook}
-use Rattle.hex.specs.Hex.{hex_digit_value}
+use Rattle.hex.specs.Hex.{decode_of, hex_digit_value}
 use Rattle.des_passwords.specs.Base64Streams.{in_front}
-use Rattle.des_commands.specs.Texts.{is_space}
+use Rattle.des_commands.specs.Texts.{is_space, written_in}
 use Rattle.des_commands.specs.declared.hex_reader.HexFault.{HexFault}
 use Rattle.des_commands.specs.declared.hex_reader.HexFault.TheVariants.{Line, Odd}
 use Rattle.des_commands.specs.declared.hex_reader.HexReader.{HexReader}
 use Rattle.des_commands.specs.declared.hex_reader.Position.{Position}
-
--- before the first character
-abbrev pub beginning : Position
-beginning = record { line = 1; first = None; fault = None }
 
 -- ---- characters
 
@@ -61,9 +58,9 @@ is_whole position = not (is_some position.fault) && not (is_some position.first)
 abbrev pub bytes_from : Position → List ℕ → Option (List ℕ)
 bytes_from position text = if is_whole (after_all position text) then Some (bytes_ended position text) else None
 
--- the bytes that a text of digits writes
+-- the bytes that the digits of a whole text write, if it has no other characters but white space
 abbrev pub bytes_of : List ℕ → Option (List ℕ)
-bytes_of text = bytes_from beginning text
+bytes_of text = result_ok (decode_of (written_in text))
 
 -- why what was read is no text of digits: the first line that has others is told before a digit that is alone
 abbrev pub fault_at : (fault first : Option ℕ) → Option HexFault

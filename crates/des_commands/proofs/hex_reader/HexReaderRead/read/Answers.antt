@@ -1,4 +1,4 @@
-use Rattle.std.proofs.Common.{◌∙◌, refl}
+use Rattle.std.proofs.Common.{◌∙◌}
 use Rattle.des_commands.proofs.hex_reader.HexReaderRead.read.Goals as goal
 
 -- the reader fails by another error
