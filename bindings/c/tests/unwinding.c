@@ -39,7 +39,8 @@ __attribute__((noinline)) static void calls(void) {
   static size_t size;
   is_within = 1;
   raise(SIGTRAP);
-  const int is_good =
+  /* It is read after the last signal, which is so raised in this function's frame. */
+  volatile int is_good =
       cukvashe_tdes_ede3_init(&context, key, sizeof key) == CUKVASHE_OK &&
       cukvashe_tdes_ede3_encrypt_cbc(&context, iv, data, 16) == CUKVASHE_OK &&
       /* By each width: the longer list is for wider vectors, where the processor has them. */
