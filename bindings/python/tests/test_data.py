@@ -26,9 +26,9 @@ from cukvashe_des import (
     _data,
     _statuses,
     _terminal,
+    bytes_to_key,
     combine,
     open_salted,
-    pbkdf2,
     pin_decode_2,
     unwrap_key_block,
     wrap_key_block,
@@ -579,7 +579,7 @@ class Wiped(WatchesWiping):
 
     def test_refused_secrets(self):
         """Secrets of a call that is refused are wiped too."""
-        for call, arguments, sizes in ((unwrap_key_block, (KEY[:16], BLOCK), [16]), (pbkdf2, ("md5", b"secret", IV, 1, 24), [6]),
+        for call, arguments, sizes in ((unwrap_key_block, (KEY[:16], BLOCK), [16]), (bytes_to_key, ("md5", b"secret", IV[:3], 24), [6]),
                                        (wrap_key_block, (PROTECTION, BLOCK_HEADER, KEY[:9]), [9, 16]),
                                        (open_salted, (TdesEde3, b"Secret", SALTED), [6])):
             self.wiped.clear()
