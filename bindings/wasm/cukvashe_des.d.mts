@@ -1,6 +1,6 @@
 // What each call of cukvashe_des.mjs does, with its errors and types. Lengths are in bytes. Besides the errors that are
-// named, a wrong type, an option of another name and an argument too many are a TypeError, and every call before `load`
-// has ended is NotLoaded.
+// named, a wrong type, an option of another name and an argument too many are a TypeError. Before `load` has ended,
+// isSupported alone answers: other calls throw NotLoaded, or the error of an argument.
 
 /** The version of the library. */
 export const version: string;

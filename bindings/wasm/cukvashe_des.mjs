@@ -353,7 +353,7 @@ function afterData(form, [options, ...more], ...names) {
 }
 
 /** Refuses arguments that a call does not have. Passed over, they would be taken for a part of its answer. */
-function refuseMore(more, text) {
+function refuseMore(more, text = "the call takes fewer arguments") {
   if (more.length > 0) throw new TypeError(text);
 }
 
@@ -653,7 +653,8 @@ const OF_64_BITS = Uint8Array.of(0, 97, 115, 109, 1, 0, 0, 0, 5, 3, 1, 4, 1);
 
 const hasMemory64 = () => WebAssembly.validate(OF_64_BITS);
 
-export function isSupported() {
+export function isSupported(...more) {
+  refuseMore(more);
   return typeof WebAssembly === "object";
 }
 
@@ -668,7 +669,8 @@ async function fileBeside() {
   return response.arrayBuffer();
 }
 
-export async function load(module) {
+export async function load(module, ...more) {
+  refuseMore(more);
   if (!isSupported()) throw new NotSupported("this engine has no WebAssembly");
   const given = module === undefined ? await fileBeside() : module;
   const bytes = (given instanceof ArrayBuffer ? new Uint8Array(given) : bytesOf(given, "the module")).slice();
@@ -726,7 +728,8 @@ function kindOf(Class, Base, what) {
 const QUICK = 0;
 
 class Keyed {
-  close() {
+  close(...more) {
+    refuseMore(more);
     const state = states.get(this);
     if (state === undefined) return;
     state.context?.fill(0);
@@ -831,7 +834,8 @@ class Mac extends Keyed {
     return this;
   }
 
-  digest(encoding) {
+  digest(encoding, ...more) {
+    refuseMore(more);
     if (encoding !== undefined && encoding !== "hex") throw new TypeError('digest takes no argument but "hex"');
     const tag = inside((memory) => {
       const { kind, context } = memory.state(this, Mac);
@@ -842,15 +846,18 @@ class Mac extends Keyed {
     return encoding === "hex" ? hexOf(tag) : tag;
   }
 
-  verify(tag) {
+  verify(tag, ...more) {
+    refuseMore(more);
     return accepted(this, tag, TAG_SIZE);
   }
 
-  verifyTruncatedLeft(tag) {
+  verifyTruncatedLeft(tag, ...more) {
+    refuseMore(more);
     return accepted(this, tag, LEAST_TAG_SIZE);
   }
 
-  copy() {
+  copy(...more) {
+    refuseMore(more);
     return inside((memory) => {
       const { kind, context } = memory.state(this, Mac);
       return keep(Object.create(Object.getPrototypeOf(this)), Mac, kind, context.slice());
@@ -944,7 +951,8 @@ function methodOf(method) {
   return METHODS.get(method);
 }
 
-export function pad(data, method) {
+export function pad(data, method, ...more) {
+  refuseMore(more);
   const number = methodOf(method);
   const bytes = bytesOf(data, "data");
   return inside((memory) => {
@@ -956,7 +964,8 @@ export function pad(data, method) {
   });
 }
 
-export function unpad(data, method) {
+export function unpad(data, method, ...more) {
+  refuseMore(more);
   const number = methodOf(method);
   const bytes = bytesOf(data, "data");
   return inside((memory) => {
@@ -973,12 +982,14 @@ export function unpad(data, method) {
 
 const SIZES = [8, 16, 24];
 
-export function isWeakKey(key) {
+export function isWeakKey(key, ...more) {
+  refuseMore(more);
   const bytes = keyOf(key, ...SIZES);
   return inside((memory) => memory.ask("weak_key_test", ...memory.list(bytes))) === WEAK_KEY;
 }
 
-export function withOddParity(key) {
+export function withOddParity(key, ...more) {
+  refuseMore(more);
   const bytes = keyOf(key, ...SIZES);
   return inside((memory) => {
     const [at, length] = memory.list(bytes);
@@ -987,23 +998,27 @@ export function withOddParity(key) {
   });
 }
 
-export function equalButParity(first, second) {
+export function equalButParity(first, second, ...more) {
+  refuseMore(more);
   const one = keyOf(first, ...SIZES);
   const other = keyOf(second, one.length);
   return inside((memory) => memory.ask("internal_equal_but_parity", ...memory.list(one), ...memory.list(other))) !== 0;
 }
 
-export function checkValue(cipher, key) {
+export function checkValue(cipher, key, ...more) {
+  refuseMore(more);
   const { keySize } = cipherOf(cipher);
   const bytes = keyOf(key, keySize);
   return written("internal_check_value", { keySize, key: bytes });
 }
 
-export function keyCheckValue(key) {
+export function keyCheckValue(key, ...more) {
+  refuseMore(more);
   return written("key_check_value", { key: keyOf(key, ...SIZES) });
 }
 
-export function shortKeyCheckValue(key) {
+export function shortKeyCheckValue(key, ...more) {
+  refuseMore(more);
   return written("short_key_check_value", { key: keyOf(key, ...SIZES) });
 }
 
@@ -1032,29 +1047,35 @@ const TRANSACTION_KEY_SIZE = 16;
 /** A key of a transaction. */
 const transactionKeyOf = (key) => keyOf(key, TRANSACTION_KEY_SIZE);
 
-export function dukptInitialKey(base, serial) {
+export function dukptInitialKey(base, serial, ...more) {
+  refuseMore(more);
   const number = serialOf(serial);
   return written("dukpt_initial_key", { base: transactionKeyOf(base), serial: number });
 }
 
-export function dukptTransactionKey(initial, serial) {
+export function dukptTransactionKey(initial, serial, ...more) {
+  refuseMore(more);
   const number = serialOf(serial);
   return written("dukpt_transaction_key", { initial: transactionKeyOf(initial), serial: number });
 }
 
-export function dukptPinKey(transaction) {
+export function dukptPinKey(transaction, ...more) {
+  refuseMore(more);
   return written("dukpt_pin_key", { transaction: transactionKeyOf(transaction) });
 }
 
-export function dukptMacKey(transaction, isResponse = false) {
+export function dukptMacKey(transaction, isResponse = false, ...more) {
+  refuseMore(more);
   return keyOfMessage("dukpt_mac_key", transaction, isResponse);
 }
 
-export function dukptDataKey(transaction, isResponse = false) {
+export function dukptDataKey(transaction, isResponse = false, ...more) {
+  refuseMore(more);
   return keyOfMessage("dukpt_data_key", transaction, isResponse);
 }
 
-export function dukptDataVariant(transaction, isResponse = false) {
+export function dukptDataVariant(transaction, isResponse = false, ...more) {
+  refuseMore(more);
   return keyOfMessage("dukpt_data_variant", transaction, isResponse);
 }
 
@@ -1064,7 +1085,8 @@ function keyOfMessage(name, transaction, isResponse) {
   return written(name, { transaction: transactionKeyOf(transaction), isResponse: word });
 }
 
-export function dukptNextSerial(serial) {
+export function dukptNextSerial(serial, ...more) {
+  refuseMore(more);
   const number = serialOf(serial);
   return inside((memory) => {
     const [at, next] = [memory.put(number), memory.room(SERIAL_SIZE)];
@@ -1072,7 +1094,8 @@ export function dukptNextSerial(serial) {
   });
 }
 
-export function dukptIsUsable(serial) {
+export function dukptIsUsable(serial, ...more) {
+  refuseMore(more);
   const number = serialOf(serial);
   return inside((memory) => memory.ask("dukpt_is_usable", memory.put(number))) !== 0;
 }
@@ -1080,8 +1103,9 @@ export function dukptIsUsable(serial) {
 const STATE_SIZE = 346;
 
 export class DukptTerminal extends Keyed {
-  constructor(initial, serial) {
+  constructor(initial, serial, ...more) {
     super();
+    refuseMore(more);
     const [key, number] = [keyOf(initial, TRANSACTION_KEY_SIZE), serialOf(serial)];
     const context = inside((memory) => {
       const at = memory.room(STATE_SIZE);
@@ -1091,14 +1115,16 @@ export class DukptTerminal extends Keyed {
     keep(this, DukptTerminal, null, context);
   }
 
-  static fromState(state) {
+  static fromState(state, ...more) {
+    refuseMore(more);
     const { prototype } = this;
     const bytes = dataOf(state, STATE_SIZE, "the state of a terminal", "has", StateLength);
     const context = inside((memory) => memory.taken(memory.put(bytes), STATE_SIZE));
     return keep(Object.create(prototype), DukptTerminal, null, context);
   }
 
-  nextKey() {
+  nextKey(...more) {
+    refuseMore(more);
     return inside((memory) => {
       const { context } = memory.state(this, DukptTerminal);
       const at = memory.put(context);
@@ -1111,7 +1137,8 @@ export class DukptTerminal extends Keyed {
     });
   }
 
-  state() {
+  state(...more) {
+    refuseMore(more);
     return inside((memory) => memory.state(this, DukptTerminal).context.slice());
   }
 }
@@ -1121,49 +1148,60 @@ export class DukptTerminal extends Keyed {
 const pinOf = (pin) => textOf(pin, "a PIN");
 const accountOf = (account) => textOf(account, "an account number");
 
-export function pinEncode0(pin, account) {
+export function pinEncode0(pin, account, ...more) {
+  refuseMore(more);
   return written("pin_encode_0", { pin: pinOf(pin), account: accountOf(account) });
 }
 
-export function pinEncode1(pin, transaction) {
+export function pinEncode1(pin, transaction, ...more) {
+  refuseMore(more);
   return written("pin_encode_1", { pin: pinOf(pin), transaction: fillOf(transaction) });
 }
 
-export function pinEncode2(pin) {
+export function pinEncode2(pin, ...more) {
+  refuseMore(more);
   return written("pin_encode_2", { pin: pinOf(pin) });
 }
 
-export function pinEncode3(pin, account, fill) {
+export function pinEncode3(pin, account, fill, ...more) {
+  refuseMore(more);
   return written("pin_encode_3", { pin: pinOf(pin), account: accountOf(account), fill: fillOf(fill) });
 }
 
-export function pinDecode0(block, account) {
+export function pinDecode0(block, account, ...more) {
+  refuseMore(more);
   return writtenText("pin_decode_0", { account: accountOf(account), block: blockOf(block) });
 }
 
-export function pinDecode1(block) {
+export function pinDecode1(block, ...more) {
+  refuseMore(more);
   return writtenText("pin_decode_1", { block: blockOf(block) });
 }
 
-export function pinDecode2(block) {
+export function pinDecode2(block, ...more) {
+  refuseMore(more);
   return writtenText("pin_decode_2", { block: blockOf(block) });
 }
 
-export function pinDecode3(block, account) {
+export function pinDecode3(block, account, ...more) {
+  refuseMore(more);
   return writtenText("pin_decode_3", { account: accountOf(account), block: blockOf(block) });
 }
 
-export function pinTranslateTo0(incomingFormat, account, block, keys) {
+export function pinTranslateTo0(incomingFormat, account, block, keys, ...more) {
+  refuseMore(more);
   return written("pin_translate_to_0", translated(incomingFormat, account, [], block, keys));
 }
 
-export function pinTranslateTo1(block, keys) {
+export function pinTranslateTo1(block, keys, ...more) {
+  refuseMore(more);
   const { incomingKey, outgoingKey } = translationOf(keys);
   const [incoming, outgoing] = [keyOf(incomingKey, ...SIZES), keyOf(outgoingKey, ...SIZES)];
   return written("pin_translate_to_1", { incoming, outgoing, block: blockOf(block) });
 }
 
-export function pinTranslateTo3(incomingFormat, account, fill, block, keys) {
+export function pinTranslateTo3(incomingFormat, account, fill, block, keys, ...more) {
+  refuseMore(more);
   return written("pin_translate_to_3", translated(incomingFormat, account, [fill], block, keys));
 }
 
@@ -1180,11 +1218,13 @@ function translated(incomingFormat, account, fills, block, keys) {
 
 // ---- PIN verification: the PIN verification value (PVV), and natural PINs and offsets by the method of the IBM 3624
 
-export function pvv(key, account, index, pin) {
+export function pvv(key, account, index, pin, ...more) {
+  refuseMore(more);
   return writtenText("pvv", valueOf(key, account, index, pin));
 }
 
-export function pvvVerify(key, account, index, pin, value) {
+export function pvvVerify(key, account, index, pin, value, ...more) {
+  refuseMore(more);
   const given = valueOf(key, account, index, pin);
   made("pvv_verify", { ...given, value: textOf(value, "a PIN verification value") });
   return true;
@@ -1197,11 +1237,13 @@ function valueOf(key, account, index, pin) {
 }
 
 export class DecimalTable {
-  constructor(digits) {
+  constructor(digits, ...more) {
+    refuseMore(more);
     keep(this, DecimalTable, null, tableOf("decimal_table_init", digits));
   }
 
-  static ofAnyVariety(digits) {
+  static ofAnyVariety(digits, ...more) {
+    refuseMore(more);
     const { prototype } = this;
     return keep(Object.create(prototype), DecimalTable, null, tableOf("decimal_table_init_any", digits));
   }
@@ -1217,16 +1259,19 @@ function naturalOf(key, table, validation, more) {
   return (memory) => ({ ...given, table: memory.state(table, DecimalTable, "the decimalization table").context });
 }
 
-export function naturalPin(key, table, validation, length) {
+export function naturalPin(key, table, validation, length, ...more) {
+  refuseMore(more);
   const count = () => ({ count: numberOf(length, 4, 12, "the length of the PIN") });
   return writtenText("natural_pin", naturalOf(key, table, validation, count));
 }
 
-export function pinOffset(key, table, validation, pin) {
+export function pinOffset(key, table, validation, pin, ...more) {
+  refuseMore(more);
   return writtenText("pin_offset", naturalOf(key, table, validation, () => ({ pin: pinOf(pin) })));
 }
 
-export function pinOffsetVerify(key, table, validation, pin, offset) {
+export function pinOffsetVerify(key, table, validation, pin, offset, ...more) {
+  refuseMore(more);
   const texts = () => ({ pin: pinOf(pin), offset: textOf(offset, "an offset") });
   made("pin_offset_verify", naturalOf(key, table, validation, texts));
   return true;
@@ -1241,35 +1286,42 @@ function cardKeyBy(name, issuer, account, sequence) {
   return written(name, { issuer: key, account: accountOf(account), sequence: textOf(sequence, "a sequence number") });
 }
 
-export function emvCardKey(issuer, account, sequence) {
+export function emvCardKey(issuer, account, sequence, ...more) {
+  refuseMore(more);
   return cardKeyBy("emv_card_key", issuer, account, sequence);
 }
 
-export function emvCardKeyB(issuer, account, sequence) {
+export function emvCardKeyB(issuer, account, sequence, ...more) {
+  refuseMore(more);
   return cardKeyBy("emv_card_key_b", issuer, account, sequence);
 }
 
-export function emvSessionKey(card, block) {
+export function emvSessionKey(card, block, ...more) {
+  refuseMore(more);
   const bytes = dataOf(block, BLOCK_SIZE, "the block of a session", "has", BlockLength);
   return written("emv_session_key", { card: keyOf(card, 16), block: bytes });
 }
 
-export function emvApplicationKey(card, counter) {
+export function emvApplicationKey(card, counter, ...more) {
+  refuseMore(more);
   const bytes = dataOf(counter, 2, "a transaction counter", "has", DataLength);
   return written("emv_application_key", { card: keyOf(card, 16), counter: bytes });
 }
 
-export function emvApplicationCryptogram(session, data) {
+export function emvApplicationCryptogram(session, data, ...more) {
+  refuseMore(more);
   return written("emv_application_cryptogram", { session: keyOf(session, 16), bytes: bytesOf(data, "data") });
 }
 
-export function emvResponse1(session, cryptogram, code) {
+export function emvResponse1(session, cryptogram, code, ...more) {
+  refuseMore(more);
   const request = cryptogramOf(cryptogram);
   const word = dataOf(code, 2, "a response code", "has", DataLength);
   return written("emv_response_1", { session: keyOf(session, 16), cryptogram: request, code: word });
 }
 
-export function emvResponse2(session, cryptogram, status, data = new Uint8Array()) {
+export function emvResponse2(session, cryptogram, status, data = new Uint8Array(), ...more) {
+  refuseMore(more);
   const request = cryptogramOf(cryptogram);
   const word = dataOf(status, 4, "a card status update", "has", DataLength);
   const bytes = bytesOf(data, "data");
@@ -1278,7 +1330,8 @@ export function emvResponse2(session, cryptogram, status, data = new Uint8Array(
 
 // ---- Card verification values
 
-export function cvv(key, account, expiry, service) {
+export function cvv(key, account, expiry, service, ...more) {
+  refuseMore(more);
   const given = { key: keyOf(key, 16), account: accountOf(account), expiry: textOf(expiry, "an expiry date") };
   return writtenText("cvv", { ...given, service: textOf(service, "a service code") });
 }
@@ -1348,7 +1401,8 @@ function optionalOf(optional) {
   return asciiOf(Array.from(optional, optionalText).join(""));
 }
 
-export function unwrapKeyBlock(protection, block) {
+export function unwrapKeyBlock(protection, block, ...more) {
+  refuseMore(more);
   const held = bytesOf(protection, "a protection key");
   const text = keyBlockOf(block);
   const { header, key, length } = made("key_block_unwrap", { protection: held, block: text });
@@ -1358,30 +1412,34 @@ export function unwrapKeyBlock(protection, block) {
   return { header: headerFrom(header), key: bare };
 }
 
-export function wrapKeyBlock(protection, header, key, options = {}) {
+export function wrapKeyBlock(protection, header, key, options = {}, ...more) {
+  refuseMore(more);
   const { optional = [], padding } = optionsOf(options, "optional", "padding");
-  const [fields, more] = [fieldsOf(header), optionalOf(optional)];
+  const [fields, blocks] = [fieldsOf(header), optionalOf(optional)];
   const random = padding === undefined ? crypto.getRandomValues(new Uint8Array(KEY_DATA_SIZE - 2)) : null;
   const [held, bare] = [bytesOf(protection, "a protection key"), bytesOf(key, "a key")];
   const hiding = random?.subarray(bare.length) ?? bytesOf(padding, "the padding");
   return inside((memory) => {
-    const laid = [...memory.list(held), memory.put(fields), ...[more, bare, hiding].flatMap((bytes) => memory.list(bytes))];
-    const room = more.length + MORE_CHARACTERS;
+    const laid = [...memory.list(held), memory.put(fields), ...[blocks, bare, hiding].flatMap((bytes) => memory.list(bytes))];
+    const room = blocks.length + MORE_CHARACTERS;
     const [at, length] = [memory.room(room), memory.room(8)];
     memory.call("key_block_wrap", ...laid, at, BigInt(room), length);
     return charactersOf(memory.taken(at, memory.word(length)));
   });
 }
 
-export function keyBlockHeader(block) {
+export function keyBlockHeader(block, ...more) {
+  refuseMore(more);
   return headerFrom(written("key_block_header", { block: keyBlockOf(block) }));
 }
 
-export function keyBlockContext(block) {
+export function keyBlockContext(block, ...more) {
+  refuseMore(more);
   return charactersOf(written("key_block_context", { block: keyBlockOf(block) }));
 }
 
-export function keyBlockOptionalBlocks(block) {
+export function keyBlockOptionalBlocks(block, ...more) {
+  refuseMore(more);
   const text = keyBlockOf(block);
   return inside((memory) => {
     const found = [];
@@ -1439,15 +1497,18 @@ function derived(name, hash, password, salt, words, length) {
   });
 }
 
-export function pbkdf2(hashName, password, salt, iterations, length) {
+export function pbkdf2(hashName, password, salt, iterations, length, ...more) {
+  refuseMore(more);
   return derived("pbkdf2", hashOf(hashName, true), password, salt, [iterationsOf(iterations)], derivedLengthOf(length));
 }
 
-export function bytesToKey(hashName, password, salt, length) {
+export function bytesToKey(hashName, password, salt, length, ...more) {
+  refuseMore(more);
   return derived("bytes_to_key", hashOf(hashName, false), password, salt, [], derivedLengthOf(length));
 }
 
-export function openSalted(cipher, password, data, options = {}) {
+export function openSalted(cipher, password, data, options = {}, ...more) {
+  refuseMore(more);
   const { hashName = "sha256", iterations } = optionsOf(options, "hashName", "iterations");
   const { keySize } = cipherOf(cipher);
   const [secret, bytes] = [bytesOf(password, "a password"), bytesOf(data, "data")];
@@ -1465,11 +1526,13 @@ export function openSalted(cipher, password, data, options = {}) {
 
 // ---- Lists: elements stand one after the other, without a gap -------------------------------------------------------
 
-export function encryptEach(cipher, keys, blocks) {
+export function encryptEach(cipher, keys, blocks, ...more) {
+  refuseMore(more);
   return answeredEach("internal_encrypt_each", cipher, keys, blocks);
 }
 
-export function decryptEach(cipher, keys, blocks) {
+export function decryptEach(cipher, keys, blocks, ...more) {
+  refuseMore(more);
   return answeredEach("internal_decrypt_each", cipher, keys, blocks);
 }
 
@@ -1488,7 +1551,8 @@ function answeredEach(call, cipher, keys, blocks) {
 
 const CHECK_VALUE_SIZE = 3;
 
-export function checkValues(cipher, keys) {
+export function checkValues(cipher, keys, ...more) {
+  refuseMore(more);
   const { keySize } = cipherOf(cipher);
   const held = listOf(keys, keySize, KeyLength, "keys");
   const count = held.length / keySize;
@@ -1499,7 +1563,8 @@ export function checkValues(cipher, keys) {
   });
 }
 
-export function dukptTransactionKeysFromBase(base, serials) {
+export function dukptTransactionKeysFromBase(base, serials, ...more) {
+  refuseMore(more);
   const key = keyOf(base, TRANSACTION_KEY_SIZE);
   const numbers = listOf(serials, SERIAL_SIZE, SerialLength, "key serial numbers");
   const count = numbers.length / SERIAL_SIZE;
@@ -1573,7 +1638,8 @@ function messagesOf(messages, lengths) {
   throw new CountMismatch("the lengths do not add up to the messages");
 }
 
-export function macs(mac, key, padding, lengths, messages) {
+export function macs(mac, key, padding, lengths, messages, ...more) {
+  refuseMore(more);
   const kind = macsOf(mac, padding);
   const numbers = numbersOf(lengths, "lengths");
   const held = keyOf(key, kind.keySize);
@@ -1581,7 +1647,8 @@ export function macs(mac, key, padding, lengths, messages) {
   return tagsOf("internal_macs", kind, (memory) => memory.list(held), numbers, bytes);
 }
 
-export function macsEach(mac, keys, padding, lengths, messages) {
+export function macsEach(mac, keys, padding, lengths, messages, ...more) {
+  refuseMore(more);
   const kind = macsOf(mac, padding);
   const numbers = numbersOf(lengths, "lengths");
   const held = listOf(keys, kind.keySize, KeyLength, "keys");
@@ -1591,7 +1658,8 @@ export function macsEach(mac, keys, padding, lengths, messages) {
   return tagsOf("internal_macs_each", kind, lay, numbers, bytes);
 }
 
-export function wrongTags(tags, expected) {
+export function wrongTags(tags, expected, ...more) {
+  refuseMore(more);
   const [given, wanted] = [tags, expected].map((list) => listOf(list, TAG_SIZE, CountMismatch, "tags"));
   if (given.length !== wanted.length) throw new CountMismatch("the numbers of tags and expected tags differ");
   const count = given.length / TAG_SIZE;

@@ -288,8 +288,8 @@ for (const length of LENGTHS) {
     throwsFault(() => library.dukptTransactionKeysFromBase(PAIR, of(length)), "SerialLength", text);
   }
   if (length !== 8) {
-    for (const call of ["pinDecode0", "pinDecode1", "pinDecode3"]) {
-      throwsFault(() => library[call](of(length), ACCOUNT), "BlockLength", `a PIN block has 8 bytes, not ${length}`);
+    for (const [call, ...account] of [["pinDecode0", ACCOUNT], ["pinDecode1"], ["pinDecode3", ACCOUNT]]) {
+      throwsFault(() => library[call](of(length), ...account), "BlockLength", `a PIN block has 8 bytes, not ${length}`);
     }
   }
 }
@@ -794,6 +794,77 @@ throwsType(() => library.TdesEde3.prototype.encryptEcb.call({}, IV), "a method o
 throwsType(() => library.TdesEde3.prototype.encryptEcb.call(mac, IV), "a method of another");
 throwsType(() => Object.create(library.TdesEde3.prototype).encryptEcb(IV), "an object that no constructor made");
 
+// ---- One argument more than a call takes, if only undefined
+
+/** How many arguments functions, methods, and constructors by their class take at most, as declared. */
+function mostArguments() {
+  const most = new Map();
+  let owner;
+  const heads = /^(?:export |declare |abstract )*class (\w+)|^(?:export function |  (?:static )?)(\w+)\(([^()]*)\)/gm;
+  for (const [, Class, name, list] of declared.matchAll(heads)) {
+    owner = Class ?? owner;
+    if (Class !== undefined) continue;
+    const count = list.includes("...") ? Infinity : list.replace(/{[^{}]*}/g, "").split(",").filter((it) => it.trim() !== "").length;
+    const place = name === "constructor" ? owner : name;
+    most.set(place, Math.max(count, most.get(place) ?? 0));
+  }
+  return most;
+}
+
+const most = mostArguments();
+let calls = 0;
+
+/** A call takes these arguments, which are all that it is declared with, and not another one. */
+function takesNoMore(name, run, words) {
+  if (most.get(name) === Infinity) return;
+  assert.equal(words.length, most.get(name), `${name} is not seen with all its arguments`);
+  for (const more of [undefined, IV, { usage: "P0" }, 8]) throwsType(() => run(...words, more), `${name}, one argument too many`);
+  run(...words);
+  calls += 1;
+}
+
+const chainOf = (object, end) => (object === end ? [] : [object, ...chainOf(Object.getPrototypeOf(object), end)]);
+const methodsOf = (object) => Reflect.ownKeys(object).filter((it) => it !== "constructor" && typeof object[it] === "function");
+const METHODS = {
+  ...Object.fromEntries(["encryptEcb", "decryptEcb", "update"].map((name) => [name, () => [IV]])),
+  ...Object.fromEntries(CBC.map((name) => [name, () => [IV, { iv: IV }]])),
+  ...Object.fromEntries(["copy", "nextKey", "state", "close"].map((name) => [name, () => []])),
+  digest: () => ["hex"],
+  verify: (it) => [it.digest()],
+  verifyTruncatedLeft: (it) => [it.digest().subarray(0, 4)],
+  fromState: () => [new library.DukptTerminal(PAIR, SERIAL).state()],
+  ofAnyVariety: () => ["0000000000000000"],
+};
+const wordsOf = new Map(allCalls().map(([name, words]) => [name, words]));
+wordsOf.set("isSupported", []);
+for (const [Class, size] of PADDED) wordsOf.set(Class.name, [KEY.subarray(0, size), 2, IV]);
+for (const [Class, size] of CMACS) wordsOf.set(Class.name, [KEY.subarray(0, size), IV]);
+for (const [name, it] of Object.entries(library)) {
+  const isFault = it === library.CukvasheError || it.prototype instanceof library.CukvasheError;
+  if (typeof it !== "function" || isFault || name === "load") continue;
+  assert(wordsOf.has(name), `${name} is not in the table of calls`);
+  const words = wordsOf.get(name);
+  if (!/^[A-Z]/.test(name)) {
+    takesNoMore(name, it, words);
+    continue;
+  }
+  const declaring = chainOf(it, Function.prototype).find((Class) => most.has(Class.name));
+  takesNoMore(declaring.name, (...given) => new it(...given), words);
+  for (const Class of chainOf(it, Function.prototype)) {
+    for (const method of methodsOf(Class)) takesNoMore(method, (...given) => it[method](...given), METHODS[method]());
+  }
+  const object = new it(...words);
+  for (const prototype of chainOf(it.prototype, Object.prototype)) {
+    for (const method of methodsOf(prototype)) {
+      const called = method === Symbol.dispose ? "close" : method;
+      takesNoMore(called, (...given) => object[method](...given), METHODS[called](object));
+    }
+  }
+}
+assert(calls > 100, `${calls} calls were seen with an argument too many`);
+await assert.rejects(library.load(module, undefined), { name: "TypeError" });
+throwsType(() => [PAIR, KEY].map(library.isWeakKey), "a call that is given an index too");
+
 // ---- What is right by habit
 
 // A class that says another length, or another buffer, than it has is taken for the bytes that it has.
@@ -815,7 +886,6 @@ is(cipher.encryptEcb(Buffer.from(IV)), hex(cipher.encryptEcb(IV)));
 is(cipher.encryptEcb(new Uint8Array(MESSAGE.buffer, 8, 8)), hex(cipher.encryptEcb(MESSAGE.slice(8, 16))));
 is(cipher.encryptEcb(runInNewContext("Uint8Array.of(18, 52, 86, 120, 144, 171, 205, 239)")), hex(cipher.encryptEcb(IV)));
 is(cipher.encryptEcb(new Uint8Array(new SharedArrayBuffer(8))), hex(cipher.encryptEcb(new Uint8Array(8))));
-assert.deepEqual([PAIR, KEY].map(library.isWeakKey), [false, false]);
 assert.equal(JSON.stringify(cipher), "{}");
 assert.equal(`${Object.getOwnPropertyNames(cipher)}${Object.getOwnPropertySymbols(cipher).length}`, "0");
 assert.match(library.version, /^\d+\.\d+\.\d+$/);
