@@ -674,7 +674,7 @@ CUKVASHE_CHECK int cukvashe_dukpt_next_serial(const uint8_t serial[10], uint8_t 
  * init makes the state from the initial key and any of the terminal's key serial numbers: the first transaction has
  * counter 1. next_key writes the next transaction's key serial number, and its key, that of
  * cukvashe_dukpt_transaction_key, and clears it in the state. Errors: CUKVASHE_ERR_NO_SERIAL after the last
- * transaction, the 1,048,575th.
+ * transaction, the 1,048,575th. A state without future keys, as one of zeros, has the same error.
  */
 typedef struct {
   uint8_t serial[10];

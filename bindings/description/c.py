@@ -42,16 +42,18 @@ def declared(result, name, arguments, end=";"):
 
 class Library:
     """The calls of the header and the exports: `renamed` are the calls that wipe after the export of their name, which has another name in the
-    library, and of these `alike` those that have its arguments. An export with the name of another call is that call itself."""
+    library, of these `alike` those that have its arguments, and of those `handed` the ones that go on to it whatever they are given. An export
+    with the name of another call is that call itself."""
 
     def __init__(self, header, stack, code):
         self.header, self.stack, self.exports = header, stack, exports()
         named = [it for it in header.calls.values() if it.name in self.exports]
         self.renamed = [it for it in named if stack.wipes(it)]
         self.alike = [it for it in self.renamed if self._is_alike(it)]
+        by_hand = [it for it in self.renamed if re.search(rf"WIPES\(\w+, {it.name},", code)]
+        self.handed = [it for it in self.alike if it not in by_hand]
         for it in named:
-            is_by_hand = stack.wipes(it) and re.search(rf"WIPES\(\w+, {it.name},", code)
-            if not self._is_alike(it) and not is_by_hand:
+            if not self._is_alike(it) and it not in by_hand:
                 raise Refused(f"the export cukvashe_{it.name} of crates/des_c does not take and return what the header says, and C does not either")
 
     def _is_alike(self, call):
@@ -95,7 +97,7 @@ class Library:
         yield '#include "internal.h"'
         for it in self.header.calls.values():
             given = ", ".join(one.name for one in it.parameters)
-            if it in self.alike:
+            if it in self.handed:
                 yield from self._defined(it, f"cukvashe_unwiped_{it.name}({given})")
             elif verify := self._verified(it):
                 yield from self._defined(it, f"cukvashe_{verify}({given}) == CUKVASHE_OK", wipes=False)

@@ -36,7 +36,7 @@ def noted(library):
 def handed(library):
     yield "/* Each call of calls.c whose export has its arguments goes on to it with these in their order, and wipes. Made by bindings/describe. */"
     yield "static void hands_all_on(void) {"
-    for it in library.alike:
+    for it in library.handed:
         given = [f"(void *)(base + {at})" if one.type.is_pointer else str(at + 1) for at, one in enumerate(it.parameters)]
         given = ["true" if one.type.base == "bool" else word for one, word in zip(it.parameters, given)]
         made = f"cukvashe_{it.name}({', '.join(given)})"

@@ -46,7 +46,7 @@ export class SerialLength extends CukvasheError {}
 export class FillLength extends CukvasheError {}
 /** The weak key test refuses the key that components make. */
 export class WeakKey extends CukvasheError {}
-/** A terminal has had its last transaction. */
+/** A terminal has no key for a next transaction. */
 export class NoSerial extends CukvasheError {}
 /** The state of a terminal does not have 346 bytes. */
 export class StateLength extends CukvasheError {}
@@ -327,7 +327,7 @@ export class DukptTerminal extends Keyed {
   /**
    * The key serial number and the key of the next transaction, that of dukptTransactionKey, which the terminal then
    * forgets. Store `state()` before you use the key, or a key is used twice. NoSerial after the last transaction, the
-   * 1,048,575th.
+   * 1,048,575th, and of a state without future keys, as one of zeros.
    */
   nextKey(): { serial: Uint8Array; key: Uint8Array };
   /**

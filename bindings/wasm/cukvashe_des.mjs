@@ -1102,6 +1102,9 @@ export function dukptIsUsable(serial, ...more) {
 
 const STATE_SIZE = 346;
 
+/** Whether a state has a future key, as one of zeros does not. All bytes are read, whatever they are. */
+const hasFutureKey = (context) => context.subarray(SERIAL_SIZE).reduce((bits, byte) => bits | byte, 0) !== 0;
+
 export class DukptTerminal extends Keyed {
   constructor(initial, serial, ...more) {
     super();
@@ -1129,8 +1132,8 @@ export class DukptTerminal extends Keyed {
       const { context } = memory.state(this, DukptTerminal);
       const at = memory.put(context);
       const [serial, key] = [memory.room(SERIAL_SIZE), memory.room(TRANSACTION_KEY_SIZE)];
-      if (memory.ask("dukpt_terminal_next_key", at, serial, key) !== OK) {
-        throw new NoSerial("the terminal has had its last transaction");
+      if (!hasFutureKey(context) || memory.ask("dukpt_terminal_next_key", at, serial, key) !== OK) {
+        throw new NoSerial("the terminal has no key for a next transaction");
       }
       memory.take(at, context);
       return { serial: memory.taken(serial, SERIAL_SIZE), key: memory.taken(key, TRANSACTION_KEY_SIZE) };

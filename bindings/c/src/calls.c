@@ -425,12 +425,6 @@ void cukvashe_dukpt_terminal_init(cukvashe_dukpt_terminal *terminal, const uint8
   cukvashe_internal_wipe_stack(STACK_dukpt_terminal_init);
 }
 
-int cukvashe_dukpt_terminal_next_key(cukvashe_dukpt_terminal *terminal, uint8_t serial[10], uint8_t key[16]) {
-  const int result = cukvashe_unwiped_dukpt_terminal_next_key(terminal, serial, key);
-  cukvashe_internal_wipe_stack(STACK_dukpt_terminal_next_key);
-  return result;
-}
-
 int cukvashe_pin_encode_0(const char *pin, size_t pin_length, const char *account, size_t account_length,
     uint8_t block[8]) {
   const int result = cukvashe_unwiped_pin_encode_0(pin, pin_length, account, account_length, block);

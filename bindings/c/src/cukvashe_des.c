@@ -145,6 +145,18 @@ WIPES(int, dukpt_transaction_keys_from_base,
                     are_elements(count, CUKVASHE_DUKPT_KEY_SIZE, keys_length),
                 CHOOSE(count, dukpt_transaction_keys, base, serials, count, keys, count)))
 
+/* Whether a terminal's state has a future key: one that was never initialised or was wiped has none, nor one after its last transaction. All
+   bytes are read, whatever they are. */
+static bool has_future_key(const cukvashe_dukpt_terminal *terminal) {
+  uint8_t bits = 0;
+  for (size_t i = 0; i < sizeof terminal->keys / sizeof terminal->keys[0]; i++)
+    for (size_t j = 0; j < sizeof terminal->keys[0]; j++) bits |= terminal->keys[i][j];
+  return bits != 0;
+}
+
+WIPES(int, dukpt_terminal_next_key, (cukvashe_dukpt_terminal *terminal, uint8_t serial[10], uint8_t key[16]),
+      has_future_key(terminal) ? cukvashe_unwiped_dukpt_terminal_next_key(terminal, serial, key) : CUKVASHE_ERR_NO_SERIAL)
+
 int cukvashe_pad(uint8_t *buffer, size_t length, size_t capacity, int method, size_t *padded_length) {
   return cukvashe_internal_pad(buffer, capacity, length, method, padded_length);
 }

@@ -347,6 +347,16 @@ static void hands_on_structs(void) {
   WAS_WIPED("unwiped", "pbkdf2", 1, A(base), 3, A(iv), 4, 2, A(output), 5);
 }
 
+/* A terminal's state without future keys is refused, and the stack is wiped all the same. */
+static void hands_on_a_terminal(void) {
+  cukvashe_dukpt_terminal terminal = {{0}, {{0}}};
+  CHECK(cukvashe_dukpt_terminal_next_key(&terminal, input, output) == CUKVASHE_ERR_NO_SERIAL && calls == 0 && wipes == 1);
+  wipes = 0;
+  terminal.keys[20][15] = 1;
+  CHECK(cukvashe_dukpt_terminal_next_key(&terminal, input, output) == STATUS);
+  WAS_WIPED("unwiped", "dukpt_terminal_next_key", A(&terminal), A(input), A(output));
+}
+
 static void hands_on_the_rest(void) {
   des_of_key();
   tdes_ede2_of_key();
@@ -429,6 +439,7 @@ int main(int count, char **words) {
   CHECK(questions == HAS_WIDE);
   hands_on_the_rest();
   hands_on_structs();
+  hands_on_a_terminal();
   hands_all_on();
   cukvashe_wipe(NULL, 0);
   CHECK(cukvashe_strerror(-1) == cukvashe_strerror(INT_MIN) && cukvashe_strerror(0) != cukvashe_strerror(-1));

@@ -27,9 +27,6 @@ static void hands_all_on(void) {
   cukvashe_dukpt_terminal_init((void *)(base + 0), (void *)(base + 1), (void *)(base + 2));
   WAS_WIPED("unwiped", "dukpt_terminal_init", (uintptr_t)(void *)(base + 0), (uintptr_t)(void *)(base + 1),
     (uintptr_t)(void *)(base + 2));
-  CHECK(cukvashe_dukpt_terminal_next_key((void *)(base + 0), (void *)(base + 1), (void *)(base + 2)) == STATUS);
-  WAS_WIPED("unwiped", "dukpt_terminal_next_key", (uintptr_t)(void *)(base + 0), (uintptr_t)(void *)(base + 1),
-    (uintptr_t)(void *)(base + 2));
   CHECK(cukvashe_pin_encode_0((void *)(base + 0), 2, (void *)(base + 2), 4, (void *)(base + 4)) == STATUS);
   WAS_WIPED("unwiped", "pin_encode_0", (uintptr_t)(void *)(base + 0), (uintptr_t)2, (uintptr_t)(void *)(base + 2),
     (uintptr_t)4, (uintptr_t)(void *)(base + 4));

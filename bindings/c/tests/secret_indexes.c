@@ -209,13 +209,15 @@ static void calls_of_one_key(void) {
   }
 }
 
-/* The first transactions of a terminal, whose key serial number is no secret. */
+/* The first transactions of a terminal, whose key serial number is no secret. A branch depends on whether all future keys are zeros: one of
+   ones, which is no secret, says that they are not. */
 static void transactions_of_a_terminal(void) {
   static const uint8_t before[10] = {0xff, 0xff, 0x98, 0x76, 0x54, 0x32, 0x10, 0xe0, 0x00, 0x00};
   cukvashe_dukpt_terminal terminal;
   uint8_t serial[10];
   hide(key, sizeof key);
   cukvashe_dukpt_terminal_init(&terminal, key, before);
+  memset(terminal.keys[20], 0xff, sizeof terminal.keys[20]);
   for (int i = 0; i < 40; i++) CHECK(cukvashe_dukpt_terminal_next_key(&terminal, serial, other) == CUKVASHE_OK);
 }
 

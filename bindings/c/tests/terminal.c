@@ -51,16 +51,44 @@ static size_t take(cukvashe_dukpt_terminal *terminal, uint8_t *serials, uint8_t 
   return i;
 }
 
-/* After the last transaction nothing is changed. */
-static void ends(cukvashe_dukpt_terminal *terminal) {
+/* A terminal without a key for a next transaction says so, and nothing is changed. */
+static void refuses(cukvashe_dukpt_terminal *terminal) {
   const cukvashe_dukpt_terminal last = *terminal;
   uint8_t serial[10], key[16];
   memset(serial, PAINTED, sizeof serial);
   memset(key, PAINTED, sizeof key);
-  CHECK(are(terminal->serial, 10, "ffff9876543210fff800"));
   CHECK(cukvashe_dukpt_terminal_next_key(terminal, serial, key) == CUKVASHE_ERR_NO_SERIAL);
   CHECK(is_kept(serial, sizeof serial) && is_kept(key, sizeof key));
   CHECK(memcmp(terminal, &last, sizeof last) == 0);
+}
+
+/* A state that was never initialised or was wiped is refused, and one that has lost its keys alone. */
+static void refuses_zeros(void) {
+  cukvashe_dukpt_terminal terminal;
+  memset(&terminal, 0, sizeof terminal);
+  refuses(&terminal);
+  begin(&terminal, "ffff9876543210e00000");
+  cukvashe_wipe(terminal.keys, sizeof terminal.keys);
+  refuses(&terminal);
+}
+
+/* One future key is enough, whichever byte of it is not zero. */
+static void takes_one_future_key(void) {
+  cukvashe_dukpt_terminal terminal, all;
+  uint8_t serial[10], key[16];
+  begin(&all, "ffff9876543210e00000");
+  for (size_t i = 0; i < sizeof all.keys; i++) {
+    memcpy(terminal.serial, all.serial, sizeof terminal.serial);
+    memset(terminal.keys, 0, sizeof terminal.keys);
+    terminal.keys[i / 16][i % 16] = 1;
+    CHECK(cukvashe_dukpt_terminal_next_key(&terminal, serial, key) == CUKVASHE_OK);
+  }
+  memset(terminal.keys, 0, sizeof terminal.keys);
+  memcpy(terminal.serial, all.serial, sizeof terminal.serial);
+  for (int i = 0; i < 21; i++)
+    if (are(all.keys[i], 16, first_keys[0][1])) memcpy(terminal.keys[i], all.keys[i], 16);
+  CHECK(cukvashe_dukpt_terminal_next_key(&terminal, serial, key) == CUKVASHE_OK);
+  CHECK(are(serial, 10, first_keys[0][0]) && are(key, 16, first_keys[0][1]));
 }
 
 /* The host makes the keys of the same key serial numbers from the base key. A copy of the state goes on as the state does. */
@@ -84,11 +112,14 @@ static void answers_as_the_host(void) {
     terminal = copy;
   }
   CHECK(all == TRANSACTIONS);
-  ends(&terminal);
+  CHECK(are(terminal.serial, 10, "ffff9876543210fff800"));
+  refuses(&terminal);
 }
 
 int main(void) {
   answers_published_keys();
+  refuses_zeros();
+  takes_one_future_key();
   answers_as_the_host();
   printf("terminal: the keys of %d transactions, beside the host's\n", (int)TRANSACTIONS);
   return 0;

@@ -41,7 +41,7 @@ class SerialLengthError(Error, ValueError):
 
 
 class NoSerialError(Error, ValueError):
-    """A terminal has had its last transaction."""
+    """A terminal has no key for a next transaction."""
 
 
 class StateLengthError(Error, ValueError):

@@ -43,12 +43,12 @@ class DukptTerminal(Keyed):
     def next_key(self) -> Tuple[bytes, bytes]:
         """The key serial number and the key of the next transaction, that of dukpt_transaction_key, which the terminal then
         forgets. Store `state()` before you use the key, or a key is used twice. NoSerialError after the last transaction, the
-        1,048,575th."""
+        1,048,575th, and of a state without future keys, as one of zeros."""
         serial, key = room(_SERIAL_SIZE), room(16)
         with self._turns:
             status = _next_key(self._open(), serial, key)
         if status == NO_SERIAL:
-            raise NoSerialError("the terminal has had its last transaction")
+            raise NoSerialError("the terminal has no key for a next transaction")
         check(status)
         return bytes(serial), bytes_from(key)
 

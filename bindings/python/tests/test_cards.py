@@ -101,13 +101,24 @@ class Terminals(unittest.TestCase):
 
     def test_end(self):
         """The last counter is 1ff800; after its transaction there is none, and the state stays."""
-        terminal = DukptTerminal.from_state(bytes.fromhex("ffff9876543210fff7ff") + bytes(336))
+        terminal = DukptTerminal.from_state(bytes.fromhex("ffff9876543210fff7ff") + bytes([7]) * 336)
         serial, _ = terminal.next_key()
         self.assertEqual(serial.hex(), "ffff9876543210fff800")
         state = terminal.state()
         for _ in range(3):
             self.assertRaises(NoSerialError, terminal.next_key)
             self.assertEqual(terminal.state(), state)
+
+    def test_zeros(self):
+        """A state without future keys, as one that was wiped, makes no key, and stays; one byte of one key is enough."""
+        for serial in (bytes(10), BEFORE):
+            terminal = DukptTerminal.from_state(serial + bytes(336))
+            self.assertRaises(NoSerialError, terminal.next_key)
+            self.assertEqual(terminal.state(), serial + bytes(336))
+            for at in (0, 335):
+                keys = bytearray(336)
+                keys[at] = 1
+                DukptTerminal.from_state(serial + keys).next_key()
 
     def test_refused(self):
         for length in LENGTHS:

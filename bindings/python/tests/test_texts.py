@@ -57,7 +57,7 @@ SENTENCES = {
     ("KeyLengthError", "# bytes are not whole keys of 24"),
     ("KeyLengthError", "the key does not have a length that the call takes: 8, 16 or 24 bytes"),
     ("KeyLengthError", "a key that is derived has one byte at least, and less than 2^32"),
-    ("NoSerialError", "the terminal has had its last transaction"),
+    ("NoSerialError", "the terminal has no key for a next transaction"),
     ("NotSaltedError", "the bytes do not begin with Salted__"),
     ("OptionalBlockError", "the name of an optional block has two characters, letters or digits"),
     ("OptionalBlockError", "the optional blocks can't be read or written: a wrong length, name, content or PB, an end off a multiple of eight, or more than 99"),

@@ -707,9 +707,18 @@ assert.throws(() => lasting.encryptEcb(of(1 << 24)), { name: "RangeError", messa
 is(lasting.encryptEcb(MESSAGE), wanted);
 await library.load();
 
-const last = new Uint8Array(346);
-last.set(unhex("ffff9876543210fff800"));
-throwsFault(() => library.DukptTerminal.fromState(last).nextKey(), "NoSerial", "the terminal has had its last transaction");
+// After the last transaction, or where no future key is left, as in a state of zeros, there is no key, and the state stays.
+for (const [serial, byte] of [["ffff9876543210fff800", 7], ["ffff9876543210e00000", 0], ["00000000000000000000", 0]]) {
+  const last = new Uint8Array(346).fill(byte);
+  last.set(unhex(serial));
+  const ended = library.DukptTerminal.fromState(last);
+  throwsFault(() => ended.nextKey(), "NoSerial", "the terminal has no key for a next transaction");
+  is(ended.state(), hex(last));
+}
+for (const at of [10, 345]) {
+  const begun = library.DukptTerminal.fromState(new Uint8Array(346).fill(1, at, at + 1));
+  is(begun.nextKey().serial, "00000000000000000001");
+}
 // A state that is given, or was taken, is the caller's.
 const terminal = new library.DukptTerminal(PAIR, SERIAL);
 const state = terminal.state();

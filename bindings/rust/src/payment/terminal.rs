@@ -43,7 +43,7 @@ impl Terminal {
 
     /// The key serial number and the key of the next transaction, that of [`transaction_key`](super::transaction_key), which the
     /// terminal then forgets. Store the state before you use the key, or a key is used twice. `None` after the last transaction,
-    /// the 1,048,575th.
+    /// the 1,048,575th, and of a state without future keys, as one of zeros.
     #[must_use = "the terminal has forgotten the key"]
     pub fn next_key(&mut self) -> Option<([u8; 10], [u8; 16])> {
         let (mut serial, mut key) = ([0; 10], [0; 16]);

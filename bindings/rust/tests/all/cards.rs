@@ -148,3 +148,20 @@ fn terminals_end() {
         assert_eq!(terminal.state(), last);
     }
 }
+
+/// A state without future keys, as one that was wiped, makes no key, and stays; one byte of one key is enough.
+#[test]
+fn terminals_need_a_future_key() {
+    for begin in [[0; 10], serial(0)] {
+        let mut state = [0; Terminal::STATE_SIZE];
+        state[..10].copy_from_slice(&begin);
+        let mut terminal = Terminal::from_state(&state);
+        assert_eq!(terminal.next_key(), None);
+        assert_eq!(terminal.state(), state);
+        for at in [10, Terminal::STATE_SIZE - 1] {
+            let mut other = state;
+            other[at] = 1;
+            assert!(Terminal::from_state(&other).next_key().is_some());
+        }
+    }
+}
