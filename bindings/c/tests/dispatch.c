@@ -45,9 +45,10 @@ bool cukvashe_internal_is_v3(const struct processor *words) {
 }
 #endif
 
+/* It counts if it comes after the call. */
 void cukvashe_internal_wipe_stack(size_t size) {
   CHECK(size > 0);
-  wipes++;
+  wipes += calls;
 }
 
 #define A(POINTER) (uintptr_t)(POINTER)
@@ -138,7 +139,6 @@ static size_t number;
   static void NAME##_refuses_each(int status, size_t count, size_t length) {                                          \
     CHECK(cukvashe_##NAME##_encrypt_each(input, count, output, length) == status && calls == 0);                      \
     CHECK(cukvashe_##NAME##_decrypt_each(input, count, output, length) == status && calls == 0);                      \
-    wipes = 0;                                                                                                        \
   }                                                                                                                   \
   static void NAME##_refuses_records(size_t count, size_t length) {                                                   \
     const int status = CUKVASHE_ERR_COUNTS;                                                                           \
@@ -156,7 +156,6 @@ static size_t number;
     CHECK(cukvashe_##NAME##_check_values(input, KEY_SIZE * count, output, 3 * count + more, count) == status);        \
     CHECK(cukvashe_combine_##KEY_SIZE(base, iv, input, KEY_SIZE * count + more, count, output) == status);            \
     CHECK(calls == 0);                                                                                                \
-    wipes = 0;                                                                                                        \
   }                                                                                                                   \
   static void NAME##_of_key(void) {                                                                                   \
     CHECK(sizeof NAME == 8 * WORDS);                                                                                  \
@@ -206,7 +205,6 @@ CIPHER(tdes_ede3, 49, 24)
     CHECK(cukvashe_##NAME##_macs(base, KEY_SIZE + 1, __VA_ARGS__ messages, output, tags + more, count) ==             \
           CUKVASHE_ERR_KEY_LENGTH);                                                                                   \
     CHECK(calls == 0);                                                                                                \
-    wipes = 0;                                                                                                        \
   }
 #define MAC(NAME, ALGORITHM, WORDS, KEY_SIZE)                                                                         \
   MAC_OF(NAME, ALGORITHM, WORDS, KEY_SIZE, 7, , 7)                                                                    \
@@ -277,7 +275,6 @@ static void refuses_count(size_t count, size_t more) {
   CHECK(cukvashe_compare_tags(base, 8 * count + more, input, 8 * count, right, count) == status);
   CHECK(cukvashe_compare_tags(base, 8 * count, input, 8 * count + more, right, count) == status);
   CHECK(calls == 0);
-  wipes = 0;
 }
 
 /* Lengths that differ by less than an element, or by some; and counts that times a size are no number of 64 bits, or a small one. */
