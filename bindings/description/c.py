@@ -19,6 +19,11 @@ def shape(argument):
     return bool(const), {"int": "uint32_t", "char": "uint8_t"}.get(kind, kind), pointer, size
 
 
+def name_of(argument):
+    """The name of an argument of C."""
+    return re.search(r"(\w+)(?:\[\d+\])?$", argument)[1]
+
+
 def written(kind, name):
     """A type and a name as C declares them."""
     const = "const " if kind.is_const else ""
@@ -57,8 +62,12 @@ class Library:
                 raise Refused(f"the export cukvashe_{it.name} of crates/des_c does not take and return what the header says, and C does not either")
 
     def _is_alike(self, call):
+        """Whether the export takes and returns the same. A name that both have stands at one place: of two texts each is handed on as it is."""
         export = self.exports[call.name]
-        return [shape(it) for it in arguments_of(call)] == [shape(it) for it in export.arguments] and call.result.base == export.result
+        names = [name_of(it) for it in export.arguments]
+        is_in_place = all(names.index(it.name) == at for at, it in enumerate(call.parameters) if it.name in names)
+        shapes = [shape(it) for it in arguments_of(call)], [shape(it) for it in export.arguments]
+        return shapes[0] == shapes[1] and is_in_place and call.result.base == export.result
 
     def internal(self):
         """The exports that serve several calls."""

@@ -1,8 +1,6 @@
 """What a test of the library's C takes: functions in the place of the exports, and what calls must hand on to them."""
 
-import re
-
-from .c import arguments_of, declared, filled
+from .c import arguments_of, declared, filled, name_of
 
 # What a function in the place of an export does with what was noted.
 NOTED = {"int": "return {}", "void": "{}", "bool": "return {} == STATUS && answer"}
@@ -10,8 +8,7 @@ NOTED = {"int": "return {}", "void": "{}", "bool": "return {} == STATUS && answe
 
 def stand_in(name, result, arguments, said):
     """A function that notes what it is given."""
-    names = [re.search(r"(\w+)(?:\[\d+\])?$", it)[1] for it in arguments]
-    given = ", ".join(f"(uintptr_t){it}" for it in names)
+    given = ", ".join(f"(uintptr_t){name_of(it)}" for it in arguments)
     yield declared(result, name, arguments, " {")
     yield filled("  " + NOTED[result].format(f'noted("{said}", ARGUMENTS({given}))'), ";")
     yield "}"

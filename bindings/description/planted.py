@@ -21,6 +21,8 @@ MISTAKES = [
     ("45,000   _macs", "_macs", "has sizes that can't be read"),
     ("void cukvashe_dukpt_pin_key(const uint8_t transaction[16]", "void cukvashe_dukpt_pin_key(const uint8_t transaction[8]", "C does not"),
     ("bool cukvashe_dukpt_is_usable(const uint8_t serial[10]", "bool cukvashe_dukpt_is_usable(uint8_t serial[10]", "does not take and return"),
+    ("_encode_0(const char *pin, size_t pin_length, const char *account, size_t account_length",
+     "_encode_0(const char *account, size_t account_length, const char *pin, size_t pin_length", "does not take and return"),
     ("CUKVASHE_CHECK int cukvashe_pvv(const uint8_t key[16]", "CUKVASHE_CHECK int cukvashe_pvv(const uint8_t pair[16]", "it has no value for"),
 ]
 
