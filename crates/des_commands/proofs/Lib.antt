@@ -13,3 +13,4 @@ pub mod UnwrapFaults
 pub mod ObjectIdentifiers
 pub mod StreamedDigits
 pub mod DigitsOfText
+pub mod TagsOfDigits

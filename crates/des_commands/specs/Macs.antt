@@ -1,5 +1,5 @@
 -- The tag of a message under a key, by the method and the key's size.
-use Rattle.std.specs.Prelude.{◌≡◌, ◌⊎◌, ℕ, List, length, Option, None}
+use Rattle.std.specs.Prelude.{◌≡◌, ◌⊎◌, ℕ, List, length, Option, None, IfSome, option_and_then}
 use Rattle.std.specs.Io.KnownBytes.{Consumes, IsAtEnd}
 use Rattle.des.specs.Des.{encryption, decryption}
 use Rattle.des_mac.specs.Padding.{padded, zeros_after, one_bit_after}
@@ -7,6 +7,7 @@ use Rattle.des_mac.specs.CbcMac.{cbc_mac}
 use Rattle.des_mac.specs.RetailMac.{retail_mac_of}
 use Rattle.des_mac.specs.Cmac.{cmac}
 use Rattle.des_payment.specs.KeyLengths.{encryption_by}
+use Rattle.des_commands.specs.HexStreams.{bytes_of}
 use Rattle.des_commands.specs.declared.fault.Reason.{Reason}
 use Rattle.des_commands.specs.declared.fault.Kind.{Kind}
 use Rattle.des_commands.specs.declared.fault.Kind.TheVariants.{KeyLength, Read}
@@ -33,6 +34,10 @@ tag_by method key message = tag_over (encryption_by key) method key message
 abbrev pub IsTagOfAll : (tag_of : List ℕ → List ℕ) → (read_from read_to : Option (List ℕ)) → List ℕ → Type 0
 IsTagOfAll tag_of read_from read_to tag =
     (bytes : List ℕ) × Consumes read_from read_to bytes × IsAtEnd read_to × (tag ≡ tag_of bytes)
+
+-- this is the tag of the bytes that a text's digits write, where the text is known and is one of digits
+abbrev pub IsTagOfDigits : (tag_of : List ℕ → List ℕ) → (text : Option (List ℕ)) → List ℕ → Type 0
+IsTagOfDigits tag_of text tag = IfSome (option_and_then bytes_of text) (λ bytes. tag ≡ tag_of bytes)
 
 -- the method takes keys of these bytes, over a cipher whose keys have as many as `size` says
 abbrev pub IsKeyOver : (size : ℕ) → Method → List ℕ → Type 0

@@ -1,7 +1,8 @@
 //! The run of `mac`: the key, the message, and its tag, which is shown or verified.
 
-ghost use Rattle.std.specs.Prelude.{IfSome};
+ghost use Rattle.std.specs.Prelude.{IfOk, IfSome};
 ghost use Rattle.des_commands.specs.Keys.{IsKeySize};
+ghost use Rattle.des_commands.specs.Macs.{IsTagOfDigits, tag_by};
 
 use crate::answer::{status_of, tag_line, tag_of_digits, verification};
 use crate::command::{MacRequest, Question};
@@ -40,7 +41,10 @@ fn tag_of_text<R: Read + Drop>(
     request: &MacRequest,
     key: &[u8],
     reader: R,
-) -> Result<Tagged, Kind> {
+) -> Result<Tagged, Kind>
+    ensures { IfOk result (λ tagged. IfOk tagged
+        (IsTagOfDigits (tag_by request.now.method key.now) (R.remaining reader))) }
+{
     let mut buffer = vec![in rt.alloc(); 0u8; BYTES_AT_A_TIME]?;
     let mut reader = HexReader::new(reader);
     let outcome = tag_of(request.method, key, &mut reader, &mut buffer);
