@@ -1,6 +1,6 @@
 // What each call of cukvashe_des.mjs does, with its errors and types. Lengths are in bytes. Besides the errors that are
-// named, a wrong type, an option of another name and an argument too many are a TypeError, and every call before `load`
-// has ended is NotLoaded.
+// named, a wrong type, an option of another name and an argument too many are a TypeError. Before `load` has ended,
+// isSupported alone answers: other calls throw NotLoaded, or the error of an argument.
 
 /** The version of the library. */
 export const version: string;
@@ -46,7 +46,7 @@ export class SerialLength extends CukvasheError {}
 export class FillLength extends CukvasheError {}
 /** The weak key test refuses the key that components make. */
 export class WeakKey extends CukvasheError {}
-/** A terminal has had its last transaction. */
+/** A terminal has no key for a next transaction. */
 export class NoSerial extends CukvasheError {}
 /** The state of a terminal does not have 346 bytes. */
 export class StateLength extends CukvasheError {}
@@ -55,7 +55,7 @@ export class StateLength extends CukvasheError {}
  * call of the module that did not end, as where the engine's stack ends within it: make it anew.
  */
 export class Closed extends CukvasheError {}
-// The errors of the statuses of cukvashe_des.h, with the sentence of each: made of it by bindings/statuses.
+// The errors of the statuses of cukvashe_des.h, with the sentence of each: made of it by bindings/describe.
 /** The key does not have a length that the call takes. */
 export class KeyLength extends CukvasheError {}
 /** The length is not a multiple of 8 bytes. */
@@ -137,7 +137,7 @@ export class IterationCount extends CukvasheError {}
 export class NotSalted extends CukvasheError {}
 /** The bytes end within the salt, or it does not have 0 or 8 bytes. */
 export class SaltLength extends CukvasheError {}
-// This ends what bindings/statuses made.
+// This ends what bindings/describe made.
 
 // ---- Ciphers and MACs
 
@@ -327,7 +327,7 @@ export class DukptTerminal extends Keyed {
   /**
    * The key serial number and the key of the next transaction, that of dukptTransactionKey, which the terminal then
    * forgets. Store `state()` before you use the key, or a key is used twice. NoSerial after the last transaction, the
-   * 1,048,575th.
+   * 1,048,575th, and of a state without future keys, as one of zeros.
    */
   nextKey(): { serial: Uint8Array; key: Uint8Array };
   /**

@@ -21,8 +21,8 @@ export const BLOCK_SIZE = 8;
 export const TAG_SIZE = 8;
 
 // The SHA-256 of the modules that this file was built with: the one of a 64-bit memory, and the same of a 32-bit memory.
-const MODULE_SUM = "d1fe49cfb5a49ce908574ed8bc522d487e717c0ed0fa34972dbeca2ecdc0a227";
-const NARROW_SUM = "8c11497daf84d73b8f6433c1fd4f978834daea364c05cb0fc700d992e20c019c";
+const MODULE_SUM = "44327d2182c10b8d312265197b1aaec8f8450ea3a42ab2746eb4b37b6e6674a2";
+const NARROW_SUM = "6a4a8aaeec3efc1e6fcb0f2a5422937bda07b520162aa23e03f00311c563008b";
 
 // The bytes of the module's stack, which lies at its address 0. `build` links it so.
 const STACK_SIZE = 131072;
@@ -42,54 +42,15 @@ function fault(name) {
 export const NotLoaded = fault("NotLoaded");
 export const NotSupported = fault("NotSupported");
 export const ModuleMismatch = fault("ModuleMismatch");
-export const KeyLength = fault("KeyLength");
-export const BlockLength = fault("BlockLength");
 export const VectorLength = fault("VectorLength");
-export const PaddingMethod = fault("PaddingMethod");
-export const PaddingMismatch = fault("PaddingMismatch");
 export const SerialLength = fault("SerialLength");
-export const CountMismatch = fault("CountMismatch");
 export const WeakKey = fault("WeakKey");
-export const TagMismatch = fault("TagMismatch");
 export const Closed = fault("Closed");
-export const Format = fault("Format");
-export const PinLength = fault("PinLength");
-export const PinDigit = fault("PinDigit");
-export const AccountLength = fault("AccountLength");
-export const AccountDigit = fault("AccountDigit");
-export const Fill = fault("Fill");
 export const FillLength = fault("FillLength");
-export const ExpiryLength = fault("ExpiryLength");
-export const ExpiryDigit = fault("ExpiryDigit");
-export const ServiceLength = fault("ServiceLength");
-export const ServiceDigit = fault("ServiceDigit");
 export const NoSerial = fault("NoSerial");
 export const StateLength = fault("StateLength");
-export const KeyIndex = fault("KeyIndex");
-export const TableLength = fault("TableLength");
-export const TableDigit = fault("TableDigit");
-export const TableVariety = fault("TableVariety");
-export const WrongPin = fault("WrongPin");
-export const Formats = fault("Formats");
-export const PinBlock = fault("PinBlock");
-export const SequenceLength = fault("SequenceLength");
-export const SequenceDigit = fault("SequenceDigit");
-export const DataLength = fault("DataLength");
-export const ProtectionKeyLength = fault("ProtectionKeyLength");
-export const KeyBlockLength = fault("KeyBlockLength");
-export const KeyBlockVersion = fault("KeyBlockVersion");
-export const KeyBlockField = fault("KeyBlockField");
-export const OptionalBlock = fault("OptionalBlock");
-export const KeyDataLength = fault("KeyDataLength");
-export const KeyBlockDigit = fault("KeyBlockDigit");
-export const KeyBlockMac = fault("KeyBlockMac");
-export const PaddingLength = fault("PaddingLength");
-export const HashName = fault("HashName");
-export const IterationCount = fault("IterationCount");
-export const NotSalted = fault("NotSalted");
-export const SaltLength = fault("SaltLength");
 
-// The statuses of cukvashe_des.h and, at the place of its number, the sentence of each: made of it by bindings/statuses.
+// The statuses of cukvashe_des.h, the sentence of each at the place of its number, and their errors: made of it by bindings/describe.
 const OK = 0;
 const KEY_LENGTH = 1;
 const BLOCKS = 2;
@@ -134,6 +95,7 @@ const HASH = 40;
 const ITERATIONS = 41;
 const NOT_SALTED = 42;
 const SALT_LENGTH = 43;
+const CONTEXT = 44;
 const SENTENCES = [
   "success",
   "the key does not have a length that the call takes",
@@ -179,10 +141,47 @@ const SENTENCES = [
   "the number of iterations is not 1 to 2^32 - 1",
   "the bytes do not begin with Salted__",
   "the bytes end within the salt, or it does not have 0 or 8 bytes",
+  "the context is not one that the init of this type made",
 ];
-// This ends what bindings/statuses made.
-
-// The error of each status that is one by itself.
+export const KeyLength = fault("KeyLength");
+export const BlockLength = fault("BlockLength");
+export const PaddingMethod = fault("PaddingMethod");
+export const TagMismatch = fault("TagMismatch");
+export const Format = fault("Format");
+export const PinLength = fault("PinLength");
+export const PinDigit = fault("PinDigit");
+export const AccountLength = fault("AccountLength");
+export const AccountDigit = fault("AccountDigit");
+export const Fill = fault("Fill");
+export const ExpiryLength = fault("ExpiryLength");
+export const ExpiryDigit = fault("ExpiryDigit");
+export const ServiceLength = fault("ServiceLength");
+export const ServiceDigit = fault("ServiceDigit");
+export const PaddingMismatch = fault("PaddingMismatch");
+export const CountMismatch = fault("CountMismatch");
+export const KeyIndex = fault("KeyIndex");
+export const TableLength = fault("TableLength");
+export const TableDigit = fault("TableDigit");
+export const TableVariety = fault("TableVariety");
+export const WrongPin = fault("WrongPin");
+export const Formats = fault("Formats");
+export const PinBlock = fault("PinBlock");
+export const SequenceLength = fault("SequenceLength");
+export const SequenceDigit = fault("SequenceDigit");
+export const DataLength = fault("DataLength");
+export const ProtectionKeyLength = fault("ProtectionKeyLength");
+export const KeyBlockLength = fault("KeyBlockLength");
+export const KeyBlockVersion = fault("KeyBlockVersion");
+export const KeyBlockField = fault("KeyBlockField");
+export const OptionalBlock = fault("OptionalBlock");
+export const KeyDataLength = fault("KeyDataLength");
+export const KeyBlockDigit = fault("KeyBlockDigit");
+export const KeyBlockMac = fault("KeyBlockMac");
+export const PaddingLength = fault("PaddingLength");
+export const HashName = fault("HashName");
+export const IterationCount = fault("IterationCount");
+export const NotSalted = fault("NotSalted");
+export const SaltLength = fault("SaltLength");
 const FAULTS = new Map([
   [KEY_LENGTH, KeyLength],
   [BLOCKS, BlockLength],
@@ -224,6 +223,7 @@ const FAULTS = new Map([
   [NOT_SALTED, NotSalted],
   [SALT_LENGTH, SaltLength],
 ]);
+// This ends what bindings/describe made.
 
 // What stands after a sentence that leaves it to the call.
 const TAKEN = new Map([
@@ -353,7 +353,7 @@ function afterData(form, [options, ...more], ...names) {
 }
 
 /** Refuses arguments that a call does not have. Passed over, they would be taken for a part of its answer. */
-function refuseMore(more, text) {
+function refuseMore(more, text = "the call takes fewer arguments") {
   if (more.length > 0) throw new TypeError(text);
 }
 
@@ -549,19 +549,98 @@ function renew() {
   workspace = new Workspace(new WebAssembly.Instance(compiled, {}).exports);
 }
 
-/** What a call writes to room of a size, after its other arguments. */
-function written(size, name, lay) {
+// How an argument of a call is laid down: bytes as they stand, a list with its length, a number, or one of 64 bits. In the place of
+// those that a call writes stands how many bytes it writes.
+const BYTES = (memory, bytes) => [memory.put(bytes)];
+const LIST = (memory, bytes) => memory.list(bytes);
+const NUMBER = (memory, number) => [Number(number)];
+const SIZE = (memory, number) => [BigInt(number)];
+
+// What calls of the module take, by the names of their arguments: made of crates/des_c by bindings/describe.
+const CALLS = {
+  weak_key_test: [["key", LIST]],
+  internal_equal_but_parity: [["first", LIST], ["second", LIST]],
+  unpad: [["bytes", LIST], ["method", NUMBER], ["unpaddedLength", 8]],
+  cvv: [["key", BYTES], ["account", LIST], ["expiry", LIST], ["service", LIST], ["value", 4]],
+  key_check_value: [["key", LIST], ["value", 3]],
+  short_key_check_value: [["key", LIST], ["value", 2]],
+  internal_check_value: [["keySize", SIZE], ["key", LIST], ["value", 3]],
+  dukpt_initial_key: [["base", BYTES], ["serial", BYTES], ["key", 16]],
+  dukpt_transaction_key: [["initial", BYTES], ["serial", BYTES], ["key", 16]],
+  dukpt_pin_key: [["transaction", BYTES], ["key", 16]],
+  dukpt_mac_key: [["transaction", BYTES], ["isResponse", NUMBER], ["key", 16]],
+  dukpt_data_variant: [["transaction", BYTES], ["isResponse", NUMBER], ["key", 16]],
+  dukpt_data_key: [["transaction", BYTES], ["isResponse", NUMBER], ["key", 16]],
+  dukpt_is_usable: [["serial", BYTES]],
+  dukpt_next_serial: [["serial", BYTES], ["next", 10]],
+  emv_card_key: [["issuer", BYTES], ["account", LIST], ["sequence", LIST], ["key", 16]],
+  emv_card_key_b: [["issuer", BYTES], ["account", LIST], ["sequence", LIST], ["key", 16]],
+  emv_session_key: [["card", BYTES], ["block", BYTES], ["key", 16]],
+  emv_application_key: [["card", BYTES], ["counter", BYTES], ["key", 16]],
+  emv_application_cryptogram: [["session", BYTES], ["bytes", LIST], ["cryptogram", 8]],
+  emv_response_1: [["session", BYTES], ["cryptogram", BYTES], ["code", BYTES], ["response", 8]],
+  emv_response_2: [["session", BYTES], ["cryptogram", BYTES], ["status", BYTES], ["bytes", LIST], ["response", 4]],
+  key_block_unwrap: [["protection", LIST], ["block", LIST], ["header", 10], ["key", 24], ["length", 8]],
+  key_block_header: [["block", LIST], ["text", 10]],
+  key_block_context: [["block", LIST], ["context", 1]],
+  key_block_optional_block: [["block", LIST], ["place", SIZE], ["name", 3], ["offset", 8], ["length", 8]],
+  pin_encode_0: [["pin", LIST], ["account", LIST], ["block", 8]],
+  pin_encode_1: [["pin", LIST], ["transaction", BYTES], ["block", 8]],
+  pin_encode_2: [["pin", LIST], ["block", 8]],
+  pin_encode_3: [["pin", LIST], ["account", LIST], ["fill", BYTES], ["block", 8]],
+  pin_decode_0: [["block", BYTES], ["account", LIST], ["pin", 13]],
+  pin_decode_1: [["block", BYTES], ["pin", 13]],
+  pin_decode_2: [["block", BYTES], ["pin", 13]],
+  pin_decode_3: [["block", BYTES], ["account", LIST], ["pin", 13]],
+  pvv: [["key", BYTES], ["account", LIST], ["index", NUMBER], ["pin", LIST], ["value", 5]],
+  pvv_verify: [["key", BYTES], ["account", LIST], ["index", NUMBER], ["pin", LIST], ["value", LIST]],
+  decimal_table_init: [["table", 16], ["text", LIST]],
+  decimal_table_init_any: [["table", 16], ["text", LIST]],
+  natural_pin: [["key", LIST], ["table", BYTES], ["validation", BYTES], ["count", SIZE], ["pin", 13]],
+  pin_offset: [["key", LIST], ["table", BYTES], ["validation", BYTES], ["pin", LIST], ["offset", 13]],
+  pin_offset_verify: [["key", LIST], ["table", BYTES], ["validation", BYTES], ["pin", LIST], ["offset", LIST]],
+  pin_translate_to_0: [
+    ["incoming", LIST],
+    ["format", NUMBER],
+    ["outgoing", LIST],
+    ["account", LIST],
+    ["block", BYTES],
+    ["translated", 8],
+  ],
+  pin_translate_to_1: [["incoming", LIST], ["outgoing", LIST], ["block", BYTES], ["translated", 8]],
+  pin_translate_to_3: [
+    ["incoming", LIST],
+    ["format", NUMBER],
+    ["outgoing", LIST],
+    ["account", LIST],
+    ["fill", BYTES],
+    ["block", BYTES],
+    ["translated", 8],
+  ],
+};
+// This ends what bindings/describe made.
+
+/** Makes a call with arguments by their names, and gives what it writes by its names. `given` may ask for the state of an object. */
+function made(name, given) {
   return inside((memory) => {
-    const words = lay(memory);
-    const at = memory.room(size);
-    memory.call(name, ...words, at);
-    return memory.taken(at, size);
+    const values = typeof given === "function" ? given(memory) : given;
+    const rooms = [];
+    const words = CALLS[name].flatMap(([argument, how]) => {
+      if (typeof how === "function") return how(memory, values[argument]);
+      rooms.push([argument, memory.room(how), how]);
+      return [rooms.at(-1)[1]];
+    });
+    memory.call(name, ...words);
+    return Object.fromEntries(rooms.map(([argument, at, size]) => [argument, memory.taken(at, size)]));
   });
 }
 
+/** The bytes that a call writes, which writes nothing else. */
+const written = (name, given) => Object.values(made(name, given))[0];
+
 /** The digits that a call writes, up to its zero byte. */
-function writtenText(size, name, lay) {
-  const bytes = written(size, name, lay);
+function writtenText(name, given) {
+  const bytes = written(name, given);
   const text = String.fromCharCode(...bytes.filter((byte) => byte !== 0));
   bytes.fill(0);
   return text;
@@ -574,7 +653,8 @@ const OF_64_BITS = Uint8Array.of(0, 97, 115, 109, 1, 0, 0, 0, 5, 3, 1, 4, 1);
 
 const hasMemory64 = () => WebAssembly.validate(OF_64_BITS);
 
-export function isSupported() {
+export function isSupported(...more) {
+  refuseMore(more);
   return typeof WebAssembly === "object";
 }
 
@@ -589,7 +669,8 @@ async function fileBeside() {
   return response.arrayBuffer();
 }
 
-export async function load(module) {
+export async function load(module, ...more) {
+  refuseMore(more);
   if (!isSupported()) throw new NotSupported("this engine has no WebAssembly");
   const given = module === undefined ? await fileBeside() : module;
   const bytes = (given instanceof ArrayBuffer ? new Uint8Array(given) : bytesOf(given, "the module")).slice();
@@ -647,7 +728,8 @@ function kindOf(Class, Base, what) {
 const QUICK = 0;
 
 class Keyed {
-  close() {
+  close(...more) {
+    refuseMore(more);
     const state = states.get(this);
     if (state === undefined) return;
     state.context?.fill(0);
@@ -752,24 +834,30 @@ class Mac extends Keyed {
     return this;
   }
 
-  digest(encoding) {
+  digest(encoding, ...more) {
+    refuseMore(more);
     if (encoding !== undefined && encoding !== "hex") throw new TypeError('digest takes no argument but "hex"');
-    const tag = written(TAG_SIZE, "internal_mac_final", (memory) => {
+    const tag = inside((memory) => {
       const { kind, context } = memory.state(this, Mac);
-      return contextAt(kind, memory.put(context));
+      const at = memory.room(TAG_SIZE);
+      memory.call("internal_mac_final", ...contextAt(kind, memory.put(context)), at);
+      return memory.taken(at, TAG_SIZE);
     });
     return encoding === "hex" ? hexOf(tag) : tag;
   }
 
-  verify(tag) {
+  verify(tag, ...more) {
+    refuseMore(more);
     return accepted(this, tag, TAG_SIZE);
   }
 
-  verifyTruncatedLeft(tag) {
+  verifyTruncatedLeft(tag, ...more) {
+    refuseMore(more);
     return accepted(this, tag, LEAST_TAG_SIZE);
   }
 
-  copy() {
+  copy(...more) {
+    refuseMore(more);
     return inside((memory) => {
       const { kind, context } = memory.state(this, Mac);
       return keep(Object.create(Object.getPrototypeOf(this)), Mac, kind, context.slice());
@@ -863,7 +951,8 @@ function methodOf(method) {
   return METHODS.get(method);
 }
 
-export function pad(data, method) {
+export function pad(data, method, ...more) {
+  refuseMore(more);
   const number = methodOf(method);
   const bytes = bytesOf(data, "data");
   return inside((memory) => {
@@ -875,7 +964,8 @@ export function pad(data, method) {
   });
 }
 
-export function unpad(data, method) {
+export function unpad(data, method, ...more) {
+  refuseMore(more);
   const number = methodOf(method);
   const bytes = bytesOf(data, "data");
   return inside((memory) => {
@@ -892,12 +982,14 @@ export function unpad(data, method) {
 
 const SIZES = [8, 16, 24];
 
-export function isWeakKey(key) {
+export function isWeakKey(key, ...more) {
+  refuseMore(more);
   const bytes = keyOf(key, ...SIZES);
   return inside((memory) => memory.ask("weak_key_test", ...memory.list(bytes))) === WEAK_KEY;
 }
 
-export function withOddParity(key) {
+export function withOddParity(key, ...more) {
+  refuseMore(more);
   const bytes = keyOf(key, ...SIZES);
   return inside((memory) => {
     const [at, length] = memory.list(bytes);
@@ -906,28 +998,28 @@ export function withOddParity(key) {
   });
 }
 
-export function equalButParity(first, second) {
+export function equalButParity(first, second, ...more) {
+  refuseMore(more);
   const one = keyOf(first, ...SIZES);
   const other = keyOf(second, one.length);
   return inside((memory) => memory.ask("internal_equal_but_parity", ...memory.list(one), ...memory.list(other))) !== 0;
 }
 
-const CHECK_VALUE_SIZE = 3;
-
-export function checkValue(cipher, key) {
+export function checkValue(cipher, key, ...more) {
+  refuseMore(more);
   const { keySize } = cipherOf(cipher);
   const bytes = keyOf(key, keySize);
-  return written(CHECK_VALUE_SIZE, "internal_check_value", (memory) => [BigInt(keySize), ...memory.list(bytes)]);
+  return written("internal_check_value", { keySize, key: bytes });
 }
 
-export function keyCheckValue(key) {
-  const bytes = keyOf(key, ...SIZES);
-  return written(CHECK_VALUE_SIZE, "key_check_value", (memory) => memory.list(bytes));
+export function keyCheckValue(key, ...more) {
+  refuseMore(more);
+  return written("key_check_value", { key: keyOf(key, ...SIZES) });
 }
 
-export function shortKeyCheckValue(key) {
-  const bytes = keyOf(key, ...SIZES);
-  return written(2, "short_key_check_value", (memory) => memory.list(bytes));
+export function shortKeyCheckValue(key, ...more) {
+  refuseMore(more);
+  return written("short_key_check_value", { key: keyOf(key, ...SIZES) });
 }
 
 export function combine(first, second, ...others) {
@@ -952,42 +1044,49 @@ export function combine(first, second, ...others) {
 const SERIAL_SIZE = 10;
 const TRANSACTION_KEY_SIZE = 16;
 
-/** A key of 16 bytes that a call makes of another. */
-function madeOf(name, key, lay) {
-  const bytes = keyOf(key, TRANSACTION_KEY_SIZE);
-  return written(TRANSACTION_KEY_SIZE, name, (memory) => [memory.put(bytes), ...lay(memory)]);
-}
+/** A key of a transaction. */
+const transactionKeyOf = (key) => keyOf(key, TRANSACTION_KEY_SIZE);
 
-export function dukptInitialKey(base, serial) {
+export function dukptInitialKey(base, serial, ...more) {
+  refuseMore(more);
   const number = serialOf(serial);
-  return madeOf("dukpt_initial_key", base, (memory) => [memory.put(number)]);
+  return written("dukpt_initial_key", { base: transactionKeyOf(base), serial: number });
 }
 
-export function dukptTransactionKey(initial, serial) {
+export function dukptTransactionKey(initial, serial, ...more) {
+  refuseMore(more);
   const number = serialOf(serial);
-  return madeOf("dukpt_transaction_key", initial, (memory) => [memory.put(number)]);
+  return written("dukpt_transaction_key", { initial: transactionKeyOf(initial), serial: number });
 }
 
-export function dukptPinKey(transaction) {
-  return madeOf("dukpt_pin_key", transaction, () => []);
+export function dukptPinKey(transaction, ...more) {
+  refuseMore(more);
+  return written("dukpt_pin_key", { transaction: transactionKeyOf(transaction) });
 }
 
-export function dukptMacKey(transaction, isResponse = false) {
+export function dukptMacKey(transaction, isResponse = false, ...more) {
+  refuseMore(more);
+  return keyOfMessage("dukpt_mac_key", transaction, isResponse);
+}
+
+export function dukptDataKey(transaction, isResponse = false, ...more) {
+  refuseMore(more);
+  return keyOfMessage("dukpt_data_key", transaction, isResponse);
+}
+
+export function dukptDataVariant(transaction, isResponse = false, ...more) {
+  refuseMore(more);
+  return keyOfMessage("dukpt_data_variant", transaction, isResponse);
+}
+
+/** The key for the request or the response. */
+function keyOfMessage(name, transaction, isResponse) {
   const word = responseOf(isResponse);
-  return madeOf("dukpt_mac_key", transaction, () => [Number(word)]);
+  return written(name, { transaction: transactionKeyOf(transaction), isResponse: word });
 }
 
-export function dukptDataKey(transaction, isResponse = false) {
-  const word = responseOf(isResponse);
-  return madeOf("dukpt_data_key", transaction, () => [Number(word)]);
-}
-
-export function dukptDataVariant(transaction, isResponse = false) {
-  const word = responseOf(isResponse);
-  return madeOf("dukpt_data_variant", transaction, () => [Number(word)]);
-}
-
-export function dukptNextSerial(serial) {
+export function dukptNextSerial(serial, ...more) {
+  refuseMore(more);
   const number = serialOf(serial);
   return inside((memory) => {
     const [at, next] = [memory.put(number), memory.room(SERIAL_SIZE)];
@@ -995,16 +1094,21 @@ export function dukptNextSerial(serial) {
   });
 }
 
-export function dukptIsUsable(serial) {
+export function dukptIsUsable(serial, ...more) {
+  refuseMore(more);
   const number = serialOf(serial);
   return inside((memory) => memory.ask("dukpt_is_usable", memory.put(number))) !== 0;
 }
 
 const STATE_SIZE = 346;
 
+/** Whether a state has a future key, as one of zeros does not. All bytes are read, whatever they are. */
+const hasFutureKey = (context) => context.subarray(SERIAL_SIZE).reduce((bits, byte) => bits | byte, 0) !== 0;
+
 export class DukptTerminal extends Keyed {
-  constructor(initial, serial) {
+  constructor(initial, serial, ...more) {
     super();
+    refuseMore(more);
     const [key, number] = [keyOf(initial, TRANSACTION_KEY_SIZE), serialOf(serial)];
     const context = inside((memory) => {
       const at = memory.room(STATE_SIZE);
@@ -1014,180 +1118,165 @@ export class DukptTerminal extends Keyed {
     keep(this, DukptTerminal, null, context);
   }
 
-  static fromState(state) {
+  static fromState(state, ...more) {
+    refuseMore(more);
     const { prototype } = this;
     const bytes = dataOf(state, STATE_SIZE, "the state of a terminal", "has", StateLength);
     const context = inside((memory) => memory.taken(memory.put(bytes), STATE_SIZE));
     return keep(Object.create(prototype), DukptTerminal, null, context);
   }
 
-  nextKey() {
+  nextKey(...more) {
+    refuseMore(more);
     return inside((memory) => {
       const { context } = memory.state(this, DukptTerminal);
       const at = memory.put(context);
       const [serial, key] = [memory.room(SERIAL_SIZE), memory.room(TRANSACTION_KEY_SIZE)];
-      if (memory.ask("dukpt_terminal_next_key", at, serial, key) !== OK) {
-        throw new NoSerial("the terminal has had its last transaction");
+      if (!hasFutureKey(context) || memory.ask("dukpt_terminal_next_key", at, serial, key) !== OK) {
+        throw new NoSerial("the terminal has no key for a next transaction");
       }
       memory.take(at, context);
       return { serial: memory.taken(serial, SERIAL_SIZE), key: memory.taken(key, TRANSACTION_KEY_SIZE) };
     });
   }
 
-  state() {
+  state(...more) {
+    refuseMore(more);
     return inside((memory) => memory.state(this, DukptTerminal).context.slice());
   }
 }
 
 // ---- PIN blocks (ISO 9564-1) and their translation. Numbers are strings, or bytes, of digits -----------------
 
-const PIN_SIZE = 13;
-const CVV_SIZE = 4;
+const pinOf = (pin) => textOf(pin, "a PIN");
+const accountOf = (account) => textOf(account, "an account number");
 
-export function pinEncode0(pin, account) {
-  const [digits, number] = [textOf(pin, "a PIN"), textOf(account, "an account number")];
-  return written(BLOCK_SIZE, "pin_encode_0", (memory) => [...memory.list(digits), ...memory.list(number)]);
+export function pinEncode0(pin, account, ...more) {
+  refuseMore(more);
+  return written("pin_encode_0", { pin: pinOf(pin), account: accountOf(account) });
 }
 
-export function pinEncode1(pin, transaction) {
-  const [digits, fill] = [textOf(pin, "a PIN"), fillOf(transaction)];
-  return written(BLOCK_SIZE, "pin_encode_1", (memory) => [...memory.list(digits), memory.put(fill)]);
+export function pinEncode1(pin, transaction, ...more) {
+  refuseMore(more);
+  return written("pin_encode_1", { pin: pinOf(pin), transaction: fillOf(transaction) });
 }
 
-export function pinEncode2(pin) {
-  const digits = textOf(pin, "a PIN");
-  return written(BLOCK_SIZE, "pin_encode_2", (memory) => memory.list(digits));
+export function pinEncode2(pin, ...more) {
+  refuseMore(more);
+  return written("pin_encode_2", { pin: pinOf(pin) });
 }
 
-export function pinEncode3(pin, account, fill) {
-  const [digits, number, random] = [textOf(pin, "a PIN"), textOf(account, "an account number"), fillOf(fill)];
-  const lay = (memory) => [...memory.list(digits), ...memory.list(number), memory.put(random)];
-  return written(BLOCK_SIZE, "pin_encode_3", lay);
+export function pinEncode3(pin, account, fill, ...more) {
+  refuseMore(more);
+  return written("pin_encode_3", { pin: pinOf(pin), account: accountOf(account), fill: fillOf(fill) });
 }
 
-export function pinDecode0(block, account) {
-  const [number, bytes] = [textOf(account, "an account number"), blockOf(block)];
-  return writtenText(PIN_SIZE, "pin_decode_0", (memory) => [memory.put(bytes), ...memory.list(number)]);
+export function pinDecode0(block, account, ...more) {
+  refuseMore(more);
+  return writtenText("pin_decode_0", { account: accountOf(account), block: blockOf(block) });
 }
 
-export function pinDecode1(block) {
-  const bytes = blockOf(block);
-  return writtenText(PIN_SIZE, "pin_decode_1", (memory) => [memory.put(bytes)]);
+export function pinDecode1(block, ...more) {
+  refuseMore(more);
+  return writtenText("pin_decode_1", { block: blockOf(block) });
 }
 
-export function pinDecode2(block) {
-  const bytes = blockOf(block);
-  return writtenText(PIN_SIZE, "pin_decode_2", (memory) => [memory.put(bytes)]);
+export function pinDecode2(block, ...more) {
+  refuseMore(more);
+  return writtenText("pin_decode_2", { block: blockOf(block) });
 }
 
-export function pinDecode3(block, account) {
-  const [number, bytes] = [textOf(account, "an account number"), blockOf(block)];
-  return writtenText(PIN_SIZE, "pin_decode_3", (memory) => [memory.put(bytes), ...memory.list(number)]);
+export function pinDecode3(block, account, ...more) {
+  refuseMore(more);
+  return writtenText("pin_decode_3", { account: accountOf(account), block: blockOf(block) });
 }
 
-export function pinTranslateTo0(incomingFormat, account, block, keys) {
-  return written(BLOCK_SIZE, "pin_translate_to_0", translated(incomingFormat, account, [], block, keys));
+export function pinTranslateTo0(incomingFormat, account, block, keys, ...more) {
+  refuseMore(more);
+  return written("pin_translate_to_0", translated(incomingFormat, account, [], block, keys));
 }
 
-export function pinTranslateTo1(block, keys) {
+export function pinTranslateTo1(block, keys, ...more) {
+  refuseMore(more);
   const { incomingKey, outgoingKey } = translationOf(keys);
-  const [incoming, outgoing, bytes] = [keyOf(incomingKey, ...SIZES), keyOf(outgoingKey, ...SIZES), blockOf(block)];
-  const lay = (memory) => [...memory.list(incoming), ...memory.list(outgoing), memory.put(bytes)];
-  return written(BLOCK_SIZE, "pin_translate_to_1", lay);
+  const [incoming, outgoing] = [keyOf(incomingKey, ...SIZES), keyOf(outgoingKey, ...SIZES)];
+  return written("pin_translate_to_1", { incoming, outgoing, block: blockOf(block) });
 }
 
-export function pinTranslateTo3(incomingFormat, account, fill, block, keys) {
-  return written(BLOCK_SIZE, "pin_translate_to_3", translated(incomingFormat, account, [fill], block, keys));
+export function pinTranslateTo3(incomingFormat, account, fill, block, keys, ...more) {
+  refuseMore(more);
+  return written("pin_translate_to_3", translated(incomingFormat, account, [fill], block, keys));
 }
 
 /** The keys of a translation, by their names. */
 const translationOf = (keys) => optionsOf(keys, "incomingKey", "outgoingKey");
 
-/** What a translation takes, laid down. */
+/** What a translation takes, with fill digits or without. */
 function translated(incomingFormat, account, fills, block, keys) {
   const { incomingKey, outgoingKey } = translationOf(keys);
-  const [format, digits] = [numberOf(incomingFormat, 0, 3, "the incoming format"), fills.map(fillOf)];
+  const [format, [fill]] = [numberOf(incomingFormat, 0, 3, "the incoming format"), fills.map(fillOf)];
   const [incoming, outgoing] = [keyOf(incomingKey, ...SIZES), keyOf(outgoingKey, ...SIZES)];
-  const [number, bytes] = [textOf(account, "an account number"), blockOf(block)];
-  return (memory) => [
-    ...memory.list(incoming), format, ...memory.list(outgoing), ...memory.list(number),
-    ...digits.map((fill) => memory.put(fill)), memory.put(bytes),
-  ];
+  return { incoming, format, outgoing, account: accountOf(account), fill, block: blockOf(block) };
 }
 
 // ---- PIN verification: the PIN verification value (PVV), and natural PINs and offsets by the method of the IBM 3624
 
-const PVV_SIZE = 5;
-
-export function pvv(key, account, index, pin) {
-  return writtenText(PVV_SIZE, "pvv", valueOf(key, account, index, pin));
+export function pvv(key, account, index, pin, ...more) {
+  refuseMore(more);
+  return writtenText("pvv", valueOf(key, account, index, pin));
 }
 
-export function pvvVerify(key, account, index, pin, value) {
-  const lay = valueOf(key, account, index, pin);
-  const kept = textOf(value, "a PIN verification value");
-  inside((memory) => memory.call("pvv_verify", ...lay(memory), ...memory.list(kept)));
+export function pvvVerify(key, account, index, pin, value, ...more) {
+  refuseMore(more);
+  const given = valueOf(key, account, index, pin);
+  made("pvv_verify", { ...given, value: textOf(value, "a PIN verification value") });
   return true;
 }
 
-/** What the calls of PIN verification values take, laid down. */
+/** What the calls of PIN verification values take. */
 function valueOf(key, account, index, pin) {
   const place = numberOf(index, 1, 6, "the index of the key pair");
-  const [pair, number, digits] = [keyOf(key, 16), textOf(account, "an account number"), textOf(pin, "a PIN")];
-  return (memory) => [memory.put(pair), ...memory.list(number), place, ...memory.list(digits)];
+  return { key: keyOf(key, 16), account: accountOf(account), index: place, pin: pinOf(pin) };
 }
 
-const TABLE_SIZE = 16;
-
 export class DecimalTable {
-  constructor(digits) {
+  constructor(digits, ...more) {
+    refuseMore(more);
     keep(this, DecimalTable, null, tableOf("decimal_table_init", digits));
   }
 
-  static ofAnyVariety(digits) {
+  static ofAnyVariety(digits, ...more) {
+    refuseMore(more);
     const { prototype } = this;
     return keep(Object.create(prototype), DecimalTable, null, tableOf("decimal_table_init_any", digits));
   }
 }
 
 /** The table that a call makes of digits. */
-function tableOf(call, digits) {
-  const text = textOf(digits, "a decimalization table");
-  return inside((memory) => {
-    const at = memory.room(TABLE_SIZE);
-    memory.call(call, at, ...memory.list(text));
-    return memory.taken(at, TABLE_SIZE);
-  });
-}
+const tableOf = (call, digits) => written(call, { text: textOf(digits, "a decimalization table") });
 
-/** A key, a decimalization table and validation data, sixteen digits in 8 bytes, as the calls below take them. */
-function naturalOf(key, table, validation) {
+/** A key, a decimalization table and validation data, sixteen digits in 8 bytes, as the calls below take them, and more. */
+function naturalOf(key, table, validation, more) {
   const data = dataOf(validation, BLOCK_SIZE, "validation data", "have", BlockLength);
-  const held = keyOf(key, ...SIZES);
-  return (memory) => {
-    const { context } = memory.state(table, DecimalTable, "the decimalization table");
-    return [...memory.list(held), memory.put(context), memory.put(data)];
-  };
+  const given = { key: keyOf(key, ...SIZES), validation: data, ...more() };
+  return (memory) => ({ ...given, table: memory.state(table, DecimalTable, "the decimalization table").context });
 }
 
-export function naturalPin(key, table, validation, length) {
-  const lay = naturalOf(key, table, validation);
-  const count = BigInt(numberOf(length, 4, 12, "the length of the PIN"));
-  return writtenText(PIN_SIZE, "natural_pin", (memory) => [...lay(memory), count]);
+export function naturalPin(key, table, validation, length, ...more) {
+  refuseMore(more);
+  const count = () => ({ count: numberOf(length, 4, 12, "the length of the PIN") });
+  return writtenText("natural_pin", naturalOf(key, table, validation, count));
 }
 
-export function pinOffset(key, table, validation, pin) {
-  const lay = naturalOf(key, table, validation);
-  const digits = textOf(pin, "a PIN");
-  return writtenText(PIN_SIZE, "pin_offset", (memory) => [...lay(memory), ...memory.list(digits)]);
+export function pinOffset(key, table, validation, pin, ...more) {
+  refuseMore(more);
+  return writtenText("pin_offset", naturalOf(key, table, validation, () => ({ pin: pinOf(pin) })));
 }
 
-export function pinOffsetVerify(key, table, validation, pin, offset) {
-  const lay = naturalOf(key, table, validation);
-  const texts = [textOf(pin, "a PIN"), textOf(offset, "an offset")];
-  inside((memory) => {
-    memory.call("pin_offset_verify", ...lay(memory), ...texts.flatMap((text) => memory.list(text)));
-  });
+export function pinOffsetVerify(key, table, validation, pin, offset, ...more) {
+  refuseMore(more);
+  const texts = () => ({ pin: pinOf(pin), offset: textOf(offset, "an offset") });
+  made("pin_offset_verify", naturalOf(key, table, validation, texts));
   return true;
 }
 
@@ -1197,59 +1286,61 @@ const cryptogramOf = (bytes) => dataOf(bytes, BLOCK_SIZE, "an application crypto
 
 function cardKeyBy(name, issuer, account, sequence) {
   const key = keyOf(issuer, 16);
-  const texts = [textOf(account, "an account number"), textOf(sequence, "a sequence number")];
-  return written(16, name, (memory) => [memory.put(key), ...texts.flatMap((text) => memory.list(text))]);
+  return written(name, { issuer: key, account: accountOf(account), sequence: textOf(sequence, "a sequence number") });
 }
 
-export function emvCardKey(issuer, account, sequence) {
+export function emvCardKey(issuer, account, sequence, ...more) {
+  refuseMore(more);
   return cardKeyBy("emv_card_key", issuer, account, sequence);
 }
 
-export function emvCardKeyB(issuer, account, sequence) {
+export function emvCardKeyB(issuer, account, sequence, ...more) {
+  refuseMore(more);
   return cardKeyBy("emv_card_key_b", issuer, account, sequence);
 }
 
-export function emvSessionKey(card, block) {
+export function emvSessionKey(card, block, ...more) {
+  refuseMore(more);
   const bytes = dataOf(block, BLOCK_SIZE, "the block of a session", "has", BlockLength);
-  return madeOf("emv_session_key", card, (memory) => [memory.put(bytes)]);
+  return written("emv_session_key", { card: keyOf(card, 16), block: bytes });
 }
 
-export function emvApplicationKey(card, counter) {
+export function emvApplicationKey(card, counter, ...more) {
+  refuseMore(more);
   const bytes = dataOf(counter, 2, "a transaction counter", "has", DataLength);
-  return madeOf("emv_application_key", card, (memory) => [memory.put(bytes)]);
+  return written("emv_application_key", { card: keyOf(card, 16), counter: bytes });
 }
 
-export function emvApplicationCryptogram(session, data) {
-  const [key, bytes] = [keyOf(session, 16), bytesOf(data, "data")];
-  return written(BLOCK_SIZE, "emv_application_cryptogram", (memory) => [memory.put(key), ...memory.list(bytes)]);
+export function emvApplicationCryptogram(session, data, ...more) {
+  refuseMore(more);
+  return written("emv_application_cryptogram", { session: keyOf(session, 16), bytes: bytesOf(data, "data") });
 }
 
-export function emvResponse1(session, cryptogram, code) {
+export function emvResponse1(session, cryptogram, code, ...more) {
+  refuseMore(more);
   const request = cryptogramOf(cryptogram);
   const word = dataOf(code, 2, "a response code", "has", DataLength);
-  const key = keyOf(session, 16);
-  return written(BLOCK_SIZE, "emv_response_1", (memory) => [memory.put(key), memory.put(request), memory.put(word)]);
+  return written("emv_response_1", { session: keyOf(session, 16), cryptogram: request, code: word });
 }
 
-export function emvResponse2(session, cryptogram, status, data = new Uint8Array()) {
+export function emvResponse2(session, cryptogram, status, data = new Uint8Array(), ...more) {
+  refuseMore(more);
   const request = cryptogramOf(cryptogram);
   const word = dataOf(status, 4, "a card status update", "has", DataLength);
-  const [bytes, key] = [bytesOf(data, "data"), keyOf(session, 16)];
-  const lay = (memory) => [memory.put(key), memory.put(request), memory.put(word), ...memory.list(bytes)];
-  return written(4, "emv_response_2", lay);
+  const bytes = bytesOf(data, "data");
+  return written("emv_response_2", { session: keyOf(session, 16), cryptogram: request, status: word, bytes });
 }
 
 // ---- Card verification values
 
-export function cvv(key, account, expiry, service) {
-  const pair = keyOf(key, 16);
-  const texts = [textOf(account, "an account number"), textOf(expiry, "an expiry date"), textOf(service, "a service code")];
-  return writtenText(CVV_SIZE, "cvv", (memory) => [memory.put(pair), ...texts.flatMap((text) => memory.list(text))]);
+export function cvv(key, account, expiry, service, ...more) {
+  refuseMore(more);
+  const given = { key: keyOf(key, 16), account: accountOf(account), expiry: textOf(expiry, "an expiry date") };
+  return writtenText("cvv", { ...given, service: textOf(service, "a service code") });
 }
 
 // ---- Key blocks (ANSI X9.143, ASC X9 TR-31): a key with what it is for, encrypted and authenticated under another -----
 
-const FIELDS_SIZE = 10;
 const KEY_DATA_SIZE = 32;
 
 // More characters than a block has besides its optional blocks, and a zero byte; and more than it can have.
@@ -1313,43 +1404,45 @@ function optionalOf(optional) {
   return asciiOf(Array.from(optional, optionalText).join(""));
 }
 
-export function unwrapKeyBlock(protection, block) {
+export function unwrapKeyBlock(protection, block, ...more) {
+  refuseMore(more);
   const held = bytesOf(protection, "a protection key");
   const text = keyBlockOf(block);
-  return inside((memory) => {
-    const laid = [...memory.list(held), ...memory.list(text)];
-    const [fields, key, length] = [FIELDS_SIZE, 24, 8].map((size) => memory.room(size));
-    memory.call("key_block_unwrap", ...laid, fields, key, length);
-    return { header: headerFrom(memory.taken(fields, FIELDS_SIZE)), key: memory.taken(key, memory.word(length)) };
-  });
+  const { header, key, length } = made("key_block_unwrap", { protection: held, block: text });
+  const size = Number(new DataView(length.buffer).getBigUint64(0, true));
+  const bare = key.slice(0, size);
+  key.fill(0);
+  return { header: headerFrom(header), key: bare };
 }
 
-export function wrapKeyBlock(protection, header, key, options = {}) {
+export function wrapKeyBlock(protection, header, key, options = {}, ...more) {
+  refuseMore(more);
   const { optional = [], padding } = optionsOf(options, "optional", "padding");
-  const [fields, more] = [fieldsOf(header), optionalOf(optional)];
+  const [fields, blocks] = [fieldsOf(header), optionalOf(optional)];
   const random = padding === undefined ? crypto.getRandomValues(new Uint8Array(KEY_DATA_SIZE - 2)) : null;
   const [held, bare] = [bytesOf(protection, "a protection key"), bytesOf(key, "a key")];
   const hiding = random?.subarray(bare.length) ?? bytesOf(padding, "the padding");
   return inside((memory) => {
-    const laid = [...memory.list(held), memory.put(fields), ...[more, bare, hiding].flatMap((bytes) => memory.list(bytes))];
-    const room = more.length + MORE_CHARACTERS;
+    const laid = [...memory.list(held), memory.put(fields), ...[blocks, bare, hiding].flatMap((bytes) => memory.list(bytes))];
+    const room = blocks.length + MORE_CHARACTERS;
     const [at, length] = [memory.room(room), memory.room(8)];
     memory.call("key_block_wrap", ...laid, at, BigInt(room), length);
     return charactersOf(memory.taken(at, memory.word(length)));
   });
 }
 
-export function keyBlockHeader(block) {
-  const text = keyBlockOf(block);
-  return headerFrom(written(FIELDS_SIZE, "key_block_header", (memory) => memory.list(text)));
+export function keyBlockHeader(block, ...more) {
+  refuseMore(more);
+  return headerFrom(written("key_block_header", { block: keyBlockOf(block) }));
 }
 
-export function keyBlockContext(block) {
-  const text = keyBlockOf(block);
-  return charactersOf(written(1, "key_block_context", (memory) => memory.list(text)));
+export function keyBlockContext(block, ...more) {
+  refuseMore(more);
+  return charactersOf(written("key_block_context", { block: keyBlockOf(block) }));
 }
 
-export function keyBlockOptionalBlocks(block) {
+export function keyBlockOptionalBlocks(block, ...more) {
+  refuseMore(more);
   const text = keyBlockOf(block);
   return inside((memory) => {
     const found = [];
@@ -1372,10 +1465,12 @@ const HASHES = new Map([["md5", 21], ["sha1", 22], ["sha256", 23]]);
 // One more than PBKDF2 counts, which it refuses.
 const TOO_MANY_ITERATIONS = 2 ** 32;
 
-function hashOf(name) {
-  if (typeof name !== "string") throw new TypeError('a hash function: "md5", "sha1" or "sha256" is wanted');
-  if (!HASHES.has(name)) throw new HashName('a hash function is "md5", "sha1" or "sha256"');
-  return HASHES.get(name);
+/** The number of a hash function. PBKDF2 takes no MD5. */
+function hashOf(name, isPbkdf2) {
+  const offered = isPbkdf2 ? '"sha1" or "sha256"' : '"md5", "sha1" or "sha256"';
+  if (typeof name !== "string") throw new TypeError(`a hash function: ${offered} is wanted`);
+  if (HASHES.has(name) && !(isPbkdf2 && name === "md5")) return HASHES.get(name);
+  throw isPbkdf2 ? faultOf(HASH) : new HashName(`a hash function is ${offered}`);
 }
 
 /** A number of iterations, of which there is one at least, or one that is refused. */
@@ -1405,19 +1500,23 @@ function derived(name, hash, password, salt, words, length) {
   });
 }
 
-export function pbkdf2(hashName, password, salt, iterations, length) {
-  return derived("pbkdf2", hashOf(hashName), password, salt, [iterationsOf(iterations)], derivedLengthOf(length));
+export function pbkdf2(hashName, password, salt, iterations, length, ...more) {
+  refuseMore(more);
+  return derived("pbkdf2", hashOf(hashName, true), password, salt, [iterationsOf(iterations)], derivedLengthOf(length));
 }
 
-export function bytesToKey(hashName, password, salt, length) {
-  return derived("bytes_to_key", hashOf(hashName), password, salt, [], derivedLengthOf(length));
+export function bytesToKey(hashName, password, salt, length, ...more) {
+  refuseMore(more);
+  return derived("bytes_to_key", hashOf(hashName, false), password, salt, [], derivedLengthOf(length));
 }
 
-export function openSalted(cipher, password, data, options = {}) {
+export function openSalted(cipher, password, data, options = {}, ...more) {
+  refuseMore(more);
   const { hashName = "sha256", iterations } = optionsOf(options, "hashName", "iterations");
   const { keySize } = cipherOf(cipher);
   const [secret, bytes] = [bytesOf(password, "a password"), bytesOf(data, "data")];
-  const [hash, count] = [hashOf(hashName), iterations === undefined ? 0n : iterationsOf(iterations)];
+  const isPbkdf2 = iterations !== undefined;
+  const [hash, count] = [hashOf(hashName, isPbkdf2), isPbkdf2 ? iterationsOf(iterations) : 0n];
   return inside((memory) => {
     const [plain, length] = [memory.room(bytes.length), memory.room(8)];
     const laid = [...memory.list(secret), ...memory.list(bytes), plain, BigInt(bytes.length), length];
@@ -1430,11 +1529,13 @@ export function openSalted(cipher, password, data, options = {}) {
 
 // ---- Lists: elements stand one after the other, without a gap -------------------------------------------------------
 
-export function encryptEach(cipher, keys, blocks) {
+export function encryptEach(cipher, keys, blocks, ...more) {
+  refuseMore(more);
   return answeredEach("internal_encrypt_each", cipher, keys, blocks);
 }
 
-export function decryptEach(cipher, keys, blocks) {
+export function decryptEach(cipher, keys, blocks, ...more) {
+  refuseMore(more);
   return answeredEach("internal_decrypt_each", cipher, keys, blocks);
 }
 
@@ -1451,7 +1552,10 @@ function answeredEach(call, cipher, keys, blocks) {
   });
 }
 
-export function checkValues(cipher, keys) {
+const CHECK_VALUE_SIZE = 3;
+
+export function checkValues(cipher, keys, ...more) {
+  refuseMore(more);
   const { keySize } = cipherOf(cipher);
   const held = listOf(keys, keySize, KeyLength, "keys");
   const count = held.length / keySize;
@@ -1462,7 +1566,8 @@ export function checkValues(cipher, keys) {
   });
 }
 
-export function dukptTransactionKeysFromBase(base, serials) {
+export function dukptTransactionKeysFromBase(base, serials, ...more) {
+  refuseMore(more);
   const key = keyOf(base, TRANSACTION_KEY_SIZE);
   const numbers = listOf(serials, SERIAL_SIZE, SerialLength, "key serial numbers");
   const count = numbers.length / SERIAL_SIZE;
@@ -1493,7 +1598,8 @@ function recorded(name, call, cipher, blocks, named) {
     const { kind, context } = memory.state(cipher, Cipher);
     const [at, count] = memory.list(given, BLOCK_SIZE);
     const laid = [...contextAt(kind, memory.put(context)), ...memory.list(chains, BLOCK_SIZE)];
-    if (memory.ask(call, ...laid, memory.words(sizes), BigInt(sizes.length), at, count) !== OK) {
+    const length = BigInt(given.length);
+    if (memory.ask(call, ...laid, memory.words(sizes), BigInt(sizes.length), at, count, length) !== OK) {
       throw new CountMismatch("the counts do not add up to the number of blocks");
     }
     return memory.taken(at, given.length);
@@ -1535,7 +1641,8 @@ function messagesOf(messages, lengths) {
   throw new CountMismatch("the lengths do not add up to the messages");
 }
 
-export function macs(mac, key, padding, lengths, messages) {
+export function macs(mac, key, padding, lengths, messages, ...more) {
+  refuseMore(more);
   const kind = macsOf(mac, padding);
   const numbers = numbersOf(lengths, "lengths");
   const held = keyOf(key, kind.keySize);
@@ -1543,7 +1650,8 @@ export function macs(mac, key, padding, lengths, messages) {
   return tagsOf("internal_macs", kind, (memory) => memory.list(held), numbers, bytes);
 }
 
-export function macsEach(mac, keys, padding, lengths, messages) {
+export function macsEach(mac, keys, padding, lengths, messages, ...more) {
+  refuseMore(more);
   const kind = macsOf(mac, padding);
   const numbers = numbersOf(lengths, "lengths");
   const held = listOf(keys, kind.keySize, KeyLength, "keys");
@@ -1553,7 +1661,8 @@ export function macsEach(mac, keys, padding, lengths, messages) {
   return tagsOf("internal_macs_each", kind, lay, numbers, bytes);
 }
 
-export function wrongTags(tags, expected) {
+export function wrongTags(tags, expected, ...more) {
+  refuseMore(more);
   const [given, wanted] = [tags, expected].map((list) => listOf(list, TAG_SIZE, CountMismatch, "tags"));
   if (given.length !== wanted.length) throw new CountMismatch("the numbers of tags and expected tags differ");
   const count = given.length / TAG_SIZE;
