@@ -344,11 +344,10 @@ static void hands_on_structs(void) {
   WAS_WIPED("unwiped", "pbkdf2", 1, A(base), 3, A(iv), 4, 2, A(output), 5);
 }
 
-/* A terminal's state without future keys is refused, and the stack is wiped all the same. */
+/* A terminal's state without future keys goes no further. */
 static void hands_on_a_terminal(void) {
   cukvashe_dukpt_terminal terminal = {{0}, {{0}}};
-  CHECK(cukvashe_dukpt_terminal_next_key(&terminal, input, output) == CUKVASHE_ERR_NO_SERIAL && calls == 0 && wipes == 1);
-  wipes = 0;
+  CHECK(cukvashe_dukpt_terminal_next_key(&terminal, input, output) == CUKVASHE_ERR_NO_SERIAL && calls == 0);
   terminal.keys[20][15] = 1;
   CHECK(cukvashe_dukpt_terminal_next_key(&terminal, input, output) == STATUS);
   WAS_WIPED("unwiped", "dukpt_terminal_next_key", A(&terminal), A(input), A(output));
