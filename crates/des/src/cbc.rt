@@ -5,7 +5,7 @@
 //! Blocks are whole, 8 bytes each: padding is the caller's. So is authentication, which the mode
 //! does not give. An initialization vector must not be used twice under a key, nor be predictable.
 
-ghost use Rattle.std.specs.Prelude.{◌≡◌, ◌≤◌, length, map, take};
+ghost use Rattle.std.specs.Prelude.{◌≡◌, ◌≤◌, ℕ, List, length, map};
 ghost use Rattle.std.specs.List.{All};
 ghost use Rattle.des.specs.Blocks.{IsBlock};
 ghost use Rattle.des.specs.Cbc.{xor_blocks, Cbc, Unchains, next_vector};
@@ -50,39 +50,76 @@ pub fn decrypt<C: BlockCipherDecrypt>(cipher: &C, iv: &[u8; 8], blocks: &mut [[u
     ensures blocks { All IsBlock blocks.old }
     ensures unchained { Unchains (C.decrypted cipher.now) iv.now blocks.old blocks.new }
 {
+    decrypt_by(&ByCipher { cipher }, iv, blocks, &mut [[0; 8]; TOGETHER]);
+}
+
+/// What decrypts the blocks of a list: a cipher, or its keys in another form.
+pub trait ListDecryption {
+    // Whether each block is decrypted so.
+    ghost decrypts: { Self → (List ℕ → List ℕ) → Type 0 };
+
+    /// Decrypts each block of 8 bytes in place, in order.
+    fn decrypt_list(&self, blocks: &mut [[u8; 8]])
+        ensures { (decryption : List ℕ → List ℕ) → decrypts self.now decryption
+            → blocks.new ≡ map decryption blocks.old };
+}
+
+// The cipher as what decrypts lists.
+#[derive(Drop)]
+struct ByCipher<'a, C> {
+    cipher: &'a C,
+}
+
+impl<'a, C: BlockCipherDecrypt> ListDecryption for ByCipher<'a, C> {
+    ghost decrypts = { λ by decryption. decryption ≡ C.decrypted by.cipher.now };
+
+    fn decrypt_list(&self, blocks: &mut [[u8; 8]]) {
+        self.cipher.decrypt_blocks(blocks);
+    }
+}
+
+/// Decrypts a list as `decrypt` does, as many blocks at a time as `room` has. What it holds
+/// afterwards, which can be plaintext, is not said.
+pub fn decrypt_by<D: ListDecryption>(
+    by: &D,
+    iv: &[u8; 8],
+    blocks: &mut [[u8; 8]],
+    room: &mut [[u8; 8]],
+)
+    requires { 1 ≤ length room.old }
+    ensures blocks { All IsBlock blocks.old }
+    ensures unchained { (decryption : List ℕ → List ℕ) → D.decrypts by.now decryption
+        → Unchains decryption iv.now blocks.old blocks.new }
+{
     are_blocks(blocks);
     let mut before = *iv;
     let mut from = 0;
     'parts: while from < blocks.len() {
-        let count = TOGETHER.min(blocks.len() - from);
-        let last = blocks[from + count - 1];
-        decrypt_part(cipher, &before, &mut blocks[from..from + count]);
-        before = last;
+        let count = room.len().min(blocks.len() - from);
+        let part = &mut blocks[from..from + count];
+        let next = next_vector(&before, part);
+        decrypt_part(by, &before, part, room);
+        before = next;
         from += count;
     }
 }
 
-// Makes the first blocks of an array what decryption makes of these blocks.
-fn write_decrypted<C: BlockCipherDecrypt>(
-    cipher: &C,
-    answers: &mut [[u8; 8]; TOGETHER],
-    blocks: &[[u8; 8]],
+// Decrypts the blocks that go together, chained from the vector. They are decrypted in `room`, since
+// each is still needed for the one after it.
+fn decrypt_part<D: ListDecryption>(
+    by: &D,
+    iv: &[u8; 8],
+    blocks: &mut [[u8; 8]],
+    room: &mut [[u8; 8]],
 )
-    requires { length blocks.now ≤ 24 }
-    ensures { take (length blocks.now) answers.new ≡ map (C.decrypted cipher.now) blocks.now }
+    requires { length blocks.old ≤ length room.old }
+    ensures room { length room.new ≡ length room.old }
+    ensures unchained { (decryption : List ℕ → List ℕ) → D.decrypts by.now decryption
+        → Unchains decryption iv.now blocks.old blocks.new }
 {
-    let part = &mut answers[..blocks.len()];
-    part.copy_from_slice(blocks);
-    cipher.decrypt_blocks(part);
-}
-
-// Decrypts the blocks that go together, chained from the vector.
-fn decrypt_part<C: BlockCipherDecrypt>(cipher: &C, iv: &[u8; 8], blocks: &mut [[u8; 8]])
-    requires { length blocks.old ≤ 24 }
-    ensures { Unchains (C.decrypted cipher.now) iv.now blocks.old blocks.new }
-{
-    let mut answers = [[0; 8]; TOGETHER];
-    write_decrypted(cipher, &mut answers, blocks);
+    let answers = &mut room[..blocks.len()];
+    answers.copy_from_slice(blocks);
+    by.decrypt_list(answers);
     let mut before = *iv;
     for k in 0..blocks.len() {
         let ciphertext = blocks[k];

@@ -11,7 +11,7 @@ use Rattle.des.specs.Relations.{IsTheOne, TakesBlock}
 use Rattle.des.proofs.ChainedPieces.{Chains-append}
 use Rattle.des.proofs.Graphs.{HasOneAnswerEachWay-key, IsGraphOf-encryption, IsGraphOf-decryption}
 use Rattle.des.proofs.TripleGraphs.{AnswerBy, AnswerBy-Triple}
-use Rattle.des.proofs.UnchainedBatches.{unchained, Unchains-unchained, unchained-from}
+use Rattle.des.proofs.UnchainedLists.{unchained, Unchains-unchained, unchained-from}
 use Rattle.des.proofs.XoredBlocks.{xor_blocks-undone}
 use Rattle.des_fast.proofs.RelatedChains.{Chains-related_back}
 use Rattle.des_io.specs.PaddedBytes.{padded, taken_off}

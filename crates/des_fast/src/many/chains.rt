@@ -2,19 +2,18 @@
 //! waits for the one before it. To decipher, a batch goes at a time, or some side by side: each
 //! block is deciphered by itself, and xored with the ciphertext block before it.
 
-ghost use Rattle.std.specs.Prelude.{◌≡◌, ◌≤◌, ℕ, List, length, map, take};
+ghost use Rattle.std.specs.Prelude.{◌≡◌, ℕ, List};
 ghost use Rattle.std.specs.List.{All};
 ghost use Rattle.des.specs.Blocks.{IsBlock};
 ghost use Rattle.des.specs.Cbc.{Cbc, Unchains};
 ghost use Rattle.des_fast.specs.SpreadKeys.{AreSlicesFor};
 
 use super::batches::FEW_BY_TABLES;
-use super::lanes::write_answers;
-use super::{LARGEST_BATCH, Slice};
+use super::{LARGEST_BATCH, Slice, answer};
 use crate::lists::{self, Answers};
 use crate::slices::PassSlices;
-use crate::ways::Way;
-use des::cbc;
+use crate::ways::{Quiet, Tables, Way};
+use des::cbc::{self, ListDecryption};
 use des::cipher::are_blocks;
 
 /// Takes blocks through passes one after another, in the chain that begins with `iv`. Not inlined:
@@ -33,58 +32,47 @@ pub(super) fn chain<W: Way, P: Answers>(blocks: &mut [[u8; 8]], iv: &[u8; 8], pa
     }
 }
 
-// Takes blocks out of the chain that begins with `iv`, by what deciphering makes of each.
-fn unchain_by(blocks: &mut [[u8; 8]], iv: &[u8; 8], answers: &[[u8; 8]])
-    requires { length blocks.old ≤ length answers.now }
-    ensures { (deciphered : List ℕ → List ℕ)
-        → take (length blocks.old) answers.now ≡ map deciphered blocks.old
-        → Unchains deciphered iv.now blocks.old blocks.new }
-{
-    let mut before = *iv;
-    for k in 0..blocks.len() {
-        let ciphertext = blocks[k];
-        blocks[k] = answers[k];
-        cbc::xor(&mut blocks[k], &before);
-        before = ciphertext;
-    }
+// Passes that take a few blocks side by side, where tables may be read and where none may be.
+#[derive(Drop)]
+struct SideBySide<'a, P> {
+    quiet: bool,
+    passes: &'a P,
 }
 
-// Makes the first blocks of an array what passes make of a few blocks.
-fn write_few<W: Way, P: Answers>(
-    answers: &mut [[u8; 8]; FEW_BY_TABLES],
-    blocks: &[[u8; 8]],
-    passes: &P,
-)
-    requires { length blocks.now ≤ 31 }
-    ensures { take (length blocks.now) answers.new ≡ map (P.answered passes.now) blocks.now }
-{
-    let part = &mut answers[..blocks.len()];
-    part.copy_from_slice(blocks);
-    lists::answer::<W, P>(part, passes);
+impl<'a, P: Answers> ListDecryption for SideBySide<'a, P> {
+    ghost decrypts = { λ few answer. answer ≡ P.answered few.passes.now };
+
+    fn decrypt_list(&self, blocks: &mut [[u8; 8]]) {
+        if self.quiet {
+            lists::answer::<Quiet, P>(blocks, self.passes);
+        } else {
+            lists::answer::<Tables, P>(blocks, self.passes);
+        }
+    }
 }
 
 /// Takes a few blocks through passes, some side by side, and out of the chain that begins with
 /// `iv`.
-pub(super) fn unchain_few<W: Way, P: Answers>(blocks: &mut [[u8; 8]], iv: &[u8; 8], passes: &P)
-    requires { length blocks.old ≤ 31 }
+pub(super) fn unchain_few<P: Answers>(quiet: bool, blocks: &mut [[u8; 8]], iv: &[u8; 8], passes: &P)
     ensures blocks { All IsBlock blocks.old }
     ensures unchained { Unchains (P.answered passes.now) iv.now blocks.old blocks.new }
 {
-    are_blocks(blocks);
-    let mut answers = [[0; 8]; FEW_BY_TABLES];
-    write_few::<W, P>(&mut answers, blocks, passes);
-    unchain_by(blocks, iv, &answers);
+    let few = SideBySide { quiet, passes };
+    cbc::decrypt_by(&few, iv, blocks, &mut [[0; 8]; FEW_BY_TABLES]);
 }
 
-// Takes at most a batch of blocks through passes, and out of the chain that begins with `iv`.
-fn unchain_part<S: Slice>(blocks: &mut [[u8; 8]], iv: &[u8; 8], passes: &[PassSlices<S>])
-    requires { length blocks.old ≤ S.BATCH }
-    ensures { (answer : List ℕ → List ℕ) → AreSlicesFor S.BATCH S.bit passes.now answer
-        → Unchains answer iv.now blocks.old blocks.new }
-{
-    let mut answers = [[0; 8]; LARGEST_BATCH];
-    write_answers(&mut answers, blocks, passes);
-    unchain_by(blocks, iv, &answers);
+// Passes that take blocks in batches.
+#[derive(Drop)]
+struct InBatches<'a, S> {
+    passes: &'a [PassSlices<S>],
+}
+
+impl<'a, S: Slice> ListDecryption for InBatches<'a, S> {
+    ghost decrypts = { λ batches answer. AreSlicesFor S.BATCH S.bit batches.passes.now answer };
+
+    fn decrypt_list(&self, blocks: &mut [[u8; 8]]) {
+        answer::<S>(blocks, self.passes);
+    }
 }
 
 /// Takes blocks through passes, and out of the chain that begins with `iv`, batch after batch, and
@@ -94,14 +82,6 @@ pub(super) fn unchain<S: Slice>(blocks: &mut [[u8; 8]], iv: &[u8; 8], passes: &[
     ensures unchained { (answer : List ℕ → List ℕ) → AreSlicesFor S.BATCH S.bit passes.now answer
         → Unchains answer iv.now blocks.old blocks.new }
 {
-    are_blocks(blocks);
-    let mut before = *iv;
-    let mut from = 0;
-    'parts: while from < blocks.len() {
-        let count = S::BATCH.min(blocks.len() - from);
-        let last = blocks[from + count - 1];
-        unchain_part(&mut blocks[from..from + count], &before, passes);
-        before = last;
-        from += count;
-    }
+    let mut room = [[0; 8]; LARGEST_BATCH];
+    cbc::decrypt_by(&InBatches { passes }, iv, blocks, &mut room[..S::BATCH]);
 }

@@ -14,8 +14,8 @@ returns-clause-unchained g c =
     let whole : batches ++ few ≡ blocks =
     ap₂ ◌++◌ c.split_at_mut-batches.ensures.front c.split_at_mut-batches.ensures.back
     ∙ take-append-drop c.in_batches.result blocks in
-    let rest : Unchains D (next_vector iv batches) few c.unchain_rest.new.blocks =
-    rw (sym c.next_vector-next.ensures) c.unchain_rest.ensures in
+    let rest : Unchains D (next_vector iv batches) few c.unchain_few.new.blocks =
+    rw (sym c.next_vector-next.ensures) c.unchain_few.ensures.unchained in
     rw (sym whole)
-    (Unchains-append D iv batches c.unchain_batches.new.blocks few c.unchain_rest.new.blocks c.unchain_batches.ensures
+    (Unchains-append D iv batches c.unchain_batches.new.blocks few c.unchain_few.new.blocks c.unchain_batches.ensures
     rest)
