@@ -1,15 +1,12 @@
 -- Lists of blocks that are enciphered or deciphered piece after piece.
-use Rattle.std.proofs.Common.{◌≡◌, ℕ, suc, List, [], ◌∷◌, ◌++◌, length, map, refl, ap, ap₂, sym, ◌∙◌, arith}
+use Rattle.std.proofs.Common.{◌≡◌, ℕ, List, [], ◌∷◌, ◌++◌, length, refl, ap, ap₂, sym, ◌∙◌, arith}
+use Rattle.std.proofs.lemmas.List.{map-append, length-map}
 use Rattle.des_io.specs.CipherModes.{Enciphered, Deciphered, mode_after}
 use Rattle.des_io.specs.declared.mode.Mode.{Mode}
 use Rattle.des_io.specs.declared.mode.Mode.TheVariants.{Ecb, Cbc as InChain}
 use Rattle.des.proofs.ChainedPieces.{next_vector-append, Chains-append, Unchains-append}
 
 -- ---- modes
-
-map-append : (f : List ℕ → List ℕ) (a b : List (List ℕ)) → map f (a ++ b) ≡ map f a ++ map f b
-map-append f [] b = refl
-map-append f (block ∷ a) b = ap (λ (l : List (List ℕ)). f block ∷ l) (map-append f a b)
 
 pub mode_after-append : (mode : Mode) (blocks more : List (List ℕ)) → mode_after mode (blocks ++ more) ≡ mode_after
     (mode_after mode blocks) more
@@ -51,14 +48,10 @@ pub Deciphered-none : (decryption : List ℕ → List ℕ) (mode : Mode) → Dec
 Deciphered-none decryption Ecb = refl
 Deciphered-none decryption (InChain iv) = record { count = refl; unchained = λ n from to. absurd (omega arith) }
 
-length-map : (f : List ℕ → List ℕ) (blocks : List (List ℕ)) → length (map f blocks) ≡ length blocks
-length-map f [] = refl
-length-map f (block ∷ blocks) = ap suc (length-map f blocks)
-
 -- as many blocks are deciphered as there are
 pub Deciphered-count : (decryption : List ℕ → List ℕ) (mode : Mode) (q p : List (List ℕ))
     → Deciphered decryption mode q p → length p ≡ length q
-Deciphered-count decryption Ecb q p deciphered = ap length deciphered ∙ length-map decryption q
+Deciphered-count decryption Ecb q p deciphered = ap length deciphered ∙ length-map q decryption
 Deciphered-count decryption (InChain iv) q p deciphered = deciphered.count
 
 no_elements : (blocks : List (List ℕ)) → length blocks ≡ 0 → blocks ≡ []

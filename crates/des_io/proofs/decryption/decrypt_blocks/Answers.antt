@@ -44,45 +44,39 @@ returns-in_err-decrypt_piece-clause-prefix g c =
     (IsLeft-fits _ _ _ _ c.next_count-count.result c.loop.invariant.left c.next_count-count.ensures.left
     (omega (arith, counts, c.in_ok-n.ensures.within)))
 
-pub returns-then-n-bytes-clause-done : goal.returns-then-n-bytes-clause-done
-returns-then-n-bytes-clause-done g c =
-    let more = HoldsLast-more refl c.loop.invariant.so_far c.loop.invariant.after
-    c.in_ok-n.ensures.read
-    c.in_ok-decrypt_piece.ensures.deciphered in
+pub returns-then-n-bytes : goal.returns-then-n-bytes
+returns-then-n-bytes g c =
     let piece = c.in_ok-decrypt_piece.ensures.deciphered in
+    let more = HoldsLast-more refl c.loop.invariant.so_far c.loop.invariant.after c.in_ok-n.ensures.read piece in
     let size : length (take c.in_ok-n.n c.fill_prefix.new.buffer) ≡ c.in_ok-n.n = length-take-le _ _ (search rules) in
     let counts = length-piece c.in_ok-n.n size piece in
     record {
-      holds = more.0;
-      ends = elim (eq-or-lt_of_le c.in_ok-n.ensures.within) [
-        | inl all ↦ elim c.next_count-count.ensures.full [
-          | inl room ↦ absurd (omega (
-            arith,
-            all,
-            room,
-            c.if-n-bytes.true,
-            c.in_ok-n.ensures.room,
-            c.loop.invariant.count,
-            c.as_flattened_mut-bytes.ensures.len,
-          ))
-          | inr is ↦ inr (IsLeft-none _ _ _ _ _ c.next_count-count.result c.loop.invariant.left is
-              (omega (arith, all, counts)) more.2)
-        ]
-        | inr less ↦ inl (c.in_ok-n.ensures.end less)
-      ];
-      within = IsLeft-within _ _ _
-          (IsLeft-more _ _ _ _ _ _ _ c.loop.invariant.left c.left_after-left.ensures (omega (arith, counts)) more.2);
+      done = record {
+        holds = more.0;
+        ends = elim (eq-or-lt_of_le c.in_ok-n.ensures.within) [
+          | inl all ↦ elim c.next_count-count.ensures.full [
+            | inl room ↦ absurd (omega (
+              arith,
+              all,
+              room,
+              c.if-n-bytes.true,
+              c.in_ok-n.ensures.room,
+              c.loop.invariant.count,
+              c.as_flattened_mut-bytes.ensures.len,
+            ))
+            | inr is ↦ inr (IsLeft-none _ _ _ _ _ c.next_count-count.result c.loop.invariant.left is
+                (omega (arith, all, counts)) more.2)
+          ]
+          | inr less ↦ inl (c.in_ok-n.ensures.end less)
+        ];
+        within = IsLeft-within _ _ _
+            (IsLeft-more _ _ _ _ _ _ _ c.loop.invariant.left c.left_after-left.ensures (omega (arith, counts)) more.2);
+      };
+      prefix = HoldsPrefix-written c.loop.invariant.so_far c.loop.invariant.after c.in_ok-n.ensures.read piece
+          (IsLeft-fits _ _ _ _ c.next_count-count.result c.loop.invariant.left c.next_count-count.ensures.left
+          (omega (arith, counts, c.in_ok-n.ensures.within)));
+      fault = tt;
     }
-
-pub returns-then-n-bytes-clause-prefix : goal.returns-then-n-bytes-clause-prefix
-returns-then-n-bytes-clause-prefix g c =
-    let size : length (take c.in_ok-n.n c.fill_prefix.new.buffer) ≡ c.in_ok-n.n = length-take-le _ _ (search rules) in
-    let counts = length-piece c.in_ok-n.n size c.in_ok-decrypt_piece.ensures.deciphered in
-    HoldsPrefix-written c.loop.invariant.so_far c.loop.invariant.after
-    c.in_ok-n.ensures.read
-    c.in_ok-decrypt_piece.ensures.deciphered
-    (IsLeft-fits _ _ _ _ c.next_count-count.result c.loop.invariant.left c.next_count-count.ensures.left
-    (omega (arith, counts, c.in_ok-n.ensures.within)))
 
 pub loop-preserved : goal.loop-preserved
 loop-preserved g c =

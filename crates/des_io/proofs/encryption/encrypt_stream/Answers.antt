@@ -31,16 +31,16 @@ returns-in_err-encrypt_piece-clause-prefix g c =
     EncryptsPrefix-written _ [] c.loop.invariant.so_far c.in_ok-n.ensures.read piece
     (inr (c.in_ok-n.ensures.end c.if-n-bytes.true, append-nil _))
 
-pub returns-then-n-bytes-clause-done : goal.returns-then-n-bytes-clause-done
-returns-then-n-bytes-clause-done g c =
+pub returns-then-n-bytes : goal.returns-then-n-bytes
+returns-then-n-bytes g c =
     let piece = rw c.pad-n.ensures.padded at c.in_ok-encrypt_piece.ensures.enciphered in
-    Encrypts-last _ refl c.loop.invariant.so_far c.in_ok-n.ensures.read piece
-
-pub returns-then-n-bytes-clause-prefix : goal.returns-then-n-bytes-clause-prefix
-returns-then-n-bytes-clause-prefix g c =
-    let piece = rw c.pad-n.ensures.padded at c.in_ok-encrypt_piece.ensures.enciphered in
-    EncryptsPrefix-written _ [] c.loop.invariant.so_far c.in_ok-n.ensures.read piece
-    (inr (c.in_ok-n.ensures.end c.if-n-bytes.true, append-nil _))
+    record {
+      done = Encrypts-last _ refl c.loop.invariant.so_far c.in_ok-n.ensures.read piece;
+      end = c.in_ok-n.ensures.end c.if-n-bytes.true;
+      prefix = EncryptsPrefix-written _ [] c.loop.invariant.so_far c.in_ok-n.ensures.read piece
+          (inr (c.in_ok-n.ensures.end c.if-n-bytes.true, append-nil _));
+      fault = tt;
+    }
 
 pub returns-in_err-encrypt_piece-2-clause-prefix : goal.returns-in_err-encrypt_piece-2-clause-prefix
 returns-in_err-encrypt_piece-2-clause-prefix g c =

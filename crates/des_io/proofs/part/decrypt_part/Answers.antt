@@ -2,29 +2,14 @@ use Rattle.std.proofs.Common.{◌≡◌, true, false, rules}
 use Rattle.des_io.proofs.DecryptedParts.{EndsPart-more, EndsPart-last, DecryptsPartPrefix-held, DecryptsPartPrefix-read, no_blocks}
 use Rattle.des_io.proofs.part.decrypt_part.Goals as goal
 
-pub returns-then-not-branch-clause-done : goal.returns-then-not-branch-clause-done
-returns-then-not-branch-clause-done g c =
+pub returns-then-not-branch : goal.returns-then-not-branch
+returns-then-not-branch g c =
     let (bytes, read, after) = c.in_ok-is_at_end.ensures.read in
     let off : c.in_ok-is_at_end.field-0 ≡ false = search rules in
     let more = rw off at after in
-    (EndsPart-more _ c.args.transformation.now.padding bytes c.in_ok-last.ensures.done read more
-    c.finish.ensures.ended).done
-
-pub returns-then-not-branch-clause-prefix : goal.returns-then-not-branch-clause-prefix
-returns-then-not-branch-clause-prefix g c =
-    let (bytes, read, after) = c.in_ok-is_at_end.ensures.read in
-    let off : c.in_ok-is_at_end.field-0 ≡ false = search rules in
-    let more = rw off at after in
-    (EndsPart-more _ c.args.transformation.now.padding bytes c.in_ok-last.ensures.done read more
-    c.finish.ensures.ended).prefix
-
-pub returns-then-not-branch-clause-fault : goal.returns-then-not-branch-clause-fault
-returns-then-not-branch-clause-fault g c =
-    let (bytes, read, after) = c.in_ok-is_at_end.ensures.read in
-    let off : c.in_ok-is_at_end.field-0 ≡ false = search rules in
-    let more = rw off at after in
-    (EndsPart-more _ c.args.transformation.now.padding bytes c.in_ok-last.ensures.done read more
-    c.finish.ensures.ended).fault
+    let all = EndsPart-more _ c.args.transformation.now.padding bytes c.in_ok-last.ensures.done read more
+    c.finish.ensures.ended in
+    record { done = all.done; prefix = all.prefix; fault = all.fault }
 
 pub returns-in-None-clause-fault : goal.returns-in-None-clause-fault
 returns-in-None-clause-fault g c =
@@ -33,29 +18,19 @@ returns-in-None-clause-fault g c =
     let end = rw on at after in
     no_blocks _ bytes c.in-None.is c.in_ok-last.ensures.done.holds read end
 
-pub returns-in-Some-clause-done : goal.returns-in-Some-clause-done
-returns-in-Some-clause-done g c =
+pub returns-in-None-clause-prefix : goal.returns-in-None-clause-prefix
+returns-in-None-clause-prefix g c =
     let (bytes, read, after) = c.in_ok-is_at_end.ensures.read in
-    let on : c.in_ok-is_at_end.field-0 ≡ true = search rules in
-    let end = rw on at after in
-    (EndsPart-last _ _ _ bytes c.in-Some.is c.in_ok-last.ensures.done read end.0 end.1
-    c.finish-in-Some.ensures.ended).done
+    DecryptsPartPrefix-read bytes c.in_ok-last.ensures.done read
 
-pub returns-in-Some-clause-prefix : goal.returns-in-Some-clause-prefix
-returns-in-Some-clause-prefix g c =
+pub returns-in-Some : goal.returns-in-Some
+returns-in-Some g c =
     let (bytes, read, after) = c.in_ok-is_at_end.ensures.read in
     let on : c.in_ok-is_at_end.field-0 ≡ true = search rules in
     let end = rw on at after in
-    (EndsPart-last _ _ _ bytes c.in-Some.is c.in_ok-last.ensures.done read end.0 end.1
-    c.finish-in-Some.ensures.ended).prefix
-
-pub returns-in-Some-clause-fault : goal.returns-in-Some-clause-fault
-returns-in-Some-clause-fault g c =
-    let (bytes, read, after) = c.in_ok-is_at_end.ensures.read in
-    let on : c.in_ok-is_at_end.field-0 ≡ true = search rules in
-    let end = rw on at after in
-    (EndsPart-last _ _ _ bytes c.in-Some.is c.in_ok-last.ensures.done read end.0 end.1
-    c.finish-in-Some.ensures.ended).fault
+    let all = EndsPart-last _ _ _ bytes c.in-Some.is c.in_ok-last.ensures.done read end.0 end.1
+    c.finish-in-Some.ensures.ended in
+    record { done = all.done; prefix = all.prefix; fault = all.fault }
 
 pub returns-in_err-last-clause-prefix : goal.returns-in_err-last-clause-prefix
 returns-in_err-last-clause-prefix g c = DecryptsPartPrefix-held c.in_err-last.ensures.prefix
@@ -63,9 +38,4 @@ returns-in_err-last-clause-prefix g c = DecryptsPartPrefix-held c.in_err-last.en
 pub returns-in_err-is_at_end-clause-prefix : goal.returns-in_err-is_at_end-clause-prefix
 returns-in_err-is_at_end-clause-prefix g c =
     let (bytes, read) = c.in_err-is_at_end.ensures.consumed in
-    DecryptsPartPrefix-read bytes c.in_ok-last.ensures.done read
-
-pub returns-in-None-clause-prefix : goal.returns-in-None-clause-prefix
-returns-in-None-clause-prefix g c =
-    let (bytes, read, after) = c.in_ok-is_at_end.ensures.read in
     DecryptsPartPrefix-read bytes c.in_ok-last.ensures.done read
