@@ -1,6 +1,7 @@
 -- Blocks answered in place, batch after batch.
-use Rattle.std.proofs.Common.{◌≡◌, ℕ, ◌+◌, ◌<◌, ◌≤◌, List, [], ◌∷◌, ◌++◌, length, take, drop, map, get_or, set, ap, ap₂, sym, ◌∙◌, arith, append_assoc, length-take-le, take-add, take_at, drop_at}
-use Rattle.std.proofs.lemmas.List.{length-map, get_or-map, ext_get_or, map-append, drop-drop, take_all, drop_all, append-nil}
+use Rattle.std.proofs.Common.{◌≡◌, ℕ, ◌+◌, ◌<◌, ◌≤◌, List, [], ◌∷◌, ◌++◌, length, take, drop, map, get_or, set, ap, ap₂, sym, ◌∙◌, arith, length-take-le, take-add}
+use Rattle.std.proofs.lemmas.List.{length-map, get_or-map, ext_get_or, map-append, take_all, drop_all, append-nil}
+use Rattle.des_fast.proofs.WrittenParts.{behind, written-more}
 
 -- answers, one by one
 pub answered-at : (f : List ℕ → List ℕ) (old new : List (List ℕ)) → length new ≡ length old
@@ -25,14 +26,10 @@ pub answered-more : (f : List ℕ → List ℕ) (m n : ℕ) (old now part : List
 answered-more f m n old now part within so_far made =
     let front : List (List ℕ) = map f (take m old) in
     let size : length front ≡ m = length-map (take m old) f ∙ length-take-le m old within in
-    let first : take m now ≡ front = ap (take m) so_far ∙ take_at front (drop m old) m size in
-    let rest : drop m now ≡ drop m old = ap (drop m) so_far ∙ drop_at front (drop m old) m size in
-    let answered : part ≡ map f (take n (drop m old)) = made ∙ ap (λ (xs : List (List ℕ)). map f (take n xs)) rest in
-    let last : drop n (drop m now) ≡ drop (m + n) old = ap (drop n) rest ∙ drop-drop n m old in
-    ap₂ ◌++◌ first (ap₂ ◌++◌ answered last)
-    ∙ sym (append_assoc front (map f (take n (drop m old))) (drop (m + n) old))
-    ∙ ap (λ (xs : List (List ℕ)). xs ++ drop (m + n) old)
-    (sym (ap (map f) (take-add m n old) ∙ map-append f (take m old) (take n (drop m old))))
+    let rest : take n (drop m now) ≡ take n (drop m old) = ap (take n) (behind m front old now size so_far) in
+    written-more m front old now size so_far n part (map f (take (m + n) old))
+    (ap (λ (xs : List (List ℕ)). front ++ xs) (made ∙ ap (map f) rest)
+    ∙ sym (ap (map f) (take-add m n old) ∙ map-append f (take m old) (take n (drop m old))))
 
 -- a list of which all are answered
 pub answered-all : (f : List ℕ → List ℕ) (m : ℕ) (old : List (List ℕ)) → length old ≤ m

@@ -16,6 +16,7 @@ pub mod PassesOnSlices
 pub mod SliceSizes
 pub mod KeySlices
 pub mod RotatedHalves
+pub mod WrittenParts
 pub mod AnsweredBatches
 pub mod ThreePasses
 pub mod CipherFunctionByGroups

@@ -1,10 +1,28 @@
 -- Two lists answered together, part after part.
-use Rattle.std.proofs.Common.{◌≡◌, ℕ, ◌+◌, ◌<◌, ◌≤◌, List, [], ◌++◌, length, take, drop, get_or, ap, ap₂, sym, ◌∙◌, arith, append_assoc, length-take-le, take-add, take_at, drop_at}
+use Rattle.std.proofs.Common.{◌≡◌, ℕ, ◌+◌, ◌<◌, ◌≤◌, List, [], ◌++◌, length, take, drop, get_or, refl, ap, ap₂, sym, ◌∙◌, arith, length-take-le, take-add}
 use Rattle.std.specs.Simd.Lanes.{zip2}
 use Rattle.std.proofs.lemmas.Simd.{length-zip2, get_or-zip2}
-use Rattle.std.proofs.lemmas.List.{drop-drop, take_all, drop_all, append-nil, ext_get_or}
+use Rattle.std.proofs.lemmas.List.{take_all, drop_all, append-nil, ext_get_or}
 use Rattle.des.specs.Blocks.{part}
 use Rattle.des_fast.proofs.SliceBits.{zip2-append}
+use Rattle.des_fast.proofs.WrittenParts.{behind, written-more}
+
+-- a list of which the first m are answers to two others, and then the next n
+pub answers-more : (f : List ℕ → List ℕ → List ℕ) (m n : ℕ) (keys texts old now part : List (List ℕ))
+    → length keys ≡ length old → length texts ≡ length old → m ≤ length old
+    → now ≡ zip2 f (take m keys) (take m texts) ++ drop m old
+    → (drop m now ≡ drop m old → part ≡ zip2 f (take n (drop m keys)) (take n (drop m texts)))
+    → take m now ++ (part ++ drop n (drop m now)) ≡ zip2 f (take (m + n) keys) (take (m + n) texts) ++ drop (m + n) old
+answers-more f m n keys texts old now part as_keys as_texts within so_far made =
+    let front : List (List ℕ) = zip2 f (take m keys) (take m texts) in
+    let in_keys : length (take m keys) ≡ m = length-take-le m keys (omega arith) in
+    let in_texts : length (take m texts) ≡ m = length-take-le m texts (omega arith) in
+    let size : length front ≡ m = length-zip2 f (take m keys) (take m texts) (in_keys ∙ sym in_texts) ∙ in_keys in
+    written-more m front old now size so_far n part (zip2 f (take (m + n) keys) (take (m + n) texts))
+    (ap (λ (xs : List (List ℕ)). front ++ xs) (made (behind m front old now size so_far))
+    ∙ sym (ap₂ (zip2 f) (take-add m n keys) (take-add m n texts)
+    ∙ zip2-append f (take m keys) (take n (drop m keys)) (take m texts) (take n (drop m texts))
+    (in_keys ∙ sym in_texts)))
 
 -- a list of which the first m are answered under keys, and then the next n
 pub zipped-more : (f : List ℕ → List ℕ → List ℕ) (m n : ℕ) (keys old now part : List (List ℕ))
@@ -13,20 +31,8 @@ pub zipped-more : (f : List ℕ → List ℕ → List ℕ) (m n : ℕ) (keys old
     → part ≡ zip2 f (take n (drop m keys)) (take n (drop m now))
     → take m now ++ (part ++ drop n (drop m now)) ≡ zip2 f (take (m + n) keys) (take (m + n) old) ++ drop (m + n) old
 zipped-more f m n keys old now part same within so_far made =
-    let front : List (List ℕ) = zip2 f (take m keys) (take m old) in
-    let in_keys : length (take m keys) ≡ m = length-take-le m keys (omega arith) in
-    let in_old : length (take m old) ≡ m = length-take-le m old within in
-    let size : length front ≡ m = length-zip2 f (take m keys) (take m old) (omega arith) ∙ in_keys in
-    let first : take m now ≡ front = ap (take m) so_far ∙ take_at front (drop m old) m size in
-    let rest : drop m now ≡ drop m old = ap (drop m) so_far ∙ drop_at front (drop m old) m size in
-    let answered : part ≡ zip2 f (take n (drop m keys)) (take n (drop m old)) =
-    made ∙ ap (λ (xs : List (List ℕ)). zip2 f (take n (drop m keys)) (take n xs)) rest in
-    let last : drop n (drop m now) ≡ drop (m + n) old = ap (drop n) rest ∙ drop-drop n m old in
-    ap₂ ◌++◌ first (ap₂ ◌++◌ answered last)
-    ∙ sym (append_assoc front (zip2 f (take n (drop m keys)) (take n (drop m old))) (drop (m + n) old))
-    ∙ ap (λ (xs : List (List ℕ)). xs ++ drop (m + n) old)
-    (sym (ap₂ (zip2 f) (take-add m n keys) (take-add m n old)
-    ∙ zip2-append f (take m keys) (take n (drop m keys)) (take m old) (take n (drop m old)) (in_keys ∙ sym in_old)))
+    answers-more f m n keys old old now part same refl within so_far
+    (λ rest. made ∙ ap (λ (xs : List (List ℕ)). zip2 f (take n (drop m keys)) (take n xs)) rest)
 
 -- a list of which all are answered under keys
 pub zipped-all : (f : List ℕ → List ℕ → List ℕ) (m : ℕ) (keys old : List (List ℕ)) → length keys ≡ length old

@@ -4,7 +4,7 @@ use Rattle.std.specs.Simd.Lanes.{zip2}
 use Rattle.std.proofs.lemmas.List.{length-map, take-map, drop-map}
 use Rattle.des_mac.specs.Cmac.{cmac}
 use Rattle.des_mac.specs.ManyMessages.{texts}
-use Rattle.des_mac.proofs.ManyCmacs.{answers-more}
+use Rattle.des_fast.proofs.ZippedParts.{answers-more}
 use Rattle.des_mac.proofs.many.masked.cmacs_each_by.Goals as goal
 
 -- what a part of a list is mapped to
@@ -30,7 +30,7 @@ groups-preserved g c =
       made =
           answers-more f m n keys messages old c.groups.tags c.write_group.new.tags as_keys as_messages
           (omega (arith, c.groups.invariant.within)) c.groups.invariant.made
-          (c.write_group.ensures
+          (λ _. c.write_group.ensures
           ∙ ap₂ (zip2 f) (mapped-part bytes m n c.args.keys.now)
           (mapped-part (λ message. message.now) m n c.args.messages.now))
           ∙ ap (λ (k : ℕ). zip2 f (take k keys) (take k messages) ++ drop k old) next;
