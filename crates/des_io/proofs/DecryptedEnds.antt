@@ -1,8 +1,9 @@
 -- The end of a stream that is decrypted: its last block without the padding, or wrong padding.
-use Rattle.std.proofs.Common.{◌≡◌, ◌≢◌, inr, ℕ, ◌-◌, ◌%◌, List, [], ◌++◌, Option, None, Some, length, take, drop, refl, ap, sym, subst, ◌∙◌, arith, append_assoc, append-nil, take-append-drop, length-append, take_at, drop_at}
+use Rattle.std.proofs.Common.{◌≡◌, ◌≢◌, inr, ℕ, ◌-◌, ◌%◌, List, [], ◌++◌, Option, None, Some, length, take, drop, refl, ap, sym, subst, ◌∙◌, arith, append_assoc, append-nil, take-append-drop, length-append, take_at}
 use Rattle.std.specs.Prelude.{Err}
 use Rattle.std.specs.Io.KnownBytes.{Appends, IsAtEnd}
 use Rattle.std.proofs.KnownBytes.{Appends-trans, Consumes-nil}
+use Rattle.std.proofs.lemmas.List.{append_cancel_left}
 use Rattle.des_io.specs.PaddedBytes.{padded, padding_after, taken_off}
 use Rattle.des_io.specs.Streams.{passage_of, joined, bytes_of, IsBlockIfThere, IsWithin, HoldsLast, Decrypts}
 use Rattle.des_io.specs.StreamFaults.{EndsStream, IsWronglyPadded, FailsToDecrypt}
@@ -75,10 +76,6 @@ WithinPrefix-ended {padding} {held} plain put missing so_far within end is begin
 
 -- ---- wrong padding
 
-same_after : (prefix a b : List ℕ) → prefix ++ a ≡ prefix ++ b → a ≡ b
-same_after prefix a b same =
-    sym (drop_at prefix a (length prefix) refl) ∙ ap (drop (length prefix)) same ∙ drop_at prefix b (length prefix) refl
-
 -- what is not the last bytes with their padding is not the whole with its padding
 wrong_whole : (padding : Padding) (held : Option (List ℕ)) (prefix all : List ℕ) → IsBlockIfThere held
     → length prefix % 8 ≡ 0 → prefix ++ bytes_of held ≡ all
@@ -93,11 +90,11 @@ wrong_whole Pkcs7 None prefix all size even is none wrong plain same = absurd (w
 wrong_whole Iso7816 None prefix all size even is none wrong plain same = absurd (wrong plain (same ∙ none refl))
 wrong_whole Pkcs7 (Some block) prefix all size even is none wrong plain same =
     let (rest, split) = last_block Pkcs7 plain prefix block (λ e. cc) size (same ∙ sym is) in
-    wrong rest (same_after prefix _ _ (sym (padded-append Pkcs7 prefix rest even) ∙ ap (padded Pkcs7) (sym split) ∙ same
+    wrong rest (append_cancel_left prefix _ _ (sym (padded-append Pkcs7 prefix rest even) ∙ ap (padded Pkcs7) (sym split) ∙ same
     ∙ sym is))
 wrong_whole Iso7816 (Some block) prefix all size even is none wrong plain same =
     let (rest, split) = last_block Iso7816 plain prefix block (λ e. cc) size (same ∙ sym is) in
-    wrong rest (same_after prefix _ _ (sym (padded-append Iso7816 prefix rest even) ∙ ap (padded Iso7816) (sym split)
+    wrong rest (append_cancel_left prefix _ _ (sym (padded-append Iso7816 prefix rest even) ∙ ap (padded Iso7816) (sym split)
     ∙ same ∙ sym is))
 
 -- all but a block that may be there

@@ -2,6 +2,7 @@
 use Rattle.std.proofs.Common.{◌≡◌, ◌≢◌, ◌⊎◌, inl, inr, ap₂, refl, None, Some, ℕ, List, [], ◌++◌, Option, length, take, drop, ap, sym, subst, ◌∙◌, arith, length-append, append-nil, take-append-drop}
 use Rattle.std.specs.Io.KnownBytes.{Consumes, Appends, IsAtEnd}
 use Rattle.std.proofs.KnownBytes.{Consumes-trans, Consumes-nil}
+use Rattle.std.proofs.lemmas.Option.{none-some}
 use Rattle.std.specs.Prelude.{Result, Ok, Err, IfOk, IfErr}
 use Rattle.des_io.specs.PaddedBytes.{padded, taken_off}
 use Rattle.des_io.specs.Streams.{Passage, passage_of, joined, bytes_of, IsWithin, HoldsLast, HoldsPart, HoldsPrefix, DecryptsPart, DecryptsPartPrefix}
@@ -16,9 +17,6 @@ use Rattle.des_io.proofs.DecryptedPrefixes.{DeciphersPrefix-ended, DeciphersPref
 use Rattle.des_io.proofs.ModesInPieces.{Deciphered-nil, Deciphered-only_nil}
 
 -- ---- what was written
-
-none_some : (block : List ℕ) → None ≡ Some block → ⊥
-none_some block is = cc
 
 -- with the last block held back
 pub DecryptsPartPrefix-held : {decryption : List ℕ → List ℕ} {mode : Mode} {padding : Padding} {limit : Option ℕ}
@@ -38,7 +36,7 @@ DecryptsPartPrefix-read bytes part read =
 -- a reader that gave another byte was not at its end
 not_at_end : (r s t : Option (List ℕ)) (a b all : List ℕ) → Consumes r s a → Consumes s t b → length b ≡ 1
     → r ≡ Some all → IsAtEnd s → ⊥
-not_at_end None s t a b all first second one is end = none_some all is
+not_at_end None s t a b all first second one is end = none-some all is
 not_at_end (Some x) None t a b all first second one is end = first
 not_at_end (Some x) (Some y) None a b all first second one is end = second
 not_at_end (Some x) (Some y) (Some z) a b all first second one is end =
@@ -239,6 +237,6 @@ pub EndsPart-last : (result : Result (Unit {0}) StreamError) {decryption : List 
     → EndsStream padding (bytes_of held) v w result
     → EndsPart result decryption mode padding limit (passage_of r t u w)
 EndsPart-last result None block bytes is part read none end ended = absurd
-    (none_some block is)
+    (none-some block is)
 EndsPart-last result (Some held) block bytes is part read none end ended =
     ends_some result (HoldsPart-same bytes part read none end) end ended

@@ -157,16 +157,7 @@ EncryptsPrefix-written {encryption} {mode} {padding} {r} {s} {t} {u} {v} {w} byt
 
 -- ---- the end within a block
 
--- where bytes with their padding are not whole blocks, as many of the bytes are past the last whole one
-past-padded : (padding : Padding) (bytes : List ℕ) (n : ℕ) → length (padded padding bytes) ≡ n → n % 8 ≢ 0
-    → length bytes % 8 ≡ n % 8
-past-padded Unpadded bytes n count past = ap (λ m. m % 8) (ap length (sym (append-nil bytes)) ∙ count)
-past-padded Pkcs7 bytes n count past = absurd (past (omega (arith, sym (length-padded Pkcs7 bytes (λ e. cc)) ∙ count)))
-past-padded Iso7816 bytes n count past = absurd (past (omega
-    (arith, sym (length-padded Iso7816 bytes (λ e. cc)) ∙ count)))
-past-padded Zeros bytes n count past = absurd (past (omega (arith, sym (length-zeros bytes) ∙ count)))
-
--- only where there is no padding
+-- bytes with their padding are not whole blocks only where there is no padding
 pub unpadded-past : (padding : Padding) (bytes : List ℕ) (n : ℕ) → length (padded padding bytes) ≡ n → n % 8 ≢ 0
     → padding ≡ Unpadded
 unpadded-past Unpadded bytes n count past = refl
@@ -175,6 +166,13 @@ unpadded-past Pkcs7 bytes n count past = absurd (past (omega
 unpadded-past Iso7816 bytes n count past = absurd (past
     (omega (arith, sym (length-padded Iso7816 bytes (λ e. cc)) ∙ count)))
 unpadded-past Zeros bytes n count past = absurd (past (omega (arith, sym (length-zeros bytes) ∙ count)))
+
+-- as many of the bytes are then past the last whole one
+past-padded : (padding : Padding) (bytes : List ℕ) (n : ℕ) → length (padded padding bytes) ≡ n → n % 8 ≢ 0
+    → length bytes % 8 ≡ n % 8
+past-padded padding bytes n count past =
+    let bare : length (padded Unpadded bytes) ≡ n = rw (unpadded-past padding bytes n count past) at count in
+    ap (λ m. m % 8) (ap length (sym (append-nil bytes)) ∙ bare)
 
 pub EndsInBlock-padded : {encryption : List ℕ → List ℕ} {mode next : Mode} (padding : Padding)
     {r s t u v : Option (List ℕ)} (bytes : List ℕ) (n : ℕ)

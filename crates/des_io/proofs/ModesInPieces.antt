@@ -1,6 +1,6 @@
 -- Lists of blocks that are enciphered or deciphered piece after piece.
-use Rattle.std.proofs.Common.{◌≡◌, ℕ, List, [], ◌∷◌, ◌++◌, length, refl, ap, ap₂, sym, ◌∙◌, arith}
-use Rattle.std.proofs.lemmas.List.{map-append, length-map}
+use Rattle.std.proofs.Common.{◌≡◌, ℕ, List, [], ◌++◌, length, refl, ap, ap₂, sym, ◌∙◌, arith}
+use Rattle.std.proofs.lemmas.List.{map-append, length-map, nil_from_length}
 use Rattle.des_io.specs.CipherModes.{Enciphered, Deciphered, mode_after}
 use Rattle.des_io.specs.declared.mode.Mode.{Mode}
 use Rattle.des_io.specs.declared.mode.Mode.TheVariants.{Ecb, Cbc as InChain}
@@ -54,18 +54,14 @@ pub Deciphered-count : (decryption : List ℕ → List ℕ) (mode : Mode) (q p :
 Deciphered-count decryption Ecb q p deciphered = ap length deciphered ∙ length-map q decryption
 Deciphered-count decryption (InChain iv) q p deciphered = deciphered.count
 
-no_elements : (blocks : List (List ℕ)) → length blocks ≡ 0 → blocks ≡ []
-no_elements [] none = refl
-no_elements (block ∷ blocks) none = absurd (omega arith)
-
 -- of no blocks no blocks are deciphered, and the other way round
 pub Deciphered-nil : (decryption : List ℕ → List ℕ) (mode : Mode) (q p : List (List ℕ)) → Deciphered decryption mode q p
     → q ≡ [] → p ≡ []
 Deciphered-nil decryption mode q p deciphered none =
-    no_elements p (Deciphered-count decryption mode q p deciphered ∙ ap length none)
+    nil_from_length p (Deciphered-count decryption mode q p deciphered ∙ ap length none)
 
 pub Deciphered-only_nil : (decryption : List ℕ → List ℕ) (mode : Mode) (q p : List (List ℕ))
     → Deciphered decryption mode q p
     → p ≡ [] → q ≡ []
 Deciphered-only_nil decryption mode q p deciphered none =
-    no_elements q (sym (Deciphered-count decryption mode q p deciphered) ∙ ap length none)
+    nil_from_length q (sym (Deciphered-count decryption mode q p deciphered) ∙ ap length none)
