@@ -70,66 +70,26 @@ ArePairwise-pairs batch bit step rows p q r s a0 a1 a2 a3 a4 a5 a6 a7 e0 e1 e2 e
       | suc (suc (suc (suc (suc (suc (suc (suc n))))))) ↦ λ under. absurd (omega arith)
     ] below
 
--- every eighth row, from row i on
-pub bits-every_eighth : {A : Type 0} (read : A → Bool) (rows : List A) (i : ℕ) (d0 d1 d2 d3 d4 d5 d6 d7 : A)
-    → length rows ≡ 64 → i < 8 → (j : ℕ) → j < 8
-    → get_or (map read (get_or rows i d0 ∷ get_or rows (8 + i) d1 ∷ get_or rows (16 + i) d2 ∷ get_or rows (24 + i) d3
-    ∷ get_or rows (32 + i) d4 ∷ get_or rows (40 + i) d5 ∷ get_or rows (48 + i) d6 ∷ get_or rows (56 + i) d7
-    ∷ [])) j false
-    ≡ get_or (map read rows) (8 * j + i) false
-bits-every_eighth read rows i d0 d1 d2 d3 d4 d5 d6 d7 size within zero below =
-    sym (get_or-map read rows i d0 false (omega arith)) ∙ ap (λ (k : ℕ). get_or (map read rows) k false) (omega arith)
-bits-every_eighth read rows i d0 d1 d2 d3 d4 d5 d6 d7 size within (suc zero) below =
-    sym (get_or-map read rows (8 + i) d1 false (omega arith))
-    ∙ ap (λ (k : ℕ). get_or (map read rows) k false) (omega arith)
-bits-every_eighth read rows i d0 d1 d2 d3 d4 d5 d6 d7 size within (suc (suc zero)) below =
-    sym (get_or-map read rows (16 + i) d2 false (omega arith))
-    ∙ ap (λ (k : ℕ). get_or (map read rows) k false) (omega arith)
-bits-every_eighth read rows i d0 d1 d2 d3 d4 d5 d6 d7 size within (suc (suc (suc zero))) below =
-    sym (get_or-map read rows (24 + i) d3 false (omega arith))
-    ∙ ap (λ (k : ℕ). get_or (map read rows) k false) (omega arith)
-bits-every_eighth read rows i d0 d1 d2 d3 d4 d5 d6 d7 size within (suc (suc (suc (suc zero)))) below =
-    sym (get_or-map read rows (32 + i) d4 false (omega arith))
-    ∙ ap (λ (k : ℕ). get_or (map read rows) k false) (omega arith)
-bits-every_eighth read rows i d0 d1 d2 d3 d4 d5 d6 d7 size within (suc (suc (suc (suc (suc zero))))) below =
-    sym (get_or-map read rows (40 + i) d5 false (omega arith))
-    ∙ ap (λ (k : ℕ). get_or (map read rows) k false) (omega arith)
-bits-every_eighth read rows i d0 d1 d2 d3 d4 d5 d6 d7 size within (suc (suc (suc (suc (suc (suc zero)))))) below =
-    sym (get_or-map read rows (48 + i) d6 false (omega arith))
-    ∙ ap (λ (k : ℕ). get_or (map read rows) k false) (omega arith)
-bits-every_eighth read rows i d0 d1 d2 d3 d4 d5 d6 d7 size within (suc (suc (suc (suc (suc (suc (suc zero))))))) below =
-    sym (get_or-map read rows (56 + i) d7 false (omega arith))
-    ∙ ap (λ (k : ℕ). get_or (map read rows) k false) (omega arith)
-bits-every_eighth read rows i d0 d1 d2 d3 d4 d5 d6 d7 size within (suc (suc (suc (suc (suc (suc (suc (suc j))))))))
-    below = absurd (omega arith)
+module _ {A : Type 0} (read : A → Bool) (rows : List A) (place : ℕ → ℕ) (first : ℕ) (d0 d1 d2 d3 d4 d5 d6 d7 : A)
+    (same : first ≡ place 0) (inside : (j : ℕ) → j < 8 → place j < length rows) where
+  picked : (n : ℕ) (d : A) → n < 8 → read (get_or rows (place n) d) ≡ get_or (map read rows) (place n) false
+  picked n d below = sym (get_or-map read rows (place n) d false (inside n below))
 
--- eight rows side by side, from row 8 * i on
-pub bits-eight_rows : {A : Type 0} (read : A → Bool) (rows : List A) (i : ℕ) (d0 d1 d2 d3 d4 d5 d6 d7 : A)
-    → length rows ≡ 64 → i < 8 → (j : ℕ) → j < 8
-    → get_or (map read (get_or rows (8 * i) d0 ∷ get_or rows (8 * i + 1) d1 ∷ get_or rows (8 * i + 2) d2
-    ∷ get_or rows (8 * i + 3) d3
-    ∷ get_or rows (8 * i + 4) d4 ∷ get_or rows (8 * i + 5) d5 ∷ get_or rows (8 * i + 6) d6 ∷ get_or rows (8 * i + 7) d7
-    ∷ [])) j false
-    ≡ get_or (map read rows) (8 * i + j) false
-bits-eight_rows read rows i d0 d1 d2 d3 d4 d5 d6 d7 size within zero below =
-    sym (get_or-map read rows (8 * i) d0 false (omega arith))
-    ∙ ap (λ (k : ℕ). get_or (map read rows) k false) (omega arith)
-bits-eight_rows read rows i d0 d1 d2 d3 d4 d5 d6 d7 size within (suc zero) below =
-    sym (get_or-map read rows (8 * i + 1) d1 false (omega arith))
-bits-eight_rows read rows i d0 d1 d2 d3 d4 d5 d6 d7 size within (suc (suc zero)) below =
-    sym (get_or-map read rows (8 * i + 2) d2 false (omega arith))
-bits-eight_rows read rows i d0 d1 d2 d3 d4 d5 d6 d7 size within (suc (suc (suc zero))) below =
-    sym (get_or-map read rows (8 * i + 3) d3 false (omega arith))
-bits-eight_rows read rows i d0 d1 d2 d3 d4 d5 d6 d7 size within (suc (suc (suc (suc zero)))) below =
-    sym (get_or-map read rows (8 * i + 4) d4 false (omega arith))
-bits-eight_rows read rows i d0 d1 d2 d3 d4 d5 d6 d7 size within (suc (suc (suc (suc (suc zero))))) below =
-    sym (get_or-map read rows (8 * i + 5) d5 false (omega arith))
-bits-eight_rows read rows i d0 d1 d2 d3 d4 d5 d6 d7 size within (suc (suc (suc (suc (suc (suc zero)))))) below =
-    sym (get_or-map read rows (8 * i + 6) d6 false (omega arith))
-bits-eight_rows read rows i d0 d1 d2 d3 d4 d5 d6 d7 size within (suc (suc (suc (suc (suc (suc (suc zero))))))) below =
-    sym (get_or-map read rows (8 * i + 7) d7 false (omega arith))
-bits-eight_rows read rows i d0 d1 d2 d3 d4 d5 d6 d7 size within (suc (suc (suc (suc (suc (suc (suc (suc j))))))))
-    below = absurd (omega arith)
+  -- eight rows, each from its place
+  pub bits-picked : (j : ℕ) → j < 8
+      → get_or (map read (get_or rows first d0 ∷ get_or rows (place 1) d1 ∷ get_or rows (place 2) d2
+      ∷ get_or rows (place 3) d3 ∷ get_or rows (place 4) d4 ∷ get_or rows (place 5) d5 ∷ get_or rows (place 6) d6
+      ∷ get_or rows (place 7) d7 ∷ [])) j false
+      ≡ get_or (map read rows) (place j) false
+  bits-picked zero below = ap (λ (k : ℕ). read (get_or rows k d0)) same ∙ picked 0 d0 below
+  bits-picked (suc zero) below = picked 1 d1 below
+  bits-picked (suc (suc zero)) below = picked 2 d2 below
+  bits-picked (suc (suc (suc zero))) below = picked 3 d3 below
+  bits-picked (suc (suc (suc (suc zero)))) below = picked 4 d4 below
+  bits-picked (suc (suc (suc (suc (suc zero))))) below = picked 5 d5 below
+  bits-picked (suc (suc (suc (suc (suc (suc zero)))))) below = picked 6 d6 below
+  bits-picked (suc (suc (suc (suc (suc (suc (suc zero))))))) below = picked 7 d7 below
+  bits-picked (suc (suc (suc (suc (suc (suc (suc (suc j)))))))) below = absurd (omega arith)
 
 -- the first of eight rows are written at their places, and no other place is
 abbrev pub AreWrittenAt : {A : Type 0} → (A → Bool) → (ℕ → ℕ) → List A → List A → List A → ℕ → Type 0
