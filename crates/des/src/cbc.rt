@@ -130,7 +130,7 @@ fn decrypt_part<D: ListDecryption>(
 }
 
 /// The vector with which a chain goes on after these ciphertext blocks: the last of them, or
-/// `vector`, with which it began, where there is none.
+/// `vector`, with which it began, if there is none.
 pub fn next_vector(vector: &[u8; 8], ciphertext: &[[u8; 8]]) -> [u8; 8]
     ensures { result ≡ next_vector vector.now ciphertext.now }
 {

@@ -99,9 +99,9 @@ impl Des {
 
     /// The number of different words among the sixteen round keys, wherever among them they stand.
     ///
-    /// By the halves C and D of the key (FIPS 46-3, key schedule): it is 1 exactly where both are
-    /// unchanged by rotation by one; else 2 where both are unchanged by rotation by two; else 4
-    /// where each, rotated left by two, is itself or its complement; and at most 4 where both
+    /// By the halves C and D of the key (FIPS 46-3, key schedule): it is 1 exactly if both are
+    /// unchanged by rotation by one; else 2 if both are unchanged by rotation by two; else 4
+    /// if each, rotated left by two, is itself or its complement; and at most 4 if both
     /// repeat every four bits.
     pub fn distinct_round_keys(&self) -> u8
         ensures count { result ≡ distinct_count nat_eq (round_key_words self.now) }

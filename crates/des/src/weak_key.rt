@@ -112,8 +112,8 @@ fn contains_but_parity(keys: &[[u8; 8]], key: &[u8; 8]) -> bool
     keys.iter().any(|other| equal_but_parity(other, key))
 }
 
-/// Refuses a key of 8, 16 or 24 bytes where one of its parts of 8 bytes agrees with one of
-/// `WEAK_KEYS` in all bits but the lowest of each byte, the parity bits, or where two of its parts
+/// Refuses a key of 8, 16 or 24 bytes if one of its parts of 8 bytes agrees with one of
+/// `WEAK_KEYS` in all bits but the lowest of each byte, the parity bits, or if two of its parts
 /// so agree. Keys that differ in parity bits alone are one cipher.
 ///
 /// The keys that agree with a listed one are exactly those of 8 bytes whose halves C and D (FIPS

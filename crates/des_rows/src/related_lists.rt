@@ -29,7 +29,7 @@ pub fn decrypt_related<C: Relating>(cipher: &C, blocks: &mut [[u8; 8]])
 
 /// Encrypts each block of a list into another, which becomes the one list to whose blocks the key
 /// relates those of the first. Lists that differ in length are `NotEqualError`, and the second
-/// stays.
+/// is unchanged.
 pub fn encrypt_related_b2b<C: Relating>(
     cipher: &C,
     input: &[[u8; 8]],
@@ -45,7 +45,7 @@ pub fn encrypt_related_b2b<C: Relating>(
 
 /// Decrypts each block of a list into another, which becomes the one list whose blocks the key
 /// relates to those of the first. Lists that differ in length are `NotEqualError`, and the second
-/// stays.
+/// is unchanged.
 pub fn decrypt_related_b2b<C: Relating>(
     cipher: &C,
     input: &[[u8; 8]],
@@ -60,7 +60,7 @@ pub fn decrypt_related_b2b<C: Relating>(
 }
 
 /// Encrypts each block of a list in place under the key of these bytes. A key of another length than
-/// the cipher's is `InvalidLength`, and the list stays.
+/// the cipher's is `InvalidLength`, and the list is unchanged.
 pub fn encrypt_under<C: Relating + Drop>(
     key: &[u8],
     blocks: &mut [[u8; 8]],

@@ -25,7 +25,7 @@ fn list_goes_there_and_back<C: BlockCipher>(cipher: &C, count: usize, answers: &
     there[..count] == answers[..count] && back[..count] == PLAINTEXT[..count]
 }
 
-// Whether they do by chaining, in place, and the blocks after them stay.
+// Whether they do by chaining, in place, and the blocks after them are unchanged.
 fn chain_goes_there_and_back<C: BlockCipher>(cipher: &C, count: usize, chained: &List) -> bool
     requires { count ≤ 3 }
 {

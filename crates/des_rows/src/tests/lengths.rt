@@ -36,7 +36,7 @@ const BLOCK: [u8; 8] = *b"Now is t";
 // What an output holds that no call has written.
 const FILLED: [u8; 8] = [0xa5; 8];
 
-// Whether lists of two lengths are refused in each direction, and the output stays as it was.
+// Whether lists of two lengths are refused in each direction, and the output is unchanged.
 fn are_refused<C: BlockCipher>(cipher: &C, input: &[[u8; 8]], output: &mut [[u8; 8]]) -> bool {
     if cipher.encrypt_blocks_b2b(input, output) != Err(NotEqualError)
         || cipher.decrypt_blocks_b2b(input, output) != Err(NotEqualError)

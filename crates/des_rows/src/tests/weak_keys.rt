@@ -111,7 +111,7 @@ fn is_listed_half(bits: u64) -> bool
 }
 
 // Whether the key that repeats these bits has these halves, odd parity and at most four round keys;
-// and whether it is listed, and refused, exactly where both halves are those of listed keys.
+// and whether it is listed, and refused, exactly if both halves are those of listed keys.
 fn is_as_its_halves_say(c: u64, d: u64) -> bool
     requires { (c < 16) × (d < 16) }
 {
@@ -167,7 +167,7 @@ fn partner_of(place: usize) -> Option<usize> {
     }
 }
 
-// Whether the listed keys of two places are told as partners, and give blocks back, where the
+// Whether the listed keys of two places are told as partners, and give blocks back, if the
 // publications say so, and else are not told.
 fn are_as_published(place: usize, other: usize) -> bool
     requires { (place < 64) × (other < 64) }
@@ -221,7 +221,7 @@ const C: u64 = 0x2122232425262728;
 
 const TWIN_OF_A: u64 = 0x0003020504070609;
 
-// Whether a listed key is refused in each place, and still with a bit flipped where that is a
+// Whether a listed key is refused in each place, and still with a bit flipped if that is a
 // parity bit, and else not.
 fn is_refused_but_for_parity(key: u64) -> bool {
     let is_refused = refuses_two(key, A)

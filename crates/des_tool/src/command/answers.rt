@@ -33,7 +33,7 @@ use std::alloc::Global;
 /// `CHAINED` is `des-cbc`, with a key of 8 bytes, or `ede3-cbc`, with one of 24; the rest is as
 /// above.
 ///
-/// `weak KEY` tests a key of 8, 16 or 24 bytes: the answer is `WeakKey` where `weak_key_test`
+/// `weak KEY` tests a key of 8, 16 or 24 bytes: the answer is `WeakKey` if `weak_key_test`
 /// refuses it, else `Ok`, and a newline.
 ///
 /// Every fault but `Memory` is found before any memory is asked for.

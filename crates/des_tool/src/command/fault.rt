@@ -14,7 +14,7 @@ pub enum Fault {
     /// The arguments do not have a shape that is known.
     Usage,
     /// The key argument has another number of bytes than a key has digits: two for each byte of the
-    /// cipher's key, or 16, 32 or 48 where a key is tested.
+    /// cipher's key, or 16, 32 or 48 if a key is tested.
     KeyLength,
     /// The key argument holds something that is not a hexadecimal digit.
     KeyText,

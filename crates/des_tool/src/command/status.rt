@@ -35,11 +35,11 @@ impl Fault {
 /// Writes an answer to `out`, or a fault's name and a newline to `err`, and gives the status that
 /// the program ends with.
 ///
-/// The status is 0 where the whole answer was written, 2 where the arguments are at fault, 3 where
-/// memory is, and 4 where the answer could not be written: `out` may then hold a prefix of it. A
+/// The status is 0 if the whole answer was written, 2 if the arguments are at fault, 3 if
+/// memory is, and 4 if the answer could not be written: `out` may then hold a prefix of it. A
 /// name that cannot be written changes no status. It takes no memory of its own.
 ///
-/// No clause says that the status is 4 only where `out` failed, since std has no word for that; runs
+/// No clause says that the status is 4 only if `out` failed, since std has no word for that; runs
 /// of the program show it.
 pub fn show<W: Write, E: Write>(answer: &Result<Vec<u8>, Fault>, out: &mut W, err: &mut E) -> u8
     ensures { IsShown W.contents E.contents answer.now result out.old out.new err.old err.new }
