@@ -38,7 +38,7 @@ def errors(header):
 
 
 def of_rattle(header):
-    yield "//! The statuses of `cukvashe_des.h`: made of it by `bindings/statuses`. Their numbers never change,"
+    yield "//! The statuses of `cukvashe_des.h`: made of it by `bindings/describe`. Their numbers never change,"
     yield "//! since they are compiled into the programs that call the library."
     for it in header.statuses:
         yield ""

@@ -1,4 +1,4 @@
-//! The statuses of `cukvashe_des.h`: made of it by `bindings/statuses`. Their numbers never change,
+//! The statuses of `cukvashe_des.h`: made of it by `bindings/describe`. Their numbers never change,
 //! since they are compiled into the programs that call the library.
 
 /// Success.

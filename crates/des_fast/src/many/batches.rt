@@ -6,7 +6,7 @@ use super::Slice;
 
 /// The most blocks of a list that is quicker over vectors of two words, even where the processor
 /// has vectors of four: a batch of 128 takes less time than one of 256. For those who choose the
-/// width of a call by the length of a list: `bindings/statuses` copies it for C.
+/// width of a call by the length of a list: `bindings/describe` copies it for C.
 pub const MOST_NARROW: usize = 128;
 
 // The most blocks that go side by side, where tables may be read and where none may be, whatever
