@@ -1,8 +1,7 @@
 //! What is known from publications and by OpenSSL of calls that have no export for C and that no
-//! program makes, and what such calls print and ask for. `des_rows`, `bindings/test` and the tests of
+//! program makes, what secrets show, and what clones ask for. `des_rows`, `bindings/test` and the tests of
 //! the programs show all else.
 
-mod ciphers;
 mod clones;
 mod each_key;
 mod hmac;

@@ -22,7 +22,6 @@ pub mod partners;
 pub mod payment;
 pub mod records;
 pub mod round_keys;
-pub mod sizes;
 pub mod spread_lists;
 pub mod spread_records;
 pub mod streams;
