@@ -3,7 +3,6 @@
  * depends on them. `unexported calls` must give no report, `unexported control` one, of a branch here.
  */
 #include "check.h"
-#include <stdbool.h>
 #include <stdint.h>
 #include <valgrind/memcheck.h>
 
@@ -17,16 +16,13 @@ void quiet_des(const uint8_t *key, uint8_t *blocks, size_t count);
 void quiet_tdes_ede3(const uint8_t *key, uint8_t *blocks, size_t count);
 void many_des(const uint8_t *key, const uint8_t *iv, uint8_t *blocks, size_t count);
 void many_tdes_ede3(const uint8_t *key, const uint8_t *iv, uint8_t *blocks, size_t count);
-bool keyed_records(const uint8_t *keys, size_t keys_count, uint8_t *vectors, size_t vectors_count, uint8_t *blocks, size_t count);
 
 int main(int arguments, char **words) {
-  static uint8_t key[24], vector[8], blocks[8 * LONGEST], keys[24 * LONGEST], vectors[8 * LONGEST];
+  static uint8_t key[24], vector[8], blocks[8 * LONGEST];
   CHECK(arguments == 2);
   (void)VALGRIND_MAKE_MEM_UNDEFINED(key, sizeof key);
   (void)VALGRIND_MAKE_MEM_UNDEFINED(vector, sizeof vector);
   (void)VALGRIND_MAKE_MEM_UNDEFINED(blocks, sizeof blocks);
-  (void)VALGRIND_MAKE_MEM_UNDEFINED(keys, sizeof keys);
-  (void)VALGRIND_MAKE_MEM_UNDEFINED(vectors, sizeof vectors);
   for (int i = 0; i < COUNTS; i++) {
     spread_des_encrypt(key, blocks, counts[i]);
     spread_des_decrypt(key, blocks, counts[i]);
@@ -36,7 +32,6 @@ int main(int arguments, char **words) {
     spread_tdes_ede3_decrypt_cbc(key, vector, blocks, counts[i]);
     quiet_des(key, blocks, counts[i]);
     quiet_tdes_ede3(key, blocks, counts[i]);
-    CHECK(keyed_records(keys, counts[i] / 2, vectors, counts[i] / 2, blocks, counts[i] / 2 * 2));
   }
   for (size_t count = 0; count <= 12; count++) {
     many_des(key, vector, blocks, count);

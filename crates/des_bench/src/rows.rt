@@ -2,16 +2,13 @@
 //! which all that was answered is joined, so that no compiler can leave a timed call out.
 
 use crate::runs::{
-    BLOCKS, Blocks, Decrypt, Encrypt, EncryptBlocks, EncryptBySpread, EncryptMany,
-    EncryptRecordsEach, EncryptRecordsEachAlone, KEYS, Key, Keys, MakeCiphers, RECORD, Records,
-    SPREADINGS, Spread, Tag, TestKeys, cipher_of_key,
+    BLOCKS, Blocks, Decrypt, Encrypt, EncryptBlocks, EncryptBySpread, EncryptMany, KEYS, Key, Keys,
+    MakeCiphers, SPREADINGS, Spread, Tag, TestKeys, cipher_of_key,
 };
 use crate::stopwatch::{Run, tenths_of_call};
 use crate::text::{write_length_row, write_row};
-use des::cipher::{
-    AlgorithmName, BlockCipherDecrypt, BlockCipherEncrypt, KeyBytes, KeyInit, KeyedCipher,
-};
-use des_fast::many::{KeyForEach, ManyBlocks, SpreadOnce};
+use des::cipher::{AlgorithmName, BlockCipherDecrypt, BlockCipherEncrypt, KeyInit, KeyedCipher};
+use des_fast::many::{ManyBlocks, SpreadOnce};
 use des_mac::{CbcMac, Cmac, Mac, Method2, RetailMac};
 use std::alloc::AllocGlobal;
 use std::io;
@@ -76,39 +73,6 @@ pub fn write_spreading<C: KeyInit + AlgorithmName + SpreadOnce + Drop>(
     let four = tenths_of_call(rt, WIDE_BATCH, &EncryptBySpread(&four), &mut more)?;
     write_row(out, C::NAME, &[spreading, two, four])?;
     Ok(joined(&blocks) ^ joined(&more))
-}
-
-/// Writes the row of a cipher over records of `RECORD` blocks, each under a key of its own, over
-/// vectors of two and of four words, and one after another: the time of a block.
-pub fn write_keyed_records<C: KeyForEach + AlgorithmName + Drop>(
-    rt: &(impl AllocGlobal + Clock + CpuClock),
-    keys: &Keys,
-    out: &mut impl Write,
-) -> io::Result<u64> {
-    let own = keys_of::<C>(rt, keys)?;
-    let keys = own.as_slice();
-    let count = KEYS * RECORD;
-    let mut records = Records {
-        vectors: zero_blocks(rt, KEYS)?,
-        blocks: zero_blocks(rt, count)?,
-    };
-    let two: EncryptRecordsEach<C, u64x2, C::Key> = EncryptRecordsEach {
-        keys,
-        by: PhantomData,
-    };
-    let four: EncryptRecordsEach<C, u64x4, C::Key> = EncryptRecordsEach {
-        keys,
-        by: PhantomData,
-    };
-    let alone: EncryptRecordsEachAlone<C, C::Key> = EncryptRecordsEachAlone {
-        keys,
-        by: PhantomData,
-    };
-    let two = tenths_of_call(rt, count, &two, &mut records)?;
-    let four = tenths_of_call(rt, count, &four, &mut records)?;
-    let alone = tenths_of_call(rt, count, &alone, &mut records)?;
-    write_row(out, C::NAME, &[two, four, alone])?;
-    Ok(joined(&records.blocks))
 }
 
 /// Writes the row of the MACs over a cipher.
@@ -198,14 +162,4 @@ pub fn joined(blocks: &Blocks) -> u64 {
         sum ^= u64::from_be_bytes(*block);
     }
     sum
-}
-
-// The keys of a cipher, each of the first bytes of one of the table.
-fn keys_of<C: KeyForEach + Drop>(rt: &impl AllocGlobal, keys: &Keys) -> io::Result<Vec<C::Key>> {
-    let mut own = Vec::with_capacity(rt.alloc(), KEYS)?;
-    for key in keys {
-        let bytes = key.get(..C::KEY_SIZE).ok_or(too_long())?;
-        own.push(C::Key::from_bytes(bytes).ok_or(too_long())?)?;
-    }
-    Ok(own)
 }

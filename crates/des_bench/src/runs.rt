@@ -8,9 +8,7 @@ ghost use Rattle.std.specs.Prelude.{◌≡◌, ◌⊎◌};
 use crate::stopwatch::Run;
 use des::cipher::{BlockCipherDecrypt, BlockCipherEncrypt, KeyInit};
 use des::{cbc, weak_key_test};
-use des_fast::many::{
-    EachKey, Equal, KeyForEach, ManyBlocks, RecordKeys, Slice, SpreadKeys, SpreadOnce,
-};
+use des_fast::many::{ManyBlocks, Slice, SpreadKeys, SpreadOnce};
 use des_mac::Mac;
 use std::marker::PhantomData;
 
@@ -25,9 +23,6 @@ pub const KEYS: usize = 256;
 
 /// The keys of a run.
 pub type Keys = [Key; KEYS];
-
-/// How many blocks a record of a run has.
-pub const RECORD: usize = 8;
 
 /// How often a run spreads the round keys.
 pub const SPREADINGS: usize = 16;
@@ -168,51 +163,4 @@ fn count_passed(keys: &Keys, size: usize) -> u64
         }
     }
     passed
-}
-
-/// Records of `RECORD` blocks each, and the vectors with which their chains go on.
-#[derive(Drop)]
-pub struct Records {
-    pub vectors: Blocks,
-    pub blocks: Blocks,
-}
-
-/// `encrypt_cbc_records`, each record under the key at its place.
-#[derive(Drop)]
-pub struct EncryptRecordsEach<'a, C, S, K> {
-    pub keys: &'a [K],
-    pub by: PhantomData<(C, S)>,
-}
-
-impl<C: KeyForEach, S: Slice> Run<Records> for EncryptRecordsEach<'_, C, S, C::Key> {
-    fn run(&self, records: &mut Records) {
-        let vectors = records.vectors.as_mut_slice();
-        let blocks = records.blocks.as_mut_slice();
-        let sizes = Equal {
-            count: vectors.len(),
-            size: RECORD,
-        };
-        let keys = EachKey::<S, C>::new(self.keys);
-        let Ok(()) = keys.encrypt_cbc_records(vectors, sizes, blocks) else {
-            return;
-        };
-    }
-}
-
-/// `new` and `cbc::encrypt`, record by record.
-#[derive(Drop)]
-pub struct EncryptRecordsEachAlone<'a, C, K> {
-    pub keys: &'a [K],
-    pub by: PhantomData<C>,
-}
-
-impl<C: KeyInit + BlockCipherEncrypt + Drop> Run<Records>
-    for EncryptRecordsEachAlone<'_, C, C::Key> {
-    fn run(&self, records: &mut Records) {
-        let parts = records.blocks.as_mut_slice().chunks_mut(RECORD);
-        for ((record, vector), key) in parts.zip(records.vectors.iter_mut()).zip(self.keys) {
-            cbc::encrypt(&C::new(key), vector, record);
-            *vector = cbc::next_vector(vector, record);
-        }
-    }
 }

@@ -1,14 +1,11 @@
 //! The table of what `bindings/benchmark` does not time: single DES and triple DES of each library,
 //! block by block, and `new`; few blocks in each of the ways that there are; spreading round keys, and
-//! a batch under spread keys; records under keys of their own; the message authentication codes; and
-//! the weak key test.
+//! a batch under spread keys; the message authentication codes; and the weak key test.
 //!
 //! What the timed calls answer is joined in the number below the table, so that no compiler can
 //! leave a call out.
 
-use crate::rows::{
-    write_cipher, write_few, write_keyed_records, write_macs, write_spreading, write_weak_key_test,
-};
+use crate::rows::{write_cipher, write_few, write_macs, write_spreading, write_weak_key_test};
 use crate::runs::{KEYS, Keys};
 use crate::text::write_head;
 use des::cipher::{AlgorithmName, BlockCipherEncrypt, KeyInit};
@@ -32,7 +29,7 @@ pub fn write_table<R: AllocGlobal + Clock + CpuClock, W: Write>(
         ^ write_ciphers::<quiet::Des>(rt, "des_fast, quiet", &keys, out)?
         ^ write_few_blocks::<des_fast::Des, quiet::Des>(rt, "Des, few", &keys, out)?
         ^ write_few_blocks::<TdesEde3, quiet::TdesEde3>(rt, "TdesEde3, few", &keys, out)?
-        ^ write_many(rt, &keys, out)?
+        ^ write_spread(rt, &keys, out)?
         ^ write_others(rt, &keys, out)?;
     writeln!(out, "{joined:016x}")?;
     out.flush()
@@ -73,8 +70,8 @@ fn write_few_blocks<C: KeyInit + ManyBlocks + Drop, Q: KeyInit + BlockCipherEncr
     Ok(sum)
 }
 
-// Writes the rows of spread keys, and of records under keys of their own.
-fn write_many(
+// Writes the rows of spread keys.
+fn write_spread(
     rt: &(impl AllocGlobal + Clock + CpuClock),
     keys: &Keys,
     out: &mut impl Write,
@@ -84,12 +81,10 @@ fn write_many(
         "des_fast, spread",
         &["spreading", "2 words", "4 words"],
     )?;
-    let spread = write_spreading::<des_fast::Des>(rt, keys, out)?
-        ^ write_spreading::<TdesEde3>(rt, keys, out)?;
-    write_head(out, "records, keys", &["2 words", "4 words", "alone"])?;
-    let records = write_keyed_records::<des_fast::Des>(rt, keys, out)?
-        ^ write_keyed_records::<TdesEde3>(rt, keys, out)?;
-    Ok(spread ^ records)
+    Ok(
+        write_spreading::<des_fast::Des>(rt, keys, out)?
+            ^ write_spreading::<TdesEde3>(rt, keys, out)?,
+    )
 }
 
 // Writes the rows of the MACs and of the weak key test.

@@ -12,7 +12,7 @@ use crate::calls::are_bytes_of;
 use crate::ciphers::{OfContext, by_form};
 use crate::contexts::{NO_MAC, has_mark};
 use crate::status::{ERR_BLOCKS, ERR_CONTEXT, ERR_COUNTS, OK};
-use des_fast::many::{RecordKeys, Slice, SpreadOnce};
+use des_fast::many::{Slice, SpreadOnce};
 use des_fast::ways::Tables;
 
 // Encrypts records in place by CBC.

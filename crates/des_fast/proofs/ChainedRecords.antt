@@ -10,7 +10,7 @@ use Rattle.des_fast.proofs.RecordPlaces.{end-within}
 use Rattle.des_fast.proofs.AnsweredRecords.{IsAnswered-none, IsAnswered-kept, IsAnswered-more, Cbc-from_answered, next_vector-chained}
 
 -- the records below `from` are chained, the next n as far as i steps take them, and the others are as they were
-pub record AreInStep (f : ℕ → List ℕ → List ℕ) (sizes : List ℕ) (first p vectors blocks : List (List ℕ))
+pub record AreInStep (f : List ℕ → List ℕ) (sizes : List ℕ) (first p vectors blocks : List (List ℕ))
     (from n i : ℕ) : Type 0 where
   pub done : (k : ℕ) → k < from → IsChained f sizes first p vectors blocks k (get_or sizes k 0)
   pub within : (k : ℕ) → k < n
@@ -18,7 +18,7 @@ pub record AreInStep (f : ℕ → List ℕ → List ℕ) (sizes : List ℕ) (fir
   pub rest : (k : ℕ) → from + n ≤ k → k < length sizes → IsChained f sizes first p vectors blocks k 0
 
 -- before the first step
-pub AreInStep-none : (f : ℕ → List ℕ → List ℕ) (sizes : List ℕ) (first p vectors blocks : List (List ℕ)) (from n : ℕ)
+pub AreInStep-none : (f : List ℕ → List ℕ) (sizes : List ℕ) (first p vectors blocks : List (List ℕ)) (from n : ℕ)
     → from + n ≤ length sizes → AreChainedBelow f sizes first p vectors blocks from
     → AreInStep f sizes first p vectors blocks from n 0
 AreInStep-none f sizes first p vectors blocks from n there are = record {
@@ -31,7 +31,7 @@ AreInStep-none f sizes first p vectors blocks from n there are = record {
 }
 
 -- after the last
-pub AreInStep-all : (f : ℕ → List ℕ → List ℕ) (sizes : List ℕ) (first p vectors blocks : List (List ℕ)) (from n i : ℕ)
+pub AreInStep-all : (f : List ℕ → List ℕ) (sizes : List ℕ) (first p vectors blocks : List (List ℕ)) (from n i : ℕ)
     → ((k : ℕ) → k < n → get_or sizes (from + k) 0 ≤ i) → AreInStep f sizes first p vectors blocks from n i
     → AreChainedBelow f sizes first p vectors blocks (from + n)
 AreInStep-all f sizes first p vectors blocks from n i longest are = record {
@@ -49,26 +49,26 @@ AreInStep-all f sizes first p vectors blocks from n i longest are = record {
 }
 
 -- a record that has a block i more
-record-more : (f : ℕ → List ℕ → List ℕ) (sizes : List ℕ) (first p vectors blocks new_vectors new_blocks
+record-more : (f : List ℕ → List ℕ) (sizes : List ℕ) (first p vectors blocks new_vectors new_blocks
     : List (List ℕ)) (k i : ℕ) (lane : List ℕ) → i < get_or sizes k 0
-    → lane ≡ f k (xor_blocks (get_or blocks (start sizes k + i) []) (get_or vectors k []))
+    → lane ≡ f (xor_blocks (get_or blocks (start sizes k + i) []) (get_or vectors k []))
     → get_or new_blocks (start sizes k + i) [] ≡ lane → get_or new_vectors k [] ≡ lane
     → ((j : ℕ) → j < get_or sizes k 0 → (j ≡ i → ⊥)
     → get_or new_blocks (start sizes k + j) [] ≡ get_or blocks (start sizes k + j) [])
     → IsChained f sizes first p vectors blocks k i → IsChained f sizes first p new_vectors new_blocks k (i + 1)
 unfolding chain_after
 record-more f sizes first p vectors blocks new_vectors new_blocks k i lane has made block vector others is =
-    let chain : ℕ → List ℕ = chain_after (f k) (get_or first k []) p (start sizes k) in
-    let next : lane ≡ chain (suc i) = made ∙ ap (f k) (ap₂ xor_blocks (is.left i (omega arith) has) is.end) in
+    let chain : ℕ → List ℕ = chain_after f (get_or first k []) p (start sizes k) in
+    let next : lane ≡ chain (suc i) = made ∙ ap f (ap₂ xor_blocks (is.left i (omega arith) has) is.end) in
     IsAnswered-more chain (λ j. chain (suc j)) p blocks new_blocks (start sizes k) (get_or sizes k 0)
     (get_or vectors k []) (get_or new_vectors k []) i has (vector ∙ next) (block ∙ next) others is
 
 -- a step
-pub AreInStep-more : (f : ℕ → List ℕ → List ℕ) (sizes : List ℕ) (first p vectors blocks new_vectors new_blocks filled
+pub AreInStep-more : (f : List ℕ → List ℕ) (sizes : List ℕ) (first p vectors blocks new_vectors new_blocks filled
     lanes : List (List ℕ)) (from n i : ℕ) → from + n ≤ length sizes
     → ((k : ℕ) → k < n → i < get_or sizes (from + k) 0 → get_or filled k []
     ≡ xor_blocks (get_or blocks (start sizes (from + k) + i) []) (get_or vectors (from + k) []))
-    → ((k : ℕ) → k < n → get_or lanes k [] ≡ f (from + k) (get_or filled k []))
+    → ((k : ℕ) → k < n → get_or lanes k [] ≡ f (get_or filled k []))
     → AreWritten sizes from n i lanes vectors blocks new_vectors new_blocks
     → AreInStep f sizes first p vectors blocks from n i
     → AreInStep f sizes first p new_vectors new_blocks from n (i + 1)
@@ -88,7 +88,7 @@ AreInStep-more f sizes first p vectors blocks new_vectors new_blocks filled lane
                 let next : i + 1 ≡ min (i + 1) size = omega arith in
                 subst (λ (m : ℕ). IsChained f sizes first p new_vectors new_blocks at m) next
                 (record-more f sizes first p vectors blocks new_vectors new_blocks at i (get_or lanes k []) has
-                (answered k below ∙ ap (f at) (xored k below has)) (written.block k below has) (written.vector
+                (answered k below ∙ ap f (xored k below has)) (written.block k below has) (written.vector
                 k below has)
                 (λ j low other. written.others at j inside low other)
                 (subst (λ (m : ℕ). IsChained f sizes first p vectors blocks at m) so_far (are.within k below)))
@@ -108,7 +108,7 @@ AreInStep-more f sizes first p vectors blocks new_vectors new_blocks filled lane
 -- ---- all records
 
 -- none
-pub AreChainedBelow-none : (f : ℕ → List ℕ → List ℕ) (sizes : List ℕ) (vectors blocks : List (List ℕ))
+pub AreChainedBelow-none : (f : List ℕ → List ℕ) (sizes : List ℕ) (vectors blocks : List (List ℕ))
     → AreChainedBelow f sizes vectors blocks vectors blocks 0
 unfolding chain_after
 AreChainedBelow-none f sizes vectors blocks = record {
@@ -118,16 +118,16 @@ AreChainedBelow-none f sizes vectors blocks = record {
 }
 
 -- all
-pub CbcEach-all : (f : ℕ → List ℕ → List ℕ) (sizes : List ℕ) (first p vectors blocks : List (List ℕ)) (n : ℕ)
+pub CbcEach-all : (f : List ℕ → List ℕ) (sizes : List ℕ) (first p vectors blocks : List (List ℕ)) (n : ℕ)
     → length first ≡ length sizes → length p ≡ sum sizes → length blocks ≡ length p → All IsBlock p → length first ≤ n
     → AreChainedBelow f sizes first p vectors blocks n → CbcEach f sizes first p blocks
 CbcEach-all f sizes first p vectors blocks n count whole same are_blocks all are k below =
-    Cbc-from_answered (f k) (get_or first k []) (get_or vectors k []) p blocks (start sizes k) (get_or sizes k 0)
+    Cbc-from_answered f (get_or first k []) (get_or vectors k []) p blocks (start sizes k) (get_or sizes k 0)
     (omega (arith, end-within sizes k (omega arith))) same are_blocks (are.done k (omega arith))
 
-pub GoOn-chained : (f : ℕ → List ℕ → List ℕ) (sizes : List ℕ) (first p vectors blocks : List (List ℕ)) (n : ℕ)
+pub GoOn-chained : (f : List ℕ → List ℕ) (sizes : List ℕ) (first p vectors blocks : List (List ℕ)) (n : ℕ)
     → length first ≡ length sizes → length p ≡ sum sizes → length blocks ≡ length p → length first ≤ n
     → AreChainedBelow f sizes first p vectors blocks n → GoOn sizes first blocks vectors
 GoOn-chained f sizes first p vectors blocks n count whole same all are k below =
-    next_vector-chained (f k) (get_or first k []) (get_or vectors k []) p blocks (start sizes k) (get_or sizes k 0)
+    next_vector-chained f (get_or first k []) (get_or vectors k []) p blocks (start sizes k) (get_or sizes k 0)
     (omega (arith, end-within sizes k (omega arith))) (are.done k (omega arith))

@@ -4,7 +4,6 @@ use Rattle.std.proofs.lemmas.Bool.{cases_lt, cases_eq}
 use Rattle.std.proofs.lemmas.List.{take_all}
 use Rattle.std.proofs.lemmas.List.Sums.{fold_more}
 use Rattle.des_fast.specs.Records.{start}
-use Rattle.des_fast.specs.RecordStates.{HasBlock}
 
 -- the next record begins where a record ends
 pub start-more : (sizes : List ℕ) (k : ℕ) → k < length sizes → start sizes (k + 1) ≡ start sizes k + get_or sizes k 0
@@ -57,18 +56,4 @@ blocks-apart sizes k m i j in_k in_m low_i low_j other same =
     elim (cases_eq k m) [
       | inl one ↦ other (omega (arith, ap (start sizes) one))
       | inr two ↦ records-apart sizes k m i j in_k in_m two low_i low_j same
-    ]
-
--- a block is in one record
-pub one-record : (sizes : List ℕ) (k m place : ℕ) → HasBlock sizes k place → HasBlock sizes m place → k ≡ m
-one-record sizes k m place in_k in_m =
-    elim (cases_lt k m) [
-      | inl before ↦
-          absurd (omega (arith, in_k.to, in_m.from, in_m.there, end-le sizes k m before (omega (arith, in_m.there))))
-      | inr from ↦
-          elim (cases_lt m k) [
-            | inl after ↦
-                absurd (omega (arith, in_m.to, in_k.from, end-le sizes m k after (omega (arith, in_k.there))))
-            | inr to ↦ omega arith
-          ]
     ]

@@ -24,9 +24,9 @@ reached-other sizes k m place in_k in_m other from to =
     ]
 
 -- a block more, of record m
-pub AreUnchainedBelow-more : (f : ℕ → List ℕ → List ℕ) (sizes : List ℕ) (first q vectors blocks : List (List ℕ))
+pub AreUnchainedBelow-more : (f : List ℕ → List ℕ) (sizes : List ℕ) (first q vectors blocks : List (List ℕ))
     (m place : ℕ) (answer : List ℕ) → HasBlock sizes m place → length vectors ≡ length sizes
-    → length blocks ≡ sum sizes → answer ≡ f m (get_or blocks place [])
+    → length blocks ≡ sum sizes → answer ≡ f (get_or blocks place [])
     → AreUnchainedBelow f sizes first q vectors blocks place
     → AreUnchainedBelow f sizes first q (set vectors m (get_or blocks place []))
     (set blocks place (xor_blocks answer (get_or vectors m []))) (place + 1)
@@ -52,13 +52,13 @@ AreUnchainedBelow-more f sizes first q vectors blocks m place answer has in_vect
           subst (λ (l : ℕ). IsUnchained f sizes first q (set vectors m old) (set blocks place new) l
           (min (place + 1 - start sizes l) (get_or sizes l 0))) (sym same)
           (subst (λ (l : ℕ). IsUnchained f sizes first q (set vectors m old) (set blocks place new) m l) next
-          (IsAnswered-more before (λ j. xor_blocks (f m (get_or q (start sizes m + j) [])) (before j)) q blocks
+          (IsAnswered-more before (λ j. xor_blocks (f (get_or q (start sizes m + j) [])) (before j)) q blocks
           (set blocks place new) (start sizes m) size (get_or vectors m []) (get_or (set vectors m old) m []) n
           (omega arith)
           (get_or-set_same vectors m old [] (omega arith) ∙ block)
           (ap (λ (l : ℕ). get_or (set blocks place new) l []) at
           ∙ get_or-set_same blocks place new [] room
-          ∙ ap₂ xor_blocks (answered ∙ ap (f m) block) is.end)
+          ∙ ap₂ xor_blocks (answered ∙ ap f block) is.end)
           (λ j low other. get_or-set_other blocks place (start sizes m + j) new [] (λ is. other (omega arith))) is))
       | inr other ↦
           subst (λ (l : ℕ). IsUnchained f sizes first q (set vectors m old) (set blocks place new) k l)
@@ -73,7 +73,7 @@ AreUnchainedBelow-more f sizes first q vectors blocks m place answer has in_vect
     ]
 
 -- none
-pub AreUnchainedBelow-none : (f : ℕ → List ℕ → List ℕ) (sizes : List ℕ) (vectors blocks : List (List ℕ))
+pub AreUnchainedBelow-none : (f : List ℕ → List ℕ) (sizes : List ℕ) (vectors blocks : List (List ℕ))
     → AreUnchainedBelow f sizes vectors blocks vectors blocks 0
 AreUnchainedBelow-none f sizes vectors blocks k inside =
     let none : 0 ≡ min (0 - start sizes k) (get_or sizes k 0) = omega arith in
@@ -81,7 +81,7 @@ AreUnchainedBelow-none f sizes vectors blocks k inside =
     (IsAnswered-none _ _ blocks (start sizes k) (get_or sizes k 0) (get_or vectors k []) refl)
 
 -- a record that is out of its chain
-record-all : (f : ℕ → List ℕ → List ℕ) (sizes : List ℕ) (first q vectors blocks : List (List ℕ)) (place k : ℕ)
+record-all : (f : List ℕ → List ℕ) (sizes : List ℕ) (first q vectors blocks : List (List ℕ)) (place k : ℕ)
     → k < length sizes → sum sizes ≤ place → AreUnchainedBelow f sizes first q vectors blocks place
     → IsUnchained f sizes first q vectors blocks k (get_or sizes k 0)
 record-all f sizes first q vectors blocks place k inside all are =
@@ -90,15 +90,15 @@ record-all f sizes first q vectors blocks place k inside all are =
     subst (λ (n : ℕ). IsUnchained f sizes first q vectors blocks k n) reached (are k inside)
 
 -- all
-pub UnchainsEach-all : (f : ℕ → List ℕ → List ℕ) (sizes : List ℕ) (first q vectors blocks : List (List ℕ)) (place : ℕ)
+pub UnchainsEach-all : (f : List ℕ → List ℕ) (sizes : List ℕ) (first q vectors blocks : List (List ℕ)) (place : ℕ)
     → length first ≡ length sizes → length q ≡ sum sizes → length blocks ≡ length q → length q ≤ place
     → AreUnchainedBelow f sizes first q vectors blocks place → UnchainsEach f sizes first q blocks
 UnchainsEach-all f sizes first q vectors blocks place count whole same all are k below =
-    Unchains-from_answered (f k) (get_or first k []) (get_or vectors k []) q blocks (start sizes k) (get_or sizes k 0)
+    Unchains-from_answered f (get_or first k []) (get_or vectors k []) q blocks (start sizes k) (get_or sizes k 0)
     (omega (arith, end-within sizes k (omega arith))) same
     (record-all f sizes first q vectors blocks place k (omega arith) (omega arith) are)
 
-pub GoOn-unchained : (f : ℕ → List ℕ → List ℕ) (sizes : List ℕ) (first q vectors blocks : List (List ℕ)) (place : ℕ)
+pub GoOn-unchained : (f : List ℕ → List ℕ) (sizes : List ℕ) (first q vectors blocks : List (List ℕ)) (place : ℕ)
     → length first ≡ length sizes → length q ≡ sum sizes → length q ≤ place
     → AreUnchainedBelow f sizes first q vectors blocks place → GoOn sizes first q vectors
 GoOn-unchained f sizes first q vectors blocks place count whole all are k below =

@@ -30,28 +30,28 @@ pub record IsAnswered (link made : ℕ → List ℕ) (old blocks : List (List �
   pub left : (j : ℕ) → n ≤ j → j < size → slice_index_or blocks (place + j) [] ≡ slice_index_or old (place + j) []
 
 -- the first n blocks of record k are chained
-abbrev pub IsChained : (ℕ → List ℕ → List ℕ) → List ℕ → List (List ℕ) → List (List ℕ) → List (List ℕ)
+abbrev pub IsChained : (List ℕ → List ℕ) → List ℕ → List (List ℕ) → List (List ℕ) → List (List ℕ)
     → List (List ℕ) → ℕ → ℕ → Type 0
 IsChained encryption sizes first p vectors blocks k n =
-    let chain : ℕ → List ℕ = chain_after (encryption k) (slice_index_or first k []) p (start sizes k) in
+    let chain : ℕ → List ℕ = chain_after encryption (slice_index_or first k []) p (start sizes k) in
     IsAnswered chain (λ j. chain (suc j)) p blocks (start sizes k) (slice_index sizes k) (slice_index_or vectors k []) n
 
 -- the records below m are chained, and the others are as they were
-pub record AreChainedBelow (encryption : ℕ → List ℕ → List ℕ) (sizes : List ℕ) (first p vectors blocks : List (List ℕ))
+pub record AreChainedBelow (encryption : List ℕ → List ℕ) (sizes : List ℕ) (first p vectors blocks : List (List ℕ))
     (m : ℕ) : Type 0 where
   pub done : (k : ℕ) → k < m → IsChained encryption sizes first p vectors blocks k (slice_index sizes k)
   pub rest : (k : ℕ) → m ≤ k → k < length sizes → IsChained encryption sizes first p vectors blocks k 0
 
 -- the first n blocks of record k are out of the chain
-abbrev pub IsUnchained : (ℕ → List ℕ → List ℕ) → List ℕ → List (List ℕ) → List (List ℕ) → List (List ℕ)
+abbrev pub IsUnchained : (List ℕ → List ℕ) → List ℕ → List (List ℕ) → List (List ℕ) → List (List ℕ)
     → List (List ℕ) → ℕ → ℕ → Type 0
 IsUnchained decryption sizes first q vectors blocks k n =
     let before : ℕ → List ℕ = cipher_before (slice_index_or first k []) q (start sizes k) in
-    IsAnswered before (λ j. xor_blocks (decryption k (slice_index_or q (start sizes k + j) [])) (before j)) q blocks
+    IsAnswered before (λ j. xor_blocks (decryption (slice_index_or q (start sizes k + j) [])) (before j)) q blocks
     (start sizes k) (slice_index sizes k) (slice_index_or vectors k []) n
 
 -- the blocks below a place are out of their chains, and the others are as they were
-abbrev pub AreUnchainedBelow : (ℕ → List ℕ → List ℕ) → List ℕ → List (List ℕ) → List (List ℕ) → List (List ℕ)
+abbrev pub AreUnchainedBelow : (List ℕ → List ℕ) → List ℕ → List (List ℕ) → List (List ℕ) → List (List ℕ)
     → List (List ℕ) → ℕ → Type 0
 AreUnchainedBelow decryption sizes first q vectors blocks place =
     (k : ℕ) → k < length sizes

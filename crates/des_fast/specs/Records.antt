@@ -10,17 +10,17 @@ start sizes k = sum (take k sizes)
 abbrev pub record_of : List ℕ → List (List ℕ) → ℕ → List (List ℕ)
 record_of sizes blocks k = take (slice_index sizes k) (drop (start sizes k) blocks)
 
--- each record is chained by CBC from the vector at its place, record k by `encryption k`
-abbrev pub CbcEach : (ℕ → List ℕ → List ℕ) → List ℕ → List (List ℕ) → List (List ℕ) → List (List ℕ) → Type 0
+-- each record is chained by CBC from the vector at its place
+abbrev pub CbcEach : (List ℕ → List ℕ) → List ℕ → List (List ℕ) → List (List ℕ) → List (List ℕ) → Type 0
 CbcEach encryption sizes vectors p q =
     (k : ℕ) → k < length vectors
-    → Cbc (encryption k) (slice_index_or vectors k []) (record_of sizes p k) (record_of sizes q k)
+    → Cbc encryption (slice_index_or vectors k []) (record_of sizes p k) (record_of sizes q k)
 
 -- the same read from q to p
-abbrev pub UnchainsEach : (ℕ → List ℕ → List ℕ) → List ℕ → List (List ℕ) → List (List ℕ) → List (List ℕ) → Type 0
+abbrev pub UnchainsEach : (List ℕ → List ℕ) → List ℕ → List (List ℕ) → List (List ℕ) → List (List ℕ) → Type 0
 UnchainsEach decryption sizes vectors q p =
     (k : ℕ) → k < length vectors
-    → Unchains (decryption k) (slice_index_or vectors k []) (record_of sizes q k) (record_of sizes p k)
+    → Unchains decryption (slice_index_or vectors k []) (record_of sizes q k) (record_of sizes p k)
 
 -- the vectors with which the chains go on after their ciphertext
 abbrev pub GoOn : List ℕ → List (List ℕ) → List (List ℕ) → List (List ℕ) → Type 0

@@ -15,8 +15,8 @@
 //! a key over slices once, for many short lists, each of which goes in batches.
 //!
 //! Many short messages go together, each in a lane of a batch: `KeyForEach` takes a key for each
-//! block of a list, and chains messages in step (those of MACs); `RecordKeys` takes records that
-//! CBC chained, under one key, that of `spread_keys`, or each under a key of its own, by `EachKey`.
+//! block of a list, and chains messages in step (those of MACs); `SpreadKeys`, the keys of
+//! `spread_keys`, take records that CBC chained.
 
 ghost use Rattle.std.specs.Prelude.{◌≡◌, ℕ, List, map};
 ghost use Rattle.std.specs.List.{All};
@@ -33,7 +33,6 @@ mod each_key;
 mod ends;
 mod lanes;
 mod passes;
-mod record_keys;
 mod records;
 mod spread;
 
@@ -47,8 +46,6 @@ pub use each_key::KeyForEach;
 pub use ends::BlockLists;
 pub use lanes::LaneKeys;
 use lanes::answer_lanes_part;
-pub use record_keys::RecordKeys;
-pub use records::{Equal, Sizes};
 pub use spread::{SpreadKeys, SpreadOnce};
 use std::simd::prelude::*;
 

@@ -8,6 +8,5 @@ mod hmac;
 mod known;
 mod lists;
 mod macs;
-mod records;
 mod streams;
 mod texts;

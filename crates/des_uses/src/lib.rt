@@ -11,7 +11,6 @@ pub mod complements;
 pub mod each_key;
 pub mod fast_lists;
 pub mod kept_macs;
-pub mod keyed_records;
 pub mod long_records;
 pub mod macs;
 pub mod macs_by_relation;

@@ -1,13 +1,13 @@
 //! Records of any lengths under keys that are spread over slices once: what a caller of
-//! `encrypt_cbc_records` can promise, of any cipher with it and at any width, by the laws of the
-//! traits.
+//! `encrypt_cbc_records` can promise, of any cipher that spreads its keys and at any width, by the laws
+//! of the traits.
 
 ghost use Rattle.std.specs.Prelude.{◌≡◌, ◌↔◌, ◌<◌, ℕ, length, sum, slice_index_or, IsOk, OnOk, OnErr, []};
 ghost use Rattle.des.specs.Cbc.{Cbc, next_vector};
 ghost use Rattle.des_fast.specs.Records.{record_of};
 
 use des::cipher::{BlockCipher, NotEqualError};
-use des_fast::many::{RecordKeys, Slice, SpreadOnce};
+use des_fast::many::{Slice, SpreadOnce};
 
 /// Encrypts records in place by CBC, each from the vector at its place: record k has `sizes[k]`
 /// blocks. Each vector becomes the one with which its chain goes on. Sizes that are not those of

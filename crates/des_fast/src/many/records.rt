@@ -4,71 +4,27 @@
 //! next block of every record goes into its chain, and the chains go through the passes together.
 //! Decryption waits for no other block, and takes the list a batch of blocks at a time.
 
-ghost use Rattle.std.specs.Prelude.{◌≡◌, ◌↔◌, ◌≤◌, ◌<◌, ◌+◌, ◌-◌, ℕ, List, IsTrue, length, replicate, sum, slice_index};
+ghost use Rattle.std.specs.Prelude.{◌≡◌, ◌↔◌, ◌≤◌, ◌<◌, ◌+◌, ◌-◌, ℕ, List, IsTrue, length, sum, slice_index};
+ghost use Rattle.std.specs.List.{All};
+ghost use Rattle.des.specs.Blocks.{IsBlock};
 ghost use Rattle.des.specs.Cbc.{xor_blocks};
-ghost use Rattle.des_fast.specs.EachKey.{lane_answer};
 ghost use Rattle.des_fast.specs.Largest.{IsLargest};
-ghost use Rattle.des_fast.specs.Records.{start};
+ghost use Rattle.des_fast.specs.Records.{start, CbcEach, UnchainsEach, GoOn};
 ghost use Rattle.des_fast.specs.RecordStates.{HasBlock, AreWritten, AreChainedBelow, AreUnchainedBelow};
+ghost use Rattle.des_fast.specs.SpreadKeys.{AreSlicesFor};
 ghost use Rattle.des_fast.specs.Transposition.{block_at};
 
-use super::lanes::answer_filled;
+use super::lanes::{answer_filled, write_answers};
 use super::{LARGEST_BATCH, Slice, xored};
 use crate::slices::PassSlices;
 
-/// How many blocks each record has: a number for each, or, of `Equal` records, one for all.
-pub trait Sizes: Copy {
-    // The number of blocks of each record, in order.
-    ghost list: { Self → List ℕ };
-
-    /// How many records there are.
-    fn count(self) -> usize
-        ensures { result ≡ length (list self) };
-
-    /// The number of blocks of record k, from 0.
-    fn of(self, k: usize) -> usize
-        requires { k < length (list self) }
-        ensures { result ≡ slice_index (list self) k };
-}
-
-impl Sizes for &[usize] {
-    ghost list = { λ sizes. sizes.now };
-
-    fn count(self) -> usize {
-        self.len()
-    }
-
-    fn of(self, k: usize) -> usize {
-        self[k]
-    }
-}
-
-/// `count` records of `size` blocks each.
-#[derive(Clone, Copy)]
-pub struct Equal {
-    pub count: usize,
-    pub size: usize,
-}
-
-impl Sizes for Equal {
-    ghost list = { λ equal. replicate equal.count equal.size };
-
-    fn count(self) -> usize {
-        self.count
-    }
-
-    fn of(self, _k: usize) -> usize {
-        self.size
-    }
-}
-
 /// Whether the records have this number of blocks in all.
-pub(super) fn add_up_to<Z: Sizes>(sizes: Z, blocks: usize) -> bool
-    ensures { IsTrue result ↔ (sum (Z.list sizes) ≡ blocks) }
+pub(super) fn add_up_to(sizes: &[usize], blocks: usize) -> bool
+    ensures { IsTrue result ↔ (sum sizes.now ≡ blocks) }
 {
     let mut left = blocks;
-    'records: for k in 0..sizes.count() {
-        let size = sizes.of(k);
+    'records: for k in 0..sizes.len() {
+        let size = sizes[k];
         if left < size {
             return false;
         }
@@ -77,37 +33,36 @@ pub(super) fn add_up_to<Z: Sizes>(sizes: Z, blocks: usize) -> bool
     left == 0
 }
 
-/// The records from `from` on that go together, at most a batch, with the block at which the first
-/// of them begins.
+// The records from `from` on that go together, at most a batch, with the block at which the first
+// of them begins.
 #[derive(Clone, Copy)]
-pub(super) struct Group {
-    pub(super) from: usize,
-    pub(super) count: usize,
-    pub(super) start: usize,
+struct Group {
+    from: usize,
+    count: usize,
+    start: usize,
 }
 
-/// How many steps a group takes, the blocks of its longest record, and where the next one begins.
+// How many steps a group takes, the blocks of its longest record, and where the next one begins.
 #[derive(Clone, Copy)]
-pub(super) struct Extent {
-    pub(super) steps: usize,
-    pub(super) end: usize,
+struct Extent {
+    steps: usize,
+    end: usize,
 }
 
 impl Group {
-    /// The extent of the group.
-    pub(super) fn extent<Z: Sizes>(self, sizes: Z) -> Extent
-        requires within { self.from + self.count ≤ length (Z.list sizes) }
-        requires starts { self.start ≡ start (Z.list sizes) self.from }
-        requires counts { length (Z.list sizes) ≤ usize.MAX }
-        requires fits { sum (Z.list sizes) ≤ usize.MAX }
-        ensures end { result.end ≡ start (Z.list sizes) (self.from + self.count) }
+    // The extent of the group.
+    fn extent(self, sizes: &[usize]) -> Extent
+        requires within { self.from + self.count ≤ length sizes.now }
+        requires starts { self.start ≡ start sizes.now self.from }
+        requires fits { sum sizes.now ≤ usize.MAX }
+        ensures end { result.end ≡ start sizes.now (self.from + self.count) }
         ensures longest { IsLargest self.count
-            (λ k. slice_index (Z.list sizes) (self.from + k)) result.steps }
+            (λ k. slice_index sizes.now (self.from + k)) result.steps }
     {
         let mut end = self.start;
         let mut steps = 0;
         'records: for k in 0..self.count {
-            let size = sizes.of(self.from + k);
+            let size = sizes[self.from + k];
             end += size;
             steps = steps.max(size);
         }
@@ -116,27 +71,27 @@ impl Group {
 }
 
 // Makes the lane of each record of a group that has a block i, from 0, that block xor its chain.
-fn fill_lanes<Z: Sizes>(
+fn fill_lanes(
     lanes: &mut [[u8; 8]; LARGEST_BATCH],
     vectors: &[[u8; 8]],
-    sizes: Z,
+    sizes: &[usize],
     blocks: &[[u8; 8]],
     group: Group,
     i: usize,
 )
     requires few { group.count ≤ 256 }
-    requires within { group.from + group.count ≤ length (Z.list sizes) }
-    requires starts { group.start ≡ start (Z.list sizes) group.from }
-    requires vectors { length vectors.now ≡ length (Z.list sizes) }
-    requires whole { length blocks.now ≡ sum (Z.list sizes) }
-    ensures { (k : ℕ) → k < group.count → i < slice_index (Z.list sizes) (group.from + k)
+    requires within { group.from + group.count ≤ length sizes.now }
+    requires starts { group.start ≡ start sizes.now group.from }
+    requires vectors { length vectors.now ≡ length sizes.now }
+    requires whole { length blocks.now ≡ sum sizes.now }
+    ensures { (k : ℕ) → k < group.count → i < slice_index sizes.now (group.from + k)
         → block_at lanes.new k ≡ xor_blocks
-        (block_at blocks.now (start (Z.list sizes) (group.from + k) + i))
+        (block_at blocks.now (start sizes.now (group.from + k) + i))
         (block_at vectors.now (group.from + k)) }
 {
     let mut start = group.start;
     'records: for k in 0..group.count {
-        let size = sizes.of(group.from + k);
+        let size = sizes[group.from + k];
         if i < size {
             lanes[k] = xored(&blocks[start + i], &vectors[group.from + k]);
         }
@@ -146,27 +101,27 @@ fn fill_lanes<Z: Sizes>(
 
 // Makes block i, from 0, of each record of a group that has one what its lane holds, and its chain
 // too. The records that have ended stay.
-fn write_lanes<Z: Sizes>(
+fn write_lanes(
     lanes: &[[u8; 8]; LARGEST_BATCH],
     vectors: &mut [[u8; 8]],
-    sizes: Z,
+    sizes: &[usize],
     blocks: &mut [[u8; 8]],
     group: Group,
     i: usize,
 )
     requires few { group.count ≤ 256 }
-    requires within { group.from + group.count ≤ length (Z.list sizes) }
-    requires starts { group.start ≡ start (Z.list sizes) group.from }
-    requires vectors { length vectors.old ≡ length (Z.list sizes) }
-    requires whole { length blocks.old ≡ sum (Z.list sizes) }
+    requires within { group.from + group.count ≤ length sizes.now }
+    requires starts { group.start ≡ start sizes.now group.from }
+    requires vectors { length vectors.old ≡ length sizes.now }
+    requires whole { length blocks.old ≡ sum sizes.now }
     ensures count { length blocks.new ≡ length blocks.old }
     ensures vectors { length vectors.new ≡ length vectors.old }
-    ensures written { AreWritten (Z.list sizes) group.from group.count i lanes.now
+    ensures written { AreWritten sizes.now group.from group.count i lanes.now
         vectors.old blocks.old vectors.new blocks.new }
 {
     let mut start = group.start;
     'records: for k in 0..group.count {
-        let size = sizes.of(group.from + k);
+        let size = sizes[group.from + k];
         if i < size {
             blocks[start + i] = lanes[k];
             vectors[group.from + k] = lanes[k];
@@ -175,29 +130,28 @@ fn write_lanes<Z: Sizes>(
     }
 }
 
-/// Chains the records of a group in step, each by the passes of its lane.
-pub(super) fn chain_group<S: Slice, Z: Sizes>(
+// Chains the records of a group in step.
+fn chain_group<S: Slice>(
     vectors: &mut [[u8; 8]],
-    sizes: Z,
+    sizes: &[usize],
     blocks: &mut [[u8; 8]],
     group: Group,
     steps: usize,
     passes: &[PassSlices<S>],
 )
     requires few { group.count ≤ S.BATCH }
-    requires within { group.from + group.count ≤ length (Z.list sizes) }
-    requires starts { group.start ≡ start (Z.list sizes) group.from }
-    requires vectors { length vectors.old ≡ length (Z.list sizes) }
-    requires whole { length blocks.old ≡ sum (Z.list sizes) }
+    requires within { group.from + group.count ≤ length sizes.now }
+    requires starts { group.start ≡ start sizes.now group.from }
+    requires vectors { length vectors.old ≡ length sizes.now }
+    requires whole { length blocks.old ≡ sum sizes.now }
     requires longest { (k : ℕ) → k < group.count
-        → slice_index (Z.list sizes) (group.from + k) ≤ steps }
+        → slice_index sizes.now (group.from + k) ≤ steps }
     ensures count { length blocks.new ≡ length blocks.old }
     ensures vectors { length vectors.new ≡ length vectors.old }
-    ensures chained { (encryption : ℕ → List ℕ → List ℕ) (first p : List (List ℕ))
-        → ((k : ℕ) → k < group.count
-        → encryption (group.from + k) ≡ lane_answer (S.bit k) passes.now)
-        → AreChainedBelow encryption (Z.list sizes) first p vectors.old blocks.old group.from
-        → AreChainedBelow encryption (Z.list sizes) first p vectors.new blocks.new
+    ensures chained { (encryption : List ℕ → List ℕ) (first p : List (List ℕ))
+        → AreSlicesFor S.BATCH S.bit passes.now encryption
+        → AreChainedBelow encryption sizes.now first p vectors.old blocks.old group.from
+        → AreChainedBelow encryption sizes.now first p vectors.new blocks.new
         (group.from + group.count) }
 {
     let mut lanes = [[0; 8]; LARGEST_BATCH];
@@ -208,68 +162,96 @@ pub(super) fn chain_group<S: Slice, Z: Sizes>(
     }
 }
 
-/// A record, by its number from 0, with the block at which it begins.
-#[derive(Clone, Copy)]
-pub struct Record {
-    pub(super) number: usize,
-    pub(super) start: usize,
+/// Chains each record from the vector at its place, a batch of records at a time, and makes the
+/// vector the one with which the chain goes on.
+pub(super) fn chain<S: Slice>(
+    vectors: &mut [[u8; 8]],
+    sizes: &[usize],
+    blocks: &mut [[u8; 8]],
+    passes: &[PassSlices<S>],
+)
+    requires vectors { length vectors.old ≡ length sizes.now }
+    requires whole { length blocks.old ≡ sum sizes.now }
+    requires blocks { All IsBlock blocks.old }
+    ensures vectors { length vectors.new ≡ length vectors.old }
+    ensures count { length blocks.new ≡ length blocks.old }
+    ensures chained { (encryption : List ℕ → List ℕ)
+        → AreSlicesFor S.BATCH S.bit passes.now encryption
+        → CbcEach encryption sizes.now vectors.old blocks.old blocks.new }
+    ensures goes_on { (encryption : List ℕ → List ℕ)
+        → AreSlicesFor S.BATCH S.bit passes.now encryption
+        → GoOn sizes.now vectors.old blocks.new vectors.new }
+{
+    let mut from = 0;
+    let mut start = 0;
+    'groups: while from < vectors.len() {
+        let count = S::BATCH.min(vectors.len() - from);
+        let group = Group { from, count, start };
+        let extent = group.extent(sizes);
+        chain_group(vectors, sizes, blocks, group, extent.steps, passes);
+        from += count;
+        start = extent.end;
+    }
 }
 
-/// The record in which a block is, from one on that does not begin after it.
-pub(super) fn record_with<Z: Sizes>(sizes: Z, from: Record, place: usize) -> Record
-    requires starts { from.start ≡ start (Z.list sizes) from.number }
+// A record, by its number from 0, with the block at which it begins.
+#[derive(Clone, Copy)]
+struct Record {
+    number: usize,
+    start: usize,
+}
+
+// The record in which a block is, from one on that does not begin after it.
+fn record_with(sizes: &[usize], from: Record, place: usize) -> Record
+    requires starts { from.start ≡ start sizes.now from.number }
     requires before { from.start ≤ place }
-    requires within { place < sum (Z.list sizes) }
-    requires counts { length (Z.list sizes) ≤ usize.MAX }
-    requires fits { sum (Z.list sizes) ≤ usize.MAX }
-    ensures starts { result.start ≡ start (Z.list sizes) result.number }
-    ensures there { HasBlock (Z.list sizes) result.number place }
+    requires within { place < sum sizes.now }
+    requires fits { sum sizes.now ≤ usize.MAX }
+    ensures starts { result.start ≡ start sizes.now result.number }
+    ensures there { HasBlock sizes.now result.number place }
 {
     let mut number = from.number;
     let mut start = from.start;
-    'records: while start + sizes.of(number) <= place {
-        start += sizes.of(number);
+    'records: while start + sizes[number] <= place {
+        start += sizes[number];
         number += 1;
     }
     Record { number, start }
 }
 
-/// A part of the blocks: from which block on, how many, and the record that the first of them is in,
-/// or one before it.
+// A part of the blocks: from which block on, how many, and the record that the first of them is in,
+// or one before it.
 #[derive(Clone, Copy)]
-pub struct Span {
-    pub(super) from: usize,
-    pub(super) count: usize,
-    pub(super) current: Record,
+struct Span {
+    from: usize,
+    count: usize,
+    current: Record,
 }
 
-/// Takes a span of the blocks out of the chains, where the answers to its blocks are known, and
-/// returns the record of its last block, or of an empty span the one it was given.
-pub(super) fn take_out<Z: Sizes>(
+// Takes a span of the blocks out of the chains, where the answers to its blocks are known, and
+// returns the record of its last block, or of an empty span the one it was given.
+fn take_out(
     vectors: &mut [[u8; 8]],
-    sizes: Z,
+    sizes: &[usize],
     blocks: &mut [[u8; 8]],
     span: Span,
     answers: &[[u8; 8]; LARGEST_BATCH],
 ) -> Record
     requires few { span.count ≤ 256 }
     requires within { span.from + span.count ≤ length blocks.old }
-    requires starts { span.current.start ≡ start (Z.list sizes) span.current.number }
+    requires starts { span.current.start ≡ start sizes.now span.current.number }
     requires before { span.current.start ≤ span.from }
-    requires vectors { length vectors.old ≡ length (Z.list sizes) }
-    requires whole { length blocks.old ≡ sum (Z.list sizes) }
-    ensures starts { result.start ≡ start (Z.list sizes) result.number }
+    requires vectors { length vectors.old ≡ length sizes.now }
+    requires whole { length blocks.old ≡ sum sizes.now }
+    ensures starts { result.start ≡ start sizes.now result.number }
     ensures before { result.start ≤ span.from + span.count }
-    ensures last { 1 ≤ span.count
-        → HasBlock (Z.list sizes) result.number (span.from + span.count - 1) }
-    ensures none { span.count ≡ 0 → result ≡ span.current }
     ensures count { length blocks.new ≡ length blocks.old }
     ensures vectors { length vectors.new ≡ length vectors.old }
-    ensures unchained { (decryption : ℕ → List ℕ → List ℕ) (first q : List (List ℕ))
-        → ((k m : ℕ) → k < span.count → HasBlock (Z.list sizes) m (span.from + k)
-        → block_at answers.now k ≡ decryption m (block_at blocks.old (span.from + k)))
-        → AreUnchainedBelow decryption (Z.list sizes) first q vectors.old blocks.old span.from
-        → AreUnchainedBelow decryption (Z.list sizes) first q vectors.new blocks.new
+    ensures unchained { (decryption : List ℕ → List ℕ) (first q : List (List ℕ))
+        → ((k : ℕ) → k < span.count
+        → block_at answers.now k ≡ decryption (block_at blocks.old (span.from + k)))
+        → AreUnchainedBelow decryption sizes.now first q vectors.old blocks.old span.from
+        → AreUnchainedBelow decryption sizes.now first q vectors.new blocks.new
         (span.from + span.count) }
 {
     let mut record = span.current;
@@ -280,4 +262,70 @@ pub(super) fn take_out<Z: Sizes>(
         vectors[record.number] = ciphertext;
     }
     record
+}
+
+// Takes a span of the blocks, at most a batch, out of the chains, as `take_out` does.
+fn unchain_part<S: Slice>(
+    vectors: &mut [[u8; 8]],
+    sizes: &[usize],
+    blocks: &mut [[u8; 8]],
+    span: Span,
+    passes: &[PassSlices<S>],
+) -> Record
+    requires few { span.count ≤ S.BATCH }
+    requires within { span.from + span.count ≤ length blocks.old }
+    requires starts { span.current.start ≡ start sizes.now span.current.number }
+    requires before { span.current.start ≤ span.from }
+    requires vectors { length vectors.old ≡ length sizes.now }
+    requires whole { length blocks.old ≡ sum sizes.now }
+    ensures starts { result.start ≡ start sizes.now result.number }
+    ensures before { result.start ≤ span.from + span.count }
+    ensures count { length blocks.new ≡ length blocks.old }
+    ensures vectors { length vectors.new ≡ length vectors.old }
+    ensures unchained { (decryption : List ℕ → List ℕ) (first q : List (List ℕ))
+        → AreSlicesFor S.BATCH S.bit passes.now decryption
+        → AreUnchainedBelow decryption sizes.now first q vectors.old blocks.old span.from
+        → AreUnchainedBelow decryption sizes.now first q vectors.new blocks.new
+        (span.from + span.count) }
+{
+    let mut answers = [[0; 8]; LARGEST_BATCH];
+    let part = &blocks[span.from..span.from + span.count];
+    write_answers(&mut answers, part, passes);
+    take_out(vectors, sizes, blocks, span, &answers)
+}
+
+/// Takes each record out of the chain that begins with the vector at its place, a batch of blocks at
+/// a time, and makes the vector the one with which the chain goes on.
+pub(super) fn unchain<S: Slice>(
+    vectors: &mut [[u8; 8]],
+    sizes: &[usize],
+    blocks: &mut [[u8; 8]],
+    passes: &[PassSlices<S>],
+)
+    requires vectors { length vectors.old ≡ length sizes.now }
+    requires whole { length blocks.old ≡ sum sizes.now }
+    ensures vectors { length vectors.new ≡ length vectors.old }
+    ensures count { length blocks.new ≡ length blocks.old }
+    ensures unchained { (decryption : List ℕ → List ℕ)
+        → AreSlicesFor S.BATCH S.bit passes.now decryption
+        → UnchainsEach decryption sizes.now vectors.old blocks.old blocks.new }
+    ensures goes_on { (decryption : List ℕ → List ℕ)
+        → AreSlicesFor S.BATCH S.bit passes.now decryption
+        → GoOn sizes.now vectors.old blocks.old vectors.new }
+{
+    let mut current = Record {
+        number: 0,
+        start: 0,
+    };
+    let mut from = 0;
+    'parts: while from < blocks.len() {
+        let count = S::BATCH.min(blocks.len() - from);
+        let span = Span {
+            from,
+            count,
+            current,
+        };
+        current = unchain_part(vectors, sizes, blocks, span, passes);
+        from += count;
+    }
 }

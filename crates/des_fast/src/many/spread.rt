@@ -1,19 +1,17 @@
 //! Keys that are spread over slices once, for many lists.
 
-ghost use Rattle.std.specs.Prelude.{◌≡◌, ⊤, ℕ, List, map};
+ghost use Rattle.std.specs.Prelude.{◌≡◌, ◌↔◌, ℕ, List, IsTrue, IsOk, OnOk, OnErr, length, map, sum};
 ghost use Rattle.std.specs.List.{All};
 ghost use Rattle.des.specs.Blocks.{IsBlock};
 ghost use Rattle.des.specs.Cbc.{Unchains};
-ghost use Rattle.des_fast.specs.SpreadKeys.{AreSlicesFor, AreSpreadKeys, used};
+ghost use Rattle.des_fast.specs.Records.{CbcEach, UnchainsEach, GoOn};
+ghost use Rattle.des_fast.specs.SpreadKeys.{AreSpreadKeys};
 
-use super::chain_keys::ChainKeys;
 use super::lanes::LaneKeys;
 use super::passes::{spread_one, spread_three};
-use super::record_keys::RecordKeys;
-use super::records::{Sizes, Span};
-use super::{ManyBlocks, Slice, answer, chains};
+use super::{ManyBlocks, Slice, answer, chains, records};
 use crate::Des;
-use crate::slices::PassSlices;
+use des::cipher::{NotEqualError, are_blocks};
 use des::tdes::{Form, Parts, Triple};
 
 /// The keys of a cipher, spread over slices of a width, for those who have many short lists under
@@ -67,42 +65,82 @@ impl<S: Slice> SpreadKeys<S> {
     {
         chains::unchain::<S>(blocks, iv, self.decryption.passes());
     }
+
+    /// Encrypts records in place by CBC, in step: one record after another stands in `blocks`, of as
+    /// many blocks of 8 bytes as `sizes` says, and `vectors[k]` is the initialization vector of
+    /// record k, as `des::cbc::encrypt` does record by record. Each vector becomes the one with which
+    /// its chain goes on, the last ciphertext block of its record. A record may be empty. A group of
+    /// as many records as a batch has blocks takes as many batches as its longest record has blocks.
+    /// Where vectors and sizes differ in number, or the sizes do not sum up to the number of blocks,
+    /// the answer is `NotEqualError`, and vectors and blocks stay as they were.
+    pub fn encrypt_cbc_records(
+        &self,
+        vectors: &mut [[u8; 8]],
+        sizes: &[usize],
+        blocks: &mut [[u8; 8]],
+    ) -> Result<(), NotEqualError>
+        ensures vectors { All IsBlock vectors.old }
+        ensures blocks { All IsBlock blocks.old }
+        ensures accepted { IsOk result ↔ ((length vectors.old ≡ length sizes.now)
+            × (sum sizes.now ≡ length blocks.old)) }
+        ensures chained { OnOk result ((encrypted decrypted : List ℕ → List ℕ)
+            → AreSpreadKeys S.BATCH S.bit self.now encrypted decrypted
+            → CbcEach encrypted sizes.now vectors.old blocks.old blocks.new) }
+        ensures goes_on { OnOk result ((encrypted decrypted : List ℕ → List ℕ)
+            → AreSpreadKeys S.BATCH S.bit self.now encrypted decrypted
+            → GoOn sizes.now vectors.old blocks.new vectors.new) }
+        ensures count { (length vectors.new ≡ length vectors.old)
+            × (length blocks.new ≡ length blocks.old) }
+        ensures err { OnErr result ((vectors.new ≡ vectors.old) × (blocks.new ≡ blocks.old)) }
+    {
+        if !are_records(vectors, sizes, blocks) {
+            return Err(NotEqualError);
+        }
+        records::chain(vectors, sizes, blocks, self.encryption.passes());
+        Ok(())
+    }
+
+    /// Decrypts in place records that CBC chained, as `encrypt_cbc_records` does: ciphertext goes
+    /// in, the plaintext comes out, and each vector becomes the last ciphertext block of its
+    /// record. Records of any lengths take as many batches as one list of all their blocks.
+    pub fn decrypt_cbc_records(
+        &self,
+        vectors: &mut [[u8; 8]],
+        sizes: &[usize],
+        blocks: &mut [[u8; 8]],
+    ) -> Result<(), NotEqualError>
+        ensures vectors { All IsBlock vectors.old }
+        ensures blocks { All IsBlock blocks.old }
+        ensures accepted { IsOk result ↔ ((length vectors.old ≡ length sizes.now)
+            × (sum sizes.now ≡ length blocks.old)) }
+        ensures unchained { OnOk result ((encrypted decrypted : List ℕ → List ℕ)
+            → AreSpreadKeys S.BATCH S.bit self.now encrypted decrypted
+            → UnchainsEach decrypted sizes.now vectors.old blocks.old blocks.new) }
+        ensures goes_on { OnOk result ((encrypted decrypted : List ℕ → List ℕ)
+            → AreSpreadKeys S.BATCH S.bit self.now encrypted decrypted
+            → GoOn sizes.now vectors.old blocks.old vectors.new) }
+        ensures count { (length vectors.new ≡ length vectors.old)
+            × (length blocks.new ≡ length blocks.old) }
+        ensures err { OnErr result ((vectors.new ≡ vectors.old) × (blocks.new ≡ blocks.old)) }
+    {
+        if !are_records(vectors, sizes, blocks) {
+            return Err(NotEqualError);
+        }
+        records::unchain(vectors, sizes, blocks, self.decryption.passes());
+        Ok(())
+    }
 }
 
-impl<S: Slice> ChainKeys for SpreadKeys<S> {
-    type Slices = S;
-
-    ghost encrypt = { λ keys answer. (n : ℕ) → AreSlicesFor S.BATCH S.bit (used keys.encryption.is_triple keys.encryption.passes) (answer n) };
-
-    ghost are_for = { λ _ _. ⊤ };
-
-    fn are_for(&self, _count: usize) -> bool {
-        true
-    }
-
-    #[inline(always)]
-    fn encryption<'a>(
-        &'a self,
-        from: usize,
-        count: usize,
-        room: &'a mut LaneKeys<S>,
-    ) -> &'a [PassSlices<S>] {
-        self.encryption.encryption(from, count, room)
-    }
-}
-
-impl<S: Slice> RecordKeys for SpreadKeys<S> {
-    ghost decrypt = { λ keys answer. (n : ℕ) → AreSlicesFor S.BATCH S.bit (used keys.decryption.is_triple keys.decryption.passes) (answer n) };
-
-    #[inline(always)]
-    fn decryption<'a, Z: Sizes>(
-        &'a self,
-        _sizes: Z,
-        _span: Span,
-        _room: &'a mut LaneKeys<S>,
-    ) -> &'a [PassSlices<S>] {
-        self.decryption.passes()
-    }
+// Whether vectors and sizes are as many, and the sizes sum up to the number of blocks.
+fn are_records(vectors: &[[u8; 8]], sizes: &[usize], blocks: &[[u8; 8]]) -> bool
+    ensures vectors { All IsBlock vectors.now }
+    ensures blocks { All IsBlock blocks.now }
+    ensures equal { IsTrue result ↔ ((length vectors.now ≡ length sizes.now)
+        × (sum sizes.now ≡ length blocks.now)) }
+{
+    are_blocks(vectors);
+    are_blocks(blocks);
+    vectors.len() == sizes.len() && records::add_up_to(sizes, blocks.len())
 }
 
 /// A block cipher whose keys are spread once for many lists.

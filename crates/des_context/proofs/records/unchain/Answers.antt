@@ -1,10 +1,9 @@
-use Rattle.std.proofs.Common.{arith, []}
+use Rattle.std.proofs.Common.{[]}
 use Rattle.std.proofs.lemmas.List.Elements.{All-take, All-drop, All-get_or}
 use Rattle.des.specs.Blocks.{IsBlock}
 use Rattle.des_fast.proofs.RelatedChains.{Chains-related_back}
 use Rattle.des_context.specs.Records.{ChainsEach}
 use Rattle.des_context.proofs.RelationsByLength.{IsGraphOf-by_length}
-use Rattle.des_fast.proofs.SliceSizes.{spread_keys-le}
 use Rattle.des_context.proofs.records.unchain.Goals as goal
 
 -- the keys are those of the cipher, whose encryption undoes its decryption
@@ -20,18 +19,10 @@ returns-in-Ok-clause-chained g c done key context k below =
     _ _ _ (All-get_or IsBlock _ k [] below ensured.vectors)
     (All-take IsBlock _ _ (All-drop IsBlock _ _ ensured.blocks)) (g.met.C.BlockCipher.decrypted_is_block cipher)
     (g.met.C.BlockCipher.encrypts_decrypted cipher)
-    (ensured.unchained (λ _. g.C.BlockCipherDecrypt.decrypted cipher)
-    (λ n. c.spread_keys-keys.ensures.decryption) k below)
+    (ensured.unchained (g.C.BlockCipherEncrypt.encrypted cipher) (g.C.BlockCipherDecrypt.decrypted cipher)
+    c.spread_keys-keys.ensures k below)
 
 pub returns-in-Ok-clause-goes_on : goal.returns-in-Ok-clause-goes_on
 returns-in-Ok-clause-goes_on g c done =
-    c.in-Ok.ensures.goes_on (λ _. g.C.BlockCipherDecrypt.decrypted c.of.result)
-    (λ n. c.spread_keys-keys.ensures.decryption)
-
-pub decrypt_cbc_records-requires-room-Self-RecordKeys : goal.decrypt_cbc_records-requires-room-Self-RecordKeys
-decrypt_cbc_records-requires-room-Self-RecordKeys g c κs within =
-    omega (arith, spread_keys-le _ _ g.met.S.Slice.small_gaps g.met.S.Slice.few_bytes)
-
-pub decrypt_cbc_records-requires-room-Self-ChainKeys : goal.decrypt_cbc_records-requires-room-Self-ChainKeys
-decrypt_cbc_records-requires-room-Self-ChainKeys g c κs within =
-    omega (arith, spread_keys-le _ _ g.met.S.Slice.small_gaps g.met.S.Slice.few_bytes)
+    c.in-Ok.ensures.goes_on (g.C.BlockCipherEncrypt.encrypted c.of.result) (g.C.BlockCipherDecrypt.decrypted c.of.result)
+    c.spread_keys-keys.ensures

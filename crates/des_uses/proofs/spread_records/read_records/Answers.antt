@@ -1,9 +1,8 @@
-use Rattle.std.proofs.Common.{arith, ℕ, List, [], drop, slice_index, slice_index_or}
+use Rattle.std.proofs.Common.{ℕ, List, [], drop, slice_index, slice_index_or}
 use Rattle.std.proofs.lemmas.List.Elements.{All-take, All-drop, All-get_or}
 use Rattle.des.specs.Blocks.{IsBlock}
 use Rattle.des.proofs.ChainedBlocks.{Cbc-from_Unchains}
 use Rattle.des_fast.specs.Records.{start, record_of}
-use Rattle.des_fast.proofs.SliceSizes.{spread_keys-le}
 use Rattle.des_uses.proofs.spread_records.read_records.Goals as goal
 
 -- the keys are those of the cipher, whose encryption undoes its decryption
@@ -19,17 +18,11 @@ returns-clause-read g c k below =
     (All-get_or IsBlock vectors k [] below ensured.vectors)
     (All-take IsBlock (slice_index sizes k) (drop (start sizes k) q) (All-drop IsBlock (start sizes k) q ensured.blocks))
     (g.met.C.BlockCipher.decrypted_is_block cipher) (g.met.C.BlockCipher.encrypts_decrypted cipher)
-    (ensured.unchained (λ _. g.C.BlockCipherDecrypt.decrypted cipher) (λ n. c.spread_keys-keys.ensures.decryption) k below)
+    (ensured.unchained (g.C.BlockCipherEncrypt.encrypted cipher) (g.C.BlockCipherDecrypt.decrypted cipher)
+    c.spread_keys-keys.ensures k below)
 
 pub returns-clause-goes_on : goal.returns-clause-goes_on
 returns-clause-goes_on g c =
-    c.in_ok-decrypt_cbc_records.ensures.goes_on (λ _. g.C.BlockCipherDecrypt.decrypted c.args.cipher.now)
-    (λ n. c.spread_keys-keys.ensures.decryption)
-
-pub decrypt_cbc_records-requires-room-Self-RecordKeys : goal.decrypt_cbc_records-requires-room-Self-RecordKeys
-decrypt_cbc_records-requires-room-Self-RecordKeys g c κs within =
-    omega (arith, spread_keys-le _ _ g.met.S.Slice.small_gaps g.met.S.Slice.few_bytes)
-
-pub decrypt_cbc_records-requires-room-Self-ChainKeys : goal.decrypt_cbc_records-requires-room-Self-ChainKeys
-decrypt_cbc_records-requires-room-Self-ChainKeys g c κs within =
-    omega (arith, spread_keys-le _ _ g.met.S.Slice.small_gaps g.met.S.Slice.few_bytes)
+    c.in_ok-decrypt_cbc_records.ensures.goes_on (g.C.BlockCipherEncrypt.encrypted c.args.cipher.now)
+    (g.C.BlockCipherDecrypt.decrypted c.args.cipher.now)
+    c.spread_keys-keys.ensures

@@ -4,4 +4,4 @@ use Rattle.des_fast.specs.Records.{start}
 use Rattle.des_fast.proofs.many.records.add_up_to.Given as goal
 
 abbrev pub invariant-records : goal.invariant-records
-invariant-records g l = l.left + start (g.Z.Sizes.list l.sizes) l.k ≡ l.blocks
+invariant-records l = l.left + start l.sizes l.k ≡ l.blocks

@@ -5,10 +5,10 @@ use Rattle.des_fast.specs.Records.{start}
 use Rattle.des_fast.proofs.many.records.fill_lanes.Given as goal
 
 abbrev pub invariant-records : goal.invariant-records
-invariant-records g l = record {
-  starts : l.start ≡ start (g.Z.Sizes.list l.sizes) (l.group.from + l.k);
+invariant-records l = record {
+  starts : l.start ≡ start l.sizes (l.group.from + l.k);
   count : length l.lanes ≡ 256;
-  filled : (m : ℕ) → m < l.k → l.i < get_or (g.Z.Sizes.list l.sizes) (l.group.from + m) 0 → get_or l.lanes m []
-      ≡ xor_blocks (get_or l.blocks (start (g.Z.Sizes.list l.sizes) (l.group.from + m) + l.i) [])
+  filled : (m : ℕ) → m < l.k → l.i < get_or l.sizes (l.group.from + m) 0 → get_or l.lanes m []
+      ≡ xor_blocks (get_or l.blocks (start l.sizes (l.group.from + m) + l.i) [])
       (get_or l.vectors (l.group.from + m) []);
 }

@@ -4,10 +4,10 @@ use Rattle.des_fast.specs.Records.{start}
 use Rattle.des_fast.proofs.many.records.record_with.Given as goal
 
 abbrev pub invariant-records : goal.invariant-records
-invariant-records g l = record {
-  starts : l.start ≡ start (g.Z.Sizes.list l.sizes) l.number;
+invariant-records l = record {
+  starts : l.start ≡ start l.sizes l.number;
   before : l.start ≤ l.place;
 }
 
 abbrev pub decreases-records : goal.decreases-records
-decreases-records g l = length (g.Z.Sizes.list l.sizes) - l.number
+decreases-records l = length l.sizes - l.number

@@ -1,14 +1,14 @@
 -- A block more.
-use Rattle.std.proofs.Common.{◌≡◌, ℕ, ◌+◌, ◌-◌, List, [], get_or, ap, sym, ◌∙◌, arith, subst}
+use Rattle.std.proofs.Common.{◌≡◌, ℕ, ◌+◌, List, [], get_or, ap, sym, ◌∙◌, arith, subst}
 use Rattle.std.proofs.Math.ListN.{set}
 use Rattle.std.proofs.lemmas.List.{length-set, get_or-set_other}
-use Rattle.des_fast.specs.RecordStates.{HasBlock, AreUnchainedBelow}
+use Rattle.des_fast.specs.RecordStates.{AreUnchainedBelow}
 use Rattle.des_fast.proofs.UnchainedRecords.{AreUnchainedBelow-more}
 use Rattle.des_fast.proofs.many.records.take_out.Goals as goal
 
 pub answers-preserved : goal.answers-preserved
-answers-preserved g c =
-    let sizes : List ℕ = g.Z.Sizes.list c.args.sizes in
+answers-preserved c =
+    let sizes : List ℕ = c.args.sizes.now in
     let from : ℕ = c.args.span.from in
     let k : ℕ = c.answers.k in
     let at : ℕ = c.record_with-record.result.number in
@@ -19,9 +19,6 @@ answers-preserved g c =
     record {
       starts = c.record_with-record.ensures.starts;
       before = omega (arith, c.record_with-record.ensures.starts, c.record_with-record.ensures.there.from);
-      last = λ _.
-          subst (HasBlock sizes at) (omega arith) c.record_with-record.ensures.there;
-      none = λ empty. absurd (omega (arith, empty));
       in_vectors = length-set vectors at _ ∙ c.answers.invariant.in_vectors;
       in_blocks = length-set blocks (from + k) _ ∙ c.answers.invariant.in_blocks;
       rest = λ m past.
@@ -36,22 +33,13 @@ answers-preserved g c =
           (AreUnchainedBelow-more f sizes first q vectors blocks at (from + k) (get_or answers k [])
           c.record_with-record.ensures.there (c.answers.invariant.in_vectors ∙ c.requires.vectors)
           (c.answers.invariant.in_blocks ∙ c.requires.whole)
-          (answered k at (omega arith) c.record_with-record.ensures.there
-          ∙ ap (f at) (sym (c.answers.invariant.rest (from + k) (omega arith))))
+          (answered k (omega arith)
+          ∙ ap f (sym (c.answers.invariant.rest (from + k) (omega arith))))
           (c.answers.invariant.unchained f first q answered are)));
     }
 
-pub returns-clause-last : goal.returns-clause-last
-returns-clause-last g c some =
-    let all : c.answers.k ≡ c.args.span.count = omega (arith, c.answers.auto.k-end) in
-    subst (λ (n : ℕ). HasBlock (g.Z.Sizes.list c.args.sizes) c.answers.record.number (c.args.span.from + n - 1)) all
-    (c.answers.invariant.last (omega arith))
-
-pub returns-clause-none : goal.returns-clause-none
-returns-clause-none g c empty = c.answers.invariant.none (omega (arith, c.answers.auto.k-end))
-
 pub returns-clause-unchained : goal.returns-clause-unchained
-returns-clause-unchained g c f first q answered are =
+returns-clause-unchained c f first q answered are =
     let all : c.answers.k ≡ c.args.span.count = omega (arith, c.answers.auto.k-end) in
-    subst (λ (n : ℕ). AreUnchainedBelow f (g.Z.Sizes.list c.args.sizes) first q c.answers.vectors c.answers.blocks
+    subst (λ (n : ℕ). AreUnchainedBelow f c.args.sizes.now first q c.answers.vectors c.answers.blocks
     (c.args.span.from + n)) all (c.answers.invariant.unchained f first q answered are)

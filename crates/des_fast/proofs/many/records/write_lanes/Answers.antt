@@ -1,5 +1,5 @@
 -- A record more.
-use Rattle.std.proofs.Common.{◌≡◌, ℕ, ◌+◌, ◌<◌, List, [], length, get_or, ap, ap₂, sym, ◌∙◌, arith, subst}
+use Rattle.std.proofs.Common.{◌≡◌, ℕ, ◌+◌, ◌<◌, List, [], length, get_or, ap, sym, ◌∙◌, arith, subst}
 use Rattle.std.proofs.Math.ListN.{set}
 use Rattle.des_fast.specs.Records.{start}
 use Rattle.des_fast.specs.RecordStates.{AreWritten}
@@ -9,18 +9,18 @@ use Rattle.des_fast.proofs.many.records.write_lanes.Goals as goal
 use Rattle.des_fast.proofs.many.records.write_lanes.Goals.{then-i-size, else-i-size}
 
 pub bounds-blocks-start : goal.bounds-blocks-start
-bounds-blocks-start g c =
+bounds-blocks-start c =
     omega (
       arith,
       c.records.invariant.starts,
       c.records.invariant.in_blocks,
       c.requires.whole,
-      end-within (g.Z.Sizes.list c.args.sizes) (c.args.group.from + c.records.k) (omega (arith, c.requires.within)),
+      end-within c.args.sizes.now (c.args.group.from + c.records.k) (omega (arith, c.requires.within)),
     )
 
 pub records-preserved : goal.records-preserved
-records-preserved g c =
-    let sizes : List ℕ = g.Z.Sizes.list c.args.sizes in
+records-preserved c =
+    let sizes : List ℕ = c.args.sizes.now in
     let at : ℕ = c.args.group.from + c.records.k in
     let vectors : List (List ℕ) = c.args.vectors.now in
     let blocks : List (List ℕ) = c.args.blocks.now in
@@ -28,11 +28,10 @@ records-preserved g c =
     let new_vectors : List (List ℕ) = c.records.vectors in
     let new_blocks : List (List ℕ) = c.records.blocks in
     let start_is : c.records.start ≡ start sizes at = c.records.invariant.starts in
-    let size_is : c.of-size.result ≡ get_or sizes at 0 = c.of-size.ensures in
     let there : at < length sizes = omega (arith, c.requires.within) in
     let last : at + 1 ≡ c.args.group.from + (c.records.k + 1) = omega arith in
-    let next : c.records.start + c.of-size.result ≡ start sizes (c.args.group.from + (c.records.k + 1)) =
-    ap₂ ◌+◌ start_is size_is ∙ sym (start-more sizes at there) ∙ ap (start sizes) last in
+    let next : c.records.start + get_or sizes at 0 ≡ start sizes (c.args.group.from + (c.records.k + 1)) =
+    ap (λ (n : ℕ). n + get_or sizes at 0) start_is ∙ sym (start-more sizes at there) ∙ ap (start sizes) last in
     elim c.if-i-size.branch [
       | then-i-size w ↦
           let lane : List ℕ = get_or lanes c.records.k [] in

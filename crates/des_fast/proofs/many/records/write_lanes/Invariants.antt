@@ -5,10 +5,10 @@ use Rattle.des_fast.specs.RecordStates.{AreWritten}
 use Rattle.des_fast.proofs.many.records.write_lanes.Given as goal
 
 abbrev pub invariant-records : goal.invariant-records
-invariant-records g l = record {
-  starts : l.start ≡ start (g.Z.Sizes.list l.sizes) (l.group.from + l.k);
+invariant-records l = record {
+  starts : l.start ≡ start l.sizes (l.group.from + l.k);
   in_vectors : length l.vectors ≡ length l.initial.vectors;
   in_blocks : length l.blocks ≡ length l.initial.blocks;
-  written : AreWritten (g.Z.Sizes.list l.sizes) l.group.from l.k l.i l.lanes l.initial.vectors l.initial.blocks
+  written : AreWritten l.sizes l.group.from l.k l.i l.lanes l.initial.vectors l.initial.blocks
       l.vectors l.blocks;
 }

@@ -5,7 +5,7 @@ use Rattle.des_fast.specs.Records.{start}
 use Rattle.des_fast.proofs.many.records.Group.extent.Given as goal
 
 abbrev pub invariant-records : goal.invariant-records
-invariant-records g l = record {
-  ends : l.end ≡ start (g.Z.Sizes.list l.sizes) (l.self.from + l.k);
-  longest : IsLargest l.k (λ m. get_or (g.Z.Sizes.list l.sizes) (l.self.from + m) 0) l.steps;
+invariant-records l = record {
+  ends : l.end ≡ start l.sizes (l.self.from + l.k);
+  longest : IsLargest l.k (λ m. get_or l.sizes (l.self.from + m) 0) l.steps;
 }

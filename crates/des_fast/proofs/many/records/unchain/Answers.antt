@@ -1,7 +1,7 @@
 -- A part more.
 use Rattle.std.proofs.Common.{refl, ◌∙◌, arith}
 use Rattle.des_fast.proofs.UnchainedRecords.{AreUnchainedBelow-none, UnchainsEach-all, GoOn-unchained}
-use Rattle.des_fast.proofs.many.record_keys.unchain.Goals as goal
+use Rattle.des_fast.proofs.many.records.unchain.Goals as goal
 
 pub parts-init : goal.parts-init
 parts-init g c = record {
@@ -11,7 +11,7 @@ parts-init g c = record {
   in_vectors = refl;
   in_blocks = refl;
   unchained = λ decryption are.
-      AreUnchainedBelow-none decryption (g.Z.Sizes.list c.args.sizes) c.args.vectors.now c.args.blocks.now;
+      AreUnchainedBelow-none decryption c.args.sizes.now c.args.vectors.now c.args.blocks.now;
 }
 
 pub parts-preserved : goal.parts-preserved
@@ -22,18 +22,18 @@ parts-preserved g c = record {
   in_vectors = c.unchain_part-current.ensures.vectors ∙ c.parts.invariant.in_vectors;
   in_blocks = c.unchain_part-current.ensures.count ∙ c.parts.invariant.in_blocks;
   unchained = λ decryption are.
-      c.unchain_part-current.ensures.unchained decryption are c.args.vectors.now c.args.blocks.now
+      c.unchain_part-current.ensures.unchained decryption c.args.vectors.now c.args.blocks.now are
       (c.parts.invariant.unchained decryption are);
 }
 
 pub returns-clause-unchained : goal.returns-clause-unchained
 returns-clause-unchained g c decryption are =
-    UnchainsEach-all decryption (g.Z.Sizes.list c.args.sizes) c.args.vectors.now c.args.blocks.now
+    UnchainsEach-all decryption c.args.sizes.now c.args.vectors.now c.args.blocks.now
     c.parts.vectors c.parts.blocks c.parts.from c.requires.vectors c.requires.whole c.parts.invariant.in_blocks
     (omega arith) (c.parts.invariant.unchained decryption are)
 
 pub returns-clause-goes_on : goal.returns-clause-goes_on
 returns-clause-goes_on g c decryption are =
-    GoOn-unchained decryption (g.Z.Sizes.list c.args.sizes) c.args.vectors.now c.args.blocks.now
+    GoOn-unchained decryption c.args.sizes.now c.args.vectors.now c.args.blocks.now
     c.parts.vectors c.parts.blocks c.parts.from c.requires.vectors c.requires.whole
     (omega arith) (c.parts.invariant.unchained decryption are)

@@ -2,16 +2,17 @@
 use Rattle.std.proofs.Common.{◌≡◌, ◌-◌, ◌≤◌, ℕ, List, length}
 use Rattle.des_fast.specs.Records.{start}
 use Rattle.des_fast.specs.RecordStates.{AreChainedBelow}
-use Rattle.des_fast.proofs.many.record_keys.chain.Given as goal
+use Rattle.des_fast.specs.SpreadKeys.{AreSlicesFor}
+use Rattle.des_fast.proofs.many.records.chain.Given as goal
 
 abbrev pub invariant-groups : goal.invariant-groups
 invariant-groups g l = record {
   within : l.from ≤ length l.initial.vectors;
-  starts : l.start ≡ start (g.Z.Sizes.list l.sizes) l.from;
+  starts : l.start ≡ start l.sizes l.from;
   in_vectors : length l.vectors ≡ length l.initial.vectors;
   in_blocks : length l.blocks ≡ length l.initial.blocks;
-  chained : (encryption : ℕ → List ℕ → List ℕ) → g.K.ChainKeys.encrypt l.keys encryption
-      → AreChainedBelow encryption (g.Z.Sizes.list l.sizes) l.initial.vectors l.initial.blocks l.vectors l.blocks
+  chained : (encryption : List ℕ → List ℕ) → AreSlicesFor g.S.Slice.BATCH g.S.Slice.bit l.passes encryption
+      → AreChainedBelow encryption l.sizes l.initial.vectors l.initial.blocks l.vectors l.blocks
       l.from;
 }
 

@@ -2,17 +2,18 @@
 use Rattle.std.proofs.Common.{◌≡◌, ◌-◌, ◌≤◌, ℕ, List, length}
 use Rattle.des_fast.specs.Records.{start}
 use Rattle.des_fast.specs.RecordStates.{AreUnchainedBelow}
-use Rattle.des_fast.proofs.many.record_keys.unchain.Given as goal
+use Rattle.des_fast.specs.SpreadKeys.{AreSlicesFor}
+use Rattle.des_fast.proofs.many.records.unchain.Given as goal
 
 abbrev pub invariant-parts : goal.invariant-parts
 invariant-parts g l = record {
   within : l.from ≤ length l.initial.blocks;
-  starts : l.current.start ≡ start (g.Z.Sizes.list l.sizes) l.current.number;
+  starts : l.current.start ≡ start l.sizes l.current.number;
   before : l.current.start ≤ l.from;
   in_vectors : length l.vectors ≡ length l.initial.vectors;
   in_blocks : length l.blocks ≡ length l.initial.blocks;
-  unchained : (decryption : ℕ → List ℕ → List ℕ) → g.K.RecordKeys.decrypt l.keys decryption
-      → AreUnchainedBelow decryption (g.Z.Sizes.list l.sizes) l.initial.vectors l.initial.blocks l.vectors l.blocks
+  unchained : (decryption : List ℕ → List ℕ) → AreSlicesFor g.S.Slice.BATCH g.S.Slice.bit l.passes decryption
+      → AreUnchainedBelow decryption l.sizes l.initial.vectors l.initial.blocks l.vectors l.blocks
       l.from;
 }
 

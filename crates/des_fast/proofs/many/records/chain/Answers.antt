@@ -1,8 +1,7 @@
 -- A group more.
-use Rattle.std.proofs.Common.{length, refl, ◌∙◌, arith}
-use Rattle.des_fast.proofs.SliceSizes.{pass_slices-le, lane_keys-le}
+use Rattle.std.proofs.Common.{refl, ◌∙◌, arith}
 use Rattle.des_fast.proofs.ChainedRecords.{AreChainedBelow-none, CbcEach-all, GoOn-chained}
-use Rattle.des_fast.proofs.many.record_keys.chain.Goals as goal
+use Rattle.des_fast.proofs.many.records.chain.Goals as goal
 
 pub groups-init : goal.groups-init
 groups-init g c = record {
@@ -11,24 +10,8 @@ groups-init g c = record {
   in_vectors = refl;
   in_blocks = refl;
   chained = λ encryption are.
-      AreChainedBelow-none encryption (g.Z.Sizes.list c.args.sizes) c.args.vectors.now c.args.blocks.now;
+      AreChainedBelow-none encryption c.args.sizes.now c.args.vectors.now c.args.blocks.now;
 }
-
-pub encryption-passes-requires : goal.encryption-passes-requires
-encryption-passes-requires g c = (
-  omega (arith, lane_keys-le _ _ g.met.K.Slices.Slice.small_gaps g.met.K.Slices.Slice.few_bytes),
-  (
-    omega (arith, pass_slices-le _ _ g.met.K.Slices.Slice.small_gaps g.met.K.Slices.Slice.few_bytes),
-    (
-      omega (arith, c.min-count.ensures, c.BATCH.ensures),
-      (
-        length c.args.vectors.now,
-        c.requires.keys,
-        omega (arith, c.min-count.ensures, c.groups.invariant.in_vectors),
-      ),
-    ),
-  ),
-)
 
 pub groups-preserved : goal.groups-preserved
 groups-preserved g c = record {
@@ -38,17 +21,17 @@ groups-preserved g c = record {
   in_blocks = c.chain_group.ensures.count ∙ c.groups.invariant.in_blocks;
   chained = λ encryption are.
       c.chain_group.ensures.chained encryption c.args.vectors.now c.args.blocks.now
-      (c.encryption-passes.ensures encryption are) (c.groups.invariant.chained encryption are);
+      are (c.groups.invariant.chained encryption are);
 }
 
 pub returns-clause-chained : goal.returns-clause-chained
 returns-clause-chained g c encryption are =
-    CbcEach-all encryption (g.Z.Sizes.list c.args.sizes) c.args.vectors.now c.args.blocks.now
+    CbcEach-all encryption c.args.sizes.now c.args.vectors.now c.args.blocks.now
     c.groups.vectors c.groups.blocks c.groups.from c.requires.vectors c.requires.whole c.groups.invariant.in_blocks
     c.requires.blocks (omega arith) (c.groups.invariant.chained encryption are)
 
 pub returns-clause-goes_on : goal.returns-clause-goes_on
 returns-clause-goes_on g c encryption are =
-    GoOn-chained encryption (g.Z.Sizes.list c.args.sizes) c.args.vectors.now c.args.blocks.now
+    GoOn-chained encryption c.args.sizes.now c.args.vectors.now c.args.blocks.now
     c.groups.vectors c.groups.blocks c.groups.from c.requires.vectors c.requires.whole c.groups.invariant.in_blocks
     (omega arith) (c.groups.invariant.chained encryption are)

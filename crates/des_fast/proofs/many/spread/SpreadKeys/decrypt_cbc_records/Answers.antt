@@ -1,0 +1,17 @@
+use Rattle.std.proofs.Common.{sym, subst, arith}
+use Rattle.des_fast.specs.SpreadKeys.{AreSlicesFor}
+use Rattle.des_fast.proofs.SliceSizes.{lane_keys-le}
+use Rattle.des_fast.proofs.many.spread.SpreadKeys.decrypt_cbc_records.Goals as goal
+
+pub passes-requires : goal.passes-requires
+passes-requires g c = omega (arith, lane_keys-le _ _ g.met.S.Slice.small_gaps g.met.S.Slice.few_bytes)
+
+pub returns-clause-unchained : goal.returns-clause-unchained
+returns-clause-unchained g c encrypted decrypted are =
+    c.unchain.ensures.unchained decrypted
+    (subst (λ passes. AreSlicesFor g.S.Slice.BATCH g.S.Slice.bit passes decrypted) (sym c.passes.ensures) are.decryption)
+
+pub returns-clause-goes_on : goal.returns-clause-goes_on
+returns-clause-goes_on g c encrypted decrypted are =
+    c.unchain.ensures.goes_on decrypted
+    (subst (λ passes. AreSlicesFor g.S.Slice.BATCH g.S.Slice.bit passes decrypted) (sym c.passes.ensures) are.decryption)
