@@ -39,7 +39,6 @@ mod spread;
 pub use crate::slices::Slice;
 use crate::slices::{LARGEST_BATCH, PassSlices};
 pub use batches::MOST_NARROW;
-pub use chain_keys::{ChainKeys, EachKey};
 use des::cbc;
 use des::cipher::{Relating, are_blocks};
 pub use each_key::KeyForEach;

@@ -15,6 +15,7 @@ mod keys;
 mod passes;
 mod rounds;
 mod rows;
+mod selection;
 mod transposition;
 mod vectors;
 

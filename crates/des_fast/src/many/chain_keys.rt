@@ -1,14 +1,12 @@
 //! Keys of chains: one for all, or one for each.
 
-ghost use Rattle.std.specs.Prelude.{◌≡◌, ◌↔◌, ◌≤◌, ◌<◌, ◌+◌, ℕ, List, IsTrue, length, map};
-ghost use Rattle.des_fast.specs.ChainEnds.{under_key};
+ghost use Rattle.std.specs.Prelude.{◌≡◌, ◌↔◌, ◌≤◌, ◌<◌, ◌+◌, ⊤, ℕ, List, IsTrue};
 ghost use Rattle.des_fast.specs.EachKey.{lane_answer};
+ghost use Rattle.des_fast.specs.SpreadKeys.{AreSlicesFor, used};
 
 use super::Slice;
-use super::each_key::KeyForEach;
 use super::lanes::LaneKeys;
 use crate::slices::PassSlices;
-use std::marker::PhantomData;
 
 /// Keys under which chains go in step, by the number of a chain from 0: one for all, or one for
 /// each.
@@ -41,43 +39,25 @@ pub trait ChainKeys {
             → encryption (from + k) ≡ lane_answer (Self.Slices.bit k) result.now };
 }
 
-/// A key for each chain; a record is one.
-#[derive(Drop)]
-pub struct EachKey<'a, S, C: KeyForEach> {
-    pub(super) keys: &'a [C::Key],
-    slices: PhantomData<S>,
-}
-
-impl<'a, S: Slice, C: KeyForEach> EachKey<'a, S, C> {
-    /// These keys, in the order of the chains.
-    pub fn new(keys: &'a [C::Key]) -> EachKey<'a, S, C>
-        ensures { result.keys.now ≡ keys.now }
-    {
-        EachKey {
-            keys,
-            slices: PhantomData,
-        }
-    }
-}
-
-impl<'a, S: Slice, C: KeyForEach> ChainKeys for EachKey<'a, S, C> {
+// One key for all chains, where all lanes have the same: of other keys `encrypt` says nothing.
+impl<S: Slice> ChainKeys for LaneKeys<S> {
     type Slices = S;
 
-    ghost encrypt = { λ it answer. answer ≡ under_key C.encryption (map C.Key.bytes_of it.keys.now) };
+    ghost encrypt = { λ keys answer. (n : ℕ) → AreSlicesFor S.BATCH S.bit (used keys.is_triple keys.passes) (answer n) };
 
-    ghost are_for = { λ it count. length it.keys.now ≡ count };
+    ghost are_for = { λ _ _. ⊤ };
 
-    fn are_for(&self, count: usize) -> bool {
-        self.keys.len() == count
+    fn are_for(&self, _count: usize) -> bool {
+        true
     }
 
-    fn encryption<'b>(
-        &'b self,
-        from: usize,
-        count: usize,
-        room: &'b mut LaneKeys<S>,
-    ) -> &'b [PassSlices<S>] {
-        C::spread_each::<S>(&self.keys[from..from + count], false, room);
-        room.passes()
+    #[inline(always)]
+    fn encryption<'a>(
+        &'a self,
+        _from: usize,
+        _count: usize,
+        _room: &'a mut LaneKeys<S>,
+    ) -> &'a [PassSlices<S>] {
+        self.passes()
     }
 }

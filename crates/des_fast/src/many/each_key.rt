@@ -1,4 +1,4 @@
-//! Lists in which each block, each chain or each record has a key of its own.
+//! Lists in which each block or each chain has a key of its own.
 
 ghost use Rattle.std.specs.Prelude.{◌≡◌, ◌↔◌, ◌≤◌, IsOk, OnOk, OnErr, length, map};
 ghost use Rattle.std.specs.Simd.Lanes.{zip2};
@@ -8,12 +8,14 @@ ghost use Rattle.des_fast.specs.EachKey.{lane_answer, last_part, triple_parts};
 ghost use Rattle.des_fast.specs.LaneKeys.{AnswerLanes, answer_in};
 ghost use Rattle.des_fast.specs.ChainEnds.{AreEnds, under_key};
 
-use super::chain_keys::EachKey;
+use super::chain_keys::ChainKeys;
 use super::lanes::{LaneKeys, Part, answer_lanes_part};
 use super::{BlockLists, LARGEST_BATCH, Slice, ends};
 use crate::Des;
+use crate::slices::PassSlices;
 use des::cipher::{KeyedCipher, NotEqualError};
 use des::tdes::{Form, Parts, Triple};
+use std::marker::PhantomData;
 
 /// A block cipher that takes a list in which each block has a key of its own. Nothing is kept of
 /// the keys, and no call reads a table at an index that depends on a key or a block.
@@ -98,6 +100,47 @@ pub trait KeyForEach: KeyedCipher + Sized {
         }
         ends::end(&EachKey::<S, Self>::new(keys), chains, lists);
         Ok(())
+    }
+}
+
+// A key for each chain.
+#[derive(Drop)]
+struct EachKey<'a, S, C: KeyForEach> {
+    keys: &'a [C::Key],
+    slices: PhantomData<S>,
+}
+
+impl<'a, S: Slice, C: KeyForEach> EachKey<'a, S, C> {
+    // These keys, in the order of the chains.
+    fn new(keys: &'a [C::Key]) -> EachKey<'a, S, C>
+        ensures { result.keys.now ≡ keys.now }
+    {
+        EachKey {
+            keys,
+            slices: PhantomData,
+        }
+    }
+}
+
+impl<'a, S: Slice, C: KeyForEach> ChainKeys for EachKey<'a, S, C> {
+    type Slices = S;
+
+    ghost encrypt = { λ it answer. answer ≡ under_key C.encryption (map C.Key.bytes_of it.keys.now) };
+
+    ghost are_for = { λ it count. length it.keys.now ≡ count };
+
+    fn are_for(&self, count: usize) -> bool {
+        self.keys.len() == count
+    }
+
+    fn encryption<'b>(
+        &'b self,
+        from: usize,
+        count: usize,
+        room: &'b mut LaneKeys<S>,
+    ) -> &'b [PassSlices<S>] {
+        C::spread_each::<S>(&self.keys[from..from + count], false, room);
+        room.passes()
     }
 }
 

@@ -3,16 +3,15 @@
 //! The keys are transposed as blocks are, and their bits stand in slices as those of one key do
 //! that is spread: a round takes as long as under one key.
 
-ghost use Rattle.std.specs.Prelude.{◌≡◌, ◌≤◌, ◌<◌, ◌+◌, ◌*◌, ◌&&◌, ⊤, ℕ, [], ◌∷◌, IsTrue, length, map, nat_lt};
+ghost use Rattle.std.specs.Prelude.{◌≡◌, ◌≤◌, ◌<◌, ◌+◌, ◌*◌, ◌&&◌, ℕ, [], ◌∷◌, IsTrue, length, map, nat_lt};
 ghost use Rattle.std.specs.List.{list_all};
 ghost use Rattle.des.specs.Blocks.{part};
 ghost use Rattle.des_fast.specs.Slices.{InEachBlock};
 ghost use Rattle.des_fast.specs.Transposition.{block_at};
 ghost use Rattle.des_fast.specs.RoundKeySlices.{round_keys_in};
-ghost use Rattle.des_fast.specs.SpreadKeys.{AreSlicesFor, used};
+ghost use Rattle.des_fast.specs.SpreadKeys.{used};
 ghost use Rattle.des_fast.specs.EachKey.{round_keys_under, round_keys_of_parts, AreSpreadBelow, lane_answer};
 
-use super::chain_keys::ChainKeys;
 use super::{LARGEST_BATCH, Slice};
 use crate::slices::{PassSlices, read_blocks, slices_through_passes, write_blocks};
 use des::cipher::KeyBytes;
@@ -89,29 +88,6 @@ impl<S: Slice> LaneKeys<S> {
     {
         spread_parts(&mut self.passes, keys, parts);
         self.is_triple = true;
-    }
-}
-
-// One key for all chains, where all lanes have the same: of other keys `encrypt` says nothing.
-impl<S: Slice> ChainKeys for LaneKeys<S> {
-    type Slices = S;
-
-    ghost encrypt = { λ keys answer. (n : ℕ) → AreSlicesFor S.BATCH S.bit (used keys.is_triple keys.passes) (answer n) };
-
-    ghost are_for = { λ _ _. ⊤ };
-
-    fn are_for(&self, _count: usize) -> bool {
-        true
-    }
-
-    #[inline(always)]
-    fn encryption<'a>(
-        &'a self,
-        _from: usize,
-        _count: usize,
-        _room: &'a mut LaneKeys<S>,
-    ) -> &'a [PassSlices<S>] {
-        self.passes()
     }
 }
 
@@ -194,8 +170,8 @@ pub(super) fn answer_lanes<S: Slice>(blocks: &mut [[u8; 8]], passes: &[PassSlice
     write_blocks(blocks, &mut slices);
 }
 
-/// Takes the first lanes, a batch, through passes. It is a function for the proof's sake: of an
-/// array that is lent it knows the length where it is a parameter.
+/// A function for the proof alone: takes the first lanes, a batch, through passes. Of an array that is
+/// lent the proof knows the length where it is a parameter.
 pub(super) fn answer_filled<S: Slice>(
     lanes: &mut [[u8; 8]; LARGEST_BATCH],
     passes: &[PassSlices<S>],

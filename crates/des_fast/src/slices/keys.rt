@@ -10,7 +10,7 @@ ghost use Rattle.des_fast.specs.Transposition.{block_at};
 ghost use Rattle.des_fast.specs.RoundKeySlices.{halves_in, StandTwiceBelow, round_keys_of_pass, round_keys_in};
 ghost use Rattle.des_fast.specs.EachKey.{round_keys_under};
 
-use super::passes::write_selection;
+use super::selection::write_selection;
 use super::transposition::Rows;
 use super::{Slice, read_blocks};
 use crate::halves::RoundKey;

@@ -9,7 +9,7 @@ use Rattle.std.proofs.lemmas.List.Sums.{AllPass-from_list_all}
 use Rattle.des.specs.Bits.{bit}
 use Rattle.des_fast.proofs.WrittenElements.{bits_written_below}
 use Rattle.des_fast.proofs.KeySlices.{bits-selection}
-use Rattle.des_fast.proofs.slices.passes.write_selection.Goals as goal
+use Rattle.des_fast.proofs.slices.selection.write_selection.Goals as goal
 
 -- a position is one of 64, from 1
 place_of : (positions : List ℕ) (i : ℕ) → i < length positions

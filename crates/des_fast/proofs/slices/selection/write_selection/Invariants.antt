@@ -2,7 +2,7 @@
 use Rattle.std.proofs.Common.{◌≡◌, ℕ, ◌<◌, false, map, get_or, length}
 use Rattle.des.specs.Bits.{bit}
 use Rattle.des_fast.specs.Slices.{InEachBlock}
-use Rattle.des_fast.proofs.slices.passes.write_selection.Given as goal
+use Rattle.des_fast.proofs.slices.selection.write_selection.Given as goal
 
 abbrev pub invariant-loop-i : goal.invariant-loop-i
 invariant-loop-i g l =

@@ -1,9 +1,9 @@
--- Lane k has the key of record `from + k`.
+-- Lane k has the key of chain `from + k`.
 use Rattle.std.proofs.Common.{◌≡◌, ◌≤◌, ℕ, ◌+◌, ◌-◌, List, length, map, take, drop, ap, sym, ◌∙◌, arith, length-take-le}
 use Rattle.std.proofs.lemmas.List.{length-map, length-drop}
 use Rattle.des_fast.specs.EachKey.{lane_answer}
 use Rattle.des_fast.proofs.KeysAtPlaces.{under_key-part}
-use Rattle.des_fast.proofs.many.chain_keys.EachKeyChainKeys.encryption.Goals as goal
+use Rattle.des_fast.proofs.many.each_key.EachKeyChainKeys.encryption.Goals as goal
 
 pub returns : goal.returns
 returns g c encryption are k below =

@@ -1,7 +1,7 @@
 -- All lanes answer alike.
 use Rattle.std.proofs.Common.{◌+◌, ap, sym, ◌∙◌, arith}
 use Rattle.des_fast.specs.EachKey.{lane_answer}
-use Rattle.des_fast.proofs.many.lanes.LaneKeysChainKeys.encryption.Goals as goal
+use Rattle.des_fast.proofs.many.chain_keys.LaneKeysChainKeys.encryption.Goals as goal
 
 pub returns : goal.returns
 returns g c answer are k below =
