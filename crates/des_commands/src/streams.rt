@@ -88,7 +88,7 @@ pub fn cipher_of<C: KeyedCipher>(key: &C::Key) -> C
     C::new(key)
 }
 
-// The vector that a chain goes on from is a block: it does nothing, and says so.
+// A function for the proof alone: the vector that a chain goes on from is a block.
 fn goes_on_from_block(mode: Mode)
     ensures { GoesOnFromBlock mode }
 {

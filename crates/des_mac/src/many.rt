@@ -83,7 +83,7 @@ fn clear(blocks: &mut [[u8; 8]])
     }
 }
 
-// Keys have as many bytes as a key has. It does nothing: a proof learns it by this clause.
+// A function for the proof alone: keys have as many bytes as a key has.
 fn are_keys<K: KeyBytes>(keys: &[K])
     ensures { (k : ℕ) → k < length keys.now
         → length (slice_index_or (map K.bytes_of keys.now) k []) ≡ K.LEN }

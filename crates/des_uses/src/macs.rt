@@ -43,7 +43,7 @@ pub fn accepts<M: Mac>(key: &[u8], message: &[u8], tag: &[u8]) -> Result<bool, I
     Ok(state.verify_truncated_left(tag).is_ok())
 }
 
-/// Two messages whose padded bytes are the same are one message.
+/// A function for the proof alone: two messages whose padded bytes are the same are one message.
 pub fn are_one_message<P: UnambiguousPadding>(message: &[u8], other: &[u8])
     requires { padded P.padding_after message.now ≡ padded P.padding_after other.now }
     ensures { message.now ≡ other.now }

@@ -10,9 +10,9 @@ ghost use Rattle.des_fast.specs.Transposition.{AreRowsOf, AreBlocksOfRows};
 use super::Slice;
 use super::transposition::Rows;
 
-/// The word of a block, whose first byte is the least significant: in a vector the bytes then stand
-/// as in memory. This and the next are functions for the proof's sake: of an element of a list of
-/// blocks it knows nothing but that it is one.
+/// A function for the proof alone: the word of a block, whose first byte is the least significant. In
+/// a vector the bytes then stand as in memory. Of an element of a list of blocks the proof knows
+/// nothing but that it is one.
 #[inline(always)]
 pub(super) fn little_endian_word(block: &[u8; 8]) -> u64
     ensures { to_le_bytes w64 result ≡ block.now }
@@ -20,7 +20,7 @@ pub(super) fn little_endian_word(block: &[u8; 8]) -> u64
     u64::from_le_bytes(*block)
 }
 
-/// The block of a word, whose first byte is the least significant.
+/// A function for the proof alone: the block of a word, whose first byte is the least significant.
 #[inline(always)]
 pub(super) fn little_endian_block(word: u64) -> [u8; 8]
     ensures { result ≡ block_of_bits (bits_of_bytes (to_le_bytes w64 word)) }
