@@ -1,8 +1,6 @@
 //! Base64 (RFC 4648, section 4) in lines, as PEM has it.
 
-ghost use Rattle.std.specs.Prelude.{◌≡◌, ℕ, ◌+◌, ◌<◌, ◌^◌, List, length, IfOk};
-ghost use Rattle.base64.specs.Engines.{standard};
-ghost use Rattle.base64.specs.GeneralPurpose.{IsBytes, encode_of};
+ghost use Rattle.std.specs.Prelude.{◌≡◌, ◌+◌, ◌<◌, ◌^◌, length, IfOk};
 ghost use Rattle.des_passwords.specs.Base64Lines.{Gives, bytes_in, characters_in, line_at, place_of};
 ghost use Rattle.des_passwords.specs.TextLines.{lines_of};
 
@@ -85,11 +83,6 @@ pub(crate) fn decode_lines(
 ) -> Result<Vec<u8>, Base64Error>
     requires { number + length text.now < 2 ^ 64 }
     ensures read { Gives (λ bytes. bytes.items) result (bytes_in number (lines_of text.now)) }
-    ensures spelled { IfOk result
-        (λ bytes. encode_of standard bytes.items ≡ characters_in (lines_of text.now)) }
-    ensures accepted { (bytes : List ℕ) → IsBytes bytes
-        → encode_of standard bytes ≡ characters_in (lines_of text.now)
-        → Gives (λ read. read.items) result (Ok bytes) }
 {
     let characters = characters_of(alloc, text)?;
     match STANDARD.decode(alloc, characters.as_slice()) {
