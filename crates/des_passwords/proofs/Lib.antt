@@ -15,5 +15,5 @@ mod KnownAnswers
 mod KnownBase64
 mod KnownPem
 pub mod LinesOfPem
-pub mod StreamedCharacters
+pub mod DecodedTexts
 pub mod XoredBytes

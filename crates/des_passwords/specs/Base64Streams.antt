@@ -1,13 +1,11 @@
 -- Base64 (RFC 4648, section 4) in lines, as a stream gives it, a byte after another: the characters that the lines have
 -- without the blanks at their ends, and the line of the first character that can't stand where it does.
-use Rattle.std.specs.Prelude.{◌≡◌, ◌≢◌, ℕ, ◌+◌, ◌%◌, ◌-◌, ◌^◌, min, ◌==◌, ◌&&◌, ◌||◌, Bool, true, false, not, if◌then◌else◌, List, [], ◌∷◌, Option, Some, None, option_map, Result, Ok, Err}
-use Rattle.std.specs.IoError.{error_kind}
-use Rattle.std.specs.declared.io.Error.{Error}
-use Rattle.std.specs.declared.io.ErrorKind.TheVariants.{InvalidData}
+use Rattle.std.specs.Prelude.{ℕ, ◌+◌, ◌%◌, ◌-◌, ◌^◌, min, ◌==◌, ◌&&◌, ◌||◌, Bool, true, false, not, if◌then◌else◌, List, Option, Some, None, option_map}
 use Rattle.std.specs.Char.{is_ascii_alphanumeric, is_ascii_whitespace}
 use Rattle.base64.specs.declared.engine.general_purpose.GeneralPurpose.{GeneralPurpose}
 use Rattle.base64.specs.GeneralPurpose.{decoded_of}
 use Rattle.base64.specs.Read.{decoder_remaining, outlook, Outlook}
+use Rattle.des_passwords.specs.Decoding.{given_by}
 use Rattle.des_passwords.specs.declared.base64_reader.Base64Reader.{Base64Reader}
 use Rattle.des_passwords.specs.declared.base64_reader.Characters.{Characters}
 use Rattle.des_passwords.specs.declared.base64_reader.Place.{Place}
@@ -65,25 +63,15 @@ after position byte =
 
 -- the character that a byte gives: none that is a blank, and in place of one that follows a blank of its line the blank,
 -- which is no symbol
-unfoldable pub character_of : Place → ℕ → Option ℕ
-character_of place byte =
+unfoldable pub character_of : Position → ℕ → Option ℕ
+character_of position byte =
     if is_ascii_whitespace byte then None
-    else if is_gap place then Some 32
+    else if is_gap position.place then Some 32
     else Some byte
 
-abbrev pub in_front : Option ℕ → List ℕ → List ℕ
-in_front None characters = characters
-in_front (Some character) characters = character ∷ characters
-
--- the characters of a text from a position on, and the position after it
-unfoldable pub characters_from : Position → List ℕ → List ℕ
-characters_from position [] = []
-characters_from position (byte ∷ rest) =
-    in_front (character_of position.place byte) (characters_from (after position byte) rest)
-
-unfoldable pub after_all : Position → List ℕ → Position
-after_all position [] = position
-after_all position (byte ∷ rest) = after_all (after position byte) rest
+-- the characters of a text from a position on
+abbrev pub characters_from : Position → List ℕ → List ℕ
+characters_from position text = given_by after character_of position text
 
 -- ---- readers
 
@@ -99,12 +87,6 @@ module _ {R : Type 0} (remaining : R → Option (List ℕ)) where
   -- the same, and whether the text decodes
   abbrev pub outlook_on : Base64Reader R → Outlook
   outlook_on reader = outlook characters_remaining reader.decoder
-
--- a read that fails by what is no Base64 is marked, and no other
-abbrev pub MarksFault : (old : Bool) → Result ℕ Error → (new : Bool) → Type 0
-MarksFault old (Ok count) new = new ≡ old
-MarksFault old (Err error) new =
-    (error_kind error ≡ InvalidData → new ≡ true) × (error_kind error ≢ InvalidData → new ≡ old)
 
 -- the bytes that a text encodes, where it is Base64 as an engine decodes it
 abbrev pub bytes_of : GeneralPurpose → List ℕ → Option (List ℕ)

@@ -1,4 +1,5 @@
 pub mod Base64Lines
+pub mod Decoding
 pub mod BytesToKey
 pub mod Der
 pub mod DerReading

@@ -1,14 +1,16 @@
 //! Base64 (RFC 4648, section 4) in lines, decoded as it is read.
 
-ghost use Rattle.std.specs.Prelude.{◌≡◌, ◌≤◌, ◌++◌, ◌↔◌, true, false, length, IsSome, take, Ok, option_map, option_and_then};
+ghost use Rattle.std.specs.Prelude.{◌≡◌, ◌↔◌, true, false, length, IsSome, Ok, option_map, option_and_then};
 ghost use Rattle.std.specs.Io.{ReadsAtMost};
 ghost use Rattle.std.specs.Io.KnownBytes.{ReadConsumes};
 ghost use Rattle.base64.specs.Read.{IsInvalid};
-ghost use Rattle.des_passwords.specs.Base64Streams.{after as after_byte, after_all, after_blank, after_character, beginning, bytes_of, bytes_remaining, can_stand, character_of, characters_from, characters_remaining, is_symbol as is_symbol_of, MarksFault, outlook_on};
+ghost use Rattle.des_passwords.specs.Decoding.{MarksFault};
+ghost use Rattle.des_passwords.specs.Base64Streams.{after as after_byte, after_character, bytes_of, bytes_remaining, can_stand, character_of, characters_remaining, is_symbol as is_symbol_of, outlook_on};
 
+use crate::decoding::{Decoding, mark_fault, read_decoded};
 use base64::engine::general_purpose::GeneralPurpose;
 use base64::read::DecoderReader;
-use std::io::{self, ErrorKind, Read};
+use std::io::{self, Read};
 
 /// Where a byte stands in its line.
 #[derive(Clone, Copy, PartialEq, Eq)]
@@ -83,12 +85,29 @@ impl Position {
             fault,
         }
     }
+}
 
-    // The position after a byte more.
+impl Decoding for Position {
+    ghost given_of = { character_of };
+
+    ghost after_of = { after_byte };
+
+    ghost is_stuck_of = { λ _. false };
+
+    // A blank within a line stands for what follows it: that can't be decoded.
+    #[tactic(auto, unfolding(crate::specs::Base64Streams::character_of))]
+    fn given(self, byte: u8) -> Option<u8> {
+        if byte.is_ascii_whitespace() {
+            None
+        } else if self.place == Place::Gap {
+            Some(b' ')
+        } else {
+            Some(byte)
+        }
+    }
+
     #[tactic(auto, unfolding(crate::specs::Base64Streams::after))]
-    fn after(self, byte: u8) -> Position
-        ensures { result ≡ after_byte self byte }
-    {
+    fn after(self, byte: u8) -> Position {
         if byte == b'\n' {
             Position {
                 line: self.line.saturating_add(1),
@@ -108,39 +127,9 @@ impl Position {
         }
     }
 
-    // The character that a byte gives. A blank within a line stands for what follows it: that can't
-    // be decoded.
-    #[tactic(auto, unfolding(crate::specs::Base64Streams::character_of))]
-    fn character(self, byte: u8) -> Option<u8>
-        ensures { result ≡ character_of self.place byte }
-    {
-        if byte.is_ascii_whitespace() {
-            None
-        } else if self.place == Place::Gap {
-            Some(b' ')
-        } else {
-            Some(byte)
-        }
+    fn is_stuck(self) -> bool {
+        false
     }
-}
-
-// Moves the characters of a text to its front, and gives how many there are.
-fn squeeze(position: &mut Position, text: &mut [u8]) -> usize
-    ensures characters { take result text.new ≡ characters_from position.old text.old }
-    ensures position { position.new ≡ after_all position.old text.old }
-    ensures bound { result ≤ length text.new }
-    ensures size { length text.new ≡ length text.old }
-{
-    let mut kept = 0;
-    'bytes: for at in 0..text.len() {
-        let byte = text[at];
-        if let Some(character) = position.character(byte) {
-            text[kept] = character;
-            kept += 1;
-        }
-        *position = position.after(byte);
-    }
-    kept
 }
 
 // A reader of the characters of Base64 that another reader gives in lines.
@@ -154,14 +143,7 @@ impl<R: Read> Read for Characters<R> {
     ghost remaining = { characters_remaining R.remaining };
 
     fn read(&mut self, buf: &mut [u8]) -> io::Result<usize> {
-        'reads: for _ in 0..u64::MAX {
-            let count = self.inner.read(buf)?;
-            let kept = squeeze(&mut self.position, &mut buf[..count]);
-            if kept > 0 || count == 0 {
-                return Ok(kept);
-            }
-        }
-        Err(io::Error::from(ErrorKind::Other))
+        read_decoded(&mut self.inner, &mut self.position, buf)
     }
 }
 
@@ -223,12 +205,7 @@ impl<'e, R: Read> Read for Base64Reader<'e, R> {
         ensures marked { MarksFault self.old.is_malformed result self.new.is_malformed }
     {
         let outcome = self.decoder.read(buf);
-        if let Err(error) = &outcome {
-            match error.kind() {
-                ErrorKind::InvalidData => self.is_malformed = true,
-                _ => {}
-            }
-        }
+        mark_fault(&outcome, &mut self.is_malformed);
         outcome
     }
 }

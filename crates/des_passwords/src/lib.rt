@@ -10,6 +10,7 @@
 mod base64_lines;
 pub mod base64_reader;
 pub mod bytes_to_key;
+mod decoding;
 mod der;
 pub mod derivation;
 pub mod encrypted_keys;

@@ -1,5 +1,5 @@
 use Rattle.std.proofs.Common.{◌∙◌}
-use Rattle.des_passwords.proofs.StreamedCharacters.{mapped, mapped_then}
+use Rattle.des_passwords.proofs.DecodedTexts.{mapped, mapped_then}
 use Rattle.des_passwords.proofs.base64_reader.Base64Reader.new.Goals as goal
 
 pub returns-clause-bytes : goal.returns-clause-bytes
