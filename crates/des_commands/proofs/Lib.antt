@@ -11,6 +11,4 @@ pub mod WrapFaults
 pub mod ShownTexts
 pub mod UnwrapFaults
 pub mod ObjectIdentifiers
-pub mod StreamedDigits
-pub mod DigitsOfText
 pub mod TagsOfDigits

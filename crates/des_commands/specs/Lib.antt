@@ -1,6 +1,4 @@
 pub mod Texts
-pub mod HexTexts
-pub mod HexStreams
 pub mod Faults
 pub mod Written
 pub mod PinLines

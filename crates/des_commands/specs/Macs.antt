@@ -7,7 +7,7 @@ use Rattle.des_mac.specs.CbcMac.{cbc_mac}
 use Rattle.des_mac.specs.RetailMac.{retail_mac_of}
 use Rattle.des_mac.specs.Cmac.{cmac}
 use Rattle.des_payment.specs.KeyLengths.{encryption_by}
-use Rattle.des_commands.specs.HexStreams.{bytes_of}
+use Rattle.des_passwords.specs.HexStreams.{bytes_of}
 use Rattle.des_commands.specs.declared.fault.Reason.{Reason}
 use Rattle.des_commands.specs.declared.fault.Kind.{Kind}
 use Rattle.des_commands.specs.declared.fault.Kind.TheVariants.{KeyLength, Read}

@@ -8,7 +8,7 @@ use Rattle.des_commands.specs.declared.fault.Kind.{Kind}
 use Rattle.des_commands.specs.declared.fault.Kind.TheVariants.{InputLength, Memory, Read, Source}
 use Rattle.des_commands.specs.declared.source.Source.{Source as Place}
 use Rattle.des_commands.specs.declared.source.Source.TheVariants.{StandardInput, File, Descriptor, Variable}
-use Rattle.des_commands.specs.Texts.{is_space}
+use Rattle.des_passwords.specs.HexStreams.{is_space}
 
 -- what somebody writes between the digits of a secret or around them, as in 0x13:34 and "13-34": white space, marks and
 -- the letter x

@@ -1,17 +1,9 @@
--- Texts of digits: what is written in an input, and lines.
-use Rattle.std.specs.Prelude.{ℕ, ◌*◌, ◌==◌, ◌||◌, Bool, not, if◌then◌else◌, List, [], ◌++◌, length, filter, codes, Option, Some, None, is_ok}
+-- Texts of digits, and lines.
+use Rattle.std.specs.Prelude.{ℕ, ◌*◌, ◌==◌, not, if◌then◌else◌, List, [], ◌++◌, length, codes, Option, Some, None, is_ok}
 use Rattle.std.specs.Result.{result_unwrap_or}
 use Rattle.hex.specs.Hex.{decode_of, encode_lower}
 use Rattle.des_payment.specs.Digits.{digits_of}
 use Rattle.des_commands.specs.declared.fault.Kind.{Kind}
-
--- a space, a tab, a new line or a carriage return
-abbrev pub is_space : ℕ → Bool
-is_space byte = (byte == 32) || ((byte == 9) || ((byte == 10) || (byte == 13)))
-
--- the text of an input: white space is passed over
-abbrev pub written_in : List ℕ → List ℕ
-written_in input = filter (λ byte. not (is_space byte)) input
 
 -- the bytes that hexadecimal digits write
 abbrev pub bytes_of : List ℕ → List ℕ

@@ -3,17 +3,13 @@
 
 ghost use Rattle.std.specs.Prelude.{◌≡◌, ◌≤◌, ◌*◌, ◌++◌, length, codes, IfOk, OnOk};
 ghost use Rattle.des_payment.specs.Digits.{digits_of};
-ghost use Rattle.des_commands.specs.Texts.{is_space as is_space_of, written_in, bytes_of as bytes_of_text, text_fault, digits_fault, hex_line as hex_line_of};
+ghost use Rattle.des_commands.specs.Texts.{bytes_of as bytes_of_text, text_fault, digits_fault, hex_line as hex_line_of};
+ghost use Rattle.des_passwords.specs.HexStreams.{written_in};
 ghost use Rattle.des_commands.specs.Faults.{FailsOnlyBy};
 
 use crate::fault::Kind;
+use des_passwords::hex_reader::is_space;
 use std::alloc::{AllocError, Global};
-
-pub(crate) fn is_space(byte: u8) -> bool
-    ensures { result ≡ is_space_of byte }
-{
-    matches!(byte, b' ' | b'\t' | b'\n' | b'\r')
-}
 
 /// Takes the white space out of an input. What stays is its text.
 pub fn strip(input: &mut Vec<u8>)

@@ -7,8 +7,6 @@ ghost use Rattle.des_commands.specs.Macs.{IsTagOfDigits, tag_by};
 use crate::answer::{status_of, tag_line, tag_of_digits, verification};
 use crate::command::{MacRequest, Question};
 use crate::fault::{Fault, Kind};
-use crate::hex_reader::HexReader;
-use crate::hex_text::HexTextReader;
 use crate::inputs;
 use crate::mac::{Method, tag_of};
 use crate::notices::{self, Notice};
@@ -17,6 +15,7 @@ use crate::report::show;
 use crate::sentences::English;
 use crate::source::Source;
 use crate::streams_program::tell_hex;
+use des_passwords::{HexReader, HexTextReader};
 use std::io::Read;
 
 // The bytes of a message that are read at a time: 64 KiB.

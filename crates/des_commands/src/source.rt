@@ -3,10 +3,11 @@
 ghost use Rattle.std.specs.Prelude.{◌≡◌, ◌≤◌, ◌<◌, length, IfOk, IfErr};
 ghost use Rattle.des_commands.specs.Sources.{IsAllOf, FailsToGive, shown_path, name_of_source, may_be_secret as may_be_secret_of, is_between as is_between_of, is_digit as is_digit_of, digits_in, others_in, are_mostly as are_mostly_of};
 
-use crate::digits::{is_space, strip};
+use crate::digits::strip;
 use crate::fault::{Kind, Reason};
 use crate::inputs::{self, reader_fault};
 use des_io::pieces::fill;
+use des_passwords::hex_reader::is_space;
 use std::alloc::Global;
 use std::env::{self, VarError};
 use std::io::Read;

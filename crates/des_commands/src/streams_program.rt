@@ -2,9 +2,6 @@
 //! output.
 
 use crate::fault::{Fault, FileFault, Kind};
-use crate::hex_reader::{HexFault, HexReader};
-use crate::hex_text::HexTextReader;
-use crate::hex_writer::HexWriter;
 use crate::inputs::{self, RANDOM_SOURCE, system_random};
 use crate::notices::{self, Notice, accept_key};
 use crate::output::{self, Readers, Target, output_name, refuse_terminal};
@@ -20,8 +17,8 @@ use crate::streams;
 use crate::watched::Watched;
 use base64::engine::general_purpose::STANDARD;
 use des_io::pieces::{fill, write_whole};
-use des_passwords::Base64Reader;
 use des_passwords::salted::PREFIX;
+use des_passwords::{Base64Reader, HexFault, HexReader, HexTextReader, HexWriter};
 use std::io::{Read, Write};
 
 // A request, with what was read for it.

@@ -1,5 +1,5 @@
 -- What a text gives in parts, in place, and read after read.
-use Rattle.std.proofs.Common.{◌≡◌, ◌∙◌, ℕ, ◌+◌, ◌<◌, ◌≤◌, List, [], ◌∷◌, ◌++◌, length, take, drop, get_or, set, Option, Some, None, Result, Ok, Err, option_and_then, option_map, refl, sym, ap, arith, append_assoc, append-nil}
+use Rattle.std.proofs.Common.{◌≡◌, ◌∙◌, ℕ, ◌+◌, ◌<◌, ◌≤◌, List, [], ◌∷◌, ◌++◌, length, take, drop, get_or, set, Option, Some, None, Result, Ok, Err, option_and_then, option_map, refl, sym, ap, arith, append-nil}
 use Rattle.std.proofs.lemmas.List.{drop_more, drop-set-lt, length-set, take_more, take_more_set}
 use Rattle.std.proofs.KnownBytes.{Consumes-nil, Consumes-trans}
 use Rattle.std.specs.Io.KnownBytes.{Consumes, Keeps, IsAtEnd, ReadConsumes}
@@ -143,7 +143,7 @@ mapped_then f h (Some x) = refl
 
 -- ---- what a read answers
 
-nothing_consumed : (first second : Option (List ℕ)) → Consumes first second [] → Keeps first second
+pub nothing_consumed : (first second : Option (List ℕ)) → Consumes first second [] → Keeps first second
 nothing_consumed None second reads = tt
 nothing_consumed (Some text) None reads = absurd reads
 nothing_consumed (Some text) (Some same) reads = sym reads

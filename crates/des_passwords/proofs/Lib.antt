@@ -1,7 +1,9 @@
 pub mod BlockKeys
 pub mod CountedDigests
 pub mod HeadersOfPem
+pub mod DigitsOfText
 pub mod IteratedTags
+pub mod StreamedDigits
 pub mod JoinedParts
 pub mod DerElements
 pub mod DerIntegers

@@ -6,6 +6,8 @@ pub mod DerReading
 pub mod Derivations
 pub mod DeriveErrors
 pub mod EncryptedKeys
+pub mod HexStreams
+pub mod HexTexts
 pub mod Hmac
 pub mod KeyFileFaults
 pub mod KeySpellings

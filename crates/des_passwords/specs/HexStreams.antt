@@ -1,17 +1,24 @@
 -- Hexadecimal digits of either case, with white space between, as a stream gives them, a character after another: the bytes
 -- that they write, and the line of the first character that is no digit.
-use Rattle.std.specs.Prelude.{ℕ, ◌+◌, ◌*◌, ◌%◌, ◌-◌, ◌^◌, min, ◌==◌, ◌&&◌, Bool, not, if◌then◌else◌, List, [], ◌∷◌, Option, Some, None, is_some, option_map, option_and_then}
+use Rattle.std.specs.Prelude.{ℕ, ◌+◌, ◌*◌, ◌%◌, ◌-◌, ◌^◌, min, ◌==◌, ◌&&◌, ◌||◌, Bool, false, not, if◌then◌else◌, List, filter, length, Option, Some, None, is_some, option_map, option_and_then, Result, Ok, Err}
 use Rattle.std.specs.Result.{result_ok}
 use Rattle.base64.specs.Read.{Outlook}
 use Rattle.hex.specs.Hex.{decode_of, hex_digit_value}
-use Rattle.des_passwords.specs.Base64Streams.{in_front}
-use Rattle.des_commands.specs.Texts.{is_space, written_in}
-use Rattle.des_commands.specs.declared.hex_reader.HexFault.{HexFault}
-use Rattle.des_commands.specs.declared.hex_reader.HexFault.TheVariants.{Line, Odd}
-use Rattle.des_commands.specs.declared.hex_reader.HexReader.{HexReader}
-use Rattle.des_commands.specs.declared.hex_reader.Position.{Position}
+use Rattle.des_passwords.specs.Decoding.{after_all, given_by}
+use Rattle.des_passwords.specs.declared.hex_reader.HexFault.{HexFault}
+use Rattle.des_passwords.specs.declared.hex_reader.HexFault.TheVariants.{Line, Odd}
+use Rattle.des_passwords.specs.declared.hex_reader.HexReader.{HexReader}
+use Rattle.des_passwords.specs.declared.hex_reader.Position.{Position}
 
 -- ---- characters
+
+-- a space, a tab, a new line or a carriage return
+abbrev pub is_space : ℕ → Bool
+is_space byte = (byte == 32) || ((byte == 9) || ((byte == 10) || (byte == 13)))
+
+-- a text without its white space
+abbrev pub written_in : List ℕ → List ℕ
+written_in text = filter (λ byte. not (is_space byte)) text
 
 -- a digit is the first of its byte, or the second
 abbrev pub first_after : (first : Option ℕ) → (value : ℕ) → Option ℕ
@@ -22,41 +29,40 @@ abbrev pub after_digit : Position → (value : Option ℕ) → Position
 after_digit position None = record position { fault = Some position.line }
 after_digit position (Some value) = record position { first = first_after position.first value }
 
--- where a text is after a character more: nothing is read after one that is no digit, and lines are counted up to 2 ^ 64 - 1
+-- lines are counted up to 2 ^ 64 - 1
+abbrev pub line_after : (line space : ℕ) → ℕ
+line_after line space = if space == 10 then min (line + 1) (2 ^ 64 - 1) else line
+
+-- where a text is after a character more: nothing is read after one that is no digit
 unfoldable pub after : Position → ℕ → Position
 after position character =
     if is_some position.fault then position
-    else if character == 10 then record position { line = min (position.line + 1) (2 ^ 64 - 1) }
-    else if is_space character then position
+    else if is_space character then record position { line = line_after position.line character }
     else after_digit position (hex_digit_value character)
 
 -- the byte of two digits, whose values are below 16
-abbrev pub byte_of_digits : (first second : Option ℕ) → Option ℕ
-byte_of_digits (Some first) (Some second) = Some (first % 16 * 16 + second % 16)
+abbrev pub byte_of_digits : (second first : Option ℕ) → Option ℕ
+byte_of_digits (Some second) (Some first) = Some (first % 16 * 16 + second % 16)
 byte_of_digits _ _ = None
 
 -- the byte that a character ends, if it ends one
 unfoldable pub byte_of : Position → ℕ → Option ℕ
 byte_of position character =
-    if is_some position.fault then None else byte_of_digits position.first (hex_digit_value character)
-
--- the bytes that a text ends from a position on, and the position after it
-unfoldable pub bytes_ended : Position → List ℕ → List ℕ
-bytes_ended position [] = []
-bytes_ended position (character ∷ rest) =
-    in_front (byte_of position character) (bytes_ended (after position character) rest)
-
-unfoldable pub after_all : Position → List ℕ → Position
-after_all position [] = position
-after_all position (character ∷ rest) = after_all (after position character) rest
+    if is_some position.fault then None else byte_of_digits (hex_digit_value character) position.first
 
 -- all that was read are digits, and each byte has two
 abbrev pub is_whole : Position → Bool
 is_whole position = not (is_some position.fault) && not (is_some position.first)
 
+-- a read into a buffer that has room gave nothing, and what was read is no whole text
+abbrev pub ends_short : {E : Type 0} → Position → Result ℕ E → (buf : List ℕ) → Bool
+ends_short position (Ok count) buf = (count == 0) && (not (length buf == 0) && not (is_whole position))
+ends_short position (Err error) buf = false
+
 -- the bytes that a text writes from a position on, if it is one of digits to its end
 abbrev pub bytes_from : Position → List ℕ → Option (List ℕ)
-bytes_from position text = if is_whole (after_all position text) then Some (bytes_ended position text) else None
+bytes_from position text =
+    if is_whole (after_all after position text) then Some (given_by after byte_of position text) else None
 
 -- the bytes that the digits of a whole text write, if it has no other characters but white space
 abbrev pub bytes_of : List ℕ → Option (List ℕ)

@@ -1,14 +1,14 @@
 //! Hexadecimal digits, decoded as they are read.
 
-ghost use Rattle.std.specs.Prelude.{◌≤◌, ◌≡◌, false, length, take, Ok, option_and_then, option_map};
+ghost use Rattle.std.specs.Prelude.{◌≡◌, false, length, is_some, Ok, option_and_then, option_map};
 ghost use Rattle.std.specs.Io.{ReadsAtMost};
 ghost use Rattle.std.specs.Io.KnownBytes.{ReadConsumes};
 ghost use Rattle.base64.specs.Read.{IsInvalid};
-ghost use Rattle.des_passwords.specs.Base64Streams.{MarksFault};
 ghost use Rattle.hex.specs.Hex.{hex_digit_value};
-ghost use Rattle.des_commands.specs.HexStreams.{after as after_character, after_all, after_digit, byte_of, bytes_ended, bytes_of, bytes_remaining, fault_at, fault_of, is_whole, outlook_on};
+ghost use Rattle.des_passwords.specs.Decoding.{MarksFault};
+ghost use Rattle.des_passwords.specs.HexStreams.{after as after_character, after_digit, byte_of, bytes_of, bytes_remaining, ends_short, fault_at, fault_of, is_space as is_space_of, is_whole, outlook_on};
 
-use crate::digits::is_space;
+use crate::decoding::{Decoding, mark_fault, read_decoded};
 use std::io::{self, ErrorKind, Read};
 
 /// Why a text is not read as hexadecimal digits.
@@ -38,6 +38,13 @@ const BEGINNING: Position = Position {
     fault: None,
 };
 
+/// Whether a character is white space: a space, a tab, a new line or a carriage return.
+pub fn is_space(byte: u8) -> bool
+    ensures { result ≡ is_space_of byte }
+{
+    matches!(byte, b' ' | b'\t' | b'\n' | b'\r')
+}
+
 // The value of a digit.
 fn value_of(character: u8) -> Option<u8>
     ensures { result ≡ hex_digit_value character }
@@ -51,25 +58,6 @@ fn value_of(character: u8) -> Option<u8>
 }
 
 impl Position {
-    // The position after a character more. Nothing is read after one that is no digit.
-    #[tactic(auto, unfolding(crate::specs::HexStreams::after))]
-    fn after(self, character: u8) -> Position
-        ensures { result ≡ after_character self character }
-    {
-        if self.fault.is_some() {
-            self
-        } else if character == b'\n' {
-            Position {
-                line: self.line.saturating_add(1),
-                ..self
-            }
-        } else if is_space(character) {
-            self
-        } else {
-            self.after_digit(value_of(character))
-        }
-    }
-
     // The position after a digit of a value, or after a character that is none.
     fn after_digit(self, value: Option<u8>) -> Position
         ensures { result ≡ after_digit self value }
@@ -89,22 +77,21 @@ impl Position {
         }
     }
 
-    // The byte that a character ends, if it ends one.
-    #[tactic(auto, unfolding(crate::specs::HexStreams::byte_of))]
-    fn byte(self, character: u8) -> Option<u8>
-        ensures { result ≡ byte_of self character }
-    {
-        match (self.fault, self.first, value_of(character)) {
-            (None, Some(first), Some(second)) => Some(first % 16 * 16 + second % 16),
-            _ => None,
-        }
-    }
-
     // Whether all that was read are digits, two for each byte.
     fn is_whole(self) -> bool
         ensures { result ≡ is_whole self }
     {
         self.fault.is_none() && self.first.is_none()
+    }
+
+    // Whether a read that gave this stands where no text of digits ends, or goes on.
+    fn ends_short(self, given: &io::Result<usize>, buf: &[u8]) -> bool
+        ensures { result ≡ ends_short self given.now buf.now }
+    {
+        match given {
+            Ok(count) => *count == 0 && !buf.is_empty() && !self.is_whole(),
+            Err(_) => false,
+        }
     }
 
     fn fault(self) -> Option<HexFault>
@@ -118,23 +105,44 @@ impl Position {
     }
 }
 
-// Moves the bytes that a text writes to its front, and gives how many there are.
-fn squeeze(position: &mut Position, text: &mut [u8]) -> usize
-    ensures bytes { take result text.new ≡ bytes_ended position.old text.old }
-    ensures position { position.new ≡ after_all position.old text.old }
-    ensures bound { result ≤ length text.new }
-    ensures size { length text.new ≡ length text.old }
-{
-    let mut kept = 0;
-    'characters: for at in 0..text.len() {
-        let character = text[at];
-        if let Some(byte) = position.byte(character) {
-            text[kept] = byte;
-            kept += 1;
+impl Decoding for Position {
+    ghost given_of = { byte_of };
+
+    ghost after_of = { after_character };
+
+    ghost is_stuck_of = { λ position. is_some position.fault };
+
+    // The byte that a digit ends.
+    #[tactic(auto, unfolding(crate::specs::HexStreams::byte_of))]
+    fn given(self, byte: u8) -> Option<u8> {
+        match (self.fault, self.first, value_of(byte)) {
+            (None, Some(first), Some(second)) => Some(first % 16 * 16 + second % 16),
+            _ => None,
         }
-        *position = position.after(character);
     }
-    kept
+
+    // Nothing is read after a character that is no digit.
+    #[tactic(auto, unfolding(crate::specs::HexStreams::after))]
+    fn after(self, byte: u8) -> Position {
+        if self.fault.is_some() {
+            self
+        } else if is_space(byte) {
+            Position {
+                line: if byte == b'\n' {
+                    self.line.saturating_add(1)
+                } else {
+                    self.line
+                },
+                ..self
+            }
+        } else {
+            self.after_digit(value_of(byte))
+        }
+    }
+
+    fn is_stuck(self) -> bool {
+        self.fault.is_some()
+    }
 }
 
 /// A reader of the bytes whose hexadecimal digits another reader gives, of either case, with white
@@ -159,31 +167,6 @@ impl<R: Read> HexReader<R> {
             position: BEGINNING,
             is_malformed: false,
         }
-    }
-
-    // Reads, and marks no fault.
-    fn decode(&mut self, buf: &mut [u8]) -> io::Result<usize>
-        ensures bound { ReadsAtMost result buf.new }
-        ensures bytes { ReadConsumes (bytes_remaining R.remaining self.old)
-            (bytes_remaining R.remaining self.new) result buf.new }
-        ensures invalid { IsInvalid (outlook_on R.remaining self.old)
-            → IsInvalid (outlook_on R.remaining self.new) × (result ≡ Ok 0 → length buf.new ≡ 0) }
-        ensures unmarked { self.new.is_malformed ≡ self.old.is_malformed }
-    {
-        'reads: for _ in 0..u64::MAX {
-            let count = self.inner.read(buf)?;
-            let kept = squeeze(&mut self.position, &mut buf[..count]);
-            if kept > 0 {
-                return Ok(kept);
-            }
-            if count == 0 && (buf.is_empty() || self.position.is_whole()) {
-                return Ok(0);
-            }
-            if count == 0 || self.position.fault.is_some() {
-                return Err(io::Error::from(ErrorKind::InvalidData));
-            }
-        }
-        Err(io::Error::from(ErrorKind::Other))
     }
 }
 
@@ -212,13 +195,11 @@ impl<R: Read> Read for HexReader<R> {
             → IsInvalid (outlook_on R.remaining self.new) × (result ≡ Ok 0 → length buf.new ≡ 0) }
         ensures marked { MarksFault self.old.is_malformed result self.new.is_malformed }
     {
-        let outcome = self.decode(buf);
-        if let Err(error) = &outcome {
-            match error.kind() {
-                ErrorKind::InvalidData => self.is_malformed = true,
-                _ => {}
-            }
+        let mut outcome = read_decoded(&mut self.inner, &mut self.position, buf);
+        if self.position.ends_short(&outcome, buf) {
+            outcome = Err(io::Error::from(ErrorKind::InvalidData));
         }
+        mark_fault(&outcome, &mut self.is_malformed);
         outcome
     }
 }

@@ -1,8 +1,8 @@
 -- Texts that are nothing but hexadecimal digits and line ends, piece by piece.
-use Rattle.std.specs.Prelude.{ℕ, ◌%◌, ◌==◌, ◌&&◌, ◌||◌, nat_lt, Bool, not, if◌then◌else◌, List, filter, length}
+use Rattle.std.specs.Prelude.{ℕ, ◌%◌, ◌==◌, ◌&&◌, ◌||◌, nat_lt, Bool, false, not, if◌then◌else◌, List, filter, length}
 use Rattle.std.specs.List.{list_any}
 use Rattle.std.specs.Char.{is_ascii_hexdigit}
-use Rattle.des_commands.specs.declared.hex_text.Seen.{Seen}
+use Rattle.des_passwords.specs.declared.hex_text.Seen.{Seen}
 
 -- a digit, or a character of a line's end
 abbrev pub is_digit_or_end : ℕ → Bool
@@ -13,6 +13,10 @@ digits_in text = length (filter is_ascii_hexdigit text)
 
 abbrev pub is_other : List ℕ → Bool
 is_other text = list_any (λ byte. not (is_digit_or_end byte)) text
+
+-- before the first piece
+abbrev pub unseen : Seen
+unseen = record { has_digits = false; is_odd = false; has_others = false }
 
 -- what was seen after a piece more: after something else, nothing more is looked at
 abbrev pub seen_after : Seen → List ℕ → Seen

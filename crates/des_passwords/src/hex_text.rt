@@ -1,8 +1,8 @@
 //! A reader that finds out whether a text is nothing but hexadecimal digits, as somebody gives it who
 //! means the bytes that they write.
 
-ghost use Rattle.std.specs.Prelude.{◌≡◌, ◌↔◌, IsTrue};
-ghost use Rattle.des_commands.specs.HexTexts.{is_digit_or_end as is_digit_or_end_of, is_other, digits_in, seen_after, is_hexadecimal as is_hexadecimal_of};
+ghost use Rattle.std.specs.Prelude.{◌≡◌};
+ghost use Rattle.des_passwords.specs.HexTexts.{is_digit_or_end as is_digit_or_end_of, is_other, digits_in, seen_after, is_hexadecimal as is_hexadecimal_of, unseen};
 
 use std::io::{self, Read};
 
@@ -72,7 +72,10 @@ pub struct HexTextReader<R> {
 
 impl<R: Read> HexTextReader<R> {
     /// A reader of a text of which nothing was read.
-    pub fn new(reader: R) -> HexTextReader<R> {
+    pub fn new(reader: R) -> HexTextReader<R>
+        ensures bytes { result.inner ≡ reader }
+        ensures seen { result.seen ≡ unseen }
+    {
         HexTextReader {
             inner: reader,
             seen: Seen {
@@ -86,7 +89,9 @@ impl<R: Read> HexTextReader<R> {
 
 impl<R: Read + Drop> HexTextReader<R> {
     /// Ends the reader. Gives whether what was read is nothing but hexadecimal digits.
-    pub fn is_hexadecimal(self) -> bool {
+    pub fn is_hexadecimal(self) -> bool
+        ensures { result ≡ is_hexadecimal_of self.seen }
+    {
         self.seen.is_hexadecimal()
     }
 }

@@ -1,5 +1,7 @@
 //! Bytes that are written as hexadecimal digits.
 
+ghost use Rattle.std.specs.Prelude.{◌≡◌};
+
 use std::io::{self, ErrorKind, Write};
 
 // The bytes whose digits are written at a time.
@@ -14,7 +16,9 @@ pub struct HexWriter<W> {
 
 impl<W: Write> HexWriter<W> {
     /// A writer of digits to a writer.
-    pub fn new(writer: W) -> HexWriter<W> {
+    pub fn new(writer: W) -> HexWriter<W>
+        ensures { result.inner ≡ writer }
+    {
         HexWriter { inner: writer }
     }
 }

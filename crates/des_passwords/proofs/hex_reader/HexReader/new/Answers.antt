@@ -1,8 +1,8 @@
 use Rattle.std.proofs.Common.{◌∙◌, ap, option_and_then}
 use Rattle.base64.specs.Read.{Outlook}
-use Rattle.des_passwords.proofs.StreamedCharacters.{mapped_then}
-use Rattle.des_commands.proofs.DigitsOfText.{from_beginning}
-use Rattle.des_commands.proofs.hex_reader.HexReader.new.Goals as goal
+use Rattle.des_passwords.proofs.DecodedTexts.{mapped_then}
+use Rattle.des_passwords.proofs.DigitsOfText.{from_beginning}
+use Rattle.des_passwords.proofs.hex_reader.HexReader.new.Goals as goal
 
 pub returns-clause-bytes : goal.returns-clause-bytes
 returns-clause-bytes g c =
