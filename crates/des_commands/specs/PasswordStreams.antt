@@ -1,6 +1,5 @@
 -- Streams under passwords, as `openssl enc` writes them (manual page openssl-enc(1)).
 use Rattle.std.specs.Prelude.{◌≡◌, ◌≢◌, ◌⊎◌, ℕ, ◌+◌, ◌<◌, ◌==◌, ◌&&◌, Bool, true, false, if◌then◌else◌, List, [], ◌++◌, length, take, codes, Option, Some, None, Result, Err, IsOk}
-use Rattle.std.specs.List.{before_first}
 use Rattle.std.specs.Io.KnownBytes.{Consumes, IsAtEnd}
 use Rattle.des_io.specs.Streams.{Passage, passage_of}
 use Rattle.des_passwords.specs.Derivations.{derived, IsDerivable}
@@ -19,10 +18,6 @@ use Rattle.des_commands.specs.Written.{AppendsPrefix}
 use Rattle.des_commands.specs.Jobs.{key_size_of, IsDone}
 use Rattle.des_commands.specs.StreamRequests.{IsJobOf}
 use Rattle.des_commands.specs.JobFaults.{IsUntouched, HasStopped}
-
--- a text up to its first line end
-abbrev pub first_line : List ℕ → List ℕ
-first_line text = before_first (λ character. character == 10) text
 
 -- what encrypts is not empty
 abbrev pub password_fault : (encrypts : Bool) → List ℕ → Option Kind

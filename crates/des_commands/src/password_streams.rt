@@ -1,12 +1,12 @@
 //! Streams under passwords, as `openssl enc` writes them: the key and the vector of a password and a
 //! salt, and the salt that stands before what is encrypted.
 
-ghost use Rattle.std.specs.Prelude.{◌≡◌, ◌==◌, ◌++◌, position, codes, IfOk, IfErr};
+ghost use Rattle.std.specs.Prelude.{◌≡◌, ◌++◌, codes, IfOk, IfErr};
 ghost use Rattle.std.specs.Io.KnownBytes.{Consumes};
 ghost use Rattle.des_io.specs.Streams.{passage_of};
 ghost use Rattle.des_commands.specs.Keys.{IsKeySize};
 ghost use Rattle.des_commands.specs.Jobs.{key_size_of};
-ghost use Rattle.des_commands.specs.PasswordStreams.{first_line as first_line_of, password_fault, salt_bytes};
+ghost use Rattle.des_commands.specs.PasswordStreams.{password_fault, salt_bytes};
 ghost use Rattle.des_commands.specs.PasswordStreams.{IsToHaveSalt, ReadsSalt, FailsToReadSalt};
 ghost use Rattle.des_commands.specs.PasswordStreams.{IsDoneByPassword, StopsByPassword, TellsOfKey};
 ghost use Rattle.des_commands.specs.Faults.{FailsOnlyBy};
@@ -33,23 +33,6 @@ pub struct PasswordJob<'a> {
     pub skipped: u64,
     /// What faults of the password are about.
     pub name: &'a str,
-}
-
-// The place of the first line end.
-fn end_of_line(text: &[u8]) -> Option<usize>
-    ensures { result ≡ position (λ character. character == 10) text.now }
-{
-    text.iter().position(|byte| *byte == b'\n')
-}
-
-/// The first line of a text, without its line end.
-pub fn first_line(text: &[u8]) -> &[u8]
-    ensures { result.now ≡ first_line_of text.now }
-{
-    match end_of_line(text) {
-        Some(end) => &text[..end],
-        None => text,
-    }
 }
 
 /// The fault of a password, where it has one: what encrypts is not empty.

@@ -5,8 +5,8 @@ ghost use Rattle.des_commands.specs.Keys.{IsKeySize};
 
 use crate::fault::Fault;
 use crate::keys::key_of_digits;
-use crate::password_streams::first_line;
 use crate::source::{LONGEST_TEXT, Source, bytes_of, text_of};
+use des_passwords::text_lines::cut;
 
 /// The text of a source, without its white space.
 pub fn text_in<'a>(rt: &HostRuntime, source: Source<'a>) -> Result<Vec<u8>, Fault<'a>>
@@ -47,7 +47,7 @@ pub fn password_in<'a>(rt: &HostRuntime, source: Source<'a>) -> Result<Vec<u8>, 
     if let Source::Variable(_) = source {
         return Ok(text);
     }
-    let size = first_line(text.as_slice()).len();
+    let size = cut(b'\n', text.as_slice()).0.len();
     text.truncate(size);
     Ok(text)
 }

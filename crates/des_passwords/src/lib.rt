@@ -24,7 +24,7 @@ pub mod key_file_error;
 pub mod pbkdf2;
 pub mod pem;
 pub mod salted;
-mod text_lines;
+pub mod text_lines;
 mod xored;
 
 pub use base64_reader::Base64Reader;
