@@ -38,8 +38,8 @@ const NAMES_AT_MOST: u32 = 16;
 pub struct PrivateFile {
     target: String,
     beside: String,
-    // The file that it replaces, where there is one.
-    old: Option<Metadata>,
+    // The file that it replaces, where there is one. While it is open, no other file gets its number.
+    old: Option<File>,
     // The permissions that it gets at its end.
     mode: u32,
     /// Others than its owner had rights to the file that it replaces, and have none to it.
@@ -184,7 +184,7 @@ fn open_old(rt: &HostRuntime, name: String, old: Metadata) -> Result<Target, Kin
     }
     let mode = old.permissions().mode() & OWNER_BITS;
     let narrows = has_other_users(inode_of(&old), own_user(rt).unwrap_or(old.uid()));
-    create_private(rt, name, Some(old), mode, narrows)
+    create_private(rt, name, Some(file), mode, narrows)
 }
 
 // The permissions of a new file beside a target: those that the system gives one, by the umask or the
@@ -299,7 +299,7 @@ fn create_beside(rt: &HostRuntime, target: &str, mode: u32) -> Result<(String, F
 fn create_private(
     rt: &HostRuntime,
     target: String,
-    old: Option<Metadata>,
+    old: Option<File>,
     mode: u32,
     narrows: bool,
 ) -> Result<Target, Kind> {
@@ -355,11 +355,15 @@ impl PrivateFile {
     // One that may not be read can't be: that is no fault, since the file stands whole under its name.
     fn replace_target(&self, rt: &HostRuntime) -> Result<(), Kind> {
         self.file.sync_all().map_err(write_fault)?;
-        if let Some(old) = &self.old {
+        let old = match &self.old {
+            Some(old) => Some(old.metadata().map_err(write_fault)?),
+            None => None,
+        };
+        if let Some(old) = &old {
             let _ = fchown(&self.file, None, Some(old.gid()));
         }
         let _ = self.file.set_permissions(Permissions::from_mode(self.mode));
-        refuse_changed(rt, self.target.as_str(), &self.old)?;
+        refuse_changed(rt, self.target.as_str(), &old)?;
         fs::rename(rt, self.beside.as_str(), self.target.as_str()).map_err(replace_fault)?;
         if let Ok(folder) = File::open(rt, folder_of(self.target.as_str())) {
             let _ = folder.sync_all();
