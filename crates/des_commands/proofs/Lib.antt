@@ -8,7 +8,6 @@ pub mod DerivationTexts
 pub mod OptionalLines
 pub mod ProtectionSizes
 pub mod WrapFaults
-pub mod ShownTexts
 pub mod UnwrapFaults
 pub mod ObjectIdentifiers
 pub mod TagsOfDigits

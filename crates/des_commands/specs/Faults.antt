@@ -1,8 +1,9 @@
 -- The faults of the program, as `docs/CUKVASHE.md` lists them: their names, the form of the lines that tell them, and
 -- the statuses that it ends with.
-use Rattle.std.specs.Prelude.{◌≡◌, ℕ, ◌==◌, ◌⊎◌, if◌then◌else◌, List, [], ◌∷◌, ◌++◌, length, map, codes, Option, Some, None, Result, Err, IsOk, IfErr}
-use Rattle.std.specs.Char.{is_ascii_control}
-use Rattle.std.specs.List.{concat}
+use Rattle.std.specs.Prelude.{◌≡◌, ℕ, ◌==◌, ◌⊎◌, ◌&&◌, ◌||◌, nat_le, Bool, if◌then◌else◌, List, [], ◌∷◌, ◌++◌, length, codes, Option, Some, None, Result, Err, IsOk, IfErr}
+use Rattle.std.specs.Char.{encode_utf8, is_control}
+use Rattle.std.specs.List.{concat, flat_map}
+use Rattle.std.specs.Str.{chars}
 use Rattle.des_io.specs.declared.error.StreamError.{StreamError}
 use Rattle.des_io.specs.declared.error.StreamError.TheVariants.{Read as ReadError, Write as WriteError, Length as LengthError, Start as StartError, Padding as PaddingError}
 use Rattle.des_payment.specs.PinBlocks.{name_of as name_of_pin_error}
@@ -115,12 +116,20 @@ separator_of about = if length about == 0 then [] else codes ": "
 abbrev pub line_end : List ℕ → List ℕ → List ℕ
 line_end about words = concat (separator_of about ∷ words ∷ codes "\n" ∷ [])
 
--- a control character is shown as a question mark: a line stays one line
-abbrev pub shown_byte : ℕ → ℕ
-shown_byte byte = if is_ascii_control byte then 63 else byte
+-- a control character (U+0000 to U+001F, U+007F to U+009F), and one that turns the direction of a line (U+202A to U+202E,
+-- U+2066 to U+2069), is shown as a question mark: a line stays one line, and reads as it was written
+abbrev pub is_unseen : ℕ → Bool
+is_unseen character =
+    is_control character || ((nat_le 0x202A character && nat_le character 0x202E) || (nat_le 0x2066 character && nat_le character 0x2069))
+
+abbrev pub shown_character : ℕ → ℕ
+shown_character character = if is_unseen character then 63 else character
+
+abbrev pub shown_text : List ℕ → List ℕ
+shown_text text = flat_map (λ character. encode_utf8 (shown_character character)) (chars text)
 
 abbrev pub line_with : List ℕ → List ℕ → List ℕ → List ℕ
-line_with name about words = line_start name ++ (map shown_byte about ++ line_end about words)
+line_with name about words = line_start name ++ (shown_text about ++ line_end about words)
 
 -- ---- statuses
 

@@ -1,10 +1,9 @@
 //! What is written of a result or a fault, and the status that the program ends with.
 
-ghost use Rattle.std.specs.Prelude.{◌≡◌, map, take, Some, OnOk, IfErr};
-ghost use Rattle.std.specs.Char.{is_ascii_control};
-ghost use Rattle.std.specs.List.{flat_map, list_any};
+ghost use Rattle.std.specs.Prelude.{◌≡◌, take, Some, OnOk, IfErr};
+ghost use Rattle.std.specs.List.{flat_map};
 ghost use Rattle.std.specs.Io.KnownBytes.{Appends};
-ghost use Rattle.des_commands.specs.Faults.{line_with, separator_of, shown_byte as shown_byte_of};
+ghost use Rattle.des_commands.specs.Faults.{is_unseen as is_unseen_of, line_with, separator_of, shown_character, shown_text};
 ghost use Rattle.des_commands.specs.Written.{AppendsPrefix, AppendsLine, AppendsLinePrefix, IsTold, IsShown};
 
 use crate::fault::{Fault, Kind, Reason};
@@ -67,32 +66,29 @@ fn separator(about: &str) -> &'static str
     if about.is_empty() { "" } else { ": " }
 }
 
-// A control character is shown as a question mark.
-fn shown_byte(byte: u8) -> u8
-    ensures { result ≡ shown_byte_of byte }
+// Whether a terminal may act on a character and not show it: a control character, or one that turns the
+// direction of a line.
+fn is_unseen(character: char) -> bool
+    ensures { result ≡ is_unseen_of character }
 {
-    if byte.is_ascii_control() { b'?' } else { byte }
+    character.is_control() || matches!(character, '\u{202A}'..='\u{202E}' | '\u{2066}'..='\u{2069}')
 }
 
-// Whether a text has a control character.
-fn has_control(text: &[u8]) -> bool
-    ensures { result ≡ list_any is_ascii_control text.now }
+fn shown(character: char) -> char
+    ensures { result ≡ shown_character character }
 {
-    text.iter().any(|byte| byte.is_ascii_control())
+    if is_unseen(character) { '?' } else { character }
 }
 
-// Writes a text with its control characters shown; without any, at once.
-fn write_shown<E: Write>(err: &mut E, text: &[u8]) -> Result<(), StreamError>
-    ensures part { AppendsPrefix (E.contents err.old) (E.contents err.new)
-        (map shown_byte_of text.now) }
+// Writes a text with question marks in the place of such characters.
+fn write_shown<E: Write>(err: &mut E, text: &str) -> Result<(), StreamError>
+    ensures part { AppendsPrefix (E.contents err.old) (E.contents err.new) (shown_text text.now) }
     ensures whole { OnOk result (Appends (E.contents err.old) (E.contents err.new)
-        (map shown_byte_of text.now)) }
+        (shown_text text.now)) }
 {
-    if !has_control(text) {
-        return write_whole(err, text);
-    }
-    for byte in text {
-        write_whole(err, &[shown_byte(*byte)])?;
+    for character in text.chars() {
+        let mut room = [0; 4];
+        write_whole(err, shown(character).encode_utf8(&mut room).as_bytes())?;
     }
     Ok(())
 }
@@ -123,13 +119,13 @@ fn write_parts<W: Write>(
         (line_with name.now about.now words.now)) }
 {
     write_texts(out, &["cukvashe: ", name, ": "])?;
-    write_shown(out, about.as_bytes())?;
+    write_shown(out, about)?;
     write_texts(out, &[separator(about), words, "\n"])
 }
 
 /// Writes a line of a fault or a notice: its name, what it is about, where that is not empty, and
-/// its words. Name and words are of the program's own text, so neither can be a secret. Control
-/// characters of what it is about are shown as question marks. One write takes the whole line, unless
+/// its words. Name and words are of the program's own text, so neither can be a secret. Of what it is
+/// about, characters that a terminal may act on are shown as question marks. One write takes the whole line, unless
 /// it is longer than `LINE_AT_MOST`.
 pub fn write_line<E: Write>(
     name: &'static str,

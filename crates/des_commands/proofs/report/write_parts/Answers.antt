@@ -1,5 +1,4 @@
-use Rattle.std.proofs.Common.{map}
-use Rattle.des_commands.specs.Faults.{line_start, shown_byte}
+use Rattle.des_commands.specs.Faults.{line_start, shown_text}
 use Rattle.des_commands.proofs.Prefixes.{AppendsPrefix-first, AppendsPrefix-second}
 use Rattle.des_commands.proofs.report.write_parts.Goals as goal
 
@@ -11,15 +10,13 @@ returns-in_err-write_texts-clause-part g c =
 -- the name, and a part of what it is about
 pub returns-in_err-write_shown-clause-part : goal.returns-in_err-write_shown-clause-part
 returns-in_err-write_shown-clause-part g c =
-    let about = c.as_bytes.ensures.value in
     AppendsPrefix-second _ _ _ (line_start c.args.name.now) _ (c.in_ok-write_texts.ensures.whole)
-    (AppendsPrefix-first _ _ (map shown_byte c.args.about.now) _ (rw about at c.write_shown.ensures.part))
+    (AppendsPrefix-first _ _ (shown_text c.args.about.now) _ c.write_shown.ensures.part)
 
 -- both, and a part of the words or all of them
 pub returns-clause-part : goal.returns-clause-part
 returns-clause-part g c =
-    let about = c.as_bytes.ensures.value in
     let separator = c.separator.ensures in
     AppendsPrefix-second _ _ _ (line_start c.args.name.now) _ (c.in_ok-write_texts.ensures.whole)
-    (AppendsPrefix-second _ _ _ (map shown_byte c.args.about.now) _ (rw about at c.in_ok-write_shown.ensures.whole)
+    (AppendsPrefix-second _ _ _ (shown_text c.args.about.now) _ c.in_ok-write_shown.ensures.whole
     (rw separator at c.write_texts-2.ensures.part))
