@@ -1,103 +1,14 @@
--- The faults of the program, as `docs/CUKVASHE.md` lists them: their names, the form of the lines that tell them, and
--- the statuses that it ends with.
+-- The faults of the program, as `docs/CUKVASHE.md` lists them: the form of the lines that tell them, and the statuses
+-- that it ends with.
 use Rattle.std.specs.Prelude.{◌≡◌, ℕ, ◌==◌, ◌⊎◌, ◌&&◌, ◌||◌, nat_le, Bool, if◌then◌else◌, List, [], ◌∷◌, ◌++◌, length, codes, Option, Some, None, Result, Err, IsOk, IfErr}
 use Rattle.std.specs.Char.{encode_utf8, is_control}
 use Rattle.std.specs.List.{concat, flat_map}
 use Rattle.std.specs.Str.{chars}
 use Rattle.des_io.specs.declared.error.StreamError.{StreamError}
 use Rattle.des_io.specs.declared.error.StreamError.TheVariants.{Read as ReadError, Write as WriteError, Length as LengthError, Start as StartError, Padding as PaddingError}
-use Rattle.des_payment.specs.PinBlocks.{name_of as name_of_pin_error}
-use Rattle.des_payment.specs.CardVerification.{name_of as name_of_cvv_error}
-use Rattle.des_payment.specs.Translation.{name_of as name_of_translation_error}
-use Rattle.des_payment.specs.PinVerification.{name_of as name_of_verification_error}
-use Rattle.des_payment.specs.CardCryptograms.{name_of as name_of_emv_error}
-use Rattle.des_payment.specs.KeyBlockFaults.{name_of as name_of_key_block_error}
-use Rattle.des_payment.specs.declared.key_block_error.KeyBlockError.{KeyBlockError}
-use Rattle.des_payment.specs.declared.key_block_error.KeyBlockError.TheVariants.{Length as OfBlock, KeyLength as OfItsKey}
 use Rattle.des_commands.specs.declared.fault.Reason.{Reason}
-use Rattle.des_commands.specs.declared.fault.FileFault.{FileFault}
-use Rattle.des_commands.specs.declared.fault.FileFault.TheVariants.{Salted, SaltedText, NotSalted, SaltCut, Base64, HexText, HexLength, Begin, End, NotEncrypted, NoDekInfo, Cipher as OtherCipher, DekVector, EmptyLine, Structure, Algorithm as OtherAlgorithm, KeyDerivation, Iterations, KeySize, Prf, KeyPadding, Password as OtherPassword, Unpadded}
 use Rattle.des_commands.specs.declared.fault.Kind.{Kind}
-use Rattle.des_commands.specs.declared.fault.Kind.TheVariants.{Usage, Source, Variable, InputLength, KeyLength, KeyText, ToKeyLength, ToKeyText, WeakKey, Components, Vector, Tag, Value, Offset, Validation, Counter, Cryptogram, ResponseCode, CardStatus, IssuerData, CryptogramData, BlockLength, BlockText, SerialLength, SerialText, SerialCounter, FillLength, FillText, CheckDigit, Pin, Cvv, Translation, Verification, Emv, Field as FieldFault, KeyBlock, File, EmptyPassword, Memory, Read, Write, Length, Start, Padding}
-
--- the name of a fault of a file under a password
-abbrev pub file_name : FileFault → List ℕ
-file_name Salted = codes "Salted"
-file_name SaltedText = codes "Salted"
-file_name NotSalted = codes "NotSalted"
-file_name SaltCut = codes "SaltCut"
-file_name Base64 = codes "Base64"
-file_name HexText = codes "HexText"
-file_name HexLength = codes "HexLength"
-file_name Begin = codes "Begin"
-file_name End = codes "End"
-file_name NotEncrypted = codes "NotEncrypted"
-file_name NoDekInfo = codes "NoDekInfo"
-file_name OtherCipher = codes "Cipher"
-file_name DekVector = codes "DekVector"
-file_name EmptyLine = codes "EmptyLine"
-file_name Structure = codes "Structure"
-file_name OtherAlgorithm = codes "Algorithm"
-file_name KeyDerivation = codes "KeyDerivation"
-file_name Iterations = codes "Iterations"
-file_name KeySize = codes "KeySize"
-file_name Prf = codes "Prf"
-file_name KeyPadding = codes "Padding"
-file_name Unpadded = codes "Padding"
-file_name OtherPassword = codes "Password"
-
--- the name of a fault of a key block: its lengths have names that no other length has
-abbrev pub key_block_name : KeyBlockError → List ℕ
-key_block_name OfBlock = codes "KeyBlockLength"
-key_block_name OfItsKey = codes "WrappedKeyLength"
-key_block_name error = name_of_key_block_error error
-
--- the name of a fault
-abbrev pub name_of : Kind → List ℕ
-name_of (Usage _) = codes "Usage"
-name_of (Source _) = codes "Read"
-name_of Variable = codes "Variable"
-name_of InputLength = codes "InputLength"
-name_of (KeyLength _) = codes "KeyLength"
-name_of KeyText = codes "KeyText"
-name_of ToKeyLength = codes "KeyLength"
-name_of ToKeyText = codes "KeyText"
-name_of WeakKey = codes "WeakKey"
-name_of Components = codes "Components"
-name_of Vector = codes "Vector"
-name_of Tag = codes "Tag"
-name_of Value = codes "Value"
-name_of Offset = codes "Offset"
-name_of Validation = codes "Validation"
-name_of Counter = codes "Counter"
-name_of Cryptogram = codes "Cryptogram"
-name_of ResponseCode = codes "Code"
-name_of CardStatus = codes "Status"
-name_of IssuerData = codes "Data"
-name_of CryptogramData = codes "DataText"
-name_of BlockLength = codes "BlockLength"
-name_of BlockText = codes "BlockText"
-name_of SerialLength = codes "SerialLength"
-name_of SerialText = codes "SerialText"
-name_of SerialCounter = codes "SerialCounter"
-name_of FillLength = codes "FillLength"
-name_of FillText = codes "FillText"
-name_of CheckDigit = codes "CheckDigit"
-name_of (Pin error) = name_of_pin_error error
-name_of (Cvv error) = name_of_cvv_error error
-name_of (Translation error) = name_of_translation_error error
-name_of (Verification error) = name_of_verification_error error
-name_of (Emv error) = name_of_emv_error error
-name_of (FieldFault field) = codes "Field"
-name_of (KeyBlock error) = key_block_name error
-name_of (File fault) = file_name fault
-name_of EmptyPassword = codes "EmptyPassword"
-name_of Memory = codes "Memory"
-name_of (Read _) = codes "Read"
-name_of (Write _) = codes "Write"
-name_of Length = codes "Length"
-name_of Start = codes "Start"
-name_of Padding = codes "Padding"
+use Rattle.des_commands.specs.declared.fault.Kind.TheVariants.{Source, WeakKey, File, Memory, Read, Write, Length, Start, Padding}
 
 -- what a fault of what has a name is about: refused memory is about nothing
 abbrev pub about_of : Kind → List ℕ → List ℕ

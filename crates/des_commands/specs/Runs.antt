@@ -12,13 +12,13 @@ use Rattle.des_commands.specs.declared.command.Inputs.{Inputs}
 use Rattle.des_commands.specs.Answers.{status_after}
 use Rattle.des_commands.specs.CheckDigits.{lacks_check_digit}
 use Rattle.des_commands.specs.Lines.{IsLine, FailsAs}
-use Rattle.des_commands.specs.Names.{about_of, account_name}
+use Rattle.des_commands.specs.Names.{IsSubject}
 use Rattle.des_commands.specs.PinLines.{is_question}
 use Rattle.des_commands.specs.Written.{Saying, AppendsLinePrefix, IsShown}
 
 -- the fault of a kind, with what it is about
 abbrev pub IsFaultOf : CalculationRequest → Kind → Fault → Type 0
-IsFaultOf request kind fault = (fault.kind ≡ kind) × (fault.about.now ≡ about_of kind request)
+IsFaultOf request kind fault = (fault.kind ≡ kind) × IsSubject request fault.about.now
 
 -- the account number is refused, or else the calculation fails by its first fault, where it has one
 abbrev pub FailsAsAsked : CalculationRequest → Inputs → Result (Vec ℕ Global) Kind → Type 0
@@ -48,7 +48,8 @@ needs_notice request account = not request.refuses_wrong_check_digit && lacks_ch
 abbrev pub IsNoticed : {E : Type 0} → Saying → (E → Option (List ℕ)) → CalculationRequest → List ℕ → E → E → Type 0
 IsNoticed Says err_contents request account err_old err_new =
     (IsTrue (needs_notice request account)
-    → AppendsLinePrefix Says CheckDigit (account_name request.account) (err_contents err_old) (err_contents err_new))
+    → (about : List ℕ)
+    × (IsSubject request about × AppendsLinePrefix Says CheckDigit about (err_contents err_old) (err_contents err_new)))
     × (needs_notice request account ≡ false → err_new ≡ err_old)
 
 -- the answer is no: the line says that the PIN is wrong, where that is asked, or that the key is weak

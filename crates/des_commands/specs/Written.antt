@@ -8,19 +8,20 @@ use Rattle.des_commands.specs.declared.fault.Reason.{Reason}
 use Rattle.des_commands.specs.declared.fault.Kind.{Kind}
 use Rattle.des_commands.specs.declared.fault.Kind.TheVariants.{Write}
 use Rattle.des_commands.specs.declared.fault.Fault.{Fault}
-use Rattle.des_commands.specs.Faults.{name_of, status_of, line_with}
+use Rattle.des_commands.specs.Faults.{status_of, line_with}
 
 -- known bytes grow by a prefix of the text, none of it or the whole included, and by nothing else
 abbrev pub AppendsPrefix : Option (List ℕ) → Option (List ℕ) → List ℕ → Type 0
 AppendsPrefix old new text = (count : ℕ) × Appends old new (take count text)
 
--- what may be said of each fault
+-- what may be said of each fault: by which name, and by which sentence
 abbrev pub Saying : Type 1
-Saying = Kind → List ℕ → Type 0
+Saying = Kind → List ℕ → List ℕ → Type 0
 
--- the line of a fault: its name, what it is about, and a sentence of it
+-- the line of a fault: a name of it, what it is about, and a sentence of it
 abbrev pub IsLineOf : Saying → Kind → List ℕ → List ℕ → Type 0
-IsLineOf Says kind about line = (words : List ℕ) × (Says kind words × (line ≡ line_with (name_of kind) about words))
+IsLineOf Says kind about line =
+    (name : List ℕ) × ((sentence : List ℕ) × (Says kind name sentence × (line ≡ line_with name about sentence)))
 
 -- known bytes grow by the line of a fault, or by a prefix of it
 abbrev pub AppendsLine : Saying → Kind → List ℕ → Option (List ℕ) → Option (List ℕ) → Type 0

@@ -68,7 +68,7 @@ fn tell_check_digit<S: Sentences, E: Write>(
         let _ = tell::<S, E>(
             Fault {
                 kind: Kind::CheckDigit,
-                about: account_name(request.account),
+                about: account_name(request),
             },
             err,
         );

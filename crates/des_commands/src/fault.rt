@@ -1,7 +1,7 @@
 //! Why a command fails: the fault's name, and the status that the program ends with.
 
 ghost use Rattle.std.specs.Prelude.{◌≡◌};
-ghost use Rattle.des_commands.specs.Faults.{about_of, name_of, status_of, file_name, key_block_name as key_block_name_of, IsOfStream};
+ghost use Rattle.des_commands.specs.Faults.{about_of, status_of, IsOfStream};
 ghost use Rattle.des_commands.specs.declared.fault.Kind.TheVariants.{Pin, Cvv, Translation, Verification, Emv, KeyBlock, WeakKey, Memory};
 
 use des::WeakKeyError;
@@ -231,9 +231,7 @@ impl Reason {
 }
 
 impl FileFault {
-    fn name(self) -> &'static str
-        ensures { result.now ≡ file_name self }
-    {
+    fn name(self) -> &'static str {
         match self {
             FileFault::Salted | FileFault::SaltedText => "Salted",
             FileFault::NotSalted => "NotSalted",
@@ -261,9 +259,7 @@ impl FileFault {
 }
 
 // The name of a fault of a key block: its lengths have names that no other length has.
-fn key_block_name(error: KeyBlockError) -> &'static str
-    ensures { result.now ≡ key_block_name_of error }
-{
+fn key_block_name(error: KeyBlockError) -> &'static str {
     match error {
         KeyBlockError::Length => "KeyBlockLength",
         KeyBlockError::KeyLength => "WrappedKeyLength",
@@ -273,9 +269,7 @@ fn key_block_name(error: KeyBlockError) -> &'static str
 
 impl Kind {
     /// The fault's name.
-    pub fn name(self) -> &'static str
-        ensures { result.now ≡ name_of self }
-    {
+    pub fn name(self) -> &'static str {
         match self {
             Kind::Usage(_) => "Usage",
             Kind::Variable => "Variable",

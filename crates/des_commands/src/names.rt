@@ -1,9 +1,8 @@
 //! What the faults of a calculation are about: an option, a place in the command line, or the name of
 //! what is read. None of these is a secret.
 
-ghost use Rattle.std.specs.Prelude.{◌≡◌};
-ghost use Rattle.des_commands.specs.Names.{named as named_by, input_name as input_name_of, account_name as account_name_of, key_name as key_name_of, to_key_name as to_key_name_of};
-ghost use Rattle.des_commands.specs.Names.{about_of as about_by, about_of_verification as about_by_verification, about_of_emv as about_by_emv, about_of_key_block as about_by_key_block, makes_block as makes_block_of, option_of as option_by, fill_name as fill_name_of};
+ghost use Rattle.std.specs.Prelude.{IsTrue};
+ghost use Rattle.des_commands.specs.Names.{is_place, IsSubject};
 
 use crate::command::{Account, Calculation, CalculationRequest, KeyBlockCalculation};
 use crate::fault::{Field, Kind};
@@ -14,20 +13,9 @@ use des_payment::{CvvError, PinError, TranslationError, VerificationError};
 
 // ---- what is read
 
-// What a fault of a key is about: a file, or the option that names its source.
-fn named<'a>(source: Source<'a>, descriptor: &'static str, variable: &'static str) -> &'a str
-    ensures { result.now ≡ named_by source.entry descriptor.now variable.now }
-{
-    match source {
-        Source::Descriptor(_) => descriptor,
-        Source::Variable(_) => variable,
-        _ => source.name(),
-    }
-}
-
 /// What a fault of the input is about.
 pub fn input_name<'a>(request: &CalculationRequest<'a>) -> &'a str
-    ensures { result.now ≡ input_name_of request.now }
+    ensures { IsSubject request.now result.now }
 {
     match request.calculation {
         Calculation::CombineBytes { .. } => "--part-file",
@@ -36,10 +24,10 @@ pub fn input_name<'a>(request: &CalculationRequest<'a>) -> &'a str
 }
 
 /// What a fault of the account number is about.
-pub fn account_name<'a>(account: Account<'a>) -> &'a str
-    ensures { result.now ≡ account_name_of account.entry }
+pub fn account_name<'a>(request: &CalculationRequest<'a>) -> &'a str
+    ensures { IsSubject request.now result.now }
 {
-    match account {
+    match request.account {
         Account::In(source) => source.name(),
         _ => "--account",
     }
@@ -47,13 +35,12 @@ pub fn account_name<'a>(account: Account<'a>) -> &'a str
 
 /// What a fault of the key is about, also where the key is the input.
 pub fn key_name<'a>(request: &CalculationRequest<'a>) -> &'a str
-    ensures { result.now ≡ key_name_of request.now }
+    ensures { IsSubject request.now result.now }
 {
     match (request.calculation, request.key) {
         (_, None) => input_name(request),
-        (Calculation::KeyBlock(_), Some(source)) => {
-            named(source, "--protection-key-fd", "--protection-key-env")
-        }
+        (Calculation::KeyBlock(_), Some(Source::Descriptor(_))) => "--protection-key-fd",
+        (Calculation::KeyBlock(_), Some(Source::Variable(_))) => "--protection-key-env",
         (_, Some(source)) => source.name(),
     }
 }
@@ -61,10 +48,12 @@ pub fn key_name<'a>(request: &CalculationRequest<'a>) -> &'a str
 /// What a fault of the key of an outgoing block is about, or of the key that is wrapped, which is the
 /// input.
 pub fn to_key_name<'a>(request: &CalculationRequest<'a>) -> &'a str
-    ensures { result.now ≡ to_key_name_of request.now }
+    ensures { IsSubject request.now result.now }
 {
     match request.to_key {
-        Some(source) => named(source, "--to-key-fd", "--to-key-env"),
+        Some(Source::Descriptor(_)) => "--to-key-fd",
+        Some(Source::Variable(_)) => "--to-key-env",
+        Some(source) => source.name(),
         None => input_name(request),
     }
 }
@@ -73,11 +62,11 @@ pub fn to_key_name<'a>(request: &CalculationRequest<'a>) -> &'a str
 
 // What a fault of a verification is about.
 fn about_of_verification<'a>(error: VerificationError, request: &CalculationRequest<'a>) -> &'a str
-    ensures { result.now ≡ about_by_verification error request.now }
+    ensures { IsSubject request.now result.now }
 {
     match error {
         VerificationError::AccountLength | VerificationError::AccountDigit => {
-            account_name(request.account)
+            account_name(request)
         }
         VerificationError::KeyIndex => "--index",
         VerificationError::KeyLength => key_name(request),
@@ -91,10 +80,10 @@ fn about_of_verification<'a>(error: VerificationError, request: &CalculationRequ
 
 // What a fault of a card's keys and cryptograms is about.
 fn about_of_emv<'a>(error: EmvError, request: &CalculationRequest<'a>) -> &'a str
-    ensures { result.now ≡ about_by_emv error request.now }
+    ensures { IsSubject request.now result.now }
 {
     match error {
-        EmvError::AccountLength | EmvError::AccountDigit => account_name(request.account),
+        EmvError::AccountLength | EmvError::AccountDigit => account_name(request),
         EmvError::SequenceLength | EmvError::SequenceDigit => "--sequence",
         EmvError::DataLength => "--data",
     }
@@ -103,7 +92,7 @@ fn about_of_emv<'a>(error: EmvError, request: &CalculationRequest<'a>) -> &'a st
 // What a fault of a key block is about: the key that protects it; of one that is made, the key that it
 // holds or an option, and of one that is read the block.
 fn about_of_key_block<'a>(error: KeyBlockError, request: &CalculationRequest<'a>) -> &'a str
-    ensures { result.now ≡ about_by_key_block error (makes_block_of request.now.calculation) request.now }
+    ensures { IsSubject request.now result.now }
 {
     let is_made = matches!(
         request.calculation,
@@ -119,7 +108,7 @@ fn about_of_key_block<'a>(error: KeyBlockError, request: &CalculationRequest<'a>
 }
 
 fn option_of(field: Field) -> &'static str
-    ensures { result.now ≡ option_by field }
+    ensures { IsTrue (is_place result.now) }
 {
     match field {
         Field::Usage => "--usage",
@@ -132,7 +121,7 @@ fn option_of(field: Field) -> &'static str
 
 // What a fault of a fill digit is about: the block that has it, or the option that gives it.
 fn fill_name<'a>(request: &CalculationRequest<'a>) -> &'a str
-    ensures { result.now ≡ fill_name_of request.now }
+    ensures { IsSubject request.now result.now }
 {
     match request.calculation {
         Calculation::Decode { .. } => input_name(request),
@@ -142,7 +131,7 @@ fn fill_name<'a>(request: &CalculationRequest<'a>) -> &'a str
 
 /// What a fault of a calculation is about.
 pub fn about_of<'a>(kind: Kind, request: &CalculationRequest<'a>) -> &'a str
-    ensures { result.now ≡ about_by kind request.now }
+    ensures { IsSubject request.now result.now }
 {
     match kind {
         Kind::Components => "--count",
@@ -152,7 +141,7 @@ pub fn about_of<'a>(kind: Kind, request: &CalculationRequest<'a>) -> &'a str
         | Kind::Pin(PinError::AccountLength | PinError::AccountDigit)
         | Kind::Cvv(CvvError::AccountLength | CvvError::AccountDigit)
         | Kind::Translation(TranslationError::AccountLength | TranslationError::AccountDigit) => {
-            account_name(request.account)
+            account_name(request)
         }
         Kind::Pin(PinError::Fill) | Kind::Translation(TranslationError::Fill) => {
             fill_name(request)

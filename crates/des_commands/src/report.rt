@@ -156,7 +156,8 @@ pub fn report<S: Sentences, E: Write>(fault: Fault, err: &mut E) -> Result<(), S
     ensures whole { OnOk result (AppendsLine S.says fault.entry.kind fault.entry.about.now
         (E.contents err.old) (E.contents err.new)) }
 {
-    write_line(fault.kind.name(), fault.about, S::sentence(fault.kind), err)
+    let words = S::words(fault.kind);
+    write_line(words.name, fault.about, words.sentence, err)
 }
 
 /// Writes the line of a fault, and gives its status. A line that can't be written changes no status.

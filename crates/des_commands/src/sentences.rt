@@ -1,5 +1,5 @@
-//! What is said of each fault, after its name and what it is about. No clause promises a wording: runs
-//! of the program compare each that a command line reaches.
+//! The words of each fault: its name, and what is said of it. No clause promises a wording: runs of the
+//! program compare each that a command line reaches.
 
 ghost use Rattle.std.specs.Prelude.{ℕ, List, ⊤};
 ghost use Rattle.des_commands.specs.declared.fault.Kind.{Kind};
@@ -9,72 +9,87 @@ use des_payment::emv_error::EmvError;
 use des_payment::key_block_error::KeyBlockError;
 use des_payment::{CvvError, PinError, TranslationError, VerificationError};
 
-/// What is said of faults. What writes the line of a fault takes this as a type parameter, and is
-/// proved for any. So a line is made of the fault, its sentence and what it is about, and of nothing
-/// else that the caller knows, as a key or a PIN.
-pub trait Sentences {
-    ghost says: { Kind → List ℕ → Type 0 };
+/// The words of a fault.
+#[derive(Clone, Copy)]
+pub struct Words {
+    /// The name, under which the documents list the fault.
+    pub name: &'static str,
+    pub sentence: &'static str,
+}
 
-    /// The sentence of a fault.
-    fn sentence(kind: Kind) -> &'static str
-        ensures { says kind result.now };
+/// The words of faults. What writes the line of a fault takes this as a type parameter, and is proved
+/// for any. So the words depend on the kind of the fault alone, and the line has besides them only what
+/// the fault is about: nothing else that the caller knows, as a key or a PIN.
+pub trait Sentences {
+    /// Which name and which sentence a fault may have.
+    ghost says: { Kind → List ℕ → List ℕ → Type 0 };
+
+    fn words(kind: Kind) -> Words
+        ensures { says kind result.name.now result.sentence.now };
 }
 
 /// The sentences of this program.
 pub struct English;
 
 impl Sentences for English {
-    ghost says = { λ _ _. ⊤ };
+    ghost says = { λ _ _ _. ⊤ };
 
-    fn sentence(kind: Kind) -> &'static str {
-        match kind {
-            Kind::Usage(misuse) => misuse_words(misuse),
-            Kind::Source(reason) | Kind::Read(reason) | Kind::Write(reason) => reason_words(reason),
-            Kind::Variable => "the environment has no such variable of text",
-            Kind::InputLength => "the input is too long",
-            Kind::KeyLength(size) => key_words(size),
-            Kind::ToKeyLength => key_words(None),
-            Kind::KeyText | Kind::ToKeyText => {
-                "the key has a character that is no hexadecimal digit"
-            }
-            Kind::WeakKey => "the key is weak",
-            Kind::Components => "a key has two components at least",
-            Kind::Vector =>
-                "random (to encrypt), first-block (to decrypt) or 16 hexadecimal digits are needed",
-            Kind::Validation | Kind::Cryptogram => "16 hexadecimal digits are needed",
-            Kind::Tag => "8, 10, 12, 14 or 16 hexadecimal digits are needed",
-            Kind::Value => "4 digits are needed",
-            Kind::Offset => "4 to 12 digits are needed",
-            Kind::Counter | Kind::ResponseCode => "4 hexadecimal digits are needed",
-            Kind::CardStatus => "8 hexadecimal digits are needed",
-            Kind::IssuerData => "at most 16 hexadecimal digits are needed, two for each byte",
-            Kind::CryptogramData => "hexadecimal digits are needed, two for each byte",
-            Kind::BlockLength => "a block of 16 hexadecimal digits is needed",
-            Kind::BlockText => "the block has a character that is no hexadecimal digit",
-            Kind::SerialLength =>
-                "a key serial number has 20 hexadecimal digits: put FFFF before one of 16",
-            Kind::SerialText =>
-                "the key serial number has a character that is no hexadecimal digit",
-            Kind::SerialCounter =>
-                "the key serial number's counter is 0, or has more than ten one bits",
-            Kind::FillLength => "ten digits are needed",
-            Kind::FillText => "a character is no hexadecimal digit",
-            Kind::CheckDigit => "the account number's last digit is not its check digit",
-            Kind::Pin(error) => pin_words(error),
-            Kind::Cvv(error) => cvv_words(error),
-            Kind::Translation(error) => translation_words(error),
-            Kind::Verification(error) => verification_words(error),
-            Kind::Emv(error) => emv_words(error),
-            Kind::Field(Field::Usage | Field::KeyVersion) => "two letters or digits are needed",
-            Kind::Field(_) => "a letter or digit is needed",
-            Kind::KeyBlock(error) => key_block_words(error),
-            Kind::File(fault) => file_words(fault),
-            Kind::EmptyPassword => "the password is empty",
-            Kind::Memory => "a request for memory was refused",
-            Kind::Length => "the input ends within a block of 8 bytes",
-            Kind::Start => "the input ends within the vector or before the part begins",
-            Kind::Padding => "wrong key, vector or padding",
+    fn words(kind: Kind) -> Words {
+        Words {
+            name: kind.name(),
+            sentence: sentence_of(kind),
         }
+    }
+}
+
+fn sentence_of(kind: Kind) -> &'static str {
+    match kind {
+        Kind::Usage(misuse) => misuse_words(misuse),
+        Kind::Source(reason) | Kind::Read(reason) | Kind::Write(reason) => reason_words(reason),
+        Kind::Variable => "the environment has no such variable of text",
+        Kind::InputLength => "the input is too long",
+        Kind::KeyLength(size) => key_words(size),
+        Kind::ToKeyLength => key_words(None),
+        Kind::KeyText | Kind::ToKeyText => {
+            "the key has a character that is no hexadecimal digit"
+        }
+        Kind::WeakKey => "the key is weak",
+        Kind::Components => "a key has two components at least",
+        Kind::Vector =>
+            "random (to encrypt), first-block (to decrypt) or 16 hexadecimal digits are needed",
+        Kind::Validation | Kind::Cryptogram => "16 hexadecimal digits are needed",
+        Kind::Tag => "8, 10, 12, 14 or 16 hexadecimal digits are needed",
+        Kind::Value => "4 digits are needed",
+        Kind::Offset => "4 to 12 digits are needed",
+        Kind::Counter | Kind::ResponseCode => "4 hexadecimal digits are needed",
+        Kind::CardStatus => "8 hexadecimal digits are needed",
+        Kind::IssuerData => "at most 16 hexadecimal digits are needed, two for each byte",
+        Kind::CryptogramData => "hexadecimal digits are needed, two for each byte",
+        Kind::BlockLength => "a block of 16 hexadecimal digits is needed",
+        Kind::BlockText => "the block has a character that is no hexadecimal digit",
+        Kind::SerialLength =>
+            "a key serial number has 20 hexadecimal digits: put FFFF before one of 16",
+        Kind::SerialText =>
+            "the key serial number has a character that is no hexadecimal digit",
+        Kind::SerialCounter =>
+            "the key serial number's counter is 0, or has more than ten one bits",
+        Kind::FillLength => "ten digits are needed",
+        Kind::FillText => "a character is no hexadecimal digit",
+        Kind::CheckDigit => "the account number's last digit is not its check digit",
+        Kind::Pin(error) => pin_words(error),
+        Kind::Cvv(error) => cvv_words(error),
+        Kind::Translation(error) => translation_words(error),
+        Kind::Verification(error) => verification_words(error),
+        Kind::Emv(error) => emv_words(error),
+        Kind::Field(Field::Usage | Field::KeyVersion) => "two letters or digits are needed",
+        Kind::Field(_) => "a letter or digit is needed",
+        Kind::KeyBlock(error) => key_block_words(error),
+        Kind::File(fault) => file_words(fault),
+        Kind::EmptyPassword => "the password is empty",
+        Kind::Memory => "a request for memory was refused",
+        Kind::Length => "the input ends within a block of 8 bytes",
+        Kind::Start => "the input ends within the vector or before the part begins",
+        Kind::Padding => "wrong key, vector or padding",
     }
 }
 
