@@ -1,4 +1,4 @@
-//! The rows of the table. Each call times what a row tells, writes the row, and gives a number in
+//! The rows of the table. Each call times what a row tells, writes the row, and returns a number in
 //! which all that was answered is joined, so that no compiler can leave a timed call out.
 
 use crate::runs::{
@@ -38,7 +38,7 @@ pub fn write_cipher<C: KeyInit + BlockCipherEncrypt + BlockCipherDecrypt + Algor
 }
 
 /// Writes the row of a list of few blocks: the time of a block one by one, by the cipher of `quiet`
-/// four side by side, and by `encrypt_many`, which takes a batch where there are more than eleven.
+/// four side by side, and by `encrypt_many`, which takes a batch if there are more than eleven.
 pub fn write_few<C: KeyInit + ManyBlocks + Drop, Q: KeyInit + BlockCipherEncrypt + Drop>(
     rt: &(impl AllocGlobal + Clock + CpuClock),
     keys: &Keys,

@@ -33,7 +33,7 @@ pub type Blocks = Vec<[u8; 8]>;
 /// A message that a run authenticates.
 pub type Message = [[u8; 8]; BLOCKS];
 
-/// The cipher of the first bytes of a key: `new`, which `new_from_slice` calls. `None` where the
+/// The cipher of the first bytes of a key: `new`, which `new_from_slice` calls. `None` if the
 /// cipher takes a longer one.
 pub fn cipher_of_key<C: KeyInit + Drop>(key: &Key) -> Option<C> {
     C::new_from_slice(key.get(..C::KEY_SIZE)?).ok()

@@ -12,7 +12,7 @@ use des_context::{calls, contexts};
 
 /// Makes a context of 17, 33 or 49 words from a key of one, two or three parts of 8 bytes, a quiet
 /// one, whose calls read no table, or a quick one. The status of a key of another length is
-/// `ERR_KEY_LENGTH`; the context then stays as it was.
+/// `ERR_KEY_LENGTH`; the context is then unchanged.
 #[unsafe(no_mangle)]
 pub extern "C" fn cukvashe_internal_init(context: &mut [u64], key: &[u8], quiet: bool) -> i32
     requires { HasAForm context.old }
@@ -26,7 +26,7 @@ pub extern "C" fn cukvashe_internal_init(context: &mut [u64], key: &[u8], quiet:
 }
 
 /// Encrypts bytes in place by CBC from the vector, which becomes the last ciphertext block. The
-/// status is `ERR_BLOCKS` where the bytes are not whole blocks; they and the vector then stay.
+/// status is `ERR_BLOCKS` if the bytes are not whole blocks; they and the vector are then unchanged.
 #[unsafe(no_mangle)]
 pub extern "C" fn cukvashe_internal_encrypt_cbc(
     context: &[u64],
@@ -48,8 +48,8 @@ pub extern "C" fn cukvashe_internal_encrypt_cbc(
 }
 
 /// Writes the bytes of `input`, encrypted as by `cukvashe_internal_encrypt_cbc`, to `output`. The
-/// status is `ERR_BLOCKS` where they are not whole blocks or the two differ in length; `output` and
-/// the vector then stay.
+/// status is `ERR_BLOCKS` if they are not whole blocks or the two differ in length; `output` and
+/// the vector are then unchanged.
 #[unsafe(no_mangle)]
 pub extern "C" fn cukvashe_internal_encrypt_cbc_to(
     context: &[u64],

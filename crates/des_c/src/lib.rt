@@ -4,13 +4,12 @@
 //! caller has to uphold. A call with a context refuses one without the mark of its type, by
 //! `ERR_CONTEXT` and before all else, and then changes nothing.
 //!
-//! The exports that begin with `cukvashe_internal_` are not the header's: they take other arguments,
-//! or serve all ciphers or MACs, and are told by the number of a context's words, the size of a key
-//! or a number of a standard which one is meant. The library hides them. The header's calls
-//! are lines of C over them, in `bindings/c/src`, where `exports.h` declares them. Every other export
-//! has the name and, but for a few, the arguments of a call of the header. Those that take or give a
-//! secret have another name in the library, which stands in `bindings/c/names`: the header's call
-//! calls them, and wipes the stack.
+//! The exports that begin with `cukvashe_internal_` are hidden in the library: the header's calls are
+//! lines of C over them, in `bindings/c/src`, where `exports.h` declares them. One serves all ciphers or
+//! MACs, and learns which is meant from the number of a context's words, the size of a key or a
+//! standard's number. Every other export has the name of a call of the header, and mostly its
+//! arguments. If it takes or returns a secret, `bindings/c/names` gives it another name in the library:
+//! the header's call calls it, and wipes the stack.
 //!
 //! `bindings/describe` makes most of that C of the header and of this crate's exports.
 //!

@@ -15,7 +15,7 @@ use des_mac::many;
 /// Makes the words of a MAC of the bytes of a key, quiet ones, whose calls read no table, or quick
 /// ones, and the message of no bytes, with padding method 1 or 2, which plays no part in CMAC. The
 /// status of a key of another length than the words have room for is `ERR_KEY_LENGTH`, of another
-/// padding `ERR_PADDING_METHOD`; the words and the message then stay as they were.
+/// padding `ERR_PADDING_METHOD`; the words and the message are then unchanged.
 #[unsafe(no_mangle)]
 pub extern "C" fn cukvashe_internal_mac_init(
     algorithm: u32,
@@ -38,7 +38,7 @@ pub extern "C" fn cukvashe_internal_mac_init(
 }
 
 /// Adds bytes to the message, after those that it has. The status of words that no init made for the
-/// algorithm is `ERR_CONTEXT`; the message then stays as it was.
+/// algorithm is `ERR_CONTEXT`; the message is then unchanged.
 #[unsafe(no_mangle)]
 pub extern "C" fn cukvashe_internal_mac_update(
     algorithm: u32,
@@ -58,8 +58,8 @@ pub extern "C" fn cukvashe_internal_mac_update(
     macs::update(algorithm, context, message, bytes)
 }
 
-/// Gives the tag of the message, which may go on. The status is as of `cukvashe_internal_mac_update`;
-/// the tag of words that it refuses stays as it was.
+/// Returns the tag of the message, which may go on. The status is as of `cukvashe_internal_mac_update`;
+/// the tag of words that it refuses is unchanged.
 #[unsafe(no_mangle)]
 pub extern "C" fn cukvashe_internal_mac_final(
     algorithm: u32,
@@ -105,7 +105,7 @@ pub extern "C" fn cukvashe_internal_mac_verify(
 
 /// Writes of each tag whether it is the one at its place in `expected`. Every byte is looked at,
 /// wherever two differ. The status of lists of different lengths is `ERR_COUNTS`; `right` then
-/// stays.
+/// is unchanged.
 #[unsafe(no_mangle)]
 pub extern "C" fn cukvashe_internal_compare_tags(
     tags: &[[u8; 8]],

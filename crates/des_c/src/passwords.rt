@@ -12,9 +12,9 @@ use des_context::status::{ERR_SALT_LENGTH, OK};
 use des_passwords::Derivation;
 
 /// Writes the key of a password and a salt by PBKDF2 with HMAC over `SHA1` or `SHA256`. The status
-/// is `ERR_HASH` for another number, `ERR_ITERATIONS` where there is no iteration, or more than
-/// 2^32 - 1, and `ERR_KEY_LENGTH` where the key is longer than 2^32 - 1 digests; and then `key`
-/// stays.
+/// is `ERR_HASH` for another number, `ERR_ITERATIONS` if there is no iteration, or more than
+/// 2^32 - 1, and `ERR_KEY_LENGTH` if the key is longer than 2^32 - 1 digests; and then `key`
+/// is unchanged.
 #[unsafe(no_mangle)]
 pub extern "C" fn cukvashe_pbkdf2(
     hash: u32,
@@ -33,7 +33,7 @@ pub extern "C" fn cukvashe_pbkdf2(
 
 /// Writes the key of a password and a salt as `EVP_BytesToKey` does with one iteration over `MD5`,
 /// `SHA1` or `SHA256`. The salt has 8 bytes or none. The status is `ERR_SALT_LENGTH` for another,
-/// and `ERR_HASH` for another number; and then `key` stays.
+/// and `ERR_HASH` for another number; and then `key` is unchanged.
 #[unsafe(no_mangle)]
 pub extern "C" fn cukvashe_bytes_to_key(
     hash: u32,

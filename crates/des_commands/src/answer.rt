@@ -17,7 +17,7 @@ pub const RIGHT: &str = "right\n";
 
 pub const WRONG: &str = "wrong\n";
 
-/// The status that the program ends with: that of writing the answer, or 1 where the answer was
+/// The status that the program ends with: that of writing the answer, or 1 if the answer was
 /// written and is no.
 pub fn status_of(written: u8, is_no: bool) -> u8
     ensures { result ≡ status_after written is_no }
@@ -39,7 +39,7 @@ fn verified(tag: &[u8; 8], given: &[u8]) -> bool
     verify_truncated_left(given, tag).is_ok()
 }
 
-/// The line of a verification, and whether it says no: it is right where these are the first 4 to 8
+/// The line of a verification, and whether it says no: it is right if these are the first 4 to 8
 /// bytes of the tag.
 pub fn verification(
     alloc: Global,

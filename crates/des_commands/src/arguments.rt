@@ -56,7 +56,7 @@ pub(crate) fn file_of<'a>(path: &'a str) -> Source<'a>
     }
 }
 
-// The fault, where the options don't go together.
+// The fault, if the options don't go together.
 fn refuse<'a>(is_misuse: bool, fault: Misuse) -> Result<(), Fault<'a>>
     ensures passed { IfOk result (λ _. is_misuse ≡ false) }
     ensures fault { IfErr result (λ refused. (is_misuse ≡ true) × (refused.kind ≡ Usage fault)) }
@@ -315,7 +315,7 @@ fn calculation_of<'a>(name: &str, matches: &ArgMatches<'a>) -> Requested<'a> {
     }
 }
 
-/// What the words ask for; a fault where their options don't go together.
+/// What the words ask for; a fault if their options don't go together.
 pub fn command_of<'m, 'a>(matches: &'m ArgMatches<'a>) -> Result<Command<'m, 'a>, Fault<'a>>
     ensures direction { IfOk result (HasDirectionOf (subcommand_name_of matches.now)) }
 {

@@ -92,9 +92,9 @@ fn is_no(calculation: Calculation, outcome: &Result<Vec<u8>, Fault>) -> bool
 }
 
 /// Writes the line of a calculation to `out`, by what was read for it, or the line of its fault to
-/// `err`. A notice on a wrong check digit is written to `err` first, unless that is a fault. Gives the
-/// status that the program ends with: 0 where the whole line was written, and 1 where that says no;
-/// 4 where it was not, or that of the fault.
+/// `err`. A notice on a wrong check digit is written to `err` first, unless that is a fault. Returns the
+/// status that the program ends with: 0 if the whole line was written, and 1 if that says no;
+/// 4 if it was not, or that of the fault.
 pub fn run<S: Sentences, W: Write, E: Write>(
     alloc: Global,
     request: &CalculationRequest,

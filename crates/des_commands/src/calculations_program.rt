@@ -19,7 +19,7 @@ use crate::source::{LONGEST_TEXT, Source, bytes_of, text_of};
 // longer than the text of one.
 const MOST_PARTS: usize = 255;
 
-// The digits of a key, where there is one beside the input.
+// The digits of a key, if there is one beside the input.
 fn key_text_in<'a>(
     rt: &HostRuntime,
     source: Option<Source<'a>>,
@@ -52,7 +52,7 @@ fn input_in<'a>(rt: &HostRuntime, request: &CalculationRequest<'a>) -> Result<Ve
     input.map_err(|kind| Fault::about(kind, input_name(request)))
 }
 
-// The calculation for the digits of a key that is wrapped: 16 are a key of DES, where no algorithm was
+// The calculation for the digits of a key that is wrapped: 16 are a key of DES, if no algorithm was
 // typed.
 fn calculation_for<'a>(calculation: Calculation<'a>, digits: &[u8]) -> Calculation<'a> {
     match calculation {
@@ -79,7 +79,7 @@ fn run_by(rt: &HostRuntime, request: &CalculationRequest, inputs: Inputs) -> u8
     )
 }
 
-/// Reads what a calculation takes, writes its line, and gives the status.
+/// Reads what a calculation takes, writes its line, and returns the status.
 pub fn calculation_status<'a>(
     rt: &HostRuntime,
     request: &CalculationRequest<'a>,
@@ -116,7 +116,7 @@ pub fn calculation_status<'a>(
 // ---- components in files
 
 // Adds the bytes of components, each in a file: 8, 16 or 24 of the first, and as many of each other.
-// Gives how many each has, where there is one.
+// Returns the number that each has, if there is any.
 fn add_parts<'a>(
     rt: &HostRuntime,
     paths: &[&'a str],
@@ -131,7 +131,7 @@ fn add_parts<'a>(
     Ok(size)
 }
 
-/// Writes the line of the key of components, each in a file, and gives the status.
+/// Writes the line of the key of components, each in a file, and returns the status.
 pub fn parts_status<'a>(rt: &HostRuntime, paths: &[&'a str]) -> Result<u8, Fault<'a>> {
     let mut bytes = Vec::new(rt.alloc());
     let size = add_parts(rt, paths, &mut bytes)?.unwrap_or(0);

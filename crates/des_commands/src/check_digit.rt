@@ -4,7 +4,7 @@ ghost use Rattle.std.specs.Prelude.{◌≡◌, ◌≤◌, ◌<◌, length};
 ghost use Rattle.des_payment.specs.Texts.{are_digits as are_digits_of};
 ghost use Rattle.des_commands.specs.CheckDigits.{weighed as weighed_of, has_check_digit as has_check_digit_of, is_account as is_account_of};
 
-// What a digit adds to the sum where `following` digits follow it: itself, or the digits of its
+// What a digit adds to the sum if `following` digits follow it: itself, or the digits of its
 // double.
 fn weighed(following: usize, value: u32) -> u32
     requires { value < 256 }

@@ -97,7 +97,7 @@ pub struct Inputs<'a> {
     /// The input: a key, components, a PIN, a block or data.
     pub text: &'a [u8],
     pub account: &'a [u8],
-    /// The digits of the key, where the input is something else.
+    /// The digits of the key, if the input is something else.
     pub key: &'a [u8],
     /// The digits of the key of an outgoing block.
     pub to_key: &'a [u8],
@@ -125,7 +125,7 @@ pub enum Calculation<'a> {
     CombineBytes {
         size: u8,
     },
-    /// The block of a PIN. The transaction or fill digits are `fill`, where the format takes them.
+    /// The block of a PIN. The transaction or fill digits are `fill`, if the format takes them.
     Encode {
         format: Format,
         fill: &'a str,
@@ -159,7 +159,7 @@ pub enum Purpose {
     Mac(Message),
     /// The data of a message.
     Data(Message),
-    /// The data of a message, where terminals leave out the last one-way step.
+    /// The data of a message, if terminals leave out the last one-way step.
     DataVariant(Message),
 }
 
@@ -253,7 +253,7 @@ pub struct Wrapping<'a> {
     pub version: Version,
     pub usage: &'a str,
     pub algorithm: &'a str,
-    /// Whether the algorithm was typed. Where it was not, the key's length decides.
+    /// Whether the algorithm was typed. If it was not, the key's length decides.
     pub names_algorithm: bool,
     pub mode: &'a str,
     pub key_version: &'a str,

@@ -23,7 +23,7 @@ const LINKS_AT_MOST: u32 = 40;
 // The bits of the mode of a folder where everyone may write, and remove only their own files.
 const SHARED: u32 = 0o1002;
 
-// The bits of the system's flags for what a descriptor may do, and their values where it may read
+// The bits of the system's flags for what a descriptor may do, and their values if it may read
 // alone or write alone.
 const ACCESS: u32 = 0o3;
 
@@ -47,13 +47,13 @@ pub enum Followed {
     Descriptor(u64),
     /// A descriptor under another name, or one of another process.
     OtherDescriptor,
-    /// A path that is no link, and the modes of the folders where the links on the way stand.
+    /// A path that is no link, and the modes of the folders that hold the links on the way.
     Path { name: String, folders: Vec<u32> },
 }
 
-/// Holds each of the descriptors 0 to 2 that is closed, so that no file that is opened later is
-/// taken for a standard stream. The null device is opened the wrong way round, so that reading
-/// from it and writing to it stay faults. The error is that the system has none.
+/// Occupies each of the descriptors 0 to 2 that is closed, so that no file opened later becomes a
+/// standard stream. The null device is opened for the opposite direction, so that reading and writing
+/// still fail. The error is that the system has no null device.
 pub fn hold_closed(rt: &HostRuntime) -> io::Result<()> {
     for _ in 0..3 {
         // A pipe needs no file. Its reader has the lowest closed descriptor.
@@ -75,7 +75,7 @@ pub fn hold_closed(rt: &HostRuntime) -> io::Result<()> {
 
 // ---- names
 
-/// The descriptor that a path names, where it names one of this process: by its number as the system
+/// The descriptor that a path names, if it names one of this process: by its number as the system
 /// writes it, or as a standard one.
 pub fn descriptor_of(path: &str) -> Option<u64> {
     let digits = match path {
@@ -152,7 +152,7 @@ fn is_of_descriptor(rt: &HostRuntime, path: &str, link: &Metadata) -> io::Result
 }
 
 /// Follows the symbolic links at the end of a path, up to a descriptor. The error is `InvalidFilename`
-/// where one leads to a name that is no text, that the links don't end, or the system's.
+/// if one leads to a name that is no text, that the links don't end, or the system's.
 pub fn follow(rt: &HostRuntime, path: &str) -> io::Result<Followed> {
     let mut name = String::from_str(rt.alloc(), path)?;
     let mut folders = Vec::new(rt.alloc());
@@ -183,8 +183,8 @@ fn value_of<'a>(text: &'a str, name: &str) -> Option<&'a str> {
         .map(|value| value.trim())
 }
 
-/// How a descriptor stands: std opens files by name alone, and a name has no position. The error is `NotFound` where it is closed, the system's, or
-/// `InvalidData` where its text has no position or no flags.
+/// How a descriptor stands: std opens files by name alone, and a name has no position. The error is `NotFound` if it is closed, the system's, or
+/// `InvalidData` if its text has no position or no flags.
 pub fn standing_of(rt: &HostRuntime, number: u64) -> io::Result<Standing> {
     let path = format!(in rt.alloc(); "/proc/self/fdinfo/{number}")?;
     let text = fs::read_to_string(rt, path.as_str())?;

@@ -28,7 +28,7 @@ pub fn decode(digits: &[u8], bytes: &mut [u8], fault: Kind) -> Result<(), Kind>
     hex::decode_to_slice(digits, bytes).map_err(|_| fault)
 }
 
-/// The bytes that hexadecimal digits write, where there are two for each of them.
+/// The bytes that hexadecimal digits write, if there are two for each of them.
 pub fn bytes_of<const N: usize>(
     digits: &[u8],
     length_fault: Kind,

@@ -315,8 +315,8 @@ impl Kind {
         }
     }
 
-    /// The status that the program ends with: 2 where the arguments or the short inputs are at fault,
-    /// 4 where a file can't be read or written, and 5 where the stream or the file under a password is.
+    /// The status that the program ends with: 2 if the arguments or the short inputs are at fault,
+    /// 4 if a file can't be read or written, and 5 if the stream or the file under a password is.
     pub fn status(self) -> u8
         ensures { result ≡ status_of self }
     {

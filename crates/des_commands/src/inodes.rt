@@ -44,7 +44,7 @@ pub fn inode_of(metadata: &Metadata) -> Inode
     }
 }
 
-/// Whether Linux would refuse a file to a user who opens it with `O_CREAT`, where
+/// Whether Linux would refuse a file to a user who opens it with `O_CREAT`, if
 /// `fs.protected_regular` and `fs.protected_fifos` are 2: a regular file or a named pipe of another
 /// user, who is not the folder's owner, in a sticky folder that its group or everyone may write.
 pub fn is_refused_in_sticky(folder: Inode, file: Inode, user: u32) -> bool

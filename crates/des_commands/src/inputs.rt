@@ -21,7 +21,7 @@ pub struct Input {
     pub file: File,
     // The byte that is read first.
     place: u64,
-    // The file's bytes, where it is a regular one.
+    // The file's bytes, if it is a regular one.
     length: Option<u64>,
 }
 
@@ -73,9 +73,9 @@ fn open_at(rt: &HostRuntime, path: &str, place: u64) -> io::Result<Input> {
 }
 
 impl Input {
-    /// Seeks to the last of the first `before` blocks, which CBC needs as its vector. Gives how
-    /// many of these blocks are still to be read: one, or none where there are none. Where the file
-    /// can't seek to it, all of them are.
+    /// Seeks to the last of the first `before` blocks, which CBC needs as its vector. Returns the
+    /// number of these blocks that are still to be read: one, none if `before` is 0, and all if the file
+    /// can't seek.
     pub fn seek_to_last(&mut self, before: u64) -> u64 {
         if before == 0 {
             return 0;
@@ -88,14 +88,14 @@ impl Input {
         1
     }
 
-    /// The bytes that are to be read, where the file tells: up to the end, or those of `blocks`
-    /// blocks and of those that are passed over.
+    /// The number of bytes to read, if the file tells: up to its end, or those of `blocks` blocks and
+    /// of the blocks before them.
     pub fn total(&self, skipped: u64, blocks: Option<u64>) -> Option<u64> {
         self.length.map(|length| bytes_to_read(length, self.place, skipped, blocks))
     }
 }
 
-/// The bytes that are read of a file of a length, from a place on.
+/// The number of bytes from a place in a file to its end.
 pub fn bytes_to_read(length: u64, place: u64, skipped: u64, blocks: Option<u64>) -> u64 {
     let rest = length.saturating_sub(place);
     match blocks {

@@ -103,7 +103,7 @@ fn add_header(lines: &mut Vec<u8>, header: &Header) -> Result<(), Kind>
     add_field(lines, "exportability", &[header.exportability.character()])
 }
 
-// Adds the line of a key's context, where it is not storage and exchange.
+// Adds the line of a key's context, if it is not storage and exchange.
 fn add_context(lines: &mut Vec<u8>, context: KeyContext) -> Result<(), Kind>
     ensures fault { FailsBy None result }
     ensures line { OnOk result (lines.new.items ≡ lines.old.items ++ context_lines context) }
@@ -161,7 +161,7 @@ fn header_lines(alloc: Global, block: &[u8]) -> Lines
 // ---- what a block holds
 
 // Reads the digits of a key that protects blocks, of two parts or three, into the first bytes of a
-// buffer, and gives their number.
+// buffer, and returns their number.
 fn read_protection(digits: &[u8], key: &mut [u8; 24]) -> Result<usize, Kind>
     ensures fault { FailsOnlyBy (protection_fault digits.now) result }
     ensures size { IfOk result (λ size. (size ≡ 16) ⊎ (size ≡ 24)) }

@@ -26,7 +26,7 @@ pub enum Verdict {
     Weak,
 }
 
-// Whether `count` digits write a key of `size` bytes, or of 8, 16 or 24 where no size is named.
+// Whether `count` digits write a key of `size` bytes, or of 8, 16 or 24 if no size is named.
 fn is_key_length(count: usize, size: Option<u8>) -> bool
     ensures { result ≡ is_key_length count size }
 {
@@ -37,8 +37,8 @@ fn is_key_length(count: usize, size: Option<u8>) -> bool
 }
 
 /// The bytes of a key that hexadecimal digits write: of `size` bytes, 8, 16 or 24, or of one of these
-/// where no size is named. The fault is `KeyLength` where the number of digits is another, `KeyText`
-/// where a character is none, and else `Memory`.
+/// if no size is named. The fault is `KeyLength` if the number of digits is another, `KeyText`
+/// if a character is none, and else `Memory`.
 pub fn key_of_digits(alloc: Global, digits: &[u8], size: Option<u8>) -> Result<Vec<u8>, Kind>
     requires { IfSome size IsKeySize }
     ensures fault { FailsBy (key_fault size digits.now) result }
@@ -63,7 +63,7 @@ pub fn pair_of(digits: &[u8]) -> Result<[u8; 16], Kind>
 }
 
 /// Reads a key of 8, 16 or 24 bytes that hexadecimal digits write into the first bytes of a buffer,
-/// and gives their number. The faults are that of the length and that of the text.
+/// and returns their number. The faults are that of the length and that of the text.
 pub fn read_key(
     digits: &[u8],
     key: &mut [u8; 24],

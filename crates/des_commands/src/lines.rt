@@ -230,7 +230,7 @@ fn key_of_purpose(purpose: Purpose, transaction: &[u8; 16]) -> [u8; 16]
     }
 }
 
-// The initial key of a key serial number, where a key is that or the base derivation key.
+// The initial key of a key serial number, if a key is that or the base derivation key.
 fn initial_key_of(is_initial: bool, key: &[u8; 16], serial: &[u8; 10]) -> [u8; 16]
     ensures { result ≡ initial_key_by is_initial key.now serial.now }
 {

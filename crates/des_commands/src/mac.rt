@@ -77,8 +77,8 @@ fn tag_over<C: KeyedCipher + Drop, R: Read>(
 }
 
 /// The tag of all that a reader has, read a buffer of one byte at least at a time. The key's size
-/// decides the cipher. The fault is `KeyLength` where the method takes no key of these bytes, or
-/// `Read` where the reader failed.
+/// decides the cipher. The fault is `KeyLength` if the method takes no key of these bytes, or
+/// `Read` if the reader failed.
 pub fn tag_of<R: Read>(
     method: Method,
     key: &[u8],

@@ -24,7 +24,7 @@ const BYTES_AT_A_TIME: usize = 65536;
 // The tag of a message, or the status of a fault that was told.
 type Tagged = Result<[u8; 8], u8>;
 
-// The bytes of a method's keys, where they have one size.
+// The bytes of a method's keys, if they have one size.
 fn key_size_of(method: Method) -> Option<u8>
     ensures { IfSome result IsKeySize }
 {
@@ -101,13 +101,13 @@ fn tag_for<'a>(rt: &HostRuntime, request: &MacRequest<'a>) -> Result<Tagged, Fau
     tag_of_message(rt, request, key.as_slice()).map_err(|kind| Fault::about(kind, message))
 }
 
-// Writes the line of an answer, and gives the status.
+// Writes the line of an answer, and returns the status.
 fn show_answer(rt: &HostRuntime, line: Vec<u8>, is_no: bool) -> u8 {
     let written = show::<English, _, _>(&Ok(line), &mut rt.stdout(), &mut rt.stderr());
     status_of(written, is_no)
 }
 
-// Writes whether these are the digits of the tag's first bytes, and gives the status.
+// Writes whether these are the digits of the tag's first bytes, and returns the status.
 fn verify_status<'a>(
     rt: &HostRuntime,
     request: &MacRequest<'a>,
@@ -125,7 +125,7 @@ fn verify_status<'a>(
     }
 }
 
-/// Writes the first bytes of the tag, or whether they are others, and gives the status.
+/// Writes the first bytes of the tag, or whether they are others, and returns the status.
 pub fn mac_status<'a>(rt: &HostRuntime, request: &MacRequest<'a>) -> Result<u8, Fault<'a>> {
     match request.question {
         Question::Print(count) => match tag_for(rt, request)? {

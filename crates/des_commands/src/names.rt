@@ -33,7 +33,7 @@ pub fn account_name<'a>(request: &CalculationRequest<'a>) -> &'a str
     }
 }
 
-/// What a fault of the key is about, also where the key is the input.
+/// What a fault of the key is about, also if the key is the input.
 pub fn key_name<'a>(request: &CalculationRequest<'a>) -> &'a str
     ensures { IsSubject request.now result.now }
 {

@@ -13,7 +13,7 @@ use crate::stream_request::{StreamRequest, WeakKeys};
 use des_io::{Padding, StreamError};
 use std::io::Write;
 
-/// What is told of a stream that goes on.
+/// A notice; the stream goes on.
 #[derive(Clone, Copy)]
 pub enum Notice {
     /// What is taken as text is nothing but hexadecimal digits.

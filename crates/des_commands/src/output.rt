@@ -30,7 +30,7 @@ const MODE_IN_WRITING: u32 = 0o600;
 // What programs ask for a new file, before the umask takes bits away.
 const MODE_OF_NEW_FILES: u32 = 0o666;
 
-// The random names that are tried where there are files of these names already.
+// The random names that are tried if there are files of these names already.
 const NAMES_AT_MOST: u32 = 16;
 
 /// A file beside the one that it is to replace, which only its owner may read.
@@ -38,7 +38,7 @@ const NAMES_AT_MOST: u32 = 16;
 pub struct PrivateFile {
     target: String,
     beside: String,
-    // The file that it replaces, where there is one. While it is open, no other file gets its number.
+    // The file that it replaces, if there is one. While it is open, no other file gets its number.
     old: Option<File>,
     // The permissions that it gets at its end.
     mode: u32,
@@ -51,7 +51,7 @@ pub struct PrivateFile {
 /// Who may read what is written to a file.
 #[derive(Clone, Copy, PartialEq, Eq)]
 pub enum Readers {
-    /// Who may read a new file of the folder. Where a file is replaced, its owner alone: what others
+    /// Who may read a new file of the folder. If a file is replaced, its owner alone: what others
     /// could do may stand in an access list, which std neither tells of nor sets.
     OfFolder,
     /// Its owner alone.
@@ -100,7 +100,7 @@ pub fn refuse_terminal<'a>(rt: &HostRuntime, output: Output) -> Result<(), Fault
 }
 
 /// Opens an output, unless it is the regular file of the secret, which it would replace. The fault is
-/// `Write`, `Memory`, or `Source` where the system gives no random bytes for a name.
+/// `Write`, `Memory`, or `Source` if the system gives no random bytes for a name.
 pub fn open(
     rt: &HostRuntime,
     output: Output,
@@ -146,7 +146,7 @@ fn open_fault(error: io::Error) -> Kind {
     }
 }
 
-// The user who runs this, whose its folder of the system is, where the system has one.
+// The user who runs this, whose its folder of the system is, if the system has one.
 fn own_user(rt: &HostRuntime) -> Option<u32> {
     Some(fs::metadata(rt, OWN_FOLDER).ok()?.uid())
 }
@@ -336,12 +336,12 @@ fn replace_fault(error: io::Error) -> Kind {
 }
 
 impl PrivateFile {
-    /// Ends the file. Where all went well it is flushed to the disk and takes the target's name.
-    /// Where anything failed it is removed, and the target stays as it was.
+    /// Ends the file. If all went well it is flushed to the disk and takes the target's name.
+    /// If anything failed it is removed, and the target is unchanged.
     pub fn end(self, rt: &HostRuntime, outcome: Result<(), Kind>) -> Result<(), Kind> {
         let outcome = outcome.and_then(|()| self.replace_target(rt));
         if outcome.is_err() {
-            // Where it can't be removed, at least only its owner may read it.
+            // If it can't be removed, at least only its owner may read it.
             let _ = self
                 .file
                 .set_permissions(Permissions::from_mode(MODE_IN_WRITING));
@@ -350,8 +350,8 @@ impl PrivateFile {
         outcome
     }
 
-    // Flushes the file, gives it its group and permissions where the system lets it, and renames it: a
-    // signal on the way leaves its owner's file. Then the folder is flushed where the system lets it.
+    // Flushes the file, gives it its group and permissions if the system lets it, and renames it: a
+    // signal on the way leaves its owner's file. Then the folder is flushed if the system lets it.
     // One that may not be read can't be: that is no fault, since the file stands whole under its name.
     fn replace_target(&self, rt: &HostRuntime) -> Result<(), Kind> {
         self.file.sync_all().map_err(write_fault)?;

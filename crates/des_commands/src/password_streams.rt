@@ -35,7 +35,7 @@ pub struct PasswordJob<'a> {
     pub name: &'a str,
 }
 
-/// The fault of a password, where it has one: what encrypts is not empty.
+/// The fault of a password, if it has one: what encrypts is not empty.
 pub fn check_password(encrypts: bool, password: &[u8]) -> Result<(), Kind>
     ensures { FailsOnlyBy (password_fault encrypts password.now) result }
 {
@@ -80,7 +80,7 @@ fn salt_of<R: Read>(job: &PasswordJob, reader: &mut R) -> Result<Option<[u8; 8]>
     }
 }
 
-// The bytes of a salt; none where there is none.
+// The bytes of a salt; none if there is none.
 fn bytes_of(salt: &Option<[u8; 8]>) -> &[u8]
     ensures { result.now ≡ salt_bytes salt.now }
 {
@@ -123,10 +123,10 @@ fn run_by_key<const N: usize, R: Read, W: Write, E: Write>(
 
 /// Encrypts or decrypts what the reader gives by the key and the vector of a password and a salt,
 /// and writes it. To encrypt, `Salted__` and the salt are written first; to decrypt, they are read
-/// first, where the file has them. The weak key test comes before anything is written; what it tells
-/// goes to `err`, where no password stands. The writer is not flushed.
+/// first, if the file has them. The weak key test comes before anything is written; what it tells
+/// goes to `err`, if no password stands. The writer is not flushed.
 ///
-/// The fault is `NotSalted`, `SaltCut` or `Read` where no salt is read, `Usage` where there is no
+/// The fault is `NotSalted`, `SaltCut` or `Read` if no salt is read, `Usage` if there is no
 /// iteration, or `WeakKey`: nothing is then written. Else it is one of `streams::run`, and a prefix
 /// is written.
 pub fn run_by_password<R: Read, W: Write, E: Write>(

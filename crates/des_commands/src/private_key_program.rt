@@ -134,7 +134,7 @@ fn run_text(
     }
 }
 
-/// Decrypts the private key that a request names, and writes it. Gives 0, or the status of a fault
+/// Decrypts the private key that a request names, and writes it. Returns 0, or the status of a fault
 /// that was told.
 pub fn private_key_status<'a>(
     rt: &HostRuntime,

@@ -78,7 +78,7 @@ pub fn is_der(bytes: &[u8]) -> bool
     begins_with_sequence_alone(bytes) || bytes.len() >= 2 && bytes[0] == 48 && bytes[1] >= 128
 }
 
-// The fault of a private key, of one of its bytes: a list of bytes fails to grow only where memory is
+// The fault of a private key, of one of its bytes: a list of bytes fails to grow only if memory is
 // refused.
 fn fault_of(error: StreamError) -> Kind
     ensures { result ≡ private_key_fault error }
@@ -109,9 +109,9 @@ fn plain_of(alloc: Global, both: &KeyAndVector<24>, encrypted: &[u8]) -> Result<
     }
 }
 
-/// The DER of the private key that a key and a vector decrypt. The fault is `Length` where there are
-/// no whole blocks, `KeyPadding` where what is decrypted has another padding, `Password` where it is
-/// no sequence, or `Memory`: a list of bytes fails to grow only where memory is refused.
+/// The DER of the private key that a key and a vector decrypt. The fault is `Length` if there are
+/// no whole blocks, `KeyPadding` if what is decrypted has another padding, `Password` if it is
+/// no sequence, or `Memory`: a list of bytes fails to grow only if memory is refused.
 pub fn decrypted_key(
     alloc: Global,
     both: &KeyAndVector<24>,
@@ -184,7 +184,7 @@ fn add_number(alloc: Global, text: String, number: u64) -> Result<String, AllocE
 }
 
 /// The text of an object identifier (ITU-T X.690, 8.19): its numbers with points between, or its bytes
-/// in hexadecimal digits where they end within a number, or one has more than 56 bits.
+/// in hexadecimal digits if they end within a number, or one has more than 56 bits.
 pub fn object_identifier(alloc: Global, contents: &[u8]) -> Result<String, AllocError>
     ensures { IfOk result (λ text. string_bytes text ≡ object_identifier_text contents.now) }
 {

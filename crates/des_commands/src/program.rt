@@ -15,12 +15,12 @@ use crate::usage::show_usage;
 use std::process::ExitCode;
 use std::{env, io};
 
-// Writes the line of a fault, and gives its status.
+// Writes the line of a fault, and returns its status.
 fn tell_on(rt: &HostRuntime, fault: Fault) -> u8 {
     tell::<English, _>(fault, &mut rt.stderr())
 }
 
-// Does what is asked for, and gives the status.
+// Does what is asked for, and returns the status.
 fn status_to<'m, 'a>(rt: &HostRuntime, command: &Command<'m, 'a>) -> Result<u8, Fault<'a>> {
     match *command {
         Command::Calculate(request) => calculation_status(rt, &request),
@@ -61,7 +61,7 @@ fn run_held(rt: &HostRuntime) -> u8 {
     }
 }
 
-/// Runs the program on the arguments of the process, and gives the status that it ends with.
+/// Runs the program on the arguments of the process, and returns the status that it ends with.
 pub fn run(rt: &HostRuntime) -> ExitCode {
     ExitCode::from(match hold_closed(rt) {
         Ok(()) => run_held(rt),

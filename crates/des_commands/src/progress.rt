@@ -5,14 +5,14 @@ use std::alloc::{AllocError, Global};
 use std::io::IsTerminal;
 use std::time::{Duration, Instant};
 
-// How many bytes were read at a time.
+// The number of bytes read by a time.
 #[derive(Clone, Copy)]
 struct Mark {
     at: Instant,
     bytes: u64,
 }
 
-// Lines come at least this far apart.
+// The least time between two lines.
 const MILLISECONDS_BETWEEN: u64 = 500;
 
 /// When a stream began, and what was read of it at the last lines.
@@ -21,7 +21,7 @@ pub struct Progress {
     first: Mark,
     // Those of the last eight lines, the oldest first.
     marks: [Mark; 8],
-    // The bytes that there are to read, where that is known.
+    // The bytes that there are to read, if that is known.
     total: Option<u64>,
     // Lines are written on the way, and not only the last one.
     goes_on: bool,
@@ -34,8 +34,8 @@ fn rate_of(from: Mark, to: Mark) -> u64 {
     (bytes * 1000 / milliseconds).min(u64::MAX as u128) as u64
 }
 
-// The line of a stream that goes on: bytes, the rate in millions of bytes a second, and where the
-// length is known the share, at most 100 also where a file grew meanwhile, and the time left.
+// The line of a stream that goes on: bytes, the rate in millions of bytes a second, and if the
+// length is known the share, at most 100 also if a file grew meanwhile, and the time left.
 fn line_of(alloc: Global, bytes: u64, rate: u64, total: Option<u64>) -> Result<String, AllocError> {
     let whole = rate / 1000000;
     let tenths = rate / 100000 % 10;
@@ -63,7 +63,7 @@ fn last_line(alloc: Global, first: Mark, last: Mark) -> Result<String, AllocErro
     format!(in alloc; "cukvashe: {bytes} bytes in {seconds}.{tenth} s, {whole}.{tenths} MB/s\n")
 }
 
-// Writes a line, where there was memory for it.
+// Writes a line, if there was memory for it.
 fn show(rt: &HostRuntime, line: Result<String, AllocError>) {
     if let Ok(line) = line {
         let _ = send(&mut rt.stderr(), line.as_bytes());
@@ -71,7 +71,7 @@ fn show(rt: &HostRuntime, line: Result<String, AllocError>) {
 }
 
 impl Progress {
-    /// A stream that begins, unless the clock can't be read. Where standard error is no terminal,
+    /// A stream that begins, unless the clock can't be read. If standard error is no terminal,
     /// the last line alone is written.
     pub fn begin(rt: &HostRuntime, total: Option<u64>) -> Option<Progress> {
         let at = Instant::now(rt).ok()?;
@@ -84,7 +84,7 @@ impl Progress {
         })
     }
 
-    /// Writes a line where the last one is long ago. A clock that can't be read shows nothing.
+    /// Writes a line if the last one is long ago. A clock that can't be read shows nothing.
     pub fn go_on(self, rt: &HostRuntime, bytes: u64) -> Progress {
         let Ok(at) = Instant::now(rt) else {
             return self;

@@ -48,7 +48,7 @@ impl Write for Line {
     }
 }
 
-/// Writes the bytes and flushes. Where that fails, a prefix of them is written, and the fault is
+/// Writes the bytes and flushes. If that fails, a prefix of them is written, and the fault is
 /// `Write`.
 pub fn send<W: Write>(out: &mut W, bytes: &[u8]) -> Result<(), Kind>
     ensures part { AppendsPrefix (W.contents out.old) (W.contents out.new) bytes.now }
@@ -59,7 +59,7 @@ pub fn send<W: Write>(out: &mut W, bytes: &[u8]) -> Result<(), Kind>
     out.flush().map_err(|error| Kind::Write(Reason::of(&error)))
 }
 
-// What stands between what a fault is about and its words.
+// The separator between a fault's subject and its sentence.
 fn separator(about: &str) -> &'static str
     ensures { result.now ≡ separator_of about.now }
 {
@@ -123,7 +123,7 @@ fn write_parts<W: Write>(
     write_texts(out, &[separator(about), words, "\n"])
 }
 
-/// Writes a line of a fault or a notice: its name, what it is about, where that is not empty, and
+/// Writes a line of a fault or a notice: its name, what it is about, if that is not empty, and
 /// its words. Name and words are of the program's own text, so neither can be a secret. Of what it is
 /// about, characters that a terminal may act on are shown as question marks. One write takes the whole line, unless
 /// it is longer than `LINE_AT_MOST`.
@@ -160,7 +160,7 @@ pub fn report<S: Sentences, E: Write>(fault: Fault, err: &mut E) -> Result<(), S
     write_line(words.name, fault.about, words.sentence, err)
 }
 
-/// Writes the line of a fault, and gives its status. A line that can't be written changes no status.
+/// Writes the line of a fault, and returns its status. A line that can't be written changes no status.
 pub fn tell<S: Sentences, E: Write>(fault: Fault, err: &mut E) -> u8
     ensures { IsTold S.says E.contents fault.entry.kind fault.entry.about.now result err.old err.new }
 {
@@ -168,9 +168,9 @@ pub fn tell<S: Sentences, E: Write>(fault: Fault, err: &mut E) -> u8
     fault.kind.status()
 }
 
-/// Writes a result to `out`, or the line of a fault to `err`, and gives the status that the program
-/// ends with: 0 where the whole result was written, that of the fault `Write` where it was not, and
-/// that of the fault. No clause says that `Write` is told only where `out` failed, since std has no
+/// Writes a result to `out`, or the line of a fault to `err`, and returns the status that the program
+/// ends with: 0 if the whole result was written, that of the fault `Write` if it was not, and
+/// that of the fault. No clause says that `Write` is told only if `out` failed, since std has no
 /// word for that; runs of the program show it.
 pub fn show<S: Sentences, W: Write, E: Write>(
     outcome: &Result<Vec<u8>, Fault>,

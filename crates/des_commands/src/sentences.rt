@@ -69,8 +69,7 @@ fn sentence_of(kind: Kind) -> &'static str {
         Kind::BlockText => "the block has a character that is no hexadecimal digit",
         Kind::SerialLength =>
             "a key serial number has 20 hexadecimal digits: put FFFF before one of 16",
-        Kind::SerialText =>
-            "the key serial number has a character that is no hexadecimal digit",
+        Kind::SerialText => "the key serial number has a character that is no hexadecimal digit",
         Kind::SerialCounter =>
             "the key serial number's counter is 0, or has more than ten one bits",
         Kind::FillLength => "ten digits are needed",

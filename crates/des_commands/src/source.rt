@@ -93,7 +93,7 @@ pub(crate) fn shown<'a>(path: &'a str) -> &'a str
 }
 
 impl<'a> Source<'a> {
-    /// What a fault of the source is about: a file's path, unless it may be a secret, or the option.
+    /// What a fault of this source names: the file's path, unless it may be a secret, or the option.
     pub fn name(self) -> &'a str
         ensures { result.now ≡ name_of_source self.entry }
     {
@@ -106,8 +106,8 @@ impl<'a> Source<'a> {
     }
 }
 
-/// All that a reader has. The fault is `InputLength` where that is more than `longest` bytes,
-/// `Read` where the reader failed, or `Memory`.
+/// All that a reader has. The fault is `InputLength` if that is more than `longest` bytes,
+/// `Read` if the reader failed, or `Memory`.
 pub fn bytes_of_reader<R: Read>(
     alloc: Global,
     reader: &mut R,
@@ -147,8 +147,8 @@ fn bytes_of_variable(rt: &HostRuntime, name: &str, longest: usize) -> Result<Vec
     }
 }
 
-/// The bytes of a source, at most `longest`. The fault is `InputLength` where there are more,
-/// `Read` where the system refused it, `Variable` or `Memory`.
+/// The bytes of a source, at most `longest`. The fault is `InputLength` if there are more,
+/// `Read` if the system refused it, `Variable` or `Memory`.
 pub fn bytes_of(rt: &HostRuntime, source: Source, longest: usize) -> Result<Vec<u8>, Kind>
     requires { longest < 100000 }
     ensures { IfOk result (λ bytes. length bytes.items ≤ longest) }

@@ -60,7 +60,7 @@ pub enum Vector {
 pub struct Part {
     /// The block that it begins with, the first being 0.
     pub from: u64,
-    /// The number of its blocks; up to the end where there is none.
+    /// The number of its blocks; up to the end if there is none.
     pub count: Option<u64>,
 }
 
@@ -141,7 +141,7 @@ pub struct StreamRequest<'a> {
     pub shows_progress: bool,
 }
 
-/// The blocks of the input that stand before those that are decrypted: the vector, where it is the
+/// The blocks of the input that stand before those that are decrypted: the vector, if it is the
 /// first block, and those before the part. They are counted up to 2^64 - 1: no input has more.
 pub fn blocks_before(request: &StreamRequest) -> u64
     ensures { result ≡ blocks_before_of request.now.mode request.now.part }
@@ -166,7 +166,7 @@ fn mode_of(mode: StreamMode, vector: [u8; 8]) -> Mode
     }
 }
 
-/// What is done for a request by a key: with a vector that is random, or of a password, where one is
+/// What is done for a request by a key: with a vector that is random, or of a password, if one is
 /// asked for; with a heading before what is encrypted; and after the blocks of what is decrypted that
 /// are read and passed over.
 pub fn job_of<'a>(
@@ -195,7 +195,7 @@ pub fn job_of<'a>(
     }
 }
 
-/// What is written before the ciphertext by a key: a random vector, where one is asked for.
+/// What is written before the ciphertext by a key: a random vector, if one is asked for.
 pub fn heading_of<'a>(mode: StreamMode, random: &'a [u8; 8]) -> &'a [u8]
     ensures { result.now ≡ heading_by mode random.now }
 {

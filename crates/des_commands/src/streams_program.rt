@@ -131,7 +131,7 @@ fn run_reader<R: Read + Drop>(
 // What a text of Base64 begins with, whose bytes begin with `Salted__`.
 const PREFIX_IN_BASE64: [u8; 8] = *b"U2FsdGVk";
 
-// Reads from a reader that stands at the beginning of the input. Where it is decrypted, a salt that
+// Reads from a reader that stands at the beginning of the input. If it is decrypted, a salt that
 // the words do not announce is refused, also in Base64.
 fn run_from_start<R: Read + Drop>(
     rt: &HostRuntime,
@@ -173,20 +173,20 @@ fn run_file(rt: &HostRuntime, task: Task, path: &str) -> Result<(), Kind> {
 
 // ---- Base64 and hexadecimal digits
 
-/// Tells a fault of a file, and of what stands in it, and gives its status.
+/// Tells a fault of a file, and of what stands in it, and returns its status.
 pub fn tell_in(rt: &HostRuntime, fault: FileFault, input: &str, detail: &str) -> Result<u8, Kind> {
     let about = format!(in rt.alloc(); "{input}: {detail}")?;
     let fault = Fault::about(Kind::File(fault), about.as_str());
     Ok(tell::<English, _>(fault, &mut rt.stderr()))
 }
 
-// Tells a fault of a line of a file, and gives its status.
+// Tells a fault of a line of a file, and returns its status.
 fn tell_line(rt: &HostRuntime, fault: FileFault, input: &str, line: u64) -> Result<u8, Kind> {
     let line = format!(in rt.alloc(); "line {line}")?;
     tell_in(rt, fault, input, line.as_str())
 }
 
-/// Tells why an input is no text of hexadecimal digits, and gives the status.
+/// Tells why an input is no text of hexadecimal digits, and returns the status.
 pub fn tell_hex(rt: &HostRuntime, fault: HexFault, input: &str) -> Result<u8, Kind> {
     match fault {
         HexFault::Line(line) => tell_line(rt, FileFault::HexText, input, line),
@@ -253,7 +253,7 @@ fn secret_in<'a>(rt: &HostRuntime, request: &StreamRequest<'a>) -> Result<Vec<u8
     }
 }
 
-// Eight random bytes, where a vector or a salt is to be random.
+// Eight random bytes, if a vector or a salt is to be random.
 fn random_for(rt: &HostRuntime, request: &StreamRequest) -> Result<[u8; 8], Kind> {
     match (request.secret, request.mode) {
         (Secret::Password(_, _), _) if request.encrypts => system_random(rt),
@@ -276,7 +276,7 @@ fn fault_of<'a>(kind: Kind, request: &StreamRequest<'a>) -> Fault<'a> {
     }
 }
 
-// Encrypts or decrypts by a secret that is taken. Gives 0, or the status of a fault that was told.
+// Encrypts or decrypts by a secret that is taken. Returns 0, or the status of a fault that was told.
 fn run_taken(rt: &HostRuntime, request: &StreamRequest, secret: &[u8]) -> Result<u8, Kind> {
     let task = Task {
         request,
@@ -294,7 +294,7 @@ fn run_taken(rt: &HostRuntime, request: &StreamRequest, secret: &[u8]) -> Result
 }
 
 /// Encrypts or decrypts, and writes where the request says. Nothing is read or written of a stream
-/// whose key or password is refused. Gives 0, or the status of a fault that was told.
+/// whose key or password is refused. Returns 0, or the status of a fault that was told.
 pub fn stream_status<'a>(rt: &HostRuntime, request: &StreamRequest<'a>) -> Result<u8, Fault<'a>> {
     refuse_terminal(rt, request.output)?;
     let secret = secret_in(rt, request)?;

@@ -1,5 +1,5 @@
 //! What is shown of a command line that was not understood, or that asks for help. None of the words
-//! that were typed is shown where it may be a key.
+//! that were typed is shown if it may be a key.
 
 use crate::arguments::{known_name, names_of, parse};
 use crate::fault::{Fault, Kind, Misuse};
@@ -209,7 +209,7 @@ fn tell_hidden(
         kind: Kind::Usage(misuse),
         about: about.unwrap_or(""),
     };
-    // The words that the argument takes, where it takes some words alone.
+    // The words that the argument takes, if it takes some words alone.
     let taken = between(message, "\n  [possible values: ", "]");
     let text = match (kind, taken) {
         (ErrorKind::InvalidValue, Some(taken)) => {
@@ -254,7 +254,7 @@ fn show_by_kind(rt: &HostRuntime, error: &clap::Error, words: &[&str]) -> Result
     }
 }
 
-/// Shows what a command line that was not parsed is told, and gives the status.
+/// Shows what a command line that was not parsed is told, and returns the status.
 pub fn show_usage(rt: &HostRuntime, error: &clap::Error, words: &[&str]) -> u8 {
     match show_by_kind(rt, error, words) {
         Ok(status) => status,

@@ -19,7 +19,7 @@ pub struct Watched<'a, R> {
     progress: Option<Progress>,
 }
 
-// Tells that the limit is passed. Gives what is left to be told: none once that was told.
+// Tells that the limit is passed. Returns what is left to be told: none once that was told.
 fn tell_limit<E: Write>(limit: Option<Padding>, bytes: u64, err: &mut E) -> Option<Padding>
     ensures { TellsLimit limit bytes result (E.contents err.old) (E.contents err.new) }
 {
@@ -34,7 +34,7 @@ fn tell_limit<E: Write>(limit: Option<Padding>, bytes: u64, err: &mut E) -> Opti
 
 impl<'a, R: Read + Drop> Watched<'a, R> {
     /// A reader of the bytes of `inner`, none of which was counted, for what is asked for. `total` is
-    /// how many there are to read, where that is known.
+    /// how many there are to read, if that is known.
     pub fn new(
         rt: &'a HostRuntime,
         inner: R,
@@ -54,7 +54,7 @@ impl<'a, R: Read + Drop> Watched<'a, R> {
         }
     }
 
-    /// Ends the reader: the last line is written, where lines are.
+    /// Ends the reader: the last line is written, if lines are.
     pub fn end(self) {
         if let Some(progress) = self.progress {
             progress.end(self.rt, self.bytes);

@@ -114,8 +114,8 @@ pub(crate) fn are_bytes_of(blocks: &[[u8; 8]], size: usize) -> bool
     size % 8 == 0 && size / 8 == blocks.len()
 }
 
-/// Encrypts blocks in place, each by itself. The status is `ERR_BLOCKS` where the caller's bytes are
-/// not whole blocks; they then stay as they were.
+/// Encrypts blocks in place, each by itself. The status is `ERR_BLOCKS` if the caller's bytes are
+/// not whole blocks; they are then unchanged.
 pub fn encrypt_ecb<S: Slice>(context: &[u64], blocks: &mut [[u8; 8]], size: usize) -> i32
     requires { IsSoundIfMarked context.now }
     ensures unmarked { (result ≡ ERR_CONTEXT) ↔ ¬ (HasMark NO_MAC context.now) }
@@ -158,8 +158,8 @@ pub fn decrypt_ecb<S: Slice>(context: &[u64], blocks: &mut [[u8; 8]], size: usiz
 }
 
 /// Encrypts blocks in place by CBC from the vector, which becomes the last ciphertext block. The
-/// status is `ERR_BLOCKS` where the caller's bytes are not whole blocks; they and the vector then
-/// stay.
+/// status is `ERR_BLOCKS` if the caller's bytes are not whole blocks; they and the vector then
+/// are unchanged.
 pub fn encrypt_cbc(context: &[u64], iv: &mut [u8; 8], blocks: &mut [[u8; 8]], size: usize) -> i32
     requires { IsSoundIfMarked context.now }
     ensures unmarked { (result ≡ ERR_CONTEXT) ↔ ¬ (HasMark NO_MAC context.now) }

@@ -45,7 +45,7 @@ pub trait OfContext: Relating + Drop {
     ghost answers_by_length: { (cipher : Self) (key : List ℕ) → Self.is_made_from cipher key
         → AnswersByLength Self.KEY_SIZE Self.encryption Self.relation key };
 
-    // A key of this size says the same by its length, where no cipher was made of it.
+    // A key of this size says the same by its length, if no cipher was made of it.
     ghost by_length: { (key : List ℕ) → length key ≡ Self.KEY_SIZE
         → (Self.encryption key ≡ encryption_of key) × (Self.decryption key ≡ decryption_of key) };
 }

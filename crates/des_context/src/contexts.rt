@@ -22,7 +22,7 @@ pub const MARK: u64 = 0xc0de000000000000;
 /// The number of no algorithm of a MAC, in the marks of ciphers.
 pub const NO_MAC: u32 = 0;
 
-// The mark of so many words.
+// The mark of contexts with this number of words.
 fn mark(algorithm: u32, quiet: bool, words: usize) -> u64
     ensures { result ≡ mark_of algorithm quiet words }
 {
@@ -72,8 +72,8 @@ pub(crate) fn init_for(algorithm: u32, context: &mut [u64], key: &[u8], quiet: b
 }
 
 /// Makes a context from the bytes of a key, a quiet one, whose calls read no table, or a quick one.
-/// The status is `ERR_KEY_LENGTH` where there are not as many bytes as the context's number of
-/// words has room for; the context then stays as it was.
+/// The status is `ERR_KEY_LENGTH` if there are not as many bytes as the context's number of
+/// words has room for; the context is then unchanged.
 pub fn init(context: &mut [u64], key: &[u8], quiet: bool) -> i32
     requires { HasAForm context.old }
     ensures accepted { (result ≡ OK) ↔ (2 * length key.now + 1 ≡ length context.old) }

@@ -28,8 +28,8 @@ fn encrypt_by<C: OfContext + KeyForEach, S: Slice>(keys: &[u8], blocks: &mut [[u
 }
 
 /// Encrypts each block in place under the key at its place: `keys` are keys of `key_size` bytes,
-/// one after another, of DES where these are 8, and else of triple DES in the EDE form. The status
-/// is `ERR_COUNTS` where the numbers of keys and blocks differ; the blocks then stay as they were.
+/// one after another, of DES if these are 8, and else of triple DES in the EDE form. The status
+/// is `ERR_COUNTS` if the numbers of keys and blocks differ; the blocks are then unchanged.
 pub fn encrypt_each<S: Slice>(key_size: usize, keys: &[u8], blocks: &mut [[u8; 8]]) -> i32
     requires { IsKeyLength key_size }
     ensures accepted { (result ≡ OK) ↔ (length (keys_of key_size keys.now) ≡ length blocks.old) }

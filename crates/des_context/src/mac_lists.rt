@@ -216,7 +216,7 @@ fn macs_by<S: Slice>(
 
 /// Writes the tag of each message at its place, with padding method 1 or 2, which plays no part in
 /// CMAC. The status of another padding is `ERR_PADDING_METHOD`, that of
-/// messages and tags of different numbers `ERR_COUNTS`; the tags then stay as they were.
+/// messages and tags of different numbers `ERR_COUNTS`; the tags are then unchanged.
 pub fn macs<S: Slice>(
     algorithm: u32,
     padding: u32,
@@ -265,7 +265,7 @@ fn macs_each_by<S: Slice>(
 
 /// Writes the tag of each message under the key at its place: `keys` are keys of `key_size` bytes,
 /// one after another. Padding and status are as of `macs`, and the status is `ERR_COUNTS` also
-/// where the number of keys is another one.
+/// if the number of keys is another one.
 pub fn macs_each<S: Slice>(
     algorithm: u32,
     padding: u32,

@@ -74,7 +74,7 @@ fn extend_by<W: Way>(context: &[u64], message: &mut Message, bytes: &[u8])
     by_form!(extend::<W>(context, message, bytes));
 }
 
-// Adds bytes by a cipher that reads tables or, where the context is quiet, by one that reads none.
+// Adds bytes by a cipher that reads tables or, if the context is quiet, by one that reads none.
 fn extend_by_context(algorithm: u32, context: &[u64], message: &mut Message, bytes: &[u8])
     requires made { (key : List ℕ) × IsContextOf context.now key }
     requires progress { HoldsOneBlock message.old.progress }
@@ -112,7 +112,7 @@ fn write_words(algorithm: u32, context: &mut [u64], key: &[u8], quiet: bool)
 /// Makes the words of a MAC of the bytes of a key, quiet ones, whose calls read no table, or quick
 /// ones, and the message of no bytes, with padding method 1 or 2. The status of a key of another
 /// length than the words have room for is `ERR_KEY_LENGTH`, of another padding
-/// `ERR_PADDING_METHOD`; the words and the message then stay as they were.
+/// `ERR_PADDING_METHOD`; the words and the message are then unchanged.
 pub fn init(
     algorithm: u32,
     context: &mut [u64],
@@ -162,7 +162,7 @@ fn has_mac_mark(algorithm: u32, context: &[u64]) -> bool
 }
 
 /// Adds bytes to the message, after those that it has. The status of words that `init` did not make
-/// for the algorithm is `ERR_CONTEXT`; the message then stays as it was.
+/// for the algorithm is `ERR_CONTEXT`; the message is then unchanged.
 pub fn update(algorithm: u32, context: &[u64], message: &mut Message, bytes: &[u8]) -> i32
     requires form { HasMacForm algorithm context.now }
     requires sound { IsSoundMacIfMarked algorithm context.now message.old }
@@ -261,7 +261,7 @@ fn tag(algorithm: u32, context: &[u64], message: &Message) -> [u8; 8]
 }
 
 /// Writes the tag of the message, which may go on. The status is as of `update`, and the tag of
-/// words that it refuses stays as it was.
+/// words that it refuses is unchanged.
 pub fn write_tag(algorithm: u32, context: &[u64], message: &Message, room: &mut [u8; 8]) -> i32
     requires form { HasMacForm algorithm context.now }
     requires sound { IsSoundMacIfMarked algorithm context.now message.now }

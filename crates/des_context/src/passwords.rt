@@ -41,7 +41,7 @@ pub fn by_pbkdf2(hash: u32, iterations: usize) -> Option<Derivation>
     }
 }
 
-/// The derivation of a hash function and a number of iterations: where that is 0, with no PBKDF2.
+/// The derivation of a hash function and a number of iterations: if that is 0, with no PBKDF2.
 pub fn derivation_of(hash: u32, iterations: usize) -> Option<Derivation>
     ensures { result ≡ derivation_by hash iterations }
 {
@@ -52,9 +52,9 @@ pub fn derivation_of(hash: u32, iterations: usize) -> Option<Derivation>
     }
 }
 
-/// Writes the key of a derivation. The status is `ERR_HASH` where there is none, `ERR_ITERATIONS`
-/// where it has no iteration, and `ERR_KEY_LENGTH` where PBKDF2 gives no key so long; and then
-/// `key` stays.
+/// Writes the key of a derivation. The status is `ERR_HASH` if there is none, `ERR_ITERATIONS`
+/// if it has no iteration, and `ERR_KEY_LENGTH` if PBKDF2 gives no key so long; and then
+/// `key` is unchanged.
 pub fn write_key(
     derivation: Option<Derivation>,
     password: &[u8],

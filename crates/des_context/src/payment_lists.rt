@@ -30,8 +30,8 @@ fn values_by<C: OfContext + KeyForEach, S: Slice>(keys: &[u8], values: &mut [[u8
 }
 
 /// The check value of each key at its place: `keys` are keys of `key_size` bytes, one after
-/// another, of DES where these are 8, and else of triple DES in the EDE form. The status is
-/// `ERR_COUNTS` where the numbers of keys and values differ; the values then stay as they were.
+/// another, of DES if these are 8, and else of triple DES in the EDE form. The status is
+/// `ERR_COUNTS` if the numbers of keys and values differ; the values are then unchanged.
 pub fn check_values<S: Slice>(key_size: usize, keys: &[u8], values: &mut [[u8; 3]]) -> i32
     requires { IsKeyLength key_size }
     ensures accepted { (result ≡ OK) ↔ (length (keys_of key_size keys.now) ≡ length values.old) }
@@ -49,8 +49,8 @@ pub fn check_values<S: Slice>(key_size: usize, keys: &[u8], values: &mut [[u8; 3
 }
 
 /// The key of the transaction of each key serial number at its place, from the base derivation key.
-/// The status is `ERR_COUNTS` where the numbers of serial numbers and keys differ; the keys then
-/// stay as they were.
+/// The status is `ERR_COUNTS` if the numbers of serial numbers and keys differ; the keys then
+/// are unchanged.
 pub fn transaction_keys<S: Slice>(
     base: &[u8; 16],
     serials: &[[u8; 10]],

@@ -66,8 +66,8 @@ fn unchain<C: OfContext + SpreadOnce, S: Slice>(
 /// Encrypts records in place by CBC, in step: `sizes[k]` blocks are record k, one record after
 /// another in `blocks`, and `vectors[k]`, from which it is chained, becomes its last ciphertext
 /// block. The status is `ERR_CONTEXT` or `ERR_BLOCKS` as of the calls of `calls`, and `ERR_COUNTS`
-/// where the numbers of vectors and sizes differ, or the sizes do not add up to the number of
-/// blocks; vectors and blocks then stay as they were.
+/// if the numbers of vectors and sizes differ, or the sizes do not add up to the number of
+/// blocks; vectors and blocks are then unchanged.
 pub fn encrypt_cbc_records<S: Slice>(
     context: &[u64],
     vectors: &mut [[u8; 8]],

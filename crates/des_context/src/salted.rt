@@ -56,7 +56,7 @@ fn write_front(context: &[u64], vector: &[u8; 8], blocks: &[[u8; 8]], plain: &mu
 }
 
 // The blocks before the last one, that one decrypted, and how many bytes of it are before the
-// padding; none where there is no block or no padding.
+// padding; none if there is no block or no padding.
 fn end_of<'a>(
     context: &[u64],
     vector: &[u8; 8],
@@ -81,7 +81,7 @@ fn end_of<'a>(
 }
 
 // Writes what was encrypted by CBC from a vector, without its padding. The end is decrypted first,
-// since nothing may be written where it has no padding.
+// since nothing may be written if it has no padding.
 fn open_blocks(
     context: &[u64],
     vector: &[u8; 8],
@@ -144,7 +144,7 @@ fn derive<'a>(
 /// Writes what `openssl enc` encrypted under a password, without its padding, and how many bytes it
 /// has: by DES under a key of 8 bytes, by triple DES in the EDE form under one of 16 or 24. The
 /// calls read no table. The status is that of the first fault, and then nothing is written:
-/// `ERR_HASH` where there is no derivation, `ERR_NOT_SALTED`, `ERR_SALT_LENGTH`, `ERR_ITERATIONS`,
+/// `ERR_HASH` if there is no derivation, `ERR_NOT_SALTED`, `ERR_SALT_LENGTH`, `ERR_ITERATIONS`,
 /// `ERR_BLOCKS`, `ERR_PADDING` and `ERR_CAPACITY`.
 pub fn open_salted(
     key_size: usize,

@@ -1,5 +1,5 @@
-//! Lists of blocks, some side by side, which is quicker. The last few go one by one where that is
-//! quicker.
+//! Lists of blocks, some side by side, which is faster. The last few go one by one if that is
+//! faster.
 
 ghost use Rattle.std.specs.Prelude.{◌≡◌, ◌<◌, ◌≤◌, ℕ, List, [], length, map, slice_index_or};
 ghost use Rattle.std.specs.List.{All};
@@ -22,9 +22,9 @@ use des::cipher::are_blocks;
 use des::tdes::{Pass, ThreePasses};
 use std::simd::prelude::*;
 
-/// What takes blocks through a pass of DES, or through some.
+/// A pass of DES, or several in a row.
 pub(crate) trait Answers {
-    // The block that it makes of a block.
+    // The block that a block becomes.
     ghost answered: { Self → List ℕ → List ℕ };
 
     /// Takes one block through.

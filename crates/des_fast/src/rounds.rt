@@ -18,7 +18,7 @@ use std::simd::prelude::*;
 
 /// A word of groups of each of some blocks.
 pub trait Groups: Copy {
-    /// How many blocks there are.
+    /// The number of blocks.
     const BLOCKS: usize;
 
     ghost BLOCKS: { ℕ };

@@ -3,9 +3,9 @@
 //!
 //! A bit of a round key is a bit of the half C or D, rotated. The rotations are by 1, 2, 4, .., 14
 //! and by 15, 17, .., 27 and 28 places: by an even number from 0 to 14, as 28 is 0, or by one from
-//! 15 to 29, as 29 is 1. So where each second bit of a half has been exchanged for that 14 places
+//! 15 to 29, as 29 is 1. So if each second bit of a half has been exchanged for that 14 places
 //! on, what a place of a round key is in all sixteen rounds stands in a row: its bit n is of the
-//! rotation by n where n is even, and of that by n + 14 where n is odd. These rows, transposed, are
+//! rotation by n if n is even, and of that by n + 14 if n is odd. These rows, transposed, are
 //! the round keys.
 
 ghost use Rattle.std.specs.Prelude.{◌≡◌, ◌≤◌, ◌<◌, [], ◌∷◌};

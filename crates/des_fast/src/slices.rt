@@ -90,7 +90,7 @@ pub trait Slice: Copy {
         ensures { (k : ℕ) → k < BATCH → k / words ≡ n → bits_of_lane place_bit result (k % words)
             ≡ bits_of_bytes (slice_index_or blocks.now k []) };
 
-    /// Writes blocks side by side, those after n such rows, a block of each word. All others stay.
+    /// Writes blocks side by side, those after n such rows, a block of each word. All others are unchanged.
     fn write_row(&self, blocks: &mut [[u8; 8]], n: usize)
         requires batch { length blocks.old ≡ BATCH }
         requires within { n < 64 }

@@ -193,7 +193,7 @@ pub(crate) fn substitute(word: u64) -> u64
 }
 
 /// Substitutes so, with the entries joined in a row: fewer steps, of which each waits for the one
-/// before it. It is quicker where other blocks have steps to go on with meanwhile.
+/// before it. It is quicker if other blocks have steps to go on with meanwhile.
 #[inline]
 pub(crate) fn substitute_in_a_row(word: u64) -> u64
     requires { IsOfGroups word }

@@ -67,7 +67,7 @@ fn decrypt_piece<W: Write, C: ManyBlocks>(
     write_piece(writer, held, blocks)
 }
 
-/// How many blocks go into the next piece: as many as there is room for, or fewer where fewer are
+/// How many blocks go into the next piece: as many as there is room for, or fewer if fewer are
 /// left.
 pub(crate) fn next_count(room: usize, left: Option<u64>) -> usize
     ensures within { result ≤ room }
@@ -95,7 +95,7 @@ fn left_after(left: Option<u64>, count: usize) -> Option<u64>
 /// last block, which it gives. The buffer has one block at least; what it holds afterwards, which
 /// can be plaintext, is not said. The writer is not flushed.
 ///
-/// The error is `Read` or `Write` where the reader or the writer failed, and `Length` where what was
+/// The error is `Read` or `Write` if the reader or the writer failed, and `Length` if what was
 /// read is not whole blocks. The writer then has a prefix of what was read, decrypted, without its
 /// last block, and the reader may have gone further.
 pub fn decrypt_blocks<R: Read, W: Write, C: ManyBlocks>(
@@ -136,11 +136,11 @@ pub fn decrypt_blocks<R: Read, W: Write, C: ManyBlocks>(
     Err(StreamError::Read(without_end()))
 }
 
-/// Writes the last block of a list of blocks without its padding, or, where that is `Zeros`, as it
+/// Writes the last block of a list of blocks without its padding, or, if that is `Zeros`, as it
 /// is. The writer is not flushed.
 ///
-/// The error is `Padding` where it is the last block of no padded bytes, and nothing is then
-/// written; and `Write` where the writer failed, which then has a prefix of the bytes before the
+/// The error is `Padding` if it is the last block of no padded bytes, and nothing is then
+/// written; and `Write` if the writer failed, which then has a prefix of the bytes before the
 /// padding.
 pub fn finish<W: Write>(
     padding: Padding,
@@ -161,12 +161,12 @@ pub fn finish<W: Write>(
 }
 
 /// Decrypts what the reader gives, up to its end, and writes it without its padding, a buffer at a
-/// time; where that is `Zeros`, nothing is taken off. The buffer has one block at least; what it holds
+/// time; if that is `Zeros`, nothing is taken off. The buffer has one block at least; what it holds
 /// afterwards, which can be plaintext, is not said. The writer is not flushed.
 ///
-/// The error is `Read` or `Write` where the reader or the writer failed, `Length` where what was read
-/// is not whole blocks, and `Padding` where its padding is wrong. The writer then has a prefix of the
-/// plaintext: without the last block that was read, or, where the input is at its end, without the
+/// The error is `Read` or `Write` if the reader or the writer failed, `Length` if what was read
+/// is not whole blocks, and `Padding` if its padding is wrong. The writer then has a prefix of the
+/// plaintext: without the last block that was read, or, if the input is at its end, without the
 /// padding. The reader may have gone further.
 pub fn decrypt_stream<R: Read, W: Write, C: ManyBlocks>(
     transformation: &Transformation<'_, C>,

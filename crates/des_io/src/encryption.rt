@@ -34,9 +34,9 @@ fn encrypt_piece<W: Write, C: ManyBlocks>(
 /// time. The buffer has one block at least; what it holds afterwards, which can be plaintext, is not
 /// said. The writer is not flushed.
 ///
-/// The error is `Read` or `Write` where the reader or the writer failed, and `Length` where the
+/// The error is `Read` or `Write` if the reader or the writer failed, and `Length` if the
 /// padding is `Unpadded` and what was read is not whole blocks. The writer then has a prefix of the
-/// ciphertext of what was read, with padding only where the input is at its end, and the reader may
+/// ciphertext of what was read, with padding only if the input is at its end, and the reader may
 /// have gone further.
 pub fn encrypt_stream<R: Read, W: Write, C: ManyBlocks>(
     transformation: &Transformation<'_, C>,

@@ -39,7 +39,7 @@ impl fmt::Display for StreamError {
     }
 }
 
-// The error where a loop has gone round 2^64 - 1 times, which no process lives to see: a loop over a
+// The error if a loop has gone round 2^64 - 1 times, which no process lives to see: a loop over a
 // reader or a writer has an end of its own, since each call is proved to return.
 pub(crate) fn without_end() -> Error
     ensures { error_kind result ≡ ErrorKind.TimedOut }

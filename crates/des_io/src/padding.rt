@@ -32,7 +32,7 @@ impl Padding {
     }
 }
 
-/// Writes the padding after the first `count` bytes, and gives their number with it.
+/// Writes the padding after the first `count` bytes, and returns their number with it.
 pub fn pad(padding: Padding, bytes: &mut [u8], count: usize) -> usize
     requires room { count < length bytes.old }
     requires blocks { length bytes.old % 8 ≡ 0 }
@@ -71,7 +71,7 @@ fn padded_prefix(padding: Padding, block: &[u8; 8], count: usize) -> [u8; 8]
 }
 
 /// The number of bytes of the last block of padded bytes that stand before the padding that is
-/// taken off; none where no bytes have this last block with it.
+/// taken off; none if no bytes have this last block with it.
 pub fn count_before(padding: Padding, block: &[u8; 8]) -> Option<usize>
     ensures found { IfSome result (λ count.
         (count ≤ 8) × (padded (taken_off_of padding) (take count block.now) ≡ block.now)) }

@@ -17,7 +17,7 @@ use std::io::{Read, Write};
 /// Reads the `count` blocks before a part, and gives how the blocks of the part go on from them. The
 /// buffer has one block at least; what it holds afterwards is not said.
 ///
-/// The error is `Start` where there are fewer blocks, and `Read` where the reader failed, which may
+/// The error is `Start` if there are fewer blocks, and `Read` if the reader failed, which may
 /// then be anywhere in them.
 pub fn skip_blocks<R: Read>(
     mode: Mode,
@@ -51,7 +51,7 @@ pub fn skip_blocks<R: Read>(
     Err(StreamError::Read(without_end()))
 }
 
-// Whether the reader has nothing left; where it has, a byte is read.
+// Whether the reader has nothing left; if it has, a byte is read.
 fn is_at_end<R: Read>(reader: &mut R) -> Result<bool, StreamError>
     ensures read { IfOk result (λ end. (bytes : List ℕ)
         × Consumes (R.remaining reader.old) (R.remaining reader.new) bytes
@@ -65,14 +65,14 @@ fn is_at_end<R: Read>(reader: &mut R) -> Result<bool, StreamError>
 }
 
 /// Decrypts a part of `limit` blocks, or up to the end of the reader, and writes it. One byte more
-/// is read, where there is one. Where the reader is then at its end, the padding is taken off, none
-/// where it is `Zeros`, and there must be a block. The buffer has one block at least; what it holds
+/// is read, if there is one. If the reader is then at its end, the padding is taken off, none
+/// if it is `Zeros`, and there must be a block. The buffer has one block at least; what it holds
 /// afterwards, which can be plaintext, is not said. The writer is not flushed.
 ///
-/// The error is `Start` where there is no block, whatever the padding, `Padding` where the padding is wrong, `Length` where
-/// what was read is not whole blocks, and `Read` or `Write` where the reader or the writer failed.
+/// The error is `Start` if there is no block, whatever the padding, `Padding` if the padding is wrong, `Length` if
+/// what was read is not whole blocks, and `Read` or `Write` if the reader or the writer failed.
 /// The writer then has a prefix of the part, without its last block or its padding, or with that
-/// block where more follows the part. The reader may have gone further.
+/// block if more follows the part. The reader may have gone further.
 pub fn decrypt_part<R: Read, W: Write, C: ManyBlocks>(
     transformation: &Transformation<'_, C>,
     limit: Option<u64>,

@@ -7,8 +7,8 @@ ghost use Rattle.des_io.specs.StreamFaults.{IsOfReading, IsOfWriting};
 use crate::error::{StreamError, without_end};
 use std::io::{Error, ErrorKind, Read, Write};
 
-/// Reads until the buffer is full or the reader is at its end, and gives the number of bytes. A
-/// read that was interrupted is tried again. The error is `Read`, where the reader failed; bytes may
+/// Reads until the buffer is full or the reader is at its end, and returns the number of bytes. A
+/// read that was interrupted is tried again. The error is `Read`, if the reader failed; bytes may
 /// then have been read, and are lost.
 pub fn fill<R: Read>(reader: &mut R, buffer: &mut [u8]) -> Result<usize, StreamError>
     ensures consumed { (bytes : List ℕ)
@@ -56,8 +56,8 @@ pub fn fill_prefix<R: Read>(
     fill(reader, &mut buffer[..count])
 }
 
-/// Writes the bytes; where that fails, some of the first of them are written. A write that was
-/// interrupted is tried again. The error is `Write`, where the writer failed or took nothing.
+/// Writes the bytes; if that fails, some of the first of them are written. A write that was
+/// interrupted is tried again. The error is `Write`, if the writer failed or took nothing.
 pub fn write_whole<W: Write>(writer: &mut W, bytes: &[u8]) -> Result<(), StreamError>
     ensures written { (k : ℕ) × (k ≤ length bytes.now)
         × Appends (W.contents writer.old) (W.contents writer.new) (take k bytes.now)

@@ -17,7 +17,7 @@ use std::marker::PhantomData;
 /// CBC-MAC over the cipher `C`, with the padding `P`. The tag is the last block of the CBC
 /// encryption of the padded message from a vector of zeros.
 ///
-/// It is safe only where every message under a key has the same length, one that both sides know:
+/// It is safe only if every message under a key has the same length, one that both sides know:
 /// from tags of short messages anybody can make that of a longer one.
 #[derive(Drop)]
 pub struct CbcMac<C, P> {

@@ -37,7 +37,7 @@ fn chain_blocks<C: KeyedCipher>(cipher: &C, chain: &mut [u8; 8], blocks: &[[u8; 
     }
 }
 
-/// A message in pieces, under a cipher. The last block is held back, also where it is whole, since
+/// A message in pieces, under a cipher. The last block is held back, also if it is whole, since
 /// what becomes of it is not known before the message ends.
 #[derive(Drop)]
 pub struct Chaining<C> {

@@ -15,14 +15,14 @@ use crate::progress::Progress;
 use des::cipher::{InvalidLength, KeyedCipher};
 
 /// CMAC over the cipher `C`: CBC-MAC with the last block xored with one of two subkeys, the first
-/// where the block is whole, and the second where it is padded. Messages of different lengths are
+/// if the block is whole, and the second if it is padded. Messages of different lengths are
 /// safe under one key.
 #[derive(Drop)]
 pub struct Cmac<C> {
     chaining: Chaining<C>,
 }
 
-// A block doubled (6.1): its bits moved by one to the left, and where a one bit leaves, the last
+// A block doubled (6.1): its bits moved by one to the left, and if a one bit leaves, the last
 // byte xored with 00011011.
 pub(crate) fn doubled(block: &[u8; 8]) -> [u8; 8]
     ensures { result ≡ doubled_block block.now }

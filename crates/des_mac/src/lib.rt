@@ -3,7 +3,7 @@
 //! algorithms 1 and 3, with padding methods 1 and 2), and CMAC (NIST SP 800-38B). A message comes
 //! in pieces of any length, and a tag has 8 bytes. `many` has the tags of many messages at once.
 //!
-//! `CbcMac` is safe only where every message under a key has the same length. Padding method 1
+//! `CbcMac` is safe only if every message under a key has the same length. Padding method 1
 //! cannot tell zeros at the end of a message. Blocks and tags have 64 bits: a key is for far fewer
 //! than 2^32 messages, and of a tag that is cut to 4 bytes one guess in 2^32 is right. The retail
 //! MAC over `Des` is DES with two keys. A tag says nothing of when a message was made, or how

@@ -36,8 +36,8 @@ pub(crate) fn are_equal(bytes: &[u8], others: &[u8]) -> bool
     differences == 0
 }
 
-/// Accepts the first 4 to 8 bytes of a tag and nothing else: `MacError` where they are others, and
-/// where there are fewer or more of them. Every byte is looked at, wherever the two differ.
+/// Accepts the first 4 to 8 bytes of a tag and nothing else: `MacError` if they are others, and
+/// if there are fewer or more of them. Every byte is looked at, wherever the two differ.
 pub fn verify_truncated_left(tag: &[u8], whole: &[u8; 8]) -> Result<(), MacError>
     ensures { IsOk result ↔ IsTruncated tag.now whole.now }
 {
@@ -55,7 +55,7 @@ pub fn verify_truncated_left(tag: &[u8], whole: &[u8; 8]) -> Result<(), MacError
 /// `new_from_slice`, an `update` for each piece, and then `finalize` or one of the calls that
 /// verify a tag. No call takes memory or panics, and each byte of the message is read once.
 pub trait Mac: Sized {
-    // How many bytes a key has.
+    // The size of a key in bytes.
     ghost key_size: { ℕ };
 
     // The tag of bytes under a key.
@@ -64,7 +64,7 @@ pub trait Mac: Sized {
     // The state is one under the key, and stands for the bytes that it was given.
     ghost holds: { Self → List ℕ → List ℕ → Type 0 };
 
-    /// The state of the message of no bytes under the key, or `InvalidLength` where the key does
+    /// The state of the message of no bytes under the key, or `InvalidLength` if the key does
     /// not have as many bytes as a key has.
     fn new_from_slice(key: &[u8]) -> Result<Self, InvalidLength>
         ensures accepted { IsOk result ↔ (length key.now ≡ key_size) }
@@ -80,7 +80,7 @@ pub trait Mac: Sized {
     fn finalize(self) -> [u8; 8]
         ensures { (key m : List ℕ) → holds self key m → result ≡ tag_of key m };
 
-    /// Accepts the tag of the message and no other: `MacError` where it is another. Every byte is
+    /// Accepts the tag of the message and no other: `MacError` if it is another. Every byte is
     /// looked at, wherever the two differ; nothing is claimed on time.
     final fn verify(self, tag: &[u8; 8]) -> Result<(), MacError>
         ensures { (key m : List ℕ) → holds self key m
@@ -93,8 +93,8 @@ pub trait Mac: Sized {
         }
     }
 
-    /// Accepts the first 4 to 8 bytes of the tag of the message and nothing else: `MacError` where
-    /// they are others, and where there are fewer or more of them.
+    /// Accepts the first 4 to 8 bytes of the tag of the message and nothing else: `MacError` if
+    /// they are others, and if there are fewer or more of them.
     final fn verify_truncated_left(self, tag: &[u8]) -> Result<(), MacError>
         ensures { (key m : List ℕ) → holds self key m
             → IsOk result ↔ IsTruncated tag.now (Self.tag_of key m) }
@@ -102,7 +102,7 @@ pub trait Mac: Sized {
         verify_truncated_left(tag, &self.finalize())
     }
 
-    /// The tag of a whole message under the key, or `InvalidLength` where the key does not have as
+    /// The tag of a whole message under the key, or `InvalidLength` if the key does not have as
     /// many bytes as a key has.
     final fn mac(key: &[u8], bytes: &[u8]) -> Result<[u8; 8], InvalidLength>
         ensures accepted { IsOk result ↔ (length key.now ≡ key_size) }

@@ -22,7 +22,7 @@ use des_fast::many::{BlockLists, KeyForEach, ManyBlocks, Slice};
 pub use masked::{cmacs_by, cmacs_each_by};
 use std::marker::PhantomData;
 
-// How many of n bytes stand in the last block.
+// The number of bytes in the last block of n bytes.
 fn count_in_last(n: usize) -> usize
     ensures { result ≡ last_count n }
 {
@@ -149,8 +149,8 @@ impl<P: Padding> BlockLists for PaddedMessages<'_, P> {
 }
 
 /// The tags of CBC-MAC of many messages under one key, `S::BATCH` at a time: as `CbcMac::mac` makes
-/// each. Where the numbers of messages and tags differ, the answer is `NotEqualError`, and the tags
-/// stay as they were.
+/// each. If the numbers of messages and tags differ, the answer is `NotEqualError`, and the tags
+/// are unchanged.
 pub fn cbc_macs_by<S: Slice, C: KeyForEach + Drop, P: Padding>(
     key: &C::Key,
     messages: &[&[u8]],
@@ -172,8 +172,8 @@ pub fn cbc_macs_by<S: Slice, C: KeyForEach + Drop, P: Padding>(
     C::chain_ends_by::<S, PaddedMessages<P>>(key, tags, &lists)
 }
 
-/// The tags of CBC-MAC of many messages, each under the key at its place. Where the numbers of keys,
-/// messages and tags differ, the answer is `NotEqualError`, and the tags stay as they were.
+/// The tags of CBC-MAC of many messages, each under the key at its place. If the numbers of keys,
+/// messages and tags differ, the answer is `NotEqualError`, and the tags are unchanged.
 pub fn cbc_macs_each_by<S: Slice, C: KeyForEach + Drop, P: Padding>(
     keys: &[C::Key],
     messages: &[&[u8]],
@@ -197,8 +197,8 @@ pub fn cbc_macs_each_by<S: Slice, C: KeyForEach + Drop, P: Padding>(
 }
 
 /// The tags of the retail MAC of many messages under two keys, `S::BATCH` at a time: as
-/// `RetailMac::mac` makes each. Where the numbers of messages and tags differ, the answer is
-/// `NotEqualError`, and the tags stay as they were.
+/// `RetailMac::mac` makes each. If the numbers of messages and tags differ, the answer is
+/// `NotEqualError`, and the tags are unchanged.
 pub fn retail_macs_by<S: Slice, C: KeyForEach + ManyBlocks + Drop, P: Padding>(
     first: &C::Key,
     second: &C::Key,
@@ -218,8 +218,8 @@ pub fn retail_macs_by<S: Slice, C: KeyForEach + ManyBlocks + Drop, P: Padding>(
 }
 
 /// The tags of the retail MAC of many messages, each under the two keys at its place, `S::BATCH` at
-/// a time: as `RetailMac::mac` makes each. Where the numbers of keys, messages and tags differ, the
-/// answer is `NotEqualError`, and the tags stay as they were.
+/// a time: as `RetailMac::mac` makes each. If the numbers of keys, messages and tags differ, the
+/// answer is `NotEqualError`, and the tags are unchanged.
 pub fn retail_macs_each_by<S: Slice, C: KeyForEach + Drop, P: Padding>(
     first: &[C::Key],
     second: &[C::Key],
@@ -244,8 +244,8 @@ pub fn retail_macs_each_by<S: Slice, C: KeyForEach + Drop, P: Padding>(
 
 /// Which tags are those of their messages: `right` says of each whether it is the one at its place
 /// in `macs`, the tags that were made. Every byte is looked at, wherever two differ; nothing is
-/// claimed on time. Where the three lists are not as long, the answer is `NotEqualError`, and
-/// `right` stays as it was.
+/// claimed on time. If the three lists are not as long, the answer is `NotEqualError`, and
+/// `right` is unchanged.
 pub fn verify_each(
     tags: &[[u8; 8]],
     macs: &[[u8; 8]],

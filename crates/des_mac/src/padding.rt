@@ -11,7 +11,7 @@ pub trait Padding {
     ghost padding_after: { ℕ → List ℕ };
 
     /// The padding of a message of which `count` bytes stand in its last block: from 1 to 8, or 0
-    /// where the message has no bytes.
+    /// if the message has no bytes.
     fn padding(count: usize) -> &'static [u8]
         requires { count ≤ 8 }
         ensures { (n : ℕ) → last_count n ≡ count → result.now ≡ padding_after n };

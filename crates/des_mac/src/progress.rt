@@ -3,8 +3,8 @@
 ghost use Rattle.std.specs.Prelude.{ℕ, List, []};
 ghost use Rattle.des_mac.specs.IsProgress.{IsProgressOf};
 
-/// How far a MAC has come in its message: the chain, the bytes of the last block, which is held
-/// back, and how many they are. It is as secret as the message.
+/// How far a MAC has come in its message: the chain, and the pending bytes of the last block with
+/// their number. It is as secret as the message.
 #[repr(C)]
 #[derive(Clone, Copy)]
 pub struct Progress {
@@ -14,7 +14,7 @@ pub struct Progress {
 }
 
 impl Progress {
-    /// That of the message of no bytes.
+    /// The progress of an empty message.
     pub fn new() -> Progress
         ensures { (encryption : List ℕ → List ℕ) → IsProgressOf encryption result [] }
     {

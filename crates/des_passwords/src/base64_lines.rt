@@ -12,8 +12,8 @@ use std::alloc::{AllocError, Global};
 // Why lines are not read as Base64.
 #[derive(Clone, Copy)]
 pub(crate) enum Base64Error {
-    // The line of this number, counted from 1, has a character that is no Base64 there, or the last
-    // one, where characters are missing.
+    // The number, from 1, of the line with a character that can't stand there, or of the last line if
+    // characters are missing.
     Line(usize),
     OutOfMemory,
 }
@@ -42,7 +42,7 @@ fn characters_of(alloc: Global, text: &[u8]) -> Result<Vec<u8>, AllocError>
     Ok(characters)
 }
 
-// The place of the character at fault: the last one of all where characters are missing.
+// The place of the character at fault: the last one of all if characters are missing.
 fn place_of(error: DecodeError, count: usize) -> usize
     ensures { result ≡ place_of error count }
 {
@@ -53,7 +53,7 @@ fn place_of(error: DecodeError, count: usize) -> usize
     }
 }
 
-// The number of the line with the character at a place, where the first line has this number.
+// The number of the line with the character at a place, if the first line has this number.
 fn line_at(number: usize, place: usize, text: &[u8]) -> usize
     requires { number + length text.now < 2 ^ 64 }
     ensures { result ≡ line_at number place (lines_of text.now) }

@@ -29,7 +29,7 @@ struct Position {
     // The number of the line, counted from 1.
     line: u64,
     place: Place,
-    // The characters of the last group, 1 to 4, or 0 where there is none.
+    // The characters of the last group, 1 to 4, or 0 if there is none.
     count: u8,
     is_padded: bool,
     // The line of the last character.
@@ -178,9 +178,9 @@ impl<'e, R: Read> Base64Reader<'e, R> {
 }
 
 impl<'e, R: Read + Drop> Base64Reader<'e, R> {
-    /// Ends the reader. Gives the number of the line at fault, counted from 1, where what was read is
+    /// Ends the reader. Returns the number of the line at fault, counted from 1, if what was read is
     /// no Base64: that of the first character that can't stand where it does, or of the last one,
-    /// where characters are missing or bits are left over.
+    /// if characters are missing or bits are left over.
     pub fn line_of_fault(self) -> Option<u64>
         ensures { IsSome result ↔ (self.entry.is_malformed ≡ true) }
     {

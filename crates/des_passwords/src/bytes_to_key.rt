@@ -1,4 +1,4 @@
-//! Keys as OpenSSL makes them from passwords, where no PBKDF2 is asked for.
+//! Keys as OpenSSL makes them from passwords, if no PBKDF2 is asked for.
 
 ghost use Rattle.std.specs.Prelude.{◌≡◌, ◌≢◌, ◌≤◌, ◌<◌, ◌-◌, ◌+◌, ◌*◌, ◌↔◌, ◌++◌, ℕ, List, length, take, IsOk, IsErrOf, OnOk, OnErr};
 ghost use Rattle.des_passwords.specs.BytesToKey.{bytes_to_key, d, repeated};
@@ -54,7 +54,7 @@ fn write_next<H: HashFunction>(
 
 /// Writes key and vector of a password and a salt, one after the other and together as long as the
 /// list that you give, as `EVP_BytesToKey` does; `openssl enc` takes one iteration. `NoIteration`
-/// where `iterations` is 0; the list then stays as it was.
+/// if `iterations` is 0; the list is then unchanged.
 pub fn bytes_to_key<H: HashFunction>(
     password: &[u8],
     salt: &[u8],

@@ -47,7 +47,7 @@ fn squeeze<P: Decoding>(position: &mut P, text: &mut [u8]) -> usize
     kept
 }
 
-// Reads until something is given. Gives 0 at the reader's end, and where the text is stuck.
+// Reads until something is given. Returns 0 at the reader's end, and if the text is stuck.
 pub(crate) fn read_decoded<R: Read, P: Decoding>(
     inner: &mut R,
     position: &mut P,

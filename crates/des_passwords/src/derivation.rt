@@ -18,7 +18,7 @@ pub enum Derivation {
     Sha256,
     /// `-pbkdf2 -md sha1`, and the iterations of `-iter`.
     Pbkdf2Sha1(u32),
-    /// `-pbkdf2 -md sha256`, and the iterations of `-iter`: 10000 where it is not given.
+    /// `-pbkdf2 -md sha256`, and the iterations of `-iter`: 10000 if it is not given.
     Pbkdf2Sha256(u32),
 }
 
@@ -33,8 +33,8 @@ pub struct KeyAndVector<const N: usize> {
 
 impl Derivation {
     /// Writes key and vector, one after the other and together as long as the list that you give.
-    /// `NoIteration` where the iterations are 0, and `KeyLength` where PBKDF2 is asked for more
-    /// than 2^32 - 1 digests; the list then stays as it was.
+    /// `NoIteration` if the iterations are 0, and `KeyLength` if PBKDF2 is asked for more
+    /// than 2^32 - 1 digests; the list is then unchanged.
     pub fn write_bytes(
         self,
         password: &[u8],
@@ -59,7 +59,7 @@ impl Derivation {
     }
 
     /// The key of `N` bytes, 8 for DES, 16 or 24 for triple DES, and the vector that stands behind
-    /// it in what is derived. `NoIteration` where the iterations are 0.
+    /// it in what is derived. `NoIteration` if the iterations are 0.
     pub fn key_and_vector<const N: usize>(
         self,
         password: &[u8],

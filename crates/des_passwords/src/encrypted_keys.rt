@@ -58,14 +58,14 @@ pub struct Parameters<'a> {
     pub scheme: Scheme,
     pub salt: &'a [u8],
     pub iterations: u32,
-    // The vector; zeros where it is derived with the key.
+    // The vector; zeros if it is derived with the key.
     pub(crate) vector: [u8; 8],
 }
 
 impl Parameters<'_> {
     /// The key and the vector with which `TdesEde3` decrypts the file in CBC mode: what comes out
-    /// is padded as PKCS #5 says. Where the file is under DES, the key is that of DES three times,
-    /// and triple DES is then DES. `NoIteration` where the iterations are 0, as they never are in
+    /// is padded as PKCS #5 says. If the file is under DES, the key is that of DES three times,
+    /// and triple DES is then DES. `NoIteration` if the iterations are 0, as they never are in
     /// what is read.
     pub fn key_and_vector(&self, password: &[u8]) -> Result<KeyAndVector<24>, DeriveError>
         ensures accepted { IsOk result ↔ (self.now.iterations ≢ 0) }
@@ -185,7 +185,7 @@ fn prf_named<'a>(oid: &'a [u8], parameters: &'a [u8]) -> Result<Scheme, KeyFileE
     }
 }
 
-// The function of PBKDF2, which may be left out where it is HMAC-SHA-1.
+// The function of PBKDF2, which may be left out if it is HMAC-SHA-1.
 #[tactic(auto, unfolding(crate::specs::EncryptedKeys::prf_of))]
 fn prf_of(bytes: &[u8]) -> Result<Scheme, KeyFileError<'_>>
     ensures { Gives (λ x. x) result (prf_of bytes.now) }
@@ -310,7 +310,7 @@ fn encrypted_key_of(most: u32, bytes: &[u8]) -> Result<EncryptedKey<'_>, KeyFile
     })
 }
 
-/// Reads an encrypted private key from its DER, which blanks alone may follow, where its iterations
+/// Reads an encrypted private key from its DER, which blanks alone may follow, if its iterations
 /// are at most these and its contents have fewer than 2^16 bytes. The error is the first that is met: the outer
 /// elements are read before those within them, and the cipher before how its key is derived.
 pub fn read_encrypted_key_of_many(
@@ -330,7 +330,7 @@ pub fn read_encrypted_key_of_many(
     encrypted_key_of(most_iterations, bytes)
 }
 
-/// Reads an encrypted private key from its DER, which blanks alone may follow. `Iterations` where it has more
+/// Reads an encrypted private key from its DER, which blanks alone may follow. `Iterations` if it has more
 /// than ten million: `read_encrypted_key_of_many` takes as many as you say.
 pub fn read_encrypted_key(bytes: &[u8]) -> Result<EncryptedKey<'_>, KeyFileError<'_>>
     // What is read is spelled so.

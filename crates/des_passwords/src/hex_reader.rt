@@ -84,7 +84,7 @@ impl Position {
         self.fault.is_none() && self.first.is_none()
     }
 
-    // Whether a read that gave this stands where no text of digits ends, or goes on.
+    // Whether a read that gave this stands if no text of digits ends, or goes on.
     fn ends_short(self, given: &io::Result<usize>, buf: &[u8]) -> bool
         ensures { result ≡ ends_short self given.now buf.now }
     {
@@ -171,7 +171,7 @@ impl<R: Read> HexReader<R> {
 }
 
 impl<R: Read + Drop> HexReader<R> {
-    /// Ends the reader. Where a read failed by what is no text of digits, gives why.
+    /// Ends the reader. If a read failed by what is no text of digits, gives why.
     pub fn fault(self) -> Option<HexFault>
         ensures { result ≡ fault_of self }
     {

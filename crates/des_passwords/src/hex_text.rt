@@ -88,7 +88,7 @@ impl<R: Read> HexTextReader<R> {
 }
 
 impl<R: Read + Drop> HexTextReader<R> {
-    /// Ends the reader. Gives whether what was read is nothing but hexadecimal digits.
+    /// Ends the reader. Returns whether what was read is nothing but hexadecimal digits.
     pub fn is_hexadecimal(self) -> bool
         ensures { result ≡ is_hexadecimal_of self.seen }
     {

@@ -6,7 +6,7 @@ ghost use Rattle.des_passwords.specs.Hmac.{block_key, hmac, IsHmacOf};
 use crate::hash_function::{HashFunction, write_digest_of};
 use crate::xored::xored;
 
-// The key as a block: with zeros after it, its digest where it is longer than a block.
+// The key as a block: with zeros after it, its digest if it is longer than a block.
 fn block_key<H: HashFunction>(key: &[u8]) -> [u8; 64]
     ensures { result ≡ block_key H.digest key.now }
 {

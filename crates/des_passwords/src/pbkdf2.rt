@@ -37,7 +37,7 @@ impl fmt::Display for DeriveError {
 
 impl Error for DeriveError {}
 
-// The next of the U: the tag of the one before, in its place.
+// Replaces U_i by U_(i+1), its tag.
 fn step<H: HashFunction>(prf: &Hmac<H>, bytes: &mut [u8])
     requires { length bytes.old ≡ H.SIZE }
     ensures { (key : List ℕ) → IsHmacOf H.holds H.digest prf.now key []
@@ -74,9 +74,9 @@ fn write_block<H: HashFunction>(
     }
 }
 
-/// Writes the key of a password and a salt, as long as the list that you give. `NoIteration` where
-/// `iterations` is 0, and `KeyLength` where the key is longer than 2^32 - 1 digests; the list then
-/// stays as it was. The time it takes goes by the iterations and the length.
+/// Writes the key of a password and a salt, as long as the list that you give. `NoIteration` if
+/// `iterations` is 0, and `KeyLength` if the key is longer than 2^32 - 1 digests; the list then
+/// is unchanged. The time it takes goes by the iterations and the length.
 pub fn pbkdf2<H: HashFunction>(
     password: &[u8],
     salt: &[u8],

@@ -37,7 +37,7 @@ pub enum PemError<'a> {
     /// No empty line follows `DEK-Info`.
     EmptyLine,
     /// The line of this number in the text, counted from 1, has a character that is no Base64
-    /// there, or the last one, where characters are missing.
+    /// there, or the last one, if characters are missing.
     Base64(usize),
     /// Memory ran out.
     OutOfMemory,
@@ -187,7 +187,7 @@ impl DekInfo {
 pub struct PemKey {
     /// The name in its first and last line.
     pub label: Label,
-    /// What its headers say: none where the label is `Encrypted`, and always there otherwise.
+    /// What its headers say: none if the label is `Encrypted`, and always there otherwise.
     pub dek_info: Option<DekInfo>,
     /// Under `Encrypted` the DER that `read_encrypted_key` takes, and otherwise what is encrypted.
     pub bytes: Vec<u8>,
@@ -261,7 +261,7 @@ fn body_of<'a>(last: &[u8], text: &'a [u8]) -> Result<&'a [u8], PemError<'a>>
     Err(PemError::End)
 }
 
-// What follows a line, where it is the first.
+// What follows a line, if it is the first.
 #[tactic(auto, unfolding(crate::specs::Pem::after_line))]
 fn after_line<'a>(wanted: &[u8], text: &'a [u8]) -> Option<&'a [u8]>
     ensures rest { option_map (λ rest. lines_of rest.now) result
@@ -344,7 +344,7 @@ fn dek_info_at(text: &[u8]) -> Result<(DekInfo, &[u8]), PemError<'_>>
     Ok((info, rest))
 }
 
-// What follows the header of a key that is encrypted, where it is the first line.
+// What follows the header of a key that is encrypted, if it is the first line.
 #[tactic(auto, unfolding(crate::specs::Pem::after_proc_type))]
 fn after_proc_type(text: &[u8]) -> Option<&[u8]>
     ensures rest { option_map (λ rest. lines_of rest.now) result

@@ -9,7 +9,7 @@ use std::fmt;
 /// What stands before the salt.
 pub const PREFIX: [u8; 8] = *b"Salted__";
 
-/// Why bytes are not what `openssl enc` writes where it salts.
+/// Why bytes are not what `openssl enc` writes if it salts.
 #[derive(Clone, Copy, Debug, PartialEq, Eq)]
 pub enum SaltedError {
     /// They do not begin with `Salted__`.
@@ -46,7 +46,7 @@ pub struct Salted<'a> {
 }
 
 /// Reads what `openssl enc` wrote, with no `-nosalt` and no `-S`: `Salted__`, the salt, and the
-/// rest. `NotSalted` where the bytes begin otherwise or are fewer, `SaltCut` where no eight follow.
+/// rest. `NotSalted` if the bytes begin otherwise or are fewer, `SaltCut` if no eight follow.
 pub fn read_salted(bytes: &[u8]) -> Result<Salted<'_>, SaltedError>
     ensures ok { IfOk result (λ read. IsSalted bytes.now read.salt.now read.encrypted.now) }
     ensures accepted { IsOk result ↔ (take 8 bytes.now ≡ codes "Salted__")

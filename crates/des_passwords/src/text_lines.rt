@@ -11,7 +11,7 @@ fn place(byte: u8, text: &[u8]) -> Option<usize>
     text.iter().position(|b| *b == byte)
 }
 
-/// What stands before the first such byte, and what stands after it: all and nothing where there is
+/// What stands before the first such byte, and what stands after it: all and nothing if there is
 /// none.
 pub fn cut(byte: u8, text: &[u8]) -> (&[u8], &[u8])
     ensures before { result.0.now ≡ before byte text.now }

@@ -15,7 +15,7 @@ pub(crate) fn first_bytes(block: &[u8; 8]) -> [u8; 3]
     [block[0], block[1], block[2]]
 }
 
-/// The check value of a key of any cipher, by the laws of the traits; `InvalidLength` where the key
+/// The check value of a key of any cipher, by the laws of the traits; `InvalidLength` if the key
 /// does not have `KEY_SIZE` bytes.
 pub fn check_value<C: KeyedCipher + Drop>(key: &[u8]) -> Result<[u8; 3], InvalidLength>
     ensures accepted { IsOk result ↔ (length key.now ≡ C.KEY_SIZE) }
@@ -30,7 +30,7 @@ pub fn check_value<C: KeyedCipher + Drop>(key: &[u8]) -> Result<[u8; 3], Invalid
 
 /// The check value of a key in the clear of 8, 16 or 24 bytes, by its length: by DES, or by triple
 /// DES in the EDE form. A component is such a key too, taken as it is: parity bits do not count.
-/// `InvalidLength` where the key has another length.
+/// `InvalidLength` if the key has another length.
 pub fn key_check_value(key: &[u8]) -> Result<[u8; 3], InvalidLength>
     ensures accepted { IsOk result ↔ IsTrue (is_key_of key.now) }
     ensures value { IfOk result (λ value.

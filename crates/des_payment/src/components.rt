@@ -27,7 +27,7 @@ fn with_odd_parity(byte: u8) -> u8
 }
 
 /// Sets in each byte of a key, of any length, the lowest bit, its parity bit, such that the number
-/// of ones is odd (FIPS 46-3, key schedule). The other bits stay.
+/// of ones is odd (FIPS 46-3, key schedule). The other bits are unchanged.
 pub fn set_odd_parity(key: &mut [u8])
     ensures { key.new ≡ map odd key.old }
 {

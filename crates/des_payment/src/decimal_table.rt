@@ -76,7 +76,7 @@ impl DecimalTable {
     }
 
     /// The table of sixteen ASCII digits, those that stand for 0 to 15 in this order. Its faults are
-    /// `TableLength`, `TableDigit`, and `TableVariety` where there are fewer than eight different
+    /// `TableLength`, `TableDigit`, and `TableVariety` if there are fewer than eight different
     /// ones: with few, many PINs are right, and a chosen table lets a PIN be found out.
     pub fn new(text: &[u8]) -> Result<DecimalTable, VerificationError>
         ensures fault { result_err result ≡ table_fault 8 text.now }

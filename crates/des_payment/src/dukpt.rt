@@ -147,7 +147,7 @@ pub fn mac_key(transaction: &[u8; 16], message: Message) -> [u8; 16]
 }
 
 /// The data variant of the transaction's key for a message: the key that `data_key` makes, without
-/// its last one-way step. Some terminals encrypt data under it; where it is lost, so are the
+/// its last one-way step. Some terminals encrypt data under it; if it is lost, so are the
 /// transaction's other keys.
 pub fn data_variant(transaction: &[u8; 16], message: Message) -> [u8; 16]
     ensures { result ≡ data_variant_of message transaction.now }
@@ -179,7 +179,7 @@ pub fn is_usable(serial: &[u8; 10]) -> bool
 }
 
 /// The next key serial number: that whose counter is the least one above, of 21 bits, with at most
-/// ten one bits; `None` where there is none. It tries the counters one after another, of which at
+/// ten one bits; `None` if there is none. It tries the counters one after another, of which at
 /// most 2,047 in a row have more ones.
 pub fn next_serial(serial: &[u8; 10]) -> Option<[u8; 10]>
     ensures next { IfSome result (λ next. (counter : ℕ)

@@ -89,7 +89,7 @@ fn card_block(account: &[u8], sequence: &[u8]) -> [u8; 8]
     block_of(&digits)
 }
 
-// The hash of the bytes that both numbers write, after a zero where their digits are odd in number.
+// The hash of both numbers as bytes, two digits a byte, after a `0` if they have an odd number of digits.
 fn hash_of(account: &[u8], sequence: &[u8]) -> [u8; 20]
     requires account { IsNumber 8 19 account.now }
     requires sequence { IsNumber 2 2 sequence.now }
@@ -104,7 +104,7 @@ fn hash_of(account: &[u8], sequence: &[u8]) -> [u8; 20]
     Sha1::digest(bytes)
 }
 
-// The block of both numbers by option B, where the account number has more than sixteen digits.
+// The block of both numbers by option B, for account numbers of more than sixteen digits.
 fn hashed_block(account: &[u8], sequence: &[u8]) -> [u8; 8]
     requires account { IsNumber 8 19 account.now }
     requires sequence { IsNumber 2 2 sequence.now }
@@ -135,7 +135,7 @@ fn key_of_block(issuer: &[u8; 16], block: &[u8; 8]) -> [u8; 16]
 
 /// The key of a card by option A (A1.4.1), from the issuer's master key, the account number, a text
 /// of 8 to 19 digits with the check digit, and the sequence number of the card, a text of two
-/// digits: `00` where the card has none.
+/// digits: `00` if the card has none.
 ///
 /// The sixteen rightmost digits of both numbers together are a block; it and its complement are
 /// encrypted under the issuer's key. Each byte of the key has odd parity. Most issuers take this
@@ -148,10 +148,10 @@ pub fn card_key(issuer: &[u8; 16], account: &[u8], sequence: &[u8]) -> Result<[u
     Ok(key_of_block(issuer, &card_block(account, sequence)))
 }
 
-/// The key of a card by option B (A1.4.2), from the same. It differs from `card_key` where the
-/// account number has more than sixteen digits: take it for these where the card scheme asks for it.
+/// The key of a card by option B (A1.4.2), from the same. It differs from `card_key` if the
+/// account number has more than sixteen digits: take it for these if the card scheme asks for it.
 ///
-/// Both numbers, after a `0` where their digits are odd in number, write bytes, two digits a byte.
+/// Both numbers, after a `0` if their digits are odd in number, write bytes, two digits a byte.
 /// Of the forty hexadecimal digits of their SHA-1 hash those from 0 to 9 are taken in order, and
 /// then the others in order, less ten; the first sixteen are the block.
 pub fn card_key_b(issuer: &[u8; 16], account: &[u8], sequence: &[u8]) -> Result<[u8; 16], EmvError>
@@ -185,7 +185,7 @@ pub fn session_key(card: &[u8; 16], block: &[u8; 8]) -> [u8; 16]
     both(card, &with_third(block, 0xf0), &with_third(block, 0x0f))
 }
 
-// Two bytes, and zeros to eight.
+// Two bytes, filled with zeros to a block.
 fn with_zeros(bytes: &[u8; 2]) -> [u8; 8]
     ensures { result ≡ bytes.now ++ replicate 6 0 }
 {
@@ -235,7 +235,7 @@ fn check_data(bytes: &[u8]) -> Result<(), EmvError>
 
 /// The response by method 2 (8.2.2) to an application cryptogram, with a card status update of four
 /// bytes and at most eight bytes of the issuer's: the first four bytes of the retail MAC with
-/// padding method 2 of all three. `DataLength` where the issuer has more bytes.
+/// padding method 2 of all three. `DataLength` if the issuer has more bytes.
 pub fn response_2(
     session: &[u8; 16],
     cryptogram: &[u8; 8],

@@ -134,7 +134,7 @@ pub(crate) fn is_pin_field(format: u8, least: u8, field: &[u8; 16]) -> bool
     are_passed(tests_of(format, least, field))
 }
 
-// Whether they are such a field, and its PIN, or else four zeros.
+// Whether the digits are such a field, and its PIN, or four zeros if they aren't.
 pub(crate) fn read_or_zeros(format: u8, least: u8, field: &[u8; 16]) -> (bool, Pin)
     ensures right { IsTrue result.0 ↔ (field_fault format least field.now ≡ None) }
     ensures pin { IsTrue result.0 → result.1 ≡ text_of (pin_digits field.now) }

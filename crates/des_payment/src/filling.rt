@@ -1,6 +1,6 @@
 //! The first digits of a PIN, and others or zeros after them. How many they are decides nothing that is
 //! done: digits are moved to their places as one number, by shifts. (Of a choice for each digit the
-//! compiler makes jumps, even where it is one by a mask.)
+//! compiler makes jumps, even if it is one by a mask.)
 
 ghost use Rattle.std.specs.Prelude.{◌≡◌, ℕ, ◌-◌, ◌*◌, ◌%◌, ◌^◌, ◌<◌, ◌≤◌, ◌++◌, nat_lt, if◌then◌else◌, length, take, slice_index};
 ghost use Rattle.std.specs.List.{All};

@@ -135,7 +135,7 @@ pub struct Header {
     pub algorithm: Algorithm,
     /// What may be done with the key.
     pub mode: Mode,
-    /// The number of the key's version, two characters: `00` where it has none.
+    /// The number of the key's version, two characters: `00` if it has none.
     pub key_version: [u8; 2],
     /// Who may have the key.
     pub exportability: Exportability,

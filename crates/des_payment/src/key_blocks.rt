@@ -303,7 +303,7 @@ pub fn key_context(block: &[u8]) -> Result<KeyContext, KeyBlockError>
 }
 
 // The block at a place, from 0, of a text of optional blocks, and how many characters stand before
-// its content, or `None` where there are no more.
+// its content, or `None` if there are no more.
 fn block_at(text: &[u8], place: usize) -> Option<(OptionalBlock<'_>, usize)>
     ensures within { IfSome result (λ found.
         found.1 + length found.0.content.now ≤ length text.now) }
@@ -325,7 +325,7 @@ fn block_at(text: &[u8], place: usize) -> Option<(OptionalBlock<'_>, usize)>
 }
 
 /// The optional block of a block at a place, from 0, and how many characters of the block stand
-/// before its content, or `None` where there are no more. Nothing of it is authenticated.
+/// before its content, or `None` if there are no more. Nothing of it is authenticated.
 pub fn placed_optional_block(
     block: &[u8],
     place: usize,
@@ -350,7 +350,7 @@ pub fn placed_optional_block(
     }
 }
 
-/// The optional block of a block at a place, from 0, or `None` where there are no more. Nothing of
+/// The optional block of a block at a place, from 0, or `None` if there are no more. Nothing of
 /// it is authenticated.
 pub fn optional_block(
     block: &[u8],
@@ -418,7 +418,7 @@ fn check_parts(
     Ok(())
 }
 
-// Writes a header and optional blocks, with one that fills them where they need it.
+// Writes a header and optional blocks, with one that fills them if they need it.
 fn write_front(
     header: &Header,
     optional: &[OptionalBlock<'_>],
@@ -478,16 +478,16 @@ fn write_sealed(
 /// it has.
 ///
 /// The padding fills the last eight bytes after two bytes of length and the key; 22, 14 or 6 bytes
-/// of it hide how long the key is. Where the optional blocks do not fill eight characters, a block
-/// `PB` of zeros does. A block's length has two digits where they hold it, else the longer form. The
+/// of it hide how long the key is. If the optional blocks do not fill eight characters, a block
+/// `PB` of zeros does. A block's length has two digits if they hold it, else the longer form. The
 /// key's context is `StorageOrExchange`.
 ///
-/// The first fault is reported, in this order: `ProtectionKeyLength`; `Version`, where it is `A`;
-/// `Header`, where a field has other characters than letters and digits; `KeyLength`;
-/// `PaddingLength`; `OptionalBlock`, where there are more than 99, or one has a name that is not
-/// letters and digits or a content that is not printable ASCII; `Length`, where they have more than
-/// 9999 characters; `OptionalBlock`, where a `PB` is not their last, or does not end at a multiple
-/// of eight characters, or where one more than 99 would have to fill them; `Length`, where the block
+/// The first fault is reported, in this order: `ProtectionKeyLength`; `Version`, if it is `A`;
+/// `Header`, if a field has other characters than letters and digits; `KeyLength`;
+/// `PaddingLength`; `OptionalBlock`, if there are more than 99, or one has a name that is not
+/// letters and digits or a content that is not printable ASCII; `Length`, if they have more than
+/// 9999 characters; `OptionalBlock`, if a `PB` is not their last, or does not end at a multiple
+/// of eight characters, or if one more than 99 would have to fill them; `Length`, if the block
 /// has more than 9999 characters or `text` is too short. After a fault `text` is what it was, and
 /// else what stands in it after the block is.
 pub fn wrap(

@@ -21,7 +21,7 @@ pub(crate) fn entry_at(entries: &[u8; 16], place: u8) -> u8
     found
 }
 
-// Writes a byte at a place, where there is one: every byte is written.
+// Writes a byte at a place, if there is one: every byte is written.
 pub(crate) fn write_at<const N: usize>(bytes: &mut [u8; N], place: usize, byte: u8)
     ensures long { length bytes.new ≡ length bytes.old }
     ensures written { (k : ℕ) → k < N

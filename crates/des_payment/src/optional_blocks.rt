@@ -25,7 +25,7 @@ pub struct OptionalBlock<'a> {
     pub content: &'a [u8],
 }
 
-// How many characters stand before the content of a block, and how many the block has, where two
+// How many characters stand before the content of a block, and how many the block has, if two
 // zeros say that a length of four digits follows: after how long it is, in bytes or in digits. Writers
 // differ in that; here 02 is written, and both are read.
 fn long_extent(text: &[u8]) -> Option<(usize, usize)>
@@ -110,7 +110,7 @@ pub(crate) fn size_of_blocks(text: &[u8], count: usize) -> Option<usize>
     Some(first + rest)
 }
 
-// Reads optional blocks to the front of `blocks`, and gives how many they are.
+// Reads optional blocks to the front of `blocks`, and returns their number.
 fn read_blocks<'a>(
     text: &'a [u8],
     blocks: &mut [OptionalBlock<'a>; MOST_BLOCKS],
@@ -140,8 +140,8 @@ fn read_blocks<'a>(
 }
 
 /// Reads optional blocks that stand one after another, as in a key block, to the front of `blocks`,
-/// and gives how many they are; those after them stay. A text that is not such, or holds more than
-/// 99, is an error, `OptionalBlock`, and then all of `blocks` stays.
+/// and returns their number; those after them are unchanged. A text that is not such, or holds more than
+/// 99, is an error, `OptionalBlock`, and then all of `blocks` is unchanged.
 pub fn read_optional_blocks<'a>(
     text: &'a [u8],
     blocks: &mut [OptionalBlock<'a>; MOST_BLOCKS],
@@ -202,8 +202,8 @@ fn is_filling(block: &OptionalBlock<'_>) -> bool
     block.name[0] == b'P' && block.name[1] == b'B'
 }
 
-// How many of so many blocks may not fill: where they have a multiple of eight characters, the last
-// may.
+// The number of blocks that may not be the filling block `PB`: all, or all but the last if the blocks
+// have a multiple of eight characters.
 fn unfilling(count: usize, size: usize) -> usize
     ensures { result ≡ (if size % 8 == 0 then count - 1 else count) }
 {
@@ -214,7 +214,7 @@ fn unfilling(count: usize, size: usize) -> usize
     }
 }
 
-// Whether no block is a `PB`, but the last, where they end with it at a multiple of eight of so many
+// Whether no block is a `PB`. The last may be one if the blocks end with it at a multiple of eight
 // characters.
 fn are_placed(blocks: &[OptionalBlock<'_>], size: usize) -> bool
     requires { size ≡ size_of_contents (map (λ block. (block.name, block.content.now)) blocks.now) }
@@ -230,7 +230,7 @@ fn are_placed(blocks: &[OptionalBlock<'_>], size: usize) -> bool
     true
 }
 
-// How many characters an optional block of a content has.
+// The number of characters of an optional block with a content.
 fn size_of(content: &[u8]) -> usize
     requires { length content.now ≤ 9999 }
     ensures { result ≡ size_of_content content.now }
@@ -242,7 +242,7 @@ fn size_of(content: &[u8]) -> usize
     }
 }
 
-// How many characters optional blocks have, where there are not more than a key block can have.
+// How many characters optional blocks have, if there are not more than a key block can have.
 fn size_of_all(blocks: &[OptionalBlock<'_>]) -> Option<usize>
     ensures some { IfSome result (λ size. (size ≤ 9999) × (size
         ≡ size_of_contents (map (λ block. (block.name, block.content.now)) blocks.now))) }
@@ -270,7 +270,7 @@ fn zeros_after(size: usize) -> usize
 }
 
 // How many characters optional blocks have with the block `PB` that fills them to a multiple of
-// eight, where they need one, and how many they are.
+// eight, if they need one, and how many they are.
 pub(crate) fn filled_extent(blocks: &[OptionalBlock<'_>]) -> Result<(usize, usize), KeyBlockError>
     ensures fault { result_err result
         ≡ blocks_fault (map (λ block. (block.name, block.content.now)) blocks.now) }

@@ -81,7 +81,7 @@ pub(crate) fn decrypted_by(key: &[u8], block: &[u8; 8]) -> [u8; 8]
     }
 }
 
-// Encrypts each block under the key at its place, where there are as many keys as blocks.
+// Encrypts each block under the key at its place, if there is a key for each block.
 pub(crate) fn encrypt_each_of<C: KeyForEach, S: Slice>(keys: &[C::Key], blocks: &mut [[u8; 8]])
     requires { length keys.now ≡ length blocks.old }
     ensures { blocks.new ≡ zip2 C.encryption (map C.Key.bytes_of keys.now) blocks.old }

@@ -33,8 +33,8 @@ impl Pin {
     ghost use Rattle.std.specs.Result.{result_err};
     ghost use Rattle.des_payment.specs.PinBlocks.{pin_fault};
 
-    /// The PIN of these ASCII digits: `PinLength` where there are not 4 to 12 of them, `PinDigit`
-    /// where one is none.
+    /// The PIN of these ASCII digits: `PinLength` if there are not 4 to 12 of them, `PinDigit`
+    /// if one is none.
     pub fn new(text: &[u8]) -> Result<Pin, PinError>
         ensures fault { result_err result ≡ pin_fault text.now }
         ensures pin { IfOk result (λ pin. pin ≡ text.now) }
@@ -79,7 +79,7 @@ impl Pin {
         }
     }
 
-    // How many digits it has.
+    // The number of its digits.
     pub(crate) fn count(&self) -> usize
         ensures count { result ≡ length self.now }
         ensures is_pin { IsPin self.now }

@@ -40,7 +40,7 @@ pub fn decode_format_0(block: &[u8; 8], account: &[u8]) -> Result<Pin, PinError>
 }
 
 /// The block of format 1 of a PIN and of transaction digits from 0 to 15, of which it takes as many
-/// of the first as make sixteen digits; `Fill` where one of the ten is above 15.
+/// of the first as make sixteen digits; `Fill` if one of the ten is above 15.
 pub fn encode_format_1(pin: &Pin, transaction: &[u8; 10]) -> Result<[u8; 8], PinError>
     ensures fault { result_err result ≡ fill_fault 0 transaction.now }
     ensures block { IfOk result (IsTheOne (IsFormat1 pin.now transaction.now)) }
@@ -79,7 +79,7 @@ pub fn decode_format_2(block: &[u8; 8]) -> Result<Pin, PinError>
 /// The block of format 3 of a PIN, an account number, a text of 8 to 19 digits with the check
 /// digit, and fill digits from 10 to 15, of which it takes as many of the first as make sixteen
 /// digits: it is made as that of format 0. Its faults are `AccountLength` and `AccountDigit`, and
-/// `Fill` where one of the ten is none of 10 to 15.
+/// `Fill` if one of the ten is none of 10 to 15.
 pub fn encode_format_3(pin: &Pin, account: &[u8], fill: &[u8; 10]) -> Result<[u8; 8], PinError>
     ensures fault { result_err result
         ≡ option_or (account_fault account.now) (fill_fault 10 fill.now) }

@@ -6,8 +6,8 @@ ghost use Rattle.des_payment.specs.PinBlocks.{name_of};
 use std::error::Error;
 use std::fmt;
 
-/// Why a PIN block is not made, or a block holds no PIN. The first of them is reported: where a
-/// block is made, of the PIN, then of the account number, then of the fill digits; where a block is
+/// Why a PIN block is not made, or a block holds no PIN. The first of them is reported: if a
+/// block is made, of the PIN, then of the account number, then of the fill digits; if a block is
 /// read, of the account number, then in the order of the block's digits.
 #[derive(Clone, Copy, Debug, PartialEq, Eq)]
 pub enum PinError {

@@ -81,7 +81,7 @@ fn check_equal(text: &[u8], right: &[u8]) -> Result<(), VerificationError>
 }
 
 /// Accepts the PIN verification value that `pvv` gives and no other: its faults, and then `WrongPin`
-/// where the four characters are others. Every character is looked at, wherever the two differ.
+/// if the four characters are others. Every character is looked at, wherever the two differ.
 pub fn verify_pvv(
     key: &[u8; 16],
     account: &[u8],
@@ -186,7 +186,7 @@ pub fn pin_offset(
 }
 
 /// Accepts the PIN that is the sum of an offset and the natural PIN of as many digits, digit by digit,
-/// modulo ten, and no other: `KeyLength`, and then `WrongPin` where it is another, or has another
+/// modulo ten, and no other: `KeyLength`, and then `WrongPin` if it is another, or has another
 /// length. Every digit is looked at, wherever the two differ.
 pub fn verify_offset(
     key: &[u8],

@@ -65,7 +65,7 @@ fn first_eight(header: &[u8]) -> [u8; 8]
     vector
 }
 
-// How many bytes the MAC of a version has.
+// The size of a version's MAC in bytes.
 pub(crate) fn mac_size(version: Version) -> usize
     ensures { result ≡ mac_size_of version }
 {
@@ -75,7 +75,7 @@ pub(crate) fn mac_size(version: Version) -> usize
     }
 }
 
-// Encrypts key data in place, and gives the tag of which the front is the MAC.
+// Encrypts key data in place, and returns the tag of which the front is the MAC.
 pub(crate) fn seal(
     version: Version,
     keys: &ProtectionKeys,

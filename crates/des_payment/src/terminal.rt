@@ -56,7 +56,7 @@ fn write_below(keys: &mut [[u8; 16]; REGISTERS], place: usize, last: u64, key: &
 }
 
 // Takes the key of the transaction of a serial number, the last eight bytes of it, and makes the
-// future keys those after it. Where the counter has ten one bits, those that the key would make are
+// future keys those after it. If the counter has ten one bits, those that the key would make are
 // of no transaction.
 fn take_key(keys: &mut [[u8; 16]; REGISTERS], last: u64) -> [u8; 16]
     requires { 0 < last % 2 ^ 21 }
@@ -97,8 +97,8 @@ impl Terminal {
     }
 
     /// The key of the next transaction, as the host makes it by `transaction_key` of the key serial
-    /// number that the state has then; the key is cleared in the state. `None` where the terminal
-    /// has had its last transaction, and the state stays as it was.
+    /// number that the state has then; the key is cleared in the state. `None` if the terminal
+    /// has had its last transaction, and the state is unchanged.
     pub fn next_key(&mut self) -> Option<[u8; 16]>
         ensures serial { IfSome result (λ _. (counter : ℕ)
             × (IsNextCounter (counter_of self.old.serial) counter

@@ -56,7 +56,7 @@ pub(crate) fn check_number<E: Copy + Drop>(
     Ok(())
 }
 
-// Whether two texts are one. Where they are equally long, each character is looked at, wherever they
+// Whether two texts are one. If they are equally long, each character is looked at, wherever they
 // differ.
 pub(crate) fn are_equal(text: &[u8], other: &[u8]) -> bool
     ensures { IsTrue result ↔ (text.now ≡ other.now) }

@@ -46,7 +46,7 @@ fn counter_bit(serial: &[u8; 10], place: u32) -> u8
     ((last_bytes(serial) % COUNTERS) >> place & 1) as u8
 }
 
-// One key where the mask is of ones, and the other where it is of zeros.
+// One key if the mask is of ones, and the other if it is of zeros.
 fn selected(mask: u8, taken: &[u8; 16], kept: &[u8; 16]) -> [u8; 16]
     ensures taken { mask ≡ 255 → result ≡ taken.now }
     ensures kept { mask ≡ 0 → result ≡ kept.now }
@@ -60,7 +60,7 @@ fn selected(mask: u8, taken: &[u8; 16], kept: &[u8; 16]) -> [u8; 16]
     key
 }
 
-// The next key where the counter's bit at a place is a one, and else the key.
+// The next key if the counter's bit at a place is a one, and else the key.
 fn key_after(serial: &[u8; 10], place: u32, next: &[u8; 16], key: &[u8; 16]) -> [u8; 16]
     requires { place < 21 }
     ensures { result ≡ (if bit_at (counter_of serial.now) place == 1 then next.now else key.now) }
@@ -139,7 +139,7 @@ fn next_halves<S: Slice>(serials: &[[u8; 10]], place: u32, keys: &[[u8; 16]]) ->
     xored_blocks(&blocks, keys)
 }
 
-// Of each lane the key of these halves where the counter's bit at a place is a one, and else the
+// Of each lane the key of these halves if the counter's bit at a place is a one, and else the
 // key that it has.
 fn keys_after(
     serials: &[[u8; 10]],
@@ -299,8 +299,8 @@ fn initial_keys_by<S: Slice>(
 
 /// Writes the key of the transaction of each serial number at its place, from the base derivation
 /// key: as `transaction_key` gives it from `initial_key`. The terminals may be different ones.
-/// Groups of at most 256 are treated together, `S::BATCH` at a time. Where the two lists differ in
-/// length, the answer is `NotEqualError`, and the keys stay as they were.
+/// Groups of at most 256 are treated together, `S::BATCH` at a time. If the two lists differ in
+/// length, the answer is `NotEqualError`, and the keys are unchanged.
 pub fn transaction_keys_by<S: Slice>(
     base: &[u8; 16],
     serials: &[[u8; 10]],

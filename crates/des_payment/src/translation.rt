@@ -58,7 +58,7 @@ fn is_target(format: Format) -> bool
     }
 }
 
-// Whether these are fill digits, where the format has them.
+// Whether these are fill digits, if the format has any.
 fn check_fill(format: Format, fill: &[u8; 10]) -> Result<(), TranslationError>
     ensures fault { result_err result ≡ fill_fault format fill.now }
 {
@@ -118,7 +118,7 @@ fn check_request(
     check_fill(to, fill)
 }
 
-// The digits of a block xor the account field.
+// The digits of a block after the xor with the account field.
 fn unbound(block: &[u8; 8], account: &[u8]) -> [u8; 16]
     requires { IsAccountNumber account.now }
     ensures { result ≡ xor_blocks (digits_in block.now) (account_field_of account.now) }

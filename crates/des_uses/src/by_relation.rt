@@ -154,7 +154,7 @@ pub fn relates<C: RelatesBlocks + Drop>(
     (is_same(&encrypted, answer), is_same(&decrypted, block))
 }
 
-/// Whether the key makes one answer of two blocks: only where they are one block.
+/// Whether the key makes one answer of two blocks: only if they are one block.
 pub fn answers_alike<C: RelatesBlocks + Drop>(
     key: &C::Key,
     block: &[u8; 8],

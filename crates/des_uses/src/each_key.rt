@@ -7,7 +7,7 @@ use des::cipher::NotEqualError;
 use des_fast::many::{KeyForEach, Slice};
 
 /// Encrypts in place each block of a list under the key at its place. Lists that are not as long
-/// are `NotEqualError`, and the blocks stay.
+/// are `NotEqualError`, and the blocks are unchanged.
 pub fn encrypt_under_keys<S: Slice, C: KeyForEach>(
     keys: &[C::Key],
     blocks: &mut [[u8; 8]],

@@ -8,7 +8,7 @@ ghost use Rattle.des_mac.specs.Tags.{IsTruncated};
 use des::cipher::InvalidLength;
 use des_mac::{Mac, UnambiguousPadding};
 
-/// The tag of a message under a key, or `InvalidLength` where the key does not have as many bytes
+/// The tag of a message under a key, or `InvalidLength` if the key does not have as many bytes
 /// as a key has.
 pub fn tag<M: Mac>(key: &[u8], message: &[u8]) -> Result<[u8; 8], InvalidLength>
     ensures accepted { IsOk result ↔ (length key.now ≡ M.key_size) }

@@ -45,7 +45,7 @@ pub fn encrypt_twice(key: &[u8; 8], block: &mut [u8; 8]) -> bool
 }
 
 /// The round keys of the partner of a key: those of the key, from the last to the first. `None`
-/// where the second key is no partner of the first: its round keys are not those reversed.
+/// if the second key is no partner of the first: its round keys are not those reversed.
 pub fn round_keys_of_partner(key: &[u8; 8], partner: &[u8; 8]) -> Option<[u64; 16]>
     ensures found { IsSome result ↔ ArePartners key.now partner.now }
     ensures reversed { IsSome result ↔ ((i : ℕ) → 1 ≤ i → i ≤ 16

@@ -12,7 +12,7 @@ use des::{TdesEde3, cbc};
 /// Decrypts in place the blocks of a record, which CBC under a cipher chained from the
 /// initialization vector: the key's encryption takes each new block xor the block of the record
 /// before it, or for the first the vector, to the block of the record. A key that does not have
-/// `KEY_SIZE` bytes is `InvalidLength`, and the record stays.
+/// `KEY_SIZE` bytes is `InvalidLength`, and the record is unchanged.
 pub fn read_chain<C: KeyedCipher + Drop>(
     key: &[u8],
     iv: &[u8; 8],
@@ -30,7 +30,7 @@ pub fn read_chain<C: KeyedCipher + Drop>(
 
 /// Reads a record that was kept under `TdesEde3`: what takes each new block xor the block of the
 /// record before it to the block of the record is triple DES under the key, in its EDE form. A key
-/// that does not have 24 bytes is `InvalidLength`, and the record stays.
+/// that does not have 24 bytes is `InvalidLength`, and the record is unchanged.
 pub fn read_record(key: &[u8], iv: &[u8; 8], blocks: &mut [[u8; 8]]) -> Result<(), InvalidLength>
     ensures accepted { IsOk result ↔ (length key.now ≡ 24) }
     ensures read { OnOk result (Chains (EnciphersEde3 key.now) iv.now blocks.new blocks.old) }

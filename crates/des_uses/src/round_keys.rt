@@ -35,8 +35,8 @@ pub fn has_one_or_many(key: &[u8; 8]) -> (bool, bool)
     (count == 1, 4 < count)
 }
 
-/// Whether a key has two round keys, and whether it has four. It has two where its halves repeat
-/// every two bits and not every one, and four where they are of the listed class and do not repeat
+/// Whether a key has two round keys, and whether it has four. It has two if its halves repeat
+/// every two bits and not every one, and four if they are of the listed class and do not repeat
 /// every two bits.
 pub fn has_two_or_four(key: &[u8; 8]) -> (bool, bool)
     ensures two { HalvesRepeat 2 key.now → ¬ (HalvesRepeat 1 key.now) → IsTrue result.0 }
@@ -47,7 +47,7 @@ pub fn has_two_or_four(key: &[u8; 8]) -> (bool, bool)
 }
 
 /// The round keys of two keys that agree outside parity: those of the one are those of the other.
-/// `None` where the two do not have one key schedule.
+/// `None` if the two do not have one key schedule.
 pub fn shared_round_keys(first: &[u8; 8], second: &[u8; 8]) -> Option<[u64; 16]>
     ensures agreeing { IsSome result ↔ AgreeOutsideParity first.now second.now }
     ensures found { IsSome result

@@ -9,7 +9,7 @@ use des::cipher::{InvalidLength, KeyedCipher};
 use des_fast::many::{Slice, SpreadOnce};
 
 /// Encrypts in place each block of a list by keys that are spread over slices: what the key answers
-/// to it. A key that does not have `KEY_SIZE` bytes is `InvalidLength`, and the list stays.
+/// to it. A key that does not have `KEY_SIZE` bytes is `InvalidLength`, and the list is unchanged.
 pub fn encrypt_spread<S: Slice, C: KeyedCipher + SpreadOnce + Drop>(
     key: &[u8],
     blocks: &mut [[u8; 8]],
@@ -40,7 +40,7 @@ pub fn decrypt_spread<S: Slice, C: KeyedCipher + SpreadOnce + Drop>(
 /// Decrypts in place a list that CBC under a cipher chained from the initialization vector: the
 /// key's encryption takes each new block xor the block of the list before it, or for the first the
 /// vector, to the block of the list. A key that does not have `KEY_SIZE` bytes is `InvalidLength`,
-/// and the list stays.
+/// and the list is unchanged.
 pub fn unchain_spread<S: Slice, C: KeyedCipher + SpreadOnce + Drop>(
     key: &[u8],
     iv: &[u8; 8],

@@ -120,7 +120,7 @@ pub fn decrypt_with_zeros<R: Read, W: Write, C: ManyBlocks>(
     decrypt_stream(&transformation, reader, writer, &mut [[0; 8]; 512])
 }
 
-/// Decrypts a part of `count` blocks, or of fewer where the reader ends before.
+/// Decrypts a part of `count` blocks, or of fewer if the reader ends before.
 pub fn decrypt_blocks_of_part<R: Read, W: Write, C: ManyBlocks>(
     cipher: &C,
     mode: Mode,
@@ -182,7 +182,7 @@ pub fn decrypt_rest<R: Read, W: Write, C: ManyBlocks>(
 /// Decrypts what `encrypt` wrote, in two parts, each from a reader of its own over the same bytes:
 /// the first `from` blocks, and then those after them. What both wrote is what `decrypt` writes.
 ///
-/// The error is `Start` only where there are no more than `from` blocks: the first part is then the
+/// The error is `Start` only if there are no more than `from` blocks: the first part is then the
 /// whole, and there is no second one.
 pub fn decrypt_in_two_parts<R: Read, S: Read, W: Write, C: ManyBlocks>(
     cipher: &C,

@@ -13,8 +13,8 @@ use des_context::calls;
 use des_context::contexts::NO_MAC;
 use des_context::status::{ERR_BLOCKS, ERR_CONTEXT, OK};
 
-/// Encrypts bytes in place, each block of eight by itself. The status is `ERR_BLOCKS` where they
-/// are not whole blocks; they then stay as they were.
+/// Encrypts bytes in place, each block of eight by itself. The status is `ERR_BLOCKS` if they
+/// are not whole blocks; they are then unchanged.
 #[unsafe(no_mangle)]
 pub extern "C" fn cukvashe_internal_encrypt_ecb(
     context: &[u64],
@@ -33,8 +33,8 @@ pub extern "C" fn cukvashe_internal_encrypt_ecb(
     calls::encrypt_ecb::<Width>(context, blocks, size)
 }
 
-/// Decrypts bytes in place, each block of eight by itself. The status is `ERR_BLOCKS` where they
-/// are not whole blocks; they then stay as they were.
+/// Decrypts bytes in place, each block of eight by itself. The status is `ERR_BLOCKS` if they
+/// are not whole blocks; they are then unchanged.
 #[unsafe(no_mangle)]
 pub extern "C" fn cukvashe_internal_decrypt_ecb(
     context: &[u64],
@@ -54,8 +54,8 @@ pub extern "C" fn cukvashe_internal_decrypt_ecb(
 }
 
 /// Writes the bytes of `input`, encrypted as by `cukvashe_internal_encrypt_ecb`, to `output`. The
-/// status is `ERR_BLOCKS` where they are not whole blocks or the two differ in length; `output`
-/// then stays.
+/// status is `ERR_BLOCKS` if they are not whole blocks or the two differ in length; `output`
+/// is then unchanged.
 #[unsafe(no_mangle)]
 pub extern "C" fn cukvashe_internal_encrypt_ecb_to(
     context: &[u64],
@@ -105,8 +105,8 @@ pub extern "C" fn cukvashe_internal_decrypt_ecb_to(
 }
 
 /// Decrypts bytes in place that CBC chained from the vector, which becomes the last ciphertext
-/// block. The status is `ERR_BLOCKS` where the bytes are not whole blocks; they and the vector then
-/// stay.
+/// block. The status is `ERR_BLOCKS` if the bytes are not whole blocks; they and the vector then
+/// are unchanged.
 #[unsafe(no_mangle)]
 pub extern "C" fn cukvashe_internal_decrypt_cbc(
     context: &[u64],
@@ -128,8 +128,8 @@ pub extern "C" fn cukvashe_internal_decrypt_cbc(
 }
 
 /// Writes the bytes of `input`, decrypted as by `cukvashe_internal_decrypt_cbc`, to `output`. The
-/// status is `ERR_BLOCKS` where they are not whole blocks or the two differ in length; `output` and
-/// the vector then stay.
+/// status is `ERR_BLOCKS` if they are not whole blocks or the two differ in length; `output` and
+/// the vector are then unchanged.
 #[unsafe(no_mangle)]
 pub extern "C" fn cukvashe_internal_decrypt_cbc_to(
     context: &[u64],

@@ -10,8 +10,8 @@ use des_context::each_key::{decrypt_each, encrypt_each};
 use des_context::status::{ERR_COUNTS, OK};
 
 /// Encrypts each block in place under the key at its place: `keys` are keys of `key_size` bytes,
-/// one after another. The status is `ERR_COUNTS` where the numbers of keys and blocks differ; the
-/// blocks then stay.
+/// one after another. The status is `ERR_COUNTS` if the numbers of keys and blocks differ; the
+/// blocks are then unchanged.
 #[unsafe(no_mangle)]
 pub extern "C" fn cukvashe_internal_encrypt_each(
     key_size: usize,

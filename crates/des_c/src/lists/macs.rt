@@ -14,7 +14,7 @@ use des_context::status::OK;
 
 /// Writes the tag of each message at its place, with padding method 1 or 2, which plays no part in
 /// CMAC. The status of another padding is `ERR_PADDING_METHOD`, that of messages and tags of
-/// different numbers `ERR_COUNTS`; the tags then stay as they were.
+/// different numbers `ERR_COUNTS`; the tags are then unchanged.
 #[unsafe(no_mangle)]
 pub extern "C" fn cukvashe_internal_macs(
     algorithm: u32,
@@ -34,7 +34,7 @@ pub extern "C" fn cukvashe_internal_macs(
 
 /// Writes the tag of each message under the key at its place: `keys` are keys of `key_size` bytes,
 /// one after another. Padding and status are as of `cukvashe_internal_macs`, and the status is
-/// `ERR_COUNTS` also where the number of keys is another one.
+/// `ERR_COUNTS` also if the number of keys is another one.
 #[unsafe(no_mangle)]
 pub extern "C" fn cukvashe_internal_macs_each(
     algorithm: u32,

@@ -11,8 +11,8 @@ use des_context::payment_lists::{check_values, transaction_keys};
 use des_context::status::{ERR_COUNTS, OK};
 
 /// The check value of each key at its place: `keys` are keys of `key_size` bytes, one after
-/// another. The status is `ERR_COUNTS` where the numbers of keys and values differ; the values then
-/// stay.
+/// another. The status is `ERR_COUNTS` if the numbers of keys and values differ; the values then
+/// are unchanged.
 #[unsafe(no_mangle)]
 pub extern "C" fn cukvashe_internal_check_values(
     key_size: usize,
@@ -31,8 +31,8 @@ pub extern "C" fn cukvashe_internal_check_values(
 }
 
 /// The key of the transaction of each key serial number at its place, from the base derivation key.
-/// The status is `ERR_COUNTS` where the numbers of serial numbers and keys differ; the keys then
-/// stay.
+/// The status is `ERR_COUNTS` if the numbers of serial numbers and keys differ; the keys then
+/// are unchanged.
 #[unsafe(no_mangle)]
 pub extern "C" fn cukvashe_internal_dukpt_transaction_keys(
     base: &[u8; 16],

@@ -14,8 +14,8 @@ use des_context::status::{ERR_BLOCKS, ERR_CONTEXT, ERR_COUNTS, OK};
 
 /// Encrypts records in place by CBC: `counts[k]` blocks are record k, one record after another, and
 /// `vectors[k]`, from which it is chained, becomes its last ciphertext block. The status is
-/// `ERR_COUNTS` where the numbers of vectors and counts differ, or the counts do not add up to the
-/// number of blocks; vectors and blocks then stay.
+/// `ERR_COUNTS` if the numbers of vectors and counts differ, or the counts do not add up to the
+/// number of blocks; vectors and blocks are then unchanged.
 #[unsafe(no_mangle)]
 pub extern "C" fn cukvashe_internal_encrypt_cbc_records(
     context: &[u64],

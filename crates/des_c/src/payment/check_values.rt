@@ -9,7 +9,7 @@ use des_payment::{key_check_value, short_key_check_value};
 
 /// The check value of a key of 8, 16 or 24 bytes, or of a component of one, by its length: under
 /// `Des`, `TdesEde2` or `TdesEde3`. The status of a key of another length is `ERR_KEY_LENGTH`, and
-/// then `value` stays.
+/// then `value` is unchanged.
 #[unsafe(no_mangle)]
 pub extern "C" fn cukvashe_key_check_value(key: &[u8], value: &mut [u8; 3]) -> i32
     ensures accepted { (result ≡ OK) ↔ IsTrue (is_key key.now) }
@@ -47,7 +47,7 @@ pub extern "C" fn cukvashe_short_key_check_value(key: &[u8], value: &mut [u8; 2]
 }
 
 /// The check value of a key of `key_size` bytes. The status of a key of another length is
-/// `ERR_KEY_LENGTH`, and then `value` stays.
+/// `ERR_KEY_LENGTH`, and then `value` is unchanged.
 #[unsafe(no_mangle)]
 pub extern "C" fn cukvashe_internal_check_value(
     key_size: usize,

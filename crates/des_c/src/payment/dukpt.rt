@@ -94,7 +94,7 @@ pub extern "C" fn cukvashe_dukpt_is_usable(serial: &[u8; 10]) -> bool
 }
 
 /// The next key serial number, with at most ten one bits in its counter. The status is
-/// `ERR_NO_SERIAL` where there is none, and then `next` stays.
+/// `ERR_NO_SERIAL` if there is none, and then `next` is unchanged.
 #[unsafe(no_mangle)]
 pub extern "C" fn cukvashe_dukpt_next_serial(serial: &[u8; 10], next: &mut [u8; 10]) -> i32
     ensures next { result ≡ OK → (counter : ℕ)

@@ -31,7 +31,7 @@ fn status_of(fault: EmvError) -> i32
 
 /// The key of a card (A1.4.1, option A), from the issuer's key, an account number of 8 to 19 digits
 /// and a sequence number of two, texts of ASCII digits. The status is that of the first fault, of
-/// the account number and then of the sequence number, and then `key` stays.
+/// the account number and then of the sequence number, and then `key` is unchanged.
 #[unsafe(no_mangle)]
 pub extern "C" fn cukvashe_emv_card_key(
     issuer: &[u8; 16],
@@ -123,7 +123,7 @@ pub extern "C" fn cukvashe_emv_response_1(
 
 /// The response by method 2 (8.2.2) to an application cryptogram, with a card status update of four
 /// bytes and at most eight bytes of the issuer's. The status of more is `ERR_DATA_LENGTH`, and then
-/// `response` stays.
+/// `response` is unchanged.
 #[unsafe(no_mangle)]
 pub extern "C" fn cukvashe_emv_response_2(
     session: &[u8; 16],

@@ -111,7 +111,7 @@ fn header_of(text: &HeaderText) -> Result<Header, KeyBlockError>
 
 /// The header and the key of a key block, under a protection key of 16 or 24 bytes: the key's 8, 16
 /// or 24 bytes and then zeros, and how many it has. The status is that of the first fault, of the
-/// protection key and then of the block, and then all three stay. Nothing of the key is given
+/// protection key and then of the block, and then all three are unchanged. Nothing of the key is given
 /// before the block is authenticated.
 #[unsafe(no_mangle)]
 pub extern "C" fn cukvashe_key_block_unwrap(
@@ -143,7 +143,7 @@ pub extern "C" fn cukvashe_key_block_unwrap(
 }
 
 /// The fields of a block's header, with no key. The status is that of the first fault that shows
-/// without one, and then `text` stays. Nothing of it is authenticated.
+/// without one, and then `text` is unchanged. Nothing of it is authenticated.
 #[unsafe(no_mangle)]
 pub extern "C" fn cukvashe_key_block_header(block: &[u8], text: &mut HeaderText) -> i32
     ensures found { result ≡ OK → (layout : HasLayout block.now)
@@ -163,7 +163,7 @@ pub extern "C" fn cukvashe_key_block_header(block: &[u8], text: &mut HeaderText)
 }
 
 /// Where the key of a block may be, as the character of its header, with no key: `0`, `1` or `2`. The
-/// status is that of the first fault that shows without one, and then `context` stays. Nothing of it
+/// status is that of the first fault that shows without one, and then `context` is unchanged. Nothing of it
 /// is authenticated.
 #[unsafe(no_mangle)]
 pub extern "C" fn cukvashe_key_block_context(block: &[u8], context: &mut u8) -> i32
@@ -183,10 +183,10 @@ pub extern "C" fn cukvashe_key_block_context(block: &[u8], context: &mut u8) -> 
     }
 }
 
-/// The optional block of a block at a place, from 0: its name and a zero byte, and where its
+/// The optional block of a block at a place, from 0: its name and a zero byte, and if its
 /// content stands in the block and how many characters it has. The status is that of the block's
-/// first fault that shows without a key, and then `ERR_NO_OPTIONAL_BLOCK` where there are no more;
-/// and then all three stay. Nothing of it is authenticated.
+/// first fault that shows without a key, and then `ERR_NO_OPTIONAL_BLOCK` if there are no more;
+/// and then all three are unchanged. Nothing of it is authenticated.
 #[unsafe(no_mangle)]
 pub extern "C" fn cukvashe_key_block_optional_block(
     block: &[u8],
@@ -262,8 +262,8 @@ fn write_wrapped(
 /// or 24 bytes with random padding, under a protection key of 16 or 24 bytes; then a zero byte, for
 /// which there has to be room; and how many characters the block has without it.
 ///
-/// The status is that of the first fault, and then `block` and `length` stay: `ERR_VERSION` where
-/// the version is neither `B` nor `C`; `ERR_OPTIONAL_BLOCK` where the optional blocks can't be read,
+/// The status is that of the first fault, and then `block` and `length` stay: `ERR_VERSION` if
+/// the version is neither `B` nor `C`; `ERR_OPTIONAL_BLOCK` if the optional blocks can't be read,
 /// or are more than 99; and then as `wrap` says.
 #[unsafe(no_mangle)]
 pub extern "C" fn cukvashe_key_block_wrap(

@@ -59,7 +59,7 @@ fn write_block(made: Result<[u8; 8], TranslationError>, block: &mut [u8; 8]) -> 
 /// bytes, into the block of format 0 of the same PIN that is encrypted under another. The account
 /// number, a text of 8 to 19 digits, is that of both. The status is that of the first fault, of the
 /// keys, of the format, of the account number, and then `ERR_PIN_BLOCK`, whatever is wrong with the
-/// block; and then `translated` stays.
+/// block; and then `translated` is unchanged.
 #[unsafe(no_mangle)]
 pub extern "C" fn cukvashe_pin_translate_to_0(
     incoming: &[u8],
@@ -83,8 +83,8 @@ pub extern "C" fn cukvashe_pin_translate_to_0(
 }
 
 /// Translates a PIN block of format 1 that is encrypted under one key, of 8, 16 or 24 bytes, into the
-/// same block under another. The status is `ERR_KEY_LENGTH`, and then `ERR_PIN_BLOCK` where it is no
-/// block of format 1; and then `translated` stays.
+/// same block under another. The status is `ERR_KEY_LENGTH`, and then `ERR_PIN_BLOCK` if it is no
+/// block of format 1; and then `translated` is unchanged.
 #[unsafe(no_mangle)]
 pub extern "C" fn cukvashe_pin_translate_to_1(
     incoming: &[u8],

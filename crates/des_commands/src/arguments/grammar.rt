@@ -64,7 +64,7 @@ fn named<'a>(alloc: Global, name: &'a str, about: &'a str, after: &'a str) -> Co
     Command::new(alloc, name).about(about).after_help(after)
 }
 
-// The command of a row; without its arguments where no word names it, since they are then neither
+// The command of a row; without its arguments if no word names it, since they are then neither
 // parsed nor shown.
 fn command_of<'a>(
     alloc: Global,
@@ -93,7 +93,7 @@ fn parent<'a>(command: Command<'a>) -> Command<'a> {
         .arg_required_else_help(true)
 }
 
-// The command with the commands of a group: below one of its name, where it has one.
+// The command with the commands of a group: below one of its name, if it has one.
 fn with_group<'a>(
     alloc: Global,
     command: Command<'a>,

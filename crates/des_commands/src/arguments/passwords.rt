@@ -37,7 +37,7 @@ fn count_in(text: &str) -> Option<u32>
     text.parse().ok()
 }
 
-/// The derivation of a text, where it names one.
+/// The derivation of a text, if it names one.
 pub fn derivation_of(text: &str) -> Option<Derivation>
     ensures named { IfSome result (IsDerivationText text.now) }
     ensures none { IfNone result ((derivation : DerivationOf)

@@ -76,7 +76,7 @@ fn decode_request<'a>(matches: &ArgMatches<'a>) -> Requested<'a> {
     with_account_of(format, request, matches)
 }
 
-// The request of a translation of a block of format 1 to format 1, in which its digits stay.
+// The request of a translation of a block of format 1 to format 1, in which its digits are unchanged.
 fn format_1_request<'a>(matches: &ArgMatches<'a>) -> Requested<'a> {
     if is_given(matches, "fill") {
         return Err(misuse(Misuse::FillOfFormat1, ""));
@@ -173,7 +173,7 @@ fn session_of<'a>(matches: &ArgMatches<'a>) -> Result<EmvCalculation<'a>, Fault<
     }
 }
 
-// The issuer's response, by method 1 where there is its code.
+// The issuer's response, by method 1 if there is its code.
 fn response_of<'a>(matches: &ArgMatches<'a>) -> EmvCalculation<'a> {
     let cryptogram = place_of(matches, "cryptogram");
     match text_of(matches, "code") {

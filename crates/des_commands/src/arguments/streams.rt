@@ -56,7 +56,7 @@ pub fn cipher_of(name: &str) -> Option<(Cipher, bool)>
     }
 }
 
-/// The padding of a word; PKCS#7 where none is given.
+/// The padding of a word; PKCS#7 if none is given.
 pub fn padding_of(word: Option<&str>) -> Option<Padding>
     ensures named { IfSome result (λ padding.
         padding_word padding ≡ text_or word.entry (codes "pkcs7")) }
@@ -90,7 +90,7 @@ pub fn weak_keys_of(word: Option<&str>, encrypts: bool) -> Option<WeakKeys>
     }
 }
 
-// CBC's vector, in the direction that its word is for. The fault is `Vector` where the text is neither
+// CBC's vector, in the direction that its word is for. The fault is `Vector` if the text is neither
 // a word nor 16 hexadecimal digits.
 fn vector_of(text: &str, encrypts: bool) -> Result<Vector, Kind>
     ensures vector { IfOk result (IsVector text.now encrypts) }
@@ -125,7 +125,7 @@ fn mode_of(words: &StreamWords, is_chained: bool) -> Result<StreamMode, Kind>
     }
 }
 
-/// The part that `--from` and `--blocks` give, none where neither is given. The fault is
+/// The part that `--from` and `--blocks` give, none if neither is given. The fault is
 /// `PartToEncrypt`.
 pub fn part_of(from: Option<u64>, count: Option<u64>, encrypts: bool) -> Result<Option<Part>, Kind>
     ensures { result ≡ part_for encrypts from count }
@@ -172,7 +172,7 @@ fn fault_of<'a>(kind: Kind) -> Fault<'a>
     }
 }
 
-/// What the words ask for. The fault is `Usage` where they don't go together, and `Vector`.
+/// What the words ask for. The fault is `Usage` if they don't go together, and `Vector`.
 pub fn request_of_words<'a>(words: &StreamWords<'a>) -> Result<StreamRequest<'a>, Fault<'a>>
     ensures asked { IfOk result (IsRequest words.now) }
     ensures fault { IfErr result (λ fault. FailsAsRequest words.now fault.kind) }
@@ -212,7 +212,7 @@ fn coding_of<'a>(is_base64: bool, is_hexadecimal: bool) -> Result<Coding, Fault<
     }
 }
 
-/// What the words of `encrypt` or `decrypt` ask for; a fault where they don't go together.
+/// What the words of `encrypt` or `decrypt` ask for; a fault if they don't go together.
 pub fn stream_request<'a>(
     encrypts: bool,
     matches: &ArgMatches<'a>,

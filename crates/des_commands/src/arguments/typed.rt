@@ -4,7 +4,7 @@
 
 use clap::ArgMatches;
 
-/// The text of an option or a place, where it was given.
+/// The text of an option or a place, if it was given.
 pub fn text_of<'a>(matches: &ArgMatches<'a>, name: &str) -> Option<&'a str> {
     matches.get_str(name)
 }
@@ -14,12 +14,12 @@ pub fn place_of<'a>(matches: &ArgMatches<'a>, name: &str) -> &'a str {
     text_of(matches, name).unwrap_or("")
 }
 
-/// The number of an option, where it was given.
+/// The number of an option, if it was given.
 pub fn number_of(matches: &ArgMatches, name: &str) -> Option<u64> {
     matches.get_one::<u64>(name)
 }
 
-/// The number from 0 to 255 of an option, where it was given.
+/// The number from 0 to 255 of an option, if it was given.
 pub fn count_of(matches: &ArgMatches, name: &str) -> Option<u8> {
     matches.get_one::<u8>(name)
 }

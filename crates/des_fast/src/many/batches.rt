@@ -4,12 +4,12 @@ ghost use Rattle.std.specs.Prelude.{◌≡◌, ◌≢◌, ◌≤◌, ◌-◌, �
 
 use super::Slice;
 
-/// The most blocks of a list that is quicker over vectors of two words, even where the processor
+/// The most blocks of a list that is quicker over vectors of two words, even if the processor
 /// has vectors of four: a batch of 128 takes less time than one of 256. For those who choose the
 /// width of a call by the length of a list: `bindings/describe` copies it for C.
 pub const MOST_NARROW: usize = 128;
 
-// The most blocks that go side by side, where tables may be read and where none may be, whatever
+// The most blocks that go side by side, if tables may be read and if none may be, whatever
 // the cipher, the direction and the width. On a processor where a batch took 1.68 microseconds of DES
 // and 4.06 of EDE3, 31 blocks by tables took 1.67 and 4.37 (28: 1.51 and 3.96), and without tables
 // 10 blocks 1.61 and 4.53 (8: 1.09 and 3.01).

@@ -39,7 +39,7 @@ pub trait ChainKeys {
             → encryption (from + k) ≡ lane_answer (Self.Slices.bit k) result.now };
 }
 
-// One key for all chains, where all lanes have the same: of other keys `encrypt` says nothing.
+// One key for all chains, if all lanes have the same: of other keys `encrypt` says nothing.
 impl<S: Slice> ChainKeys for LaneKeys<S> {
     type Slices = S;
 

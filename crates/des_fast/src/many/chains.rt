@@ -32,7 +32,7 @@ pub(super) fn chain<W: Way, P: Answers>(blocks: &mut [[u8; 8]], iv: &[u8; 8], pa
     }
 }
 
-// Passes that take a few blocks side by side, where tables may be read and where none may be.
+// Passes that take a few blocks side by side, if tables may be read and if none may be.
 #[derive(Drop)]
 struct SideBySide<'a, P> {
     quiet: bool,

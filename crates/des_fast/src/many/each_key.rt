@@ -28,8 +28,8 @@ pub trait KeyForEach: KeyedCipher + Sized {
             (map Self.Key.bytes_of keys.now) };
 
     /// Encrypts each block of 8 bytes in place under the key at its place, `S::BATCH` blocks at a
-    /// time. Where the two lists differ in length, the answer is `NotEqualError`, and the blocks
-    /// stay as they were.
+    /// time. If the two lists differ in length, the answer is `NotEqualError`, and the blocks
+    /// are unchanged.
     final fn encrypt_each_by<S: Slice>(
         keys: &[Self::Key],
         blocks: &mut [[u8; 8]],
@@ -57,8 +57,8 @@ pub trait KeyForEach: KeyedCipher + Sized {
     }
 
     /// Makes each block the end of the chain from it through the list at its place, all under one
-    /// key, as `chain_ends_each_by` under many. Where the numbers of blocks and lists differ, the
-    /// answer is `NotEqualError`, and the blocks stay as they were.
+    /// key, as `chain_ends_each_by` under many. If the numbers of blocks and lists differ, the
+    /// answer is `NotEqualError`, and the blocks are unchanged.
     final fn chain_ends_by<S: Slice, L: BlockLists>(
         key: &Self::Key,
         chains: &mut [[u8; 8]],
@@ -81,8 +81,8 @@ pub trait KeyForEach: KeyedCipher + Sized {
     /// Makes each block the end of the chain from it through the list at its place, under the key
     /// at its place: H(j + 1) = E(D(j + 1) ^ H(j)), with H(0) the block and D(j + 1) the block of
     /// the list at j. From blocks of zeros it makes the chains of CBC-MAC. The lists of a batch go
-    /// in step, so that a batch takes the time of its longest list. Where the numbers of keys,
-    /// blocks and lists differ, the answer is `NotEqualError`, and the blocks stay as they were.
+    /// in step, so that a batch takes the time of its longest list. If the numbers of keys,
+    /// blocks and lists differ, the answer is `NotEqualError`, and the blocks are unchanged.
     final fn chain_ends_each_by<S: Slice, L: BlockLists>(
         keys: &[Self::Key],
         chains: &mut [[u8; 8]],
@@ -186,7 +186,7 @@ fn answer_each<S: Slice, C: KeyForEach>(keys: &[C::Key], blocks: &mut [[u8; 8]],
     }
 }
 
-// Does so where there are as many keys as blocks, and else changes nothing.
+// Encrypts or decrypts if there is a key for each block, and otherwise changes nothing.
 fn answer_equal<S: Slice, C: KeyForEach>(
     keys: &[C::Key],
     blocks: &mut [[u8; 8]],

@@ -1,6 +1,6 @@
-//! Many chains in step, of which the ends are asked for: those of MACs. At each step the next block
-//! of every list goes into its chain, and the chains go through the rounds together, as a batch.
-//! Lists that have ended wait in their lanes.
+//! Many chains in step, of which only the last block counts, as in MACs. Each step takes the next block
+//! of every list into its chain, and all chains go through the rounds together, as a batch. Lists that
+//! have ended wait in their lanes.
 
 ghost use Rattle.std.specs.Prelude.{◌≡◌, ◌≤◌, ◌<◌, ◌+◌, ◌^◌, ℕ, List, length};
 ghost use Rattle.des.specs.Cbc.{xor_blocks};
@@ -17,20 +17,20 @@ use crate::slices::PassSlices;
 /// Lists of blocks of 8 bytes, one for each of many chains, of which a call reads block after
 /// block. They are numbered from 0, and so are their blocks.
 pub trait BlockLists {
-    // How many lists there are.
+    // The number of lists.
     ghost list_count: { Self → ℕ };
 
-    // How many blocks list k has.
+    // The number of blocks of list k.
     ghost count_of: { Self → ℕ → ℕ };
 
     // Block i of list k.
     ghost block_of: { Self → ℕ → ℕ → List ℕ };
 
-    /// How many lists there are.
+    /// The number of lists.
     fn list_count(&self) -> usize
         ensures { result ≡ list_count self.now };
 
-    /// How many blocks the list has.
+    /// The number of blocks of the list.
     fn count(&self, list: usize) -> usize
         requires { list < list_count self.now }
         ensures { result ≡ count_of self.now list };
@@ -55,7 +55,7 @@ fn longest<L: BlockLists>(lists: &L, from: usize, count: usize) -> usize
     most
 }
 
-// Makes each lane the xor of its chain and block i of its list, where that has one.
+// Makes each lane the xor of its chain and block i of its list, if that has one.
 fn add_step<L: BlockLists>(
     lanes: &mut [[u8; 8]; LARGEST_BATCH],
     chains: &[[u8; 8]],
@@ -77,7 +77,7 @@ fn add_step<L: BlockLists>(
     }
 }
 
-// Makes each chain its lane, where its list has a block i.
+// Makes each chain its lane, if its list has a block i.
 fn keep_step<L: BlockLists>(
     chains: &mut [[u8; 8]],
     lanes: &[[u8; 8]; LARGEST_BATCH],

@@ -117,7 +117,7 @@ fn spread_part<S: Slice, K: KeyBytes>(pass: &mut PassSlices<S>, keys: &[K], by: 
     pass.spread_each(&parts[..S::BATCH], by.deciphers);
 }
 
-// Makes pass i, from 0, that of its part of each key, where those before it are. A third pass that
+// Makes pass i, from 0, that of its part of each key, if those before it are. A third pass that
 // is the first again is copied.
 fn spread_pass<S: Slice, K: KeyBytes>(
     passes: &mut [PassSlices<S>; 3],
@@ -171,7 +171,7 @@ pub(super) fn answer_lanes<S: Slice>(blocks: &mut [[u8; 8]], passes: &[PassSlice
 }
 
 /// A function for the proof alone: takes the first lanes, a batch, through passes. Of an array that is
-/// lent the proof knows the length where it is a parameter.
+/// lent the proof knows the length if it is a parameter.
 pub(super) fn answer_filled<S: Slice>(
     lanes: &mut [[u8; 8]; LARGEST_BATCH],
     passes: &[PassSlices<S>],

@@ -42,7 +42,7 @@ struct Group {
     start: usize,
 }
 
-// How many steps a group takes, the blocks of its longest record, and where the next one begins.
+// How many steps a group takes, the blocks of its longest record, and if the next one begins.
 #[derive(Clone, Copy)]
 struct Extent {
     steps: usize,
@@ -100,7 +100,7 @@ fn fill_lanes(
 }
 
 // Makes block i, from 0, of each record of a group that has one what its lane holds, and its chain
-// too. The records that have ended stay.
+// too. The records that have ended are unchanged.
 fn write_lanes(
     lanes: &[[u8; 8]; LARGEST_BATCH],
     vectors: &mut [[u8; 8]],
@@ -228,7 +228,7 @@ struct Span {
     current: Record,
 }
 
-// Takes a span of the blocks out of the chains, where the answers to its blocks are known, and
+// Takes a span of the blocks out of the chains, if the answers to its blocks are known, and
 // returns the record of its last block, or of an empty span the one it was given.
 fn take_out(
     vectors: &mut [[u8; 8]],

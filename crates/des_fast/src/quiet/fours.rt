@@ -90,7 +90,7 @@ fn mask(bytes: u8x32, bit: u8) -> u8x32
         .select(u8x32::splat(255), u8x32::splat(0))
 }
 
-// Terms, and as many more added where the bit before those that chose among them is set.
+// Terms, and as many more added if the bit before those that chose among them is set.
 #[inline(always)]
 fn sum(terms: u8x32, mask: u8x32, more: u8x32) -> u8x32
     ensures { (n from : ℕ) (bytes : List ℕ) → AreSums n TERMS from bytes terms

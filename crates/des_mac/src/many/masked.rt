@@ -20,7 +20,7 @@ use des_fast::many::{BlockLists, KeyForEach, Slice};
 // The most messages with keys of their own that are treated together.
 const GROUP: usize = 256;
 
-// What goes after a message of which `count` bytes stand in its last block: nothing where that is
+// What goes after a message of which `count` bytes stand in its last block: nothing if that is
 // whole, and else a one bit and zeros.
 fn mask_padding(count: usize) -> &'static [u8]
     requires { count ≤ 8 }
@@ -44,7 +44,7 @@ fn subkey(zeros: &[u8; 8], count: usize) -> [u8; 8]
     if count < 8 { doubled(&first) } else { first }
 }
 
-// How many blocks of a message are chained.
+// The number of blocks of a message that are chained.
 fn masked_count(message: &[u8]) -> usize
     ensures { (zeros : List ℕ) → result ≡ length (masked_message zeros message.now) / 8 }
 {
@@ -125,7 +125,7 @@ impl BlockLists for MaskedByEach<'_> {
     }
 }
 
-// Encrypts each block under the key at its place, where there are as many keys as blocks.
+// Encrypts each block under the key at its place, if there is a key for each block.
 fn encrypt_each<S: Slice, C: KeyForEach>(keys: &[C::Key], blocks: &mut [[u8; 8]])
     requires { length keys.now ≡ length blocks.old }
     ensures { blocks.new ≡ zip2 C.encryption (map C.Key.bytes_of keys.now) blocks.old }
@@ -169,8 +169,8 @@ fn write_group<S: Slice, C: KeyForEach>(keys: &[C::Key], messages: &[&[u8]], tag
 }
 
 /// The tags of CMAC of many messages under one key, `S::BATCH` at a time: as `Cmac::mac` makes
-/// each. Where the numbers of messages and tags differ, the answer is `NotEqualError`, and the tags
-/// stay as they were.
+/// each. If the numbers of messages and tags differ, the answer is `NotEqualError`, and the tags
+/// are unchanged.
 pub fn cmacs_by<S: Slice, C: KeyForEach + Drop>(
     key: &C::Key,
     messages: &[&[u8]],
@@ -193,8 +193,8 @@ pub fn cmacs_by<S: Slice, C: KeyForEach + Drop>(
 }
 
 /// The tags of CMAC of many messages, each under the key at its place, at most 256 at a time.
-/// Where the numbers of keys, messages and tags differ, the answer is `NotEqualError`, and the tags
-/// stay as they were.
+/// If the numbers of keys, messages and tags differ, the answer is `NotEqualError`, and the tags
+/// are unchanged.
 pub fn cmacs_each_by<S: Slice, C: KeyForEach + Drop>(
     keys: &[C::Key],
     messages: &[&[u8]],

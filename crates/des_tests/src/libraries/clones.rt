@@ -1,4 +1,4 @@
-//! Clones of each cipher, also where memory is refused (`tests/run`).
+//! Clones of each cipher, also if memory is refused (`tests/run`).
 
 use des::cipher::{BlockCipherEncrypt, KeyInit};
 use des_fast::{TdesEde2, TdesEde3, TdesEee2, TdesEee3};

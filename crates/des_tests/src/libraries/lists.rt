@@ -22,7 +22,7 @@ fn are(lists: &[List; 3], known: &Known) -> bool {
         && has(&lists[2], known.unchained)
 }
 
-// Whether a cipher does by the calls for many blocks that name no width.
+// Whether a cipher does so by the list calls that name no width.
 fn answers_many<C: ManyBlocks>(cipher: &C, known: &Known) -> bool {
     let mut lists: [List; 3] = [multiples(STEP); 3];
     cipher.encrypt_many(&mut lists[0]);

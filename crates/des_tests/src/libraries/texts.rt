@@ -1,4 +1,4 @@
-//! What ciphers, PINs and keys show of themselves where the writer refuses: what `Debug` has written by
+//! What ciphers, PINs and keys show of themselves if the writer refuses: what `Debug` has written by
 //! then, no contract says.
 
 ghost use Rattle.std.specs.Prelude.{◌≤◌};
@@ -81,7 +81,7 @@ impl Write for Page {
     }
 }
 
-// Whether a page gets a prefix of the text alone, and all of it where no write was refused, under
+// Whether a page gets a prefix of the text alone, and all of it if no write was refused, under
 // the options of this number.
 fn gets_a_prefix<D: fmt::Debug>(value: &D, text: &str, options: usize, mut page: Page) -> bool {
     match write_debug(&mut page, value, options) {

@@ -16,7 +16,7 @@ use des_payment::dukpt::{initial_key, is_usable, pin_key, transaction_key};
 use des_payment::pin_blocks::encode_format_0;
 use des_payment::{Pin, PinError};
 
-/// The key of a transaction; none where the key serial number is that of no transaction.
+/// The key of a transaction; none if the key serial number is that of no transaction.
 pub fn key_of_transaction(initial: &[u8; 16], serial: &[u8; 10]) -> Option<[u8; 16]>
     ensures made { IfSome result (λ key. IsOfTransaction serial.now
         × (key ≡ transaction_key_of initial.now serial.now)) }

@@ -27,7 +27,7 @@ pub fn approved(
     Ok(response_1(&session, &cryptogram, b"00"))
 }
 
-/// The key of a card of a scheme that asks for option B where the account number is long.
+/// The key of a card of a scheme that asks for option B if the account number is long.
 pub fn card_key_of_scheme(
     issuer: &[u8; 16],
     account: &[u8],
