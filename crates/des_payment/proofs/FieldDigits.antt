@@ -1,7 +1,7 @@
 -- The fields of PIN blocks are of sixteen digits, and so is their xor.
 use Rattle.std.proofs.Common.{◌≡◌, ℕ, ◌-◌, ◌<◌, List, [], ◌∷◌, ◌++◌, nat_le, length, get_or, take, replicate, bit_xor, IsTrue, sym, ◌∙◌, arith}
 use Rattle.std.specs.List.{All}
-use Rattle.std.proofs.lemmas.Bool.{leb-true}
+use Rattle.std.proofs.lemmas.Bool.{and_parts, leb-true}
 use Rattle.std.proofs.lemmas.Nat.{xor_lt}
 use Rattle.std.proofs.lemmas.Simd.{get_or-zip2}
 use Rattle.std.proofs.lemmas.List.{length-append, length-drop}
@@ -11,7 +11,7 @@ use Rattle.des.specs.Cbc.{xor_blocks}
 use Rattle.des.proofs.XoredBlocks.{length-xor_blocks}
 use Rattle.des_payment.specs.Texts.{IsPin, IsAccountNumber, are_digits, unchecked, values}
 use Rattle.des_payment.specs.PinBlocks.{pin_field, account_field, last_digits, is_fill, AreFill}
-use Rattle.des_payment.proofs.TextDigits.{and_parts, below_at, decimal-values, are_digits-part}
+use Rattle.des_payment.proofs.TextDigits.{below_at, decimal-values, are_digits-part}
 use Rattle.des_payment.proofs.PinFields.{length-pin_field}
 
 -- each is a digit of four bits

@@ -2,7 +2,7 @@
 use Rattle.std.proofs.Common.{◌≡◌, ℕ, ◌<◌, ◌≤◌, List, [], ◌∷◌, ◌++◌, length, map, take, get_or, refl, ap, ap₂, sym, ◌∙◌, arith, length-take-le}
 use Rattle.std.specs.Simd.Lanes.{zip2}
 use Rattle.std.proofs.lemmas.Simd.{length-zip2, get_or-zip2}
-use Rattle.std.proofs.lemmas.List.{map-id, get_or-map, length-map, get_or_append_left, get_or-take, ext_get_or}
+use Rattle.std.proofs.lemmas.List.{map-id, get_or-map, length-map, get_or_append_left, get_or-take}
 
 -- answers under keys of which a list has the first n
 pub zipped-front : (f : List ℕ → List ℕ → List ℕ) (n : ℕ) (keys old new rest : List (List ℕ)) → n ≤ length keys
@@ -29,13 +29,6 @@ mapped-front f n old new rest inside made k below =
     ∙ ap (λ (xs : List (List ℕ)). get_or xs k []) made
     ∙ get_or-map f (take n old) k [] [] (omega arith)
     ∙ ap f (get_or-take n old k [] below)
-
--- a list with these elements
-pub mapped-at : (f : List ℕ → List ℕ) (old new : List (List ℕ)) → length new ≡ length old
-    → ((k : ℕ) → k < length old → get_or new k [] ≡ f (get_or old k [])) → new ≡ map f old
-mapped-at f old new count each =
-    ext_get_or [] new (map f old) (count ∙ sym (length-map old f))
-    (λ k below. each k (omega (arith, count)) ∙ sym (get_or-map f old k [] [] (omega (arith, count))))
 
 -- answers to elements and to what was made of them
 pub zipped-mapped : (f : List ℕ → List ℕ → List ℕ) (h : List ℕ → List ℕ) (xs : List (List ℕ))

@@ -3,7 +3,7 @@ use Rattle.std.proofs.Common.{◌≡◌, ℕ, zero, suc, ◌+◌, ◌-◌, ◌�
 use Rattle.std.specs.List.{list_all}
 use Rattle.std.specs.Cmp.Derive.{both_true}
 use Rattle.std.proofs.Math.Seq.{take-append-add}
-use Rattle.std.proofs.lemmas.Bool.{eqb-true, leb-true, le-leb}
+use Rattle.std.proofs.lemmas.Bool.{and_parts, eqb-true, leb-true, le-leb}
 use Rattle.std.proofs.lemmas.List.{take_at, drop_at, take-append-drop, length-map, length-append, length-take-le, length-drop, length-replicate, append-nil}
 use Rattle.std.proofs.lemmas.List.Sums.{AllPass-from_list_all, list_all-from_AllPass}
 use Rattle.std.proofs.lemmas.List.Folds.{list_all-append}
@@ -11,7 +11,7 @@ use Rattle.std.proofs.lemmas.List.Elements.{All-take}
 use Rattle.des_payment.specs.declared.pin_error.PinError.TheVariants.{Format, PinLength, PinDigit, Fill}
 use Rattle.des_payment.specs.Texts.{IsPin, values, text_of}
 use Rattle.des_payment.specs.PinBlocks.{pin_field, is_fill, AreFill, field_fault, pin_digits, fill_digits}
-use Rattle.des_payment.proofs.TextDigits.{and_parts, are_digits-text_of, decimal-values, text_of-values, values-text_of}
+use Rattle.des_payment.proofs.TextDigits.{are_digits-text_of, decimal-values, text_of-values, values-text_of}
 use Rattle.des_payment.proofs.PinFaults.{field_fault-digits}
 
 -- ---- what is made is read

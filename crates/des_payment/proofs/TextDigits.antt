@@ -1,8 +1,8 @@
 -- Texts of digits, and the values of digits, place by place.
-use Rattle.std.proofs.Common.{◌≡◌, ℕ, ◌+◌, ◌-◌, ◌<◌, ◌≤◌, List, [], ◌∷◌, ◌++◌, Bool, true, false, ◌&&◌, length, map, take, drop, get_or, nat_lt, IsTrue, refl, ap, ap₂, ◌∙◌, arith}
+use Rattle.std.proofs.Common.{◌≡◌, ℕ, ◌+◌, ◌-◌, ◌<◌, ◌≤◌, List, [], ◌∷◌, ◌++◌, true, length, map, take, drop, get_or, nat_lt, IsTrue, refl, ap, ap₂, ◌∙◌, arith}
 use Rattle.std.specs.List.{list_all}
 use Rattle.std.specs.Char.{is_ascii_digit}
-use Rattle.std.proofs.lemmas.Bool.{ltb-true, lt-ltb}
+use Rattle.std.proofs.lemmas.Bool.{and_parts, ltb-true, lt-ltb}
 use Rattle.std.specs.Cmp.Derive.{both_true}
 use Rattle.std.proofs.lemmas.Bool.Decides.{nat_tests}
 use Rattle.std.proofs.lemmas.List.{get_or-append_right, get_or-drop, get_or-map, length-map, length-take-le}
@@ -55,11 +55,6 @@ are_digits-part text from n all =
     let IsDigit : ℕ → Type 0 = λ c. is_ascii_digit c ≡ true in
     list_all-from_AllPass is_ascii_digit (take n (drop from text))
     (All-take IsDigit n (drop from text) (All-drop IsDigit from text (AllPass-from_list_all is_ascii_digit text all)))
-
--- each of two tests that both hold
-pub and_parts : (a b : Bool) → (a && b) ≡ true → (a ≡ true) × (b ≡ true)
-and_parts true b both = (refl, both)
-and_parts false b both = (cc, cc)
 
 -- the values of digits are digits, and each text of digits is the text of its values
 pub decimal-values : (text : List ℕ) → IsTrue (are_digits text)

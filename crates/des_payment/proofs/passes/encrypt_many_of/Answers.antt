@@ -2,7 +2,7 @@ use Rattle.std.proofs.Common.{◌≡◌, ℕ, List, [], length, get_or, sym, sub
 use Rattle.std.proofs.lemmas.List.{get_or-map, length-map}
 use Rattle.std.proofs.lemmas.List.Elements.{All-get_or}
 use Rattle.des.specs.Blocks.{AreBytes, IsBlock}
-use Rattle.des_payment.proofs.Lanes.{mapped-at}
+use Rattle.des_fast.proofs.AnsweredBatches.{answered-at}
 use Rattle.des_payment.proofs.passes.encrypt_many_of.Goals as goal
 
 -- a cipher made from the key answers as the key does
@@ -14,7 +14,7 @@ returns g c =
     let count : length key ≡ g.C.KeySizeUser.KEY_SIZE =
     sym (ap length c.as_bytes.ensures.bytes) ∙ c.as_bytes.ensures.count ∙ sym g.met.C.KeySizeUser.key_size_is_len in
     let bytes : AreBytes key = subst AreBytes c.as_bytes.ensures.bytes c.as_bytes.ensures.are_bytes in
-    mapped-at (g.C.KeyedCipher.encryption key) old c.encrypt_many_by.new.blocks
+    answered-at (g.C.KeyedCipher.encryption key) old c.encrypt_many_by.new.blocks
     (ap length c.encrypt_many_by.ensures.encrypted ∙ length-map old encrypted)
     (λ k below.
     ap (λ (xs : List (List ℕ)). get_or xs k []) c.encrypt_many_by.ensures.encrypted
