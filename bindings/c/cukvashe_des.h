@@ -136,7 +136,7 @@ extern "C" {
 #define CUKVASHE_ERR_TABLE_LENGTH 21          /* the decimalization table does not have sixteen digits */
 #define CUKVASHE_ERR_TABLE_DIGIT 22           /* a character of the decimalization table is not a digit */
 #define CUKVASHE_ERR_TABLE_VARIETY 23         /* the decimalization table has fewer than eight different digits */
-#define CUKVASHE_ERR_WRONG_PIN 24             /* the PIN is not the one */
+#define CUKVASHE_ERR_WRONG_PIN 24             /* the PIN is wrong */
 #define CUKVASHE_ERR_FORMATS 25               /* there is no translation of PIN blocks from this format,
                                                  only from 0, 1 and 3 */
 #define CUKVASHE_ERR_PIN_BLOCK 26             /* decrypted, the PIN block is not one of its format and account number */

@@ -5,7 +5,7 @@ from sources.text import Refused
 MISTAKES = [
     ("ERR_BLOCKS 2 ", "ERR_BLOCKS 3 ", "does not have the number after"),
     ("/* the key does not have a length", "/* The key does not have a length", "has no sentence"),
-    ("/* the PIN is not the one */", "/* the tag is not that of the message */", "has the sentence of another status"),
+    ("/* the PIN is wrong */", "/* the tag is not that of the message */", "has the sentence of another status"),
     ("#define CUKVASHE_PKCS7 11", "#define CUKVASHE_PKCS7 sizeof", "is no number"),
     ("#ifndef CUKVASHE_CHECK", "#undef CUKVASHE_OK\n#ifndef CUKVASHE_CHECK", "a directive that is not known"),
     ("void cukvashe_wipe(void *pointer, size_t size);", "void cukvashe_wipe(void *pointer, size_t size)", "cukvashe_des.h:"),

@@ -96,7 +96,7 @@ export class TableLength extends CukvasheError {}
 export class TableDigit extends CukvasheError {}
 /** The decimalization table has fewer than eight different digits. */
 export class TableVariety extends CukvasheError {}
-/** The PIN is not the one. */
+/** The PIN is wrong. */
 export class WrongPin extends CukvasheError {}
 /** There is no translation of PIN blocks from this format, only from 0, 1 and 3. */
 export class Formats extends CukvasheError {}

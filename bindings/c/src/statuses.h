@@ -23,7 +23,7 @@
 [CUKVASHE_ERR_TABLE_LENGTH] = "the decimalization table does not have sixteen digits",
 [CUKVASHE_ERR_TABLE_DIGIT] = "a character of the decimalization table is not a digit",
 [CUKVASHE_ERR_TABLE_VARIETY] = "the decimalization table has fewer than eight different digits",
-[CUKVASHE_ERR_WRONG_PIN] = "the PIN is not the one",
+[CUKVASHE_ERR_WRONG_PIN] = "the PIN is wrong",
 [CUKVASHE_ERR_FORMATS] = "there is no translation of PIN blocks from this format, only from 0, 1 and 3",
 [CUKVASHE_ERR_PIN_BLOCK] = "decrypted, the PIN block is not one of its format and account number",
 [CUKVASHE_ERR_SEQUENCE_LENGTH] = "the sequence number does not have two digits",

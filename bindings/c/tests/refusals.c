@@ -437,7 +437,7 @@ static const char *const words[] = {
     "expiry date does not have four digits", "character of the expiry date", "service code does not have three digits",
     "character of the service code", "do not end with the padding", "has no room",
     "numbers of elements do not agree", "index of the key pair", "table does not have sixteen digits", "character of the decimalization",
-    "fewer than eight different digits", "PIN is not the one", "no translation of PIN blocks", "PIN block is not one of its format",
+    "fewer than eight different digits", "PIN is wrong", "no translation of PIN blocks", "PIN block is not one of its format",
     "sequence number does not have two digits", "character of the sequence number", "more than 8 bytes",
     "protection key does not have", "key block is not as long as its header says", "version of the key block", "header does not end with",
     "optional blocks can't be read", "encrypted key data do not have", "0 to 9 or A to F", "MAC is not that of the key block",

@@ -26,7 +26,7 @@ the data, which other programs on the processor could learn. That is tested of t
 `pin_translate_` translate encrypted ones, `cvv` makes card verification values, those named `emv_` keys of cards and cryptograms.
 A PIN is verified by its value or its offset; a call that verifies returns nothing for the right PIN:
 
-    cukvashe_des.pvv_verify(key, account, 1, pin, value)    # WrongPinError if it is not the one
+    cukvashe_des.pvv_verify(key, account, 1, pin, value)    # WrongPinError if it is wrong
 
 `unwrap_key_block(protection, block)` gives the header and the key of a key block (TR-31), `wrap_key_block` makes one, with random
 padding:

@@ -125,7 +125,7 @@ class TableVarietyError(Error, ValueError):
 
 
 class WrongPinError(VerificationError):
-    """A PIN is not the one."""
+    """A PIN is wrong."""
 
 
 class FormatsError(Error, ValueError):

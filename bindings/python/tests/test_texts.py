@@ -85,7 +85,7 @@ SENTENCES = {
     ("VectorLengthError", "# bytes are not whole vectors of 8"),
     ("VectorLengthError", "an initialization vector has 8 bytes, not #"),
     ("WeakKeyError", "the weak key test refuses the key that the components make"),
-    ("WrongPinError", "the PIN is not the one"),
+    ("WrongPinError", "the PIN is wrong"),
 }
 
 # What no text hides, since all have it.

@@ -33,7 +33,7 @@ use core::ffi::c_int;
 use core::fmt;
 use core::ptr;
 
-/// The error of a tag that is not the one of the message.
+/// The error of a tag that is not the message's.
 #[derive(Clone, Copy, Debug, PartialEq, Eq)]
 pub struct MacError;
 

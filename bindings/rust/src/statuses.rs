@@ -80,7 +80,7 @@ const SENTENCES: [&str; 45] = [
     "the decimalization table does not have sixteen digits",
     "a character of the decimalization table is not a digit",
     "the decimalization table has fewer than eight different digits",
-    "the PIN is not the one",
+    "the PIN is wrong",
     "there is no translation of PIN blocks from this format, only from 0, 1 and 3",
     "decrypted, the PIN block is not one of its format and account number",
     "the sequence number does not have two digits",

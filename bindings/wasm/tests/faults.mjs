@@ -364,7 +364,7 @@ for (const pin of ["123", "123/"]) {
   throwsFault(() => library.pinOffset(PAIR, TABLE, IV, pin), pin === "123" ? "PinLength" : "PinDigit");
   throwsFault(() => library.pinOffsetVerify(PAIR, TABLE, IV, pin, "1234"), pin === "123" ? "PinLength" : "PinDigit");
 }
-throwsFault(() => library.pinOffsetVerify(PAIR, TABLE, IV, "12345", "0000"), "WrongPin", "the PIN is not the one");
+throwsFault(() => library.pinOffsetVerify(PAIR, TABLE, IV, "12345", "0000"), "WrongPin", "the PIN is wrong");
 for (const format of [2, 4, -1, 0.5, 2 ** 32, 2 ** 32 + 3]) {
   const text = "there is no translation of PIN blocks from this format, only from 0, 1 and 3";
   throwsFault(() => library.pinTranslateTo0(format, "", SENT, KEYS), "Formats", text);

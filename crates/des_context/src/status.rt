@@ -73,7 +73,7 @@ pub const ERR_TABLE_DIGIT: i32 = 22;
 /// The decimalization table has fewer than eight different digits.
 pub const ERR_TABLE_VARIETY: i32 = 23;
 
-/// The PIN is not the one.
+/// The PIN is wrong.
 pub const ERR_WRONG_PIN: i32 = 24;
 
 /// There is no translation of PIN blocks from this format, only from 0, 1 and 3.

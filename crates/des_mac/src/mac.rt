@@ -7,7 +7,7 @@ use des::cipher::InvalidLength;
 use std::error::Error;
 use std::fmt;
 
-/// The error of a tag that is not the one of the message.
+/// The error of a tag that is not the message's.
 #[derive(Clone, Copy, Debug, PartialEq, Eq)]
 pub struct MacError;
 

@@ -47,7 +47,7 @@ pub enum VerificationError {
     TableDigit,
     /// The decimalization table has fewer than eight different digits.
     TableVariety,
-    /// The PIN is not the one.
+    /// The PIN is wrong.
     WrongPin,
 }
 

@@ -278,7 +278,7 @@ fn errors_are_sentences() {
         (Box::new(VerificationError::TableLength), "the decimalization table does not have sixteen digits"),
         (Box::new(VerificationError::TableDigit), "a character of the decimalization table is not a digit"),
         (Box::new(VerificationError::TableVariety), "the decimalization table has fewer than eight different digits"),
-        (Box::new(VerificationError::WrongPin), "the PIN is not the one"),
+        (Box::new(VerificationError::WrongPin), "the PIN is wrong"),
         (Box::new(TranslationError::KeyLength), "a key does not have 8, 16 or 24 bytes"),
         (Box::new(TranslationError::AccountLength), "the account number does not have 8 to 19 digits"),
         (Box::new(TranslationError::AccountDigit), "a character of the account number is not a digit"),
